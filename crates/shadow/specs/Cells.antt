@@ -1,0 +1,59 @@
+-- What is kept of a location, and the read rule and the write rule of SP-bags.
+use Rattle.std.specs.Prelude.{ℕ, Bool, true, false, ◌||◌, List, Option, Some, None, is_some, if◌then◌else◌}
+use Rattle.std.specs.Option.{option_or}
+use Rattle.trace.specs.declared.records.Kind.{Kind}
+use Rattle.trace.specs.declared.records.Kind.TheVariants.{Read, Write}
+use Rattle.trace.specs.declared.records.Access.{Access}
+use Rattle.trace.specs.Accesses.{RaceAt}
+use Rattle.bags.specs.Procedures.{Active, in_p, current}
+
+-- a procedure, and the place of its access
+pub record Named : Type 0 where
+  pub procedure : ℕ
+  pub place : ℕ
+
+-- the kept writer and the kept reader of a location, and whether its race was told
+pub record Cell : Type 0 where
+  pub writer : Option Named
+  pub reader : Option Named
+  pub told : Bool
+
+abbrev pub untouched : Cell
+untouched = record { writer = None; reader = None; told = false }
+
+-- whether the kept name stands in a P-bag
+abbrev pub is_parallel : List Active → Option Named → Bool
+is_parallel fs None = false
+is_parallel fs (Some n) = in_p fs n.procedure
+
+-- the kept access, where it stands in a P-bag
+abbrev pub parallel_access : List Active → Kind → Option Named → Option Access
+parallel_access fs k None = None
+parallel_access fs k (Some n) = if in_p fs n.procedure then Some (record { kind = k; place = n.place }) else None
+
+-- the first access of a race with an access by the executing procedure: a read races with the kept writer,
+-- a write with the kept writer, and otherwise with the kept reader
+abbrev pub rival : List Active → Kind → Cell → Option Access
+rival fs Read c = parallel_access fs Write c.writer
+rival fs Write c = option_or (parallel_access fs Write c.writer) (parallel_access fs Read c.reader)
+
+abbrev pub name_of : List Active → ℕ → Option Named
+name_of fs place = Some (record { procedure = current fs; place = place })
+
+-- after a read the reader is the executing procedure, unless the kept one stands in a P-bag
+abbrev pub reader_after : List Active → ℕ → Option Named → Option Named
+reader_after fs place kept = if is_parallel fs kept then kept else name_of fs place
+
+-- what is kept of the location after an access of it
+abbrev pub touched : List Active → Kind → ℕ → Cell → Cell
+touched fs Read place c = record { writer = c.writer; reader = reader_after fs place c.reader; told = c.told || is_some (rival fs Read c) }
+touched fs Write place c = record { writer = name_of fs place; reader = c.reader; told = c.told || is_some (rival fs Write c) }
+
+-- the race that is told at an access: the first of its location
+abbrev pub race_with : ℕ → Kind → ℕ → Bool → Option Access → Option RaceAt
+race_with l k place told None = None
+race_with l k place true (Some first) = None
+race_with l k place false (Some first) = Some (record { location = l; first = first; second = record { kind = k; place = place } })
+
+abbrev pub race_at : List Active → ℕ → Kind → ℕ → Cell → Option RaceAt
+race_at fs l k place c = race_with l k place c.told (rival fs k c)

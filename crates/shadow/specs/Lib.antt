@@ -1,0 +1,5 @@
+pub mod Cells
+pub mod Found
+pub use Rattle.bags.specs.Procedures
+pub use Rattle.trace.specs.Accesses
+pub use Rattle.trace.specs.Shares

@@ -1,0 +1,2 @@
+//! Shadow memory: the kept writer and reader of each location, by the read rule and the write rule of SP-bags.
+#![tactic(auto)]

@@ -1,0 +1,71 @@
+-- The first fault of bytes that should be the text of a trace, within limits.
+use Rattle.std.specs.Prelude.{◌≡◌, ◌≢◌, ℕ, suc, ◌+◌, ◌<◌, ◌≤◌, List, [], ◌∷◌, ◌++◌, length}
+use Rattle.trace.specs.declared.records.Record.{Record}
+use Rattle.trace.specs.declared.records.Limits.{Limits}
+use Rattle.trace.specs.declared.faults.TextFault.{TextFault}
+use Rattle.trace.specs.declared.faults.TextKind.TheVariants.{Header, Line, TooMany, Truncated}
+use Rattle.trace.specs.declared.faults.NestFault.{NestFault}
+use Rattle.trace.specs.declared.faults.NestKind.{NestKind}
+use Rattle.trace.specs.declared.faults.NestKind.TheVariants.{AfterEnd, TooDeep, Unfinished}
+use Rattle.trace.specs.declared.faults.Fault.{Fault}
+use Rattle.trace.specs.declared.faults.Fault.TheVariants.{Text, Nest}
+use Rattle.trace.specs.Traces.{IsPlace, IsRootReturn, depth, opens}
+use Rattle.trace.specs.Text.{header, spell, Fits, AllFit, ended, line, text, IsUnended, IsOpen}
+
+-- The bytes begin with a line that is judged: one that ends, or one of which the 27th byte has come.
+-- (No line of a trace has more than 26 bytes, so 27 bytes that are no line stay no line.)
+pub data IsJudged : List ℕ → List ℕ → Type 0 where
+  at_end : (body more : List ℕ) → IsUnended body → IsJudged (ended body ++ more) body
+  at_length : (body more : List ℕ) → IsUnended body → length body ≡ 27 → IsJudged (body ++ more) body
+
+abbrev pub IsNoRecord : List ℕ → Type 0
+IsNoRecord body = (r : Record) → Fits r → body ≢ spell r
+
+-- The first faulty line among those that are judged. The lines before it are the header and w, at most
+-- as many records as the limit. A line that is both bad and past the limit is bad.
+pub data IsBadLine (records : ℕ) (bytes : List ℕ) : TextFault → Type 0 where
+  bad_header : (body : List ℕ) → IsJudged bytes body → body ≢ header → IsBadLine records bytes (record { line = 1; kind = Header })
+  bad_line : (w : List Record) (rest body : List ℕ) → AllFit w → length w ≤ records → bytes ≡ text w ++ rest → IsJudged rest body → IsNoRecord body
+      → IsBadLine records bytes (record { line = length w + 2; kind = Line })
+  too_many : (w : List Record) (r : Record) (more : List ℕ) → AllFit w → length w ≡ records → Fits r → bytes ≡ text w ++ (line r ++ more)
+      → IsBadLine records bytes (record { line = length w + 2; kind = TooMany })
+
+-- at the end of the bytes: a rest without a line end, or no header line
+pub data IsTruncated (records : ℕ) (bytes : List ℕ) : TextFault → Type 0 where
+  no_header : IsOpen bytes → IsTruncated records bytes (record { line = 1; kind = Truncated })
+  no_line_end : (w : List Record) (rest : List ℕ) → AllFit w → length w ≤ records → bytes ≡ text w ++ rest → IsOpen rest → rest ≢ []
+      → IsTruncated records bytes (record { line = length w + 2; kind = Truncated })
+
+-- the root has returned
+abbrev pub HasEnded : List Record → Type 0
+HasEnded u = (i : ℕ) × IsPlace u i × IsRootReturn u i
+
+-- what is wrong with a record after the records u: the root has returned, or else it opens a procedure
+-- below the limit
+pub data IsMisplaced (depths : ℕ) (u : List Record) (r : Record) : NestKind → Type 0 where
+  after_end : HasEnded u → IsMisplaced depths u r AfterEnd
+  too_deep : (HasEnded u → ⊥) → opens r ≡ 1 → depths ≤ depth u (suc (length u)) → IsMisplaced depths u r TooDeep
+
+-- no record of these is misplaced
+pub data AreNested (depths : ℕ) : List Record → Type 0 where
+  none : AreNested depths []
+  next : {u : List Record} {r : Record} → AreNested depths u → ((k : NestKind) → IsMisplaced depths u r k → ⊥) → AreNested depths (u ++ r ∷ [])
+
+-- the first faulty place: the record there is misplaced, and none before it is
+pub data IsBadPlace (depths : ℕ) (bytes : List ℕ) : NestFault → Type 0 where
+  bad_place : (u : List Record) (r : Record) (more : List ℕ) (k : NestKind) → AllFit u → Fits r → bytes ≡ text u ++ (line r ++ more) → AreNested depths u → IsMisplaced depths u r k
+      → IsBadPlace depths bytes (record { place = length u + 1; kind = k })
+
+-- The first fault of bytes after which others may come: of the first faulty line and the first faulty
+-- place the one that comes first, where the record at place p stands on line p + 1; on one line the line's.
+pub data IsFirstFault (limits : Limits) (bytes : List ℕ) : Fault → Type 0 where
+  bad_line : {f : TextFault} → IsBadLine limits.records bytes f → ((n : NestFault) → IsBadPlace limits.depth bytes n → f.line ≤ n.place + 1) → IsFirstFault limits bytes (Text f)
+  bad_place : {n : NestFault} → IsBadPlace limits.depth bytes n → ((f : TextFault) → IsBadLine limits.records bytes f → n.place + 1 < f.line) → IsFirstFault limits bytes (Nest n)
+
+-- The first fault of bytes that have ended. A rest without a line end is a fault where nothing before it is;
+-- and last, that the root hasn't returned.
+pub data IsFaultOfAll (limits : Limits) (bytes : List ℕ) : Fault → Type 0 where
+  before_end : {f : Fault} → IsFirstFault limits bytes f → IsFaultOfAll limits bytes f
+  truncated : {f : TextFault} → IsTruncated limits.records bytes f → ((g : Fault) → IsFirstFault limits bytes g → ⊥) → IsFaultOfAll limits bytes (Text f)
+  unfinished : (w : List Record) → AllFit w → length w ≤ limits.records → bytes ≡ text w → AreNested limits.depth w → (HasEnded w → ⊥)
+      → IsFaultOfAll limits bytes (Nest (record { place = length w + 1; kind = Unfinished }))

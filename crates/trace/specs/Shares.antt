@@ -1,0 +1,16 @@
+-- A shard's share of a list of records.
+use Rattle.std.specs.Prelude.{ℕ, ◌%◌, Bool, true, List, filter, ◌==◌}
+use Rattle.trace.specs.declared.records.Record.{Record}
+use Rattle.trace.specs.declared.records.Record.TheVariants.{Spawn, Return, Sync, Read, Write}
+use Rattle.trace.specs.declared.records.Placed.{Placed}
+
+-- whether shard k of n gets a record: each gets the structure records, and location l is of shard l mod n
+abbrev pub goes : ℕ → ℕ → Record → Bool
+goes k n Spawn = true
+goes k n Return = true
+goes k n Sync = true
+goes k n (Read l) = l % n == k
+goes k n (Write l) = l % n == k
+
+abbrev pub share : ℕ → ℕ → List Placed → List Placed
+share k n u = filter (λ p. goes k n p.what) u

@@ -1,0 +1,131 @@
+ghost use Rattle.std.specs.Prelude.{◌≡◌, ℕ, ◌<◌, List, length, Option, IfOk};
+ghost use Rattle.std.specs.Io.{ReadsAtMost, WritesAtMost};
+ghost use Rattle.std.specs.Io.KnownBytes.{ReadConsumes, WriteAppends, Keeps};
+ghost use Rattle.trace.specs.Devices.{Counts};
+
+use std::io::{Read, Write};
+
+/// A source or a sink failed in this call.
+#[derive(Clone, Copy, Debug, PartialEq, Eq)]
+pub struct Failed;
+
+/// What bytes are read from.
+pub trait Source {
+    /// The bytes that are still to come, where the source tells them.
+    ghost rest: { Self → Option (List ℕ) };
+
+    /// How often it has failed. The count stays at 2^64 - 1.
+    ghost failures: { Self → ℕ };
+
+    /// Puts the next bytes at the front of the buffer, and answers how many. With room in the buffer
+    /// 0 is the end of the input.
+    fn get(&mut self, buffer: &mut [u8]) -> Result<usize, Failed>
+        ensures bound { ReadsAtMost result buffer.new }
+        ensures bytes { ReadConsumes (rest self.old) (rest self.new) result buffer.new }
+        ensures count { Counts result (failures self.old) (failures self.new) };
+}
+
+/// What bytes are written to.
+pub trait Sink {
+    /// The bytes that it holds, where the sink tells them.
+    ghost held: { Self → Option (List ℕ) };
+
+    /// How often it has failed. The count stays at 2^64 - 1.
+    ghost failures: { Self → ℕ };
+
+    /// Takes bytes from the front of the buffer, and answers how many. A sink that takes none of a
+    /// buffer that isn't empty has failed.
+    fn put(&mut self, buffer: &[u8]) -> Result<usize, Failed>
+        ensures bound { WritesAtMost result buffer.now }
+        ensures some { IfOk result (λ n. 0 < length buffer.now → 0 < n) }
+        ensures bytes { WriteAppends (held self.old) (held self.new) result buffer.now }
+        ensures count { Counts result (failures self.old) (failures self.new) };
+
+    /// Passes on what it holds back.
+    fn flush(&mut self) -> Result<(), Failed>
+        ensures bytes { Keeps (held self.old) (held self.new) }
+        ensures count { Counts result (failures self.old) (failures self.new) };
+}
+
+/// A reader or a writer with a count of its failures.
+#[derive(Drop)]
+pub struct Counted<D> {
+    device: D,
+    failed: u64,
+}
+
+impl<D> Counted<D> {
+    /// Makes a source of a reader, or a sink of a writer. It has not failed yet.
+    pub fn new(device: D) -> Self
+        ensures device { result.device ≡ device }
+        ensures none { result.failed ≡ 0 }
+    {
+        Counted { device, failed: 0 }
+    }
+}
+
+impl<D: Read> Source for Counted<D> {
+    ghost rest = { λ s. D.remaining s.device };
+
+    ghost failures = { λ s. s.failed };
+
+    fn get(&mut self, buffer: &mut [u8]) -> Result<usize, Failed> {
+        match self.device.read(buffer) {
+            Ok(count) => Ok(count),
+            Err(_) => {
+                self.failed = self.failed.saturating_add(1);
+                Err(Failed)
+            }
+        }
+    }
+}
+
+impl<D: Write> Sink for Counted<D> {
+    ghost held = { λ s. D.contents s.device };
+
+    ghost failures = { λ s. s.failed };
+
+    fn put(&mut self, buffer: &[u8]) -> Result<usize, Failed> {
+        match self.device.write(buffer) {
+            Ok(count) if count > 0 || buffer.is_empty() => Ok(count),
+            _ => {
+                self.failed = self.failed.saturating_add(1);
+                Err(Failed)
+            }
+        }
+    }
+
+    fn flush(&mut self) -> Result<(), Failed> {
+        match self.device.flush() {
+            Ok(()) => Ok(()),
+            Err(_) => {
+                self.failed = self.failed.saturating_add(1);
+                Err(Failed)
+            }
+        }
+    }
+}
+
+impl<S: Source> Source for &mut S {
+    ghost rest = { λ s. S.rest s.now };
+
+    ghost failures = { λ s. S.failures s.now };
+
+    fn get(&mut self, buffer: &mut [u8]) -> Result<usize, Failed> {
+        (**self).get(buffer)
+    }
+}
+
+impl<W: Sink> Sink for &mut W {
+    ghost held = { λ s. W.held s.now };
+
+    ghost failures = { λ s. W.failures s.now };
+
+    fn put(&mut self, buffer: &[u8]) -> Result<usize, Failed> {
+        (**self).put(buffer)
+    }
+
+    fn flush(&mut self) -> Result<(), Failed> {
+        (**self).flush()
+    }
+}

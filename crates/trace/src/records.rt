@@ -1,0 +1,69 @@
+ghost use Rattle.std.specs.Prelude.{◌≤◌, ◌^◌};
+
+use std::marker::Model;
+
+/// One event of a serial depth-first run of a fork-join program.
+#[derive(Clone, Copy, Debug, PartialEq, Eq)]
+pub enum Record {
+    /// The executing procedure spawns a child, which executes from the next record on.
+    Spawn,
+    /// The executing procedure returns, after the sync that every return implies.
+    Return,
+    /// The executing procedure waits for the children that it has spawned.
+    Sync,
+    /// A read of a location.
+    Read(u64),
+    /// A write of a location.
+    Write(u64),
+}
+
+/// A record and its place in the trace, counted from 1.
+#[derive(Clone, Copy, Debug, PartialEq, Eq)]
+pub struct Placed {
+    pub place: u64,
+    pub what: Record,
+}
+
+/// Whether an access reads or writes.
+#[derive(Clone, Copy, Debug, PartialEq, Eq)]
+pub enum Kind {
+    Read,
+    Write,
+}
+
+/// An access of a location that is known from elsewhere: its kind, and the place of its record.
+#[derive(Clone, Copy, Debug, PartialEq, Eq)]
+pub struct Access {
+    pub kind: Kind,
+    pub place: u64,
+}
+
+/// Two accesses of one location, of which at least one writes. The first stands before the second,
+/// and their places are 1 to 2^48.
+#[derive(Clone, Copy, Debug, PartialEq, Eq)]
+pub struct Race {
+    pub location: u64,
+    pub first: Access,
+    pub second: Access,
+}
+
+impl Model for Race {
+    ghost use Rattle.trace.specs.Accesses.{RaceAt, IsRaceShape};
+
+    ghost Value = { RaceAt };
+
+    ghost view = { λ r. record { location = r.location; first = r.first; second = r.second } };
+
+    ghost invariant = { λ r. IsRaceShape r.first r.second };
+
+    ghost inverse = { λ r. record { location = r.location; first = r.first; second = r.second } };
+}
+
+/// The limits within which a trace is read: how many records it may have, at most 2^48, and how
+/// deep its procedures may nest.
+#[derive(Clone, Copy, Debug, PartialEq, Eq)]
+pub struct Limits {
+    pub records: u64,
+    pub depth: u32,
+    ghost within: { records ≤ 2 ^ 48 },
+}
