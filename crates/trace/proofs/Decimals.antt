@@ -26,7 +26,7 @@ module _ (ds : List ℕ) (n : ℕ) (small : n < 2 ^ 64) (e : ds ≡ decimal n) w
 
 -- after one more digit
 pub one_more_digit : (ds : List ℕ) (i value : ℕ) → i < length ds → AllDigits 10 (take i ds) → digits_value 10 (take i ds) ≡ value → IsInRange 48 57 (get_or ds i 0)
-  → AllDigits 10 (take (i + 1) ds) × (digits_value 10 (take (i + 1) ds) ≡ value * 10 + (get_or ds i 0 - 48))
+    → AllDigits 10 (take (i + 1) ds) × (digits_value 10 (take (i + 1) ds) ≡ value * 10 + (get_or ds i 0 - 48))
 one_more_digit ds i value h all is range =
     let d : digit_value (get_or ds i 0) + 48 ≡ get_or ds i 0 = digit_value_digit _ range in
     let low : digit_value (get_or ds i 0) < 10 = omega (arith, range.0, range.1, d) in
@@ -59,7 +59,7 @@ decimal_from_value ds n small all is some first =
 
 -- what a reading of digits in front of which stands no zero gives, whether they have a value or none
 pub found_value : (ds : List ℕ) (r : Option ℕ) → IfSome r (λ _. AllDigits 10 ds) → IfSome r (λ n. digits_value 10 ds ≡ n) → IfSome r (λ n. n < 2 ^ 64) → 0 < length ds → get_or ds 0 0 ≢ 48
-  → IfSome r (λ n. ds ≡ decimal n)
+    → IfSome r (λ n. ds ≡ decimal n)
 found_value ds None all is small some first = tt
 found_value ds (Some n) all is small some first = decimal_from_value ds n small all is some first
 

@@ -18,7 +18,7 @@ take_six [] a b c d e f h p q r s t v = absurd (omega arith)
 
 -- a word, and after it digits in front of a line's end
 pub word_and_digits : (piece word digits : List ℕ) (k d n : ℕ) → take k piece ≡ word → digits ≡ take 20 (drop k piece) → d < 20 → k + 20 ≤ length piece → take d digits ≡ decimal n → get_or digits d 0 ≡ newline
-  → take (k + (d + 1)) piece ≡ word ++ ended (decimal n)
+    → take (k + (d + 1)) piece ≡ word ++ ended (decimal n)
 word_and_digits piece word digits k d n front is few room spelled end =
     let within : d < length digits = omega (arith, ap length is, length-take 20 (drop k piece), length-drop k piece) in
     take-add k (d + 1) piece ∙ ap (λ x. x ++ take (d + 1) (drop k piece)) front

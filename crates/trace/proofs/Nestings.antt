@@ -84,7 +84,7 @@ module _ (u : List Record) (n : Nesting) (h : HasNested u n) where
 
   -- one more record, which isn't misplaced
   accepted : n.ended ≡ false → (r : Record) → ((k : NestKind) → IsMisplaced n.max_depth u r k → ⊥) → (deep : ℕ) (ended : Bool) → deep ≡ (n.depth + opens r) - closes r → (IsTrue ended ↔ ((r ≡ Return) × (n.depth ≡ 0)))
-    → HasNested (u ++ r ∷ []) (record { max_depth = n.max_depth; count = n.count + 1; depth = deep; ended = ended })
+      → HasNested (u ++ r ∷ []) (record { max_depth = n.max_depth; count = n.count + 1; depth = deep; ended = ended })
   accepted open_yet r fine deep ended deep_is ended_is =
       record {
         nested = next h.nested fine;
@@ -95,6 +95,7 @@ module _ (u : List Record) (n : Nesting) (h : HasNested u n) where
     where
       to : IsTrue ended → HasEnded (u ++ r ∷ [])
       to t = let is = ended_is.0 t in let P : Record → Type 0 = λ x. HasEnded (u ++ x ∷ []) in subst P (sym is.0) (ended_by u (omega (arith, h.depth_is, is.1)))
+
       from : HasEnded (u ++ r ∷ []) → IsTrue ended
       from e = ⊎_elim (λ was. absurd (running open_yet was)) (λ is. ended_is.1 (is.0, omega (arith, h.depth_is, is.1))) (ended_after u r e)
 
@@ -123,6 +124,7 @@ module _ (u : List Record) (n : Nesting) (h : HasNested u n) where
     where
       flat : (r' : Record) → opens r' ≡ 0 → closes r' ≡ 0 → (r' ≡ Return → ⊥) → HasNested (u ++ r' ∷ []) (record { max_depth = n.max_depth; count = n.count + 1; depth = n.depth; ended = false })
       flat r' o c other = accepted open_yet r' (not_deep r' o open_yet) n.depth false (omega arith) (λ t. absurd (false≢true t), λ e. absurd (other e.0))
+
       go : (r' : Record) → (r' ≡ Sync) ⊎ (((l : ℕ) × (r' ≡ Read l)) ⊎ ((l : ℕ) × (r' ≡ Write l))) → HasNested (u ++ r' ∷ []) (record { max_depth = n.max_depth; count = n.count + 1; depth = n.depth; ended = false })
       go Sync k = flat Sync refl refl (λ e. cc)
       go (Read l) k = flat (Read l) refl refl (λ e. cc)

@@ -30,7 +30,6 @@ pub depth-front : (u v : List Record) (i : ℕ) → i ≤ suc (length u) → dep
 depth-front u v zero h = refl
 depth-front u v (suc i) h = ap (λ x. sum_by opens x - sum_by closes x) (take-append-le i u v (omega arith))
 
-
 pub depth-next : (u : List Record) → depth u (suc (length u)) ≡ sum_by opens u - sum_by closes u
 depth-next u = ap (λ x. sum_by opens x - sum_by closes x) (take-length u)
 

@@ -42,7 +42,7 @@ module _ (w : List Record) (bytes : List ℕ) (s : Reading) (h : HasRead w bytes
 
   -- a line ends, and spells a record within the limit
   pub read_record : s.begun ≡ true → (piece : List ℕ) (k : ℕ) (r : Record) → k < length piece → get_or piece k 0 ≡ newline → s.rest ++ take k piece ≡ spell r → Fits r → s.count < s.limit
-    → HasRead (w ++ r ∷ []) (bytes ++ take (k + 1) piece) (record { limit = s.limit; begun = true; count = s.count + 1; rest = []; fault = None })
+      → HasRead (w ++ r ∷ []) (bytes ++ take (k + 1) piece) (record { limit = s.limit; begun = true; count = s.count + 1; rest = []; fault = None })
   read_record begun piece k r lt nl spelled fits room =
       record {
         bytes_are = with_piece begun _ ∙ ap (λ x. text w ++ x) (ap (λ x. s.rest ++ x) (take-ended piece k lt nl) ∙ sym (append_assoc s.rest (take k piece) (newline ∷ [])) ∙ ap ended spelled) ∙ sym (text-push w r) ∙ sym (append-nil _);
@@ -55,7 +55,7 @@ module _ (w : List Record) (bytes : List ℕ) (s : Reading) (h : HasRead w bytes
 
   -- the piece goes on with an unfinished line
   pub read_more : (piece : List ℕ) → IsUnended piece → length s.rest + length piece ≤ 26
-    → HasRead w (bytes ++ take (length piece) piece) (record { limit = s.limit; begun = s.begun; count = s.count; rest = s.rest ++ piece; fault = None })
+      → HasRead w (bytes ++ take (length piece) piece) (record { limit = s.limit; begun = s.begun; count = s.count; rest = s.rest ++ piece; fault = None })
   read_more piece unended short =
       record {
         bytes_are = go s.begun h.bytes_are;
@@ -73,7 +73,7 @@ module _ (w : List Record) (bytes : List ℕ) (s : Reading) (h : HasRead w bytes
   judged_end : (piece : List ℕ) (k : ℕ) → k < length piece → get_or piece k 0 ≡ newline → IsUnended (take k piece) → IsJudged (s.rest ++ piece) (s.rest ++ take k piece)
   judged_end piece k lt nl unended =
       let e : ended (s.rest ++ take k piece) ++ drop (k + 1) piece ≡ s.rest ++ piece =
-        ap (λ x. x ++ drop (k + 1) piece) (append_assoc s.rest (take k piece) (newline ∷ [])) ∙ append_assoc s.rest (ended (take k piece)) _ ∙ ap (λ x. s.rest ++ x) (sym (split-ended piece k lt nl)) in
+      ap (λ x. x ++ drop (k + 1) piece) (append_assoc s.rest (take k piece) (newline ∷ [])) ∙ append_assoc s.rest (ended (take k piece)) _ ∙ ap (λ x. s.rest ++ x) (sym (split-ended piece k lt nl)) in
       let P : List ℕ → Type 0 = λ x. IsJudged x (s.rest ++ take k piece) in
       subst P e (at_end _ _ (unended-append s.rest (take k piece) h.unfinished.unended unended))
 
@@ -83,7 +83,7 @@ module _ (w : List Record) (bytes : List ℕ) (s : Reading) (h : HasRead w bytes
   judged_long : (piece : List ℕ) → 27 ≤ length s.rest + length piece → IsUnended (take (27 - length s.rest) piece) → IsJudged (s.rest ++ piece) (s.rest ++ take (27 - length s.rest) piece)
   judged_long piece long unended =
       let e : (s.rest ++ take (27 - length s.rest) piece) ++ drop (27 - length s.rest) piece ≡ s.rest ++ piece =
-        append_assoc s.rest _ _ ∙ ap (λ x. s.rest ++ x) (take-append-drop _ piece) in
+      append_assoc s.rest _ _ ∙ ap (λ x. s.rest ++ x) (take-append-drop _ piece) in
       let P : List ℕ → Type 0 = λ x. IsJudged x (s.rest ++ take (27 - length s.rest) piece) in
       subst P e (at_length _ _ (unended-append s.rest _ h.unfinished.unended unended) (long_length piece long))
 
@@ -94,25 +94,25 @@ module _ (w : List Record) (bytes : List ℕ) (s : Reading) (h : HasRead w bytes
       subst P (sym h.count_is) (bad_line w (s.rest ++ piece) body h.fits h.within (with_piece begun piece) judged none)
 
   pub bad_at_end : s.begun ≡ true → (piece : List ℕ) (k : ℕ) → k < length piece → get_or piece k 0 ≡ newline → IsUnended (take k piece) → IsNoRecord (s.rest ++ take k piece)
-    → IsBadLine s.limit (bytes ++ piece) (record { line = s.count + 2; kind = Line })
+      → IsBadLine s.limit (bytes ++ piece) (record { line = s.count + 2; kind = Line })
   bad_at_end begun piece k lt nl unended none = bad begun piece _ (judged_end piece k lt nl unended) none
 
   pub bad_long : s.begun ≡ true → (piece : List ℕ) → 27 ≤ length s.rest + length piece → IsUnended (take (27 - length s.rest) piece)
-    → IsBadLine s.limit (bytes ++ piece) (record { line = s.count + 2; kind = Line })
+      → IsBadLine s.limit (bytes ++ piece) (record { line = s.count + 2; kind = Line })
   bad_long begun piece long unended = bad begun piece _ (judged_long piece long unended) (long_is_no_record _ (long_length piece long))
 
   -- a good line past the limit
   pub past_limit : s.begun ≡ true → (piece : List ℕ) (k : ℕ) (r : Record) → k < length piece → get_or piece k 0 ≡ newline → s.rest ++ take k piece ≡ spell r → Fits r → s.count ≡ s.limit
-    → IsBadLine s.limit (bytes ++ piece) (record { line = s.count + 2; kind = TooMany })
+      → IsBadLine s.limit (bytes ++ piece) (record { line = s.count + 2; kind = TooMany })
   past_limit begun piece k r lt nl spelled fits full =
       let P : ℕ → Type 0 = λ n. IsBadLine s.limit (bytes ++ piece) (record { line = n + 2; kind = TooMany }) in
       let e : s.rest ++ piece ≡ line r ++ drop (k + 1) piece =
-        ap (λ x. s.rest ++ x) (split-ended piece k lt nl) ∙ sym (append_assoc s.rest (ended (take k piece)) _) ∙ ap (λ x. x ++ drop (k + 1) piece) (sym (append_assoc s.rest (take k piece) (newline ∷ [])) ∙ ap ended spelled) in
+      ap (λ x. s.rest ++ x) (split-ended piece k lt nl) ∙ sym (append_assoc s.rest (ended (take k piece)) _) ∙ ap (λ x. x ++ drop (k + 1) piece) (sym (append_assoc s.rest (take k piece) (newline ∷ [])) ∙ ap ended spelled) in
       subst P (sym h.count_is) (too_many w r (drop (k + 1) piece) h.fits (omega (arith, h.count_is)) fits (with_piece begun piece ∙ ap (λ x. text w ++ x) e))
 
   -- line 1 ends, and is the header
   pub read_header : s.begun ≡ false → (piece : List ℕ) (k : ℕ) → k < length piece → get_or piece k 0 ≡ newline → s.rest ++ take k piece ≡ header
-    → HasRead w (bytes ++ take (k + 1) piece) (record { limit = s.limit; begun = true; count = s.count; rest = []; fault = None })
+      → HasRead w (bytes ++ take (k + 1) piece) (record { limit = s.limit; begun = true; count = s.count; rest = []; fault = None })
   read_header begun piece k lt nl is =
       let first = first_so_far begun in
       record {
@@ -125,13 +125,13 @@ module _ (w : List Record) (bytes : List ℕ) (s : Reading) (h : HasRead w bytes
       }
 
   pub header_at_end : s.begun ≡ false → (piece : List ℕ) (k : ℕ) → k < length piece → get_or piece k 0 ≡ newline → IsUnended (take k piece) → s.rest ++ take k piece ≢ header
-    → IsBadLine s.limit (bytes ++ piece) (record { line = 1; kind = Header })
+      → IsBadLine s.limit (bytes ++ piece) (record { line = 1; kind = Header })
   header_at_end begun piece k lt nl unended other =
       let P : List ℕ → Type 0 = λ x. IsBadLine s.limit (x ++ piece) (record { line = 1; kind = Header }) in
       subst P (sym ((first_so_far begun).1)) (bad_header _ (judged_end piece k lt nl unended) other)
 
   pub header_long : s.begun ≡ false → (piece : List ℕ) → 27 ≤ length s.rest + length piece → IsUnended (take (27 - length s.rest) piece)
-    → IsBadLine s.limit (bytes ++ piece) (record { line = 1; kind = Header })
+      → IsBadLine s.limit (bytes ++ piece) (record { line = 1; kind = Header })
   header_long begun piece long unended =
       let P : List ℕ → Type 0 = λ x. IsBadLine s.limit (x ++ piece) (record { line = 1; kind = Header }) in
       let other : s.rest ++ take (27 - length s.rest) piece ≢ header = λ e. let n : length (s.rest ++ take (27 - length s.rest) piece) ≡ 7 = ap length e in absurd (omega (arith, long_length piece long)) in

@@ -67,4 +67,4 @@ pub data IsFaultOfAll (records depths : ℕ) (bytes : List ℕ) : Fault → Type
   before_end : (f : Fault) → IsFirstFault records depths bytes f → IsFaultOfAll records depths bytes f
   truncated : (f : TextFault) → IsTruncated records bytes f → ((g : Fault) → IsFirstFault records depths bytes g → ⊥) → IsFaultOfAll records depths bytes (Text f)
   unfinished : (w : List Record) → AllFit w → length w ≤ records → bytes ≡ text w → AreNested depths w → (HasEnded w → ⊥)
-    → IsFaultOfAll records depths bytes (Nest (record { place = length w + 1; kind = Unfinished }))
+      → IsFaultOfAll records depths bytes (Nest (record { place = length w + 1; kind = Unfinished }))

@@ -9,3 +9,4 @@ pub mod Devices
 pub mod Reading
 pub mod Nesting
 pub mod Cuts
+pub mod Feeding

@@ -1,22 +1,28 @@
-ghost use Rattle.std.specs.Prelude.{◌≡◌, ◌≤◌, ◌^◌};
+ghost use Rattle.std.specs.Prelude.{◌≡◌, ◌≢◌, ℕ, ◌+◌, ◌≤◌, ◌<◌, ◌^◌, List, [], ◌++◌, ◌∷◌, length, take, Option, Ok, Err, Some, None, IfOk, IfErr, OnErr, true, false};
+ghost use Rattle.std.specs.Option.{option_to_list};
+ghost use Rattle.std.specs.Io.KnownBytes.{Consumes, IsAtEnd, Keeps};
+ghost use Rattle.trace.specs.declared.records.Record.{Record};
+ghost use Rattle.trace.specs.Devices.{Counts, HasRisen};
+ghost use Rattle.trace.specs.Faults.{IsBadLine, IsFirstFault};
+ghost use Rattle.trace.specs.Reading.{held_back};
 
 use crate::devices::{Failed, Source};
-use crate::faults::Fault;
+use crate::faults::{Fault, TextFault};
 use crate::nesting::Nest;
 use crate::reading::Reader;
 use crate::records::{Limits, Placed, Record};
+use std::marker::Model;
 
-const BUFFER: usize = 4096;
-
-// How a feed has ended.
-#[derive(Clone, Copy, Drop)]
-enum Ending {
-    Open,
+/// How a feed has ended, if it has.
+#[derive(Clone, Copy)]
+pub enum Ending {
+    Running,
     Good,
     Bad(Fault),
 }
 
-/// Reads placed records from a source that is lent at each call: a reader, a nest and a buffer.
+/// Reads placed records from a source that is lent at each call, through a buffer whose size shows in
+/// no answer.
 #[derive(Drop)]
 pub struct Intake {
     reader: Reader,
@@ -27,54 +33,137 @@ pub struct Intake {
     ending: Ending,
 }
 
+impl Model for Intake {
+    ghost use Rattle.std.specs.Prelude.{◌≤◌, ◌-◌, length, take, drop};
+    ghost use Rattle.trace.specs.Feeding.{Feeding};
+
+    ghost Value = { Feeding };
+
+    ghost view = { λ s. record { reading = s.reader; nesting = s.nest; coming = take (s.end - s.start) (drop s.start s.buffer); ending = s.ending } };
+
+    ghost invariant = { λ s. (s.start ≤ s.end) × (s.end ≤ length s.buffer) × (s.nest.count ≤ s.reader.count) };
+}
+
 impl Intake {
+    ghost use Rattle.trace.specs.Feeding.{before_all, HasUsed, HasFed, IsFed};
+    ghost use Rattle.trace.specs.Nesting.{HasNested};
+    ghost use Rattle.trace.specs.declared.feeding.Ending.TheVariants.{Running, Good, Bad};
+
     /// Nothing has been read.
-    pub fn new(limits: Limits) -> Self {
+    pub fn new(limits: Limits) -> Self
+        ensures { result ≡ before_all limits.records limits.depth }
+    {
         Intake {
             reader: Reader::new(limits.records),
             nest: Nest::new(limits.depth),
             buffer: [0; 4096],
             start: 0,
             end: 0,
-            ending: Ending::Open,
+            ending: Ending::Running,
         }
     }
 
-    /// The next placed record, or `None` at a good end of the input. After a fault every call answers
-    /// that fault, and after `None` every call answers `None`.
-    pub fn next_from<S: Source>(&mut self, source: &mut S) -> Result<Option<Placed>, Fault> {
+    /// The next placed record, or `None` at a good end of the input. Bytes that came before a failed
+    /// read are judged before it, and nothing is tried again: after a fault every call answers that
+    /// fault, and after `None` every call answers `None`.
+    #[inline(always)]
+    pub fn next_from<S: Source>(&mut self, source: &mut S) -> Result<Option<Placed>, Fault>
+        ensures fed { (w : List Record) (bytes : List ℕ) → HasFed w bytes self.old →
+            (came : List ℕ) × Consumes (S.rest source.old) (S.rest source.new) came
+            × IsFed self.old.reading.limit self.old.nesting.max_depth w (bytes ++ came) (S.rest source.new) (S.failures source.old) (S.failures source.new) self.new result }
+        ensures good { self.old.ending ≡ Good → (result ≡ Ok None) × (self.new ≡ self.old) × (source.new ≡ source.old) }
+        ensures bad { (f : Fault) → self.old.ending ≡ Bad f → (result ≡ Err f) × (self.new ≡ self.old) × (source.new ≡ source.old) }
+        ensures limits { (self.new.reading.limit ≡ self.old.reading.limit) × (self.new.nesting.max_depth ≡ self.old.nesting.max_depth) }
+    {
         match self.ending {
-            Ending::Open => {}
-            Ending::Good => return Ok(None),
-            Ending::Bad(fault) => return Err(fault),
+            Ending::Running => self.read_on(source),
+            Ending::Good => Ok(None),
+            Ending::Bad(fault) => Err(fault),
         }
+    }
+
+    // Reads on while it hasn't ended.
+    #[inline(always)]
+    fn read_on<S: Source>(&mut self, source: &mut S) -> Result<Option<Placed>, Fault>
+        requires { self.old.ending ≡ Running }
+        ensures fed { (w : List Record) (bytes : List ℕ) → HasFed w bytes self.old →
+            (came : List ℕ) × Consumes (S.rest source.old) (S.rest source.new) came
+            × IsFed self.old.reading.limit self.old.nesting.max_depth w (bytes ++ came) (S.rest source.new) (S.failures source.old) (S.failures source.new) self.new result }
+        ensures limits { (self.new.reading.limit ≡ self.old.reading.limit) × (self.new.nesting.max_depth ≡ self.old.nesting.max_depth) }
+    {
         loop {
-            if self.start == self.end {
-                let count = match source.get(&mut self.buffer) {
-                    Ok(count) => count,
-                    Err(Failed) => return Err(self.fail(Fault::Read)),
-                };
-                if count == 0 {
-                    return self.finish();
-                }
+            match self.fill(source) {
+                Err(Failed) => return Err(self.fail(Fault::Read)),
+                Ok(false) => return self.finish(),
+                Ok(true) => {}
+            }
+            match self.advance() {
+                Err(fault) => return Err(self.fail(Fault::Text(fault))),
+                Ok(None) => {}
+                Ok(Some(what)) => return self.place(what),
+            }
+        }
+    }
+
+    // Gets the next bytes of the source where all that have come were used. Whether there are any.
+    #[inline(always)]
+    fn fill<S: Source>(&mut self, source: &mut S) -> Result<bool, Failed>
+        ensures came { (came : List ℕ) × Consumes (S.rest source.old) (S.rest source.new) came × (self.new ≡ record self.old { coming = self.old.coming ++ came }) }
+        ensures some { result ≡ Ok true → 0 < length self.new.coming }
+        ensures none { result ≡ Ok false → (self.new.coming ≡ []) × IsAtEnd (S.rest source.new) }
+        ensures failed { OnErr result (self.new.coming ≡ []) }
+        ensures count { Counts result (S.failures source.old) (S.failures source.new) }
+    {
+        if self.start < self.end {
+            return Ok(true);
+        }
+        match source.get(&mut self.buffer) {
+            Ok(count) => {
                 self.start = 0;
                 self.end = count;
+                Ok(count > 0)
             }
-            let bytes: &[u8] = &self.buffer;
-            match self.reader.step(&bytes[self.start..self.end]) {
-                Err(fault) => return Err(self.fail(Fault::Text(fault))),
-                Ok(taken) => {
-                    self.start += taken.used;
-                    if let Some(what) = taken.what {
-                        return self.place(what);
-                    }
-                }
+            Err(failed) => Err(failed),
+        }
+    }
+
+    // Uses bytes that have come, up to the end of the next record's line.
+    #[inline(always)]
+    fn advance(&mut self) -> Result<Option<Record>, TextFault>
+        ensures used { (w : List Record) (bytes : List ℕ) → HasUsed w bytes self.old →
+            IfOk result (λ what. HasUsed (w ++ option_to_list what) bytes self.new) }
+        ensures fault { (w : List Record) (bytes : List ℕ) → HasUsed w bytes self.old →
+            IfErr result (λ f. IsBadLine self.old.reading.limit bytes f) }
+        ensures none { IfOk result (λ what. what ≡ None → self.new.coming ≡ []) }
+        ensures held_back { IfOk result (λ what. what ≡ None → held_back self.new.reading ≡ held_back self.old.reading + length self.old.coming) }
+        ensures short { length self.new.reading.rest ≤ 26 }
+        ensures nesting { self.new.nesting ≡ self.old.nesting }
+        ensures ending { self.new.ending ≡ self.old.ending }
+        ensures line { (w : List Record) (bytes : List ℕ) → HasUsed w bytes self.old → IfErr result (λ f. f.line ≤ length w + 2) }
+        ensures limit { self.new.reading.limit ≡ self.old.reading.limit }
+        ensures room { IfOk result (λ what. self.new.nesting.count + length (option_to_list what) ≤ 2 ^ 48) }
+        ensures behind { IfOk result (λ what. self.new.nesting.count + length (option_to_list what) ≤ self.new.reading.count) }
+    {
+        let bytes: &[u8] = &self.buffer;
+        match self.reader.step(&bytes[self.start..self.end]) {
+            Err(fault) => Err(fault),
+            Ok(taken) => {
+                self.start += taken.used;
+                Ok(taken.what)
             }
         }
     }
 
+    // Gives a record its place.
     #[inline(always)]
-    fn place(&mut self, what: Record) -> Result<Option<Placed>, Fault> {
+    fn place(&mut self, what: Record) -> Result<Option<Placed>, Fault>
+        requires room { self.old.nesting.count < 2 ^ 48 }
+        requires behind { self.old.nesting.count < self.old.reading.count }
+        requires running { self.old.ending ≡ Running }
+        ensures fed { (w : List Record) (bytes : List ℕ) (rest : Option (List ℕ)) (count : ℕ) → HasUsed (w ++ what ∷ []) bytes self.old → HasNested w self.old.nesting →
+            IsFed self.old.reading.limit self.old.nesting.max_depth w bytes rest count count self.new result }
+        ensures limits { (self.new.reading.limit ≡ self.old.reading.limit) × (self.new.nesting.max_depth ≡ self.old.nesting.max_depth) }
+    {
         match self.nest.accept(what) {
             Ok(placed) => Ok(Some(placed)),
             Err(fault) => Err(self.fail(Fault::Nest(fault))),
@@ -82,7 +171,12 @@ impl Intake {
     }
 
     // At the end of the input: the reader is asked first, then the nest.
-    fn finish(&mut self) -> Result<Option<Placed>, Fault> {
+    fn finish(&mut self) -> Result<Option<Placed>, Fault>
+        requires nothing { self.old.coming ≡ [] }
+        ensures fed { (w : List Record) (bytes : List ℕ) (rest : Option (List ℕ)) (count : ℕ) → IsAtEnd rest → HasFed w bytes self.old →
+            IsFed self.old.reading.limit self.old.nesting.max_depth w bytes rest count count self.new result }
+        ensures limits { (self.new.reading.limit ≡ self.old.reading.limit) × (self.new.nesting.max_depth ≡ self.old.nesting.max_depth) }
+    {
         if let Err(fault) = self.reader.end() {
             return Err(self.fail(Fault::Text(fault)));
         }
@@ -93,7 +187,10 @@ impl Intake {
         Ok(None)
     }
 
-    fn fail(&mut self, fault: Fault) -> Fault {
+    fn fail(&mut self, fault: Fault) -> Fault
+        ensures fault { result ≡ fault }
+        ensures kept { self.new ≡ record self.old { ending = Bad fault } }
+    {
         self.ending = Ending::Bad(fault);
         fault
     }
@@ -102,22 +199,36 @@ impl Intake {
 /// The placed records of a source of its own.
 #[derive(Drop)]
 pub struct Feed<R> {
-    intake: Intake,
-    reader: R,
+    pub intake: Intake,
+    pub reader: R,
 }
 
 impl<R: Source> Feed<R> {
+    ghost use Rattle.trace.specs.Feeding.{before_all, HasFed, IsFed};
+    ghost use Rattle.trace.specs.declared.feeding.Ending.TheVariants.{Good, Bad};
+
     /// Nothing has been read.
-    pub fn new(limits: Limits, reader: R) -> Self {
+    pub fn new(limits: Limits, reader: R) -> Self
+        ensures intake { result.intake ≡ before_all limits.records limits.depth }
+        ensures reader { result.reader ≡ reader }
+    {
         Feed {
             intake: Intake::new(limits),
             reader,
         }
     }
 
-    /// The next placed record, or `None` at a good end of the input. After a fault every call answers
-    /// that fault, and after `None` every call answers `None`.
-    pub fn next(&mut self) -> Result<Option<Placed>, Fault> {
+    /// The next placed record, or `None` at a good end of the input. Bytes that came before a failed
+    /// read are judged before it, and nothing is tried again: after a fault every call answers that
+    /// fault, and after `None` every call answers `None`.
+    pub fn next(&mut self) -> Result<Option<Placed>, Fault>
+        ensures fed { (w : List Record) (bytes : List ℕ) → HasFed w bytes self.old.intake →
+            (came : List ℕ) × Consumes (R.rest self.old.reader) (R.rest self.new.reader) came
+            × IsFed self.old.intake.reading.limit self.old.intake.nesting.max_depth w (bytes ++ came) (R.rest self.new.reader) (R.failures self.old.reader) (R.failures self.new.reader) self.new.intake result }
+        ensures good { self.old.intake.ending ≡ Good → (result ≡ Ok None) × (self.new ≡ self.old) }
+        ensures bad { (f : Fault) → self.old.intake.ending ≡ Bad f → (result ≡ Err f) × (self.new ≡ self.old) }
+        ensures limits { (self.new.intake.reading.limit ≡ self.old.intake.reading.limit) × (self.new.intake.nesting.max_depth ≡ self.old.intake.nesting.max_depth) }
+    {
         self.intake.next_from(&mut self.reader)
     }
 }

@@ -80,7 +80,11 @@ pub fn front_of(piece: &[u8]) -> Option<Front>
     ensures fits { IfSome result (λ f. Fits f.record) }
 {
     if piece[0] == b'r' {
-        if piece[4] == b' ' { read_of(piece) } else { return_of(piece) }
+        if piece[4] == b' ' {
+            read_of(piece)
+        } else {
+            return_of(piece)
+        }
     } else if piece[0] == b'w' {
         write_of(piece)
     } else {
@@ -140,7 +144,10 @@ fn return_of(piece: &[u8]) -> Option<Front>
     ensures fits { IfSome result (λ f. Fits f.record) }
 {
     if &piece[..7] == b"return\n".as_slice() {
-        Some(Front { record: Record::Return, used: 7 })
+        Some(Front {
+            record: Record::Return,
+            used: 7,
+        })
     } else {
         None
     }
@@ -154,9 +161,15 @@ fn structure_of(piece: &[u8]) -> Option<Front>
     ensures fits { IfSome result (λ f. Fits f.record) }
 {
     if &piece[..6] == b"spawn\n".as_slice() {
-        Some(Front { record: Record::Spawn, used: 6 })
+        Some(Front {
+            record: Record::Spawn,
+            used: 6,
+        })
     } else if &piece[..5] == b"sync\n".as_slice() {
-        Some(Front { record: Record::Sync, used: 5 })
+        Some(Front {
+            record: Record::Sync,
+            used: 5,
+        })
     } else {
         None
     }

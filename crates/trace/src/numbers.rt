@@ -63,7 +63,10 @@ pub fn number_of(bytes: &[u8]) -> Option<Number>
     for byte in bytes {
         if !byte.is_ascii_digit() {
             return if *byte == b'\n' {
-                Some(Number { value, digits: count })
+                Some(Number {
+                    value,
+                    digits: count,
+                })
             } else {
                 None
             };

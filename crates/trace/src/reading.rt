@@ -147,12 +147,14 @@ impl Reader {
             IfOk result (λ t. HasRead (w ++ option_to_list t.what) (bytes ++ take t.used piece.now) self.new) }
         ensures fault { (w : List Record) (bytes : List ℕ) → HasRead w bytes self.old →
             IfErr result (λ f. IsBadLine self.old.limit (bytes ++ piece.now) f) }
+        ensures line { self.old.fault ≡ None → IfErr result (λ f. f.line ≤ self.old.count + 2) }
         ensures kept { IfErr result (λ f. self.new.fault ≡ Some f) }
         ensures again { IfSome self.old.fault (λ f. (result ≡ Err f) × (self.new ≡ self.old)) }
         ensures held_back { IfOk result (λ t. t.what ≡ None → held_back self.new ≡ held_back self.old + t.used) }
         ensures short { length self.new.rest ≤ 26 }
         ensures limit { self.new.limit ≡ self.old.limit }
         ensures count { IfOk result (λ t. self.new.count ≡ self.old.count + length (option_to_list t.what)) }
+        ensures fault_count { IfErr result (λ _. self.new.count ≡ self.old.count) }
         ensures most { self.new.count ≤ 2 ^ 48 }
     {
         if self.begun && self.fault.is_none() && self.count < self.limit && self.held.len() == 0 {
@@ -177,12 +179,14 @@ impl Reader {
             IfOk result (λ t. HasRead (w ++ option_to_list t.what) (bytes ++ take t.used piece.now) self.new) }
         ensures fault { (w : List Record) (bytes : List ℕ) → HasRead w bytes self.old →
             IfErr result (λ f. IsBadLine self.old.limit (bytes ++ piece.now) f) }
+        ensures line { self.old.fault ≡ None → IfErr result (λ f. f.line ≤ self.old.count + 2) }
         ensures kept { IfErr result (λ f. self.new.fault ≡ Some f) }
         ensures again { IfSome self.old.fault (λ f. (result ≡ Err f) × (self.new ≡ self.old)) }
         ensures held_back { IfOk result (λ t. t.what ≡ None → held_back self.new ≡ held_back self.old + t.used) }
         ensures short { length self.new.rest ≤ 26 }
         ensures limit { self.new.limit ≡ self.old.limit }
         ensures count { IfOk result (λ t. self.new.count ≡ self.old.count + length (option_to_list t.what)) }
+        ensures fault_count { IfErr result (λ _. self.new.count ≡ self.old.count) }
         ensures most { self.new.count ≤ 2 ^ 48 }
     {
         if let Some(fault) = self.fault {
@@ -218,6 +222,7 @@ impl Reader {
             IfOk result (λ n. HasRead w (bytes ++ take n piece.now) self.new) }
         ensures fault { (w : List Record) (bytes : List ℕ) → HasRead w bytes self.old →
             IfErr result (λ f. IsBadLine self.old.limit (bytes ++ piece.now) f) }
+        ensures line { self.old.fault ≡ None → IfErr result (λ f. f.line ≤ self.old.count + 2) }
         ensures kept { IfErr result (λ f. self.new.fault ≡ Some f) }
         ensures no_fault { OnOk result (self.new.fault ≡ None) }
         ensures held_back { IfOk result (λ n. held_back self.new ≡ held_back self.old + n) }
@@ -255,11 +260,13 @@ impl Reader {
             IfOk result (λ t. HasRead (w ++ option_to_list t.what) (bytes ++ take t.used piece.now) self.new) }
         ensures fault { (w : List Record) (bytes : List ℕ) → HasRead w bytes self.old →
             IfErr result (λ f. IsBadLine self.old.limit (bytes ++ piece.now) f) }
+        ensures line { self.old.fault ≡ None → IfErr result (λ f. f.line ≤ self.old.count + 2) }
         ensures kept { IfErr result (λ f. self.new.fault ≡ Some f) }
         ensures held_back { IfOk result (λ t. t.what ≡ None → held_back self.new ≡ held_back self.old + t.used) }
         ensures short { length self.new.rest ≤ 26 }
         ensures limit { self.new.limit ≡ self.old.limit }
         ensures count { IfOk result (λ t. self.new.count ≡ self.old.count + length (option_to_list t.what)) }
+        ensures fault_count { IfErr result (λ _. self.new.count ≡ self.old.count) }
         ensures most { self.new.count ≤ 2 ^ 48 }
     {
         let line = self.count + 2;
@@ -303,7 +310,7 @@ impl Reader {
         ensures truncated { (w : List Record) (bytes : List ℕ) → HasRead w bytes self.old →
             IfErr result (IsTruncated self.old.limit bytes) }
         ensures unchanged { OnOk result (self.new ≡ self.old) }
-        ensures kept { IfErr result (λ f. self.new.fault ≡ Some f) }
+        ensures kept { IfErr result (λ f. self.new ≡ record self.old { fault = Some f }) }
         ensures again { IfSome self.old.fault (λ f. (result ≡ Err f) × (self.new ≡ self.old)) }
         ensures limit { self.new.limit ≡ self.old.limit }
     {

@@ -64,39 +64,148 @@ fn first_faults(rt: HostRuntime) {
     let most = 1 << 48;
     let rows: [(&[u8], u64, u32, Result<u64, Fault>); 30] = [
         (b"trace 1\nreturn\n", most, 9, Ok(1)),
-        (b"trace 1\r\nreturn\n", most, 9, Err(text(1, TextKind::Header))),
-        (b"trace 01\nreturn\n", most, 9, Err(text(1, TextKind::Header))),
-        (b"trace 2\nreturn\n", most, 9, Err(text(1, TextKind::Header))),
+        (
+            b"trace 1\r\nreturn\n",
+            most,
+            9,
+            Err(text(1, TextKind::Header)),
+        ),
+        (
+            b"trace 01\nreturn\n",
+            most,
+            9,
+            Err(text(1, TextKind::Header)),
+        ),
+        (
+            b"trace 2\nreturn\n",
+            most,
+            9,
+            Err(text(1, TextKind::Header)),
+        ),
         (b"trace 1", most, 9, Err(text(1, TextKind::Truncated))),
-        (b"trace 1\n\nreturn\n", most, 9, Err(text(2, TextKind::Line))),
-        (b"trace 1\nread  1\nreturn\n", most, 9, Err(text(2, TextKind::Line))),
+        (
+            b"trace 1\n\nreturn\n",
+            most,
+            9,
+            Err(text(2, TextKind::Line)),
+        ),
+        (
+            b"trace 1\nread  1\nreturn\n",
+            most,
+            9,
+            Err(text(2, TextKind::Line)),
+        ),
         (b"trace 1\nspawn \n", most, 9, Err(text(2, TextKind::Line))),
         (b"trace 1\nread -1\n", most, 9, Err(text(2, TextKind::Line))),
         (b"trace 1\nread\n", most, 9, Err(text(2, TextKind::Line))),
-        (b"trace 1\ncall\nreturn\n", most, 9, Err(text(2, TextKind::Line))),
-        (b"trace 1\nreturn\nreturn", most, 9, Err(text(3, TextKind::Truncated))),
-        (b"trace 1\nreturn\nreturn\n", most, 9, Err(nest(2, NestKind::AfterEnd))),
-        (b"trace 1\nreturn\nx\n", most, 9, Err(text(3, TextKind::Line))),
-        (b"trace 1\nspawn\nwrite 5\nreturn\nwrite 5\nreturn\n", most, 9, Ok(5)),
-        (b"trace 1\nwrite 18446744073709551615\nreturn\n", most, 9, Ok(2)),
-        (b"trace 1\nwrite 18446744073709551616\nreturn\n", most, 9, Err(text(2, TextKind::Line))),
-        (b"trace 1\nread 0\nread 1844674407370955161\nread 10\nreturn\n", most, 9, Ok(4)),
+        (
+            b"trace 1\ncall\nreturn\n",
+            most,
+            9,
+            Err(text(2, TextKind::Line)),
+        ),
+        (
+            b"trace 1\nreturn\nreturn",
+            most,
+            9,
+            Err(text(3, TextKind::Truncated)),
+        ),
+        (
+            b"trace 1\nreturn\nreturn\n",
+            most,
+            9,
+            Err(nest(2, NestKind::AfterEnd)),
+        ),
+        (
+            b"trace 1\nreturn\nx\n",
+            most,
+            9,
+            Err(text(3, TextKind::Line)),
+        ),
+        (
+            b"trace 1\nspawn\nwrite 5\nreturn\nwrite 5\nreturn\n",
+            most,
+            9,
+            Ok(5),
+        ),
+        (
+            b"trace 1\nwrite 18446744073709551615\nreturn\n",
+            most,
+            9,
+            Ok(2),
+        ),
+        (
+            b"trace 1\nwrite 18446744073709551616\nreturn\n",
+            most,
+            9,
+            Err(text(2, TextKind::Line)),
+        ),
+        (
+            b"trace 1\nread 0\nread 1844674407370955161\nread 10\nreturn\n",
+            most,
+            9,
+            Ok(4),
+        ),
         (b"", most, 9, Err(text(1, TextKind::Truncated))),
         (b"trace 1\n", most, 9, Err(nest(1, NestKind::Unfinished))),
-        (b"trace 1\nreturn\nread 1\n", most, 9, Err(nest(2, NestKind::AfterEnd))),
-        (b"trace 1\nread 01\nreturn\n", most, 9, Err(text(2, TextKind::Line))),
-        (b"trace 1\nreturn", most, 9, Err(text(2, TextKind::Truncated))),
-        (b"trace 1\nspawn\nspawn\n", most, 1, Err(nest(2, NestKind::TooDeep))),
-        (b"trace 1\nreturn\nreturn\n", 1, 9, Err(text(3, TextKind::TooMany))),
-        (b"trace 1\nreturn\nretur\n", 1, 9, Err(text(3, TextKind::Line))),
-        (b"trace 1\naaaaaaaaaaaaaaaaaaaaaaaaaaa", most, 9, Err(text(2, TextKind::Line))),
-        (b"trace 1\naaaaaaaaaaaaaaaaaaaaaaaaaa", most, 9, Err(text(2, TextKind::Truncated))),
+        (
+            b"trace 1\nreturn\nread 1\n",
+            most,
+            9,
+            Err(nest(2, NestKind::AfterEnd)),
+        ),
+        (
+            b"trace 1\nread 01\nreturn\n",
+            most,
+            9,
+            Err(text(2, TextKind::Line)),
+        ),
+        (
+            b"trace 1\nreturn",
+            most,
+            9,
+            Err(text(2, TextKind::Truncated)),
+        ),
+        (
+            b"trace 1\nspawn\nspawn\n",
+            most,
+            1,
+            Err(nest(2, NestKind::TooDeep)),
+        ),
+        (
+            b"trace 1\nreturn\nreturn\n",
+            1,
+            9,
+            Err(text(3, TextKind::TooMany)),
+        ),
+        (
+            b"trace 1\nreturn\nretur\n",
+            1,
+            9,
+            Err(text(3, TextKind::Line)),
+        ),
+        (
+            b"trace 1\naaaaaaaaaaaaaaaaaaaaaaaaaaa",
+            most,
+            9,
+            Err(text(2, TextKind::Line)),
+        ),
+        (
+            b"trace 1\naaaaaaaaaaaaaaaaaaaaaaaaaa",
+            most,
+            9,
+            Err(text(2, TextKind::Truncated)),
+        ),
         (b"trace 1\nspawn\r\n", most, 9, Err(text(2, TextKind::Line))),
         (b"trace 1\n\xff\n", most, 9, Err(text(2, TextKind::Line))),
     ];
     for (bytes, records, depth, answer) in rows {
         for size in [1, 2, 7, 4096] {
-            assert_eq!(rt; read_all(bytes, size, records, depth), answer, "{bytes:?} by {size}");
+            assert_eq!(rt;
+                read_all(bytes, size, records, depth),
+                answer,
+                "{bytes:?} by {size}"
+            );
         }
     }
 }

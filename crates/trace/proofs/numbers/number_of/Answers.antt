@@ -21,7 +21,7 @@ loop-byte-preserved c =
     let i = c.loop-byte.invariant in
     let range : IsInRange 48 57 (get_or c.args.bytes.now c.loop-byte.byte-index 0) = c.if-not-is_ascii_digit.ensures.cases in
     let more : AllDigits 10 (take (c.loop-byte.byte-index + 1) c.args.bytes.now) × (digits_value 10 (take (c.loop-byte.byte-index + 1) c.args.bytes.now) ≡ c.loop-byte.value * 10 + (get_or c.args.bytes.now c.loop-byte.byte-index 0 - 48)) =
-      one_more_digit _ _ _ c.loop-byte-test.true i.digits i.value range in
+    one_more_digit _ _ _ c.loop-byte-test.true i.digits i.value range in
     record {
       counted = omega arith;
       room = omega arith;

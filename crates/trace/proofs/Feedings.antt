@@ -1,0 +1,153 @@
+-- What each step of a feed leaves of `HasFed`, and that the fault that it meets is the first.
+use Rattle.std.proofs.Common.{◌≡◌, ◌≢◌, ℕ, zero, suc, ◌+◌, ◌-◌, ◌<◌, ◌≤◌, Bool, true, false, List, [], ◌∷◌, ◌++◌, length, take, drop, Option, Some, None, ◌⊎◌, inl, inr, arith, refl, sym, ◌∙◌, ap, subst, append_assoc, length-append}
+use Rattle.std.specs.Option.{option_to_list}
+use Rattle.std.specs.Io.KnownBytes.{Consumes, IsAtEnd, Keeps}
+use Rattle.std.proofs.lemmas.List.{append-nil, take-append-drop, drop-take, drop-drop}
+use Rattle.trace.specs.declared.records.Record.{Record}
+use Rattle.trace.specs.declared.faults.TextFault.{TextFault}
+use Rattle.trace.specs.declared.faults.NestFault.{NestFault}
+use Rattle.trace.specs.declared.faults.NestKind.{NestKind}
+use Rattle.trace.specs.declared.faults.NestKind.TheVariants.{Unfinished}
+use Rattle.trace.specs.declared.faults.Fault.{Fault}
+use Rattle.trace.specs.declared.faults.Fault.TheVariants.{Text, Nest}
+use Rattle.trace.specs.declared.feeding.Ending.TheVariants.{Running}
+use Rattle.trace.specs.Text.{Fits, AllFit, line, text, IsOpen}
+use Rattle.trace.specs.Faults.{HasEnded, IsMisplaced, AreNested, IsBadLine, IsBadPlace, bad_place, IsTruncated, IsFirstFault, IsFaultOfAll, truncated, unfinished}
+use Rattle.trace.specs.Faults as faults
+use Rattle.trace.specs.Reading.{Reading, AreBytes, HasRead}
+use Rattle.trace.specs.Nesting.{Nesting, HasNested}
+use Rattle.trace.specs.Feeding.{Feeding, HasUsed, HasFed}
+use Rattle.trace.proofs.Texts.{text-push}
+use Rattle.trace.proofs.Readability.{bad_line_after, bad_place_after, no_first_fault, no_first_fault_first}
+
+-- more bytes come
+pub fed_more : (w : List Record) (bytes came : List ℕ) (s : Feeding) → HasFed w bytes s → HasFed w (bytes ++ came) (record s { coming = s.coming ++ came })
+fed_more w bytes came s h =
+    record {
+      has_used = record {
+        used = h.has_used.used;
+        bytes_are = ap (λ x. x ++ came) h.has_used.bytes_are ∙ append_assoc h.has_used.used s.coming came;
+        has_read = h.has_used.has_read;
+      };
+      has_nested = h.has_nested;
+      running = h.running;
+    }
+
+pub fits_front : (w : List Record) (r : Record) → AllFit (w ++ r ∷ []) → AllFit w × Fits r
+fits_front [] r all = (tt, all.0)
+fits_front (x ∷ w) r all = let rest = fits_front w r all.1 in ((all.0, rest.0), rest.1)
+
+-- bytes that a reader has used without a fault, whose records are not misplaced, hold no first fault
+pub no_fault_yet : (w : List Record) (bytes : List ℕ) (s : Reading) (n : Nesting) → HasRead w bytes s → HasNested w n → (g : Fault) → IsFirstFault s.limit n.max_depth bytes g → ⊥
+no_fault_yet w bytes s n h k g fault = go s.begun h.bytes_are
+  where
+    go : (b : Bool) → AreBytes b w s.rest bytes → ⊥
+    go true e = let P : List ℕ → Type 0 = λ x. IsFirstFault s.limit n.max_depth x g in no_first_fault s.limit n.max_depth w s.rest g h.fits h.within k.nested h.unfinished (subst P e fault)
+    go false e = let P : List ℕ → Type 0 = λ x. IsFirstFault s.limit n.max_depth x g in no_first_fault_first s.limit n.max_depth s.rest g h.unfinished (subst P e.1 fault)
+
+place_from_one : (depths : ℕ) (bytes : List ℕ) (n : NestFault) → IsBadPlace depths bytes n → 1 ≤ n.place
+place_from_one depths bytes n (bad_place u r more k a b c d e) = omega arith
+
+-- a bad line that is the next of the reader's is the first fault
+pub first_line_fault : (w : List Record) (bytes : List ℕ) (s : Feeding) → HasUsed w bytes s → HasNested w s.nesting → (f : TextFault) → IsBadLine s.reading.limit bytes f → f.line ≤ length w + 2 → IsFirstFault s.reading.limit s.nesting.max_depth bytes (Text f)
+first_line_fault w bytes s u k f bad le = faults.bad_line f bad (λ n p. after n p s.reading.begun u.has_read.bytes_are)
+  where
+    after : (n : NestFault) → IsBadPlace s.nesting.max_depth bytes n → (b : Bool) → AreBytes b w s.reading.rest u.used → f.line ≤ n.place + 1
+    after n p true e =
+        let P : List ℕ → Type 0 = λ x. IsBadPlace s.nesting.max_depth x n in
+        let is : bytes ≡ text w ++ (s.reading.rest ++ s.coming) = u.bytes_are ∙ ap (λ x. x ++ s.coming) e ∙ append_assoc (text w) _ _ in
+        omega (arith, le, bad_place_after s.nesting.max_depth w (s.reading.rest ++ s.coming) n u.has_read.fits k.nested (subst P is p))
+    after n p false e = let none : length w ≡ 0 = ap length e.0 in omega (arith, le, place_from_one _ _ n p)
+
+-- a record that is misplaced behind the records before it is the first fault
+pub first_place_fault : (w : List Record) (r : Record) (bytes : List ℕ) (s : Feeding) → HasUsed (w ++ r ∷ []) bytes s → HasNested w s.nesting → (k : NestKind) → IsMisplaced s.nesting.max_depth w r k
+    → IsFirstFault s.reading.limit s.nesting.max_depth bytes (Nest (record { place = length w + 1; kind = k }))
+first_place_fault w r bytes s u nested k misplaced = go s.reading.begun u.has_read.bytes_are
+  where
+    fault : NestFault
+    fault = record { place = length w + 1; kind = k }
+
+    rest : List ℕ
+    rest = s.reading.rest ++ s.coming
+
+    go : (b : Bool) → AreBytes b (w ++ r ∷ []) s.reading.rest u.used → IsFirstFault s.reading.limit s.nesting.max_depth bytes (Nest (record { place = length w + 1; kind = k }))
+    go false e = absurd (let n : length (w ++ r ∷ []) ≡ 0 = ap length e.0 in omega (arith, length-append w (r ∷ [])))
+    go true e =
+        let whole : bytes ≡ text (w ++ r ∷ []) ++ (s.reading.rest ++ s.coming) = u.bytes_are ∙ ap (λ x. x ++ s.coming) e ∙ append_assoc (text (w ++ r ∷ [])) _ _ in
+        let split : bytes ≡ text w ++ (line r ++ (s.reading.rest ++ s.coming)) = whole ∙ ap (λ x. x ++ (s.reading.rest ++ s.coming)) (text-push w r) ∙ append_assoc (text w) (line r) _ in
+        let fits = fits_front w r u.has_read.fits in
+        let P : TextFault → List ℕ → Type 0 = λ f x. IsBadLine s.reading.limit x f in
+        faults.bad_place (record { place = length w + 1; kind = k }) (bad_place w r _ k fits.0 fits.1 split nested.nested misplaced)
+        (λ f bad. omega (arith, length-append w (r ∷ []), bad_line_after s.reading.limit (w ++ r ∷ []) (s.reading.rest ++ s.coming) f u.has_read.fits u.has_read.within (subst (P f) whole bad)))
+
+-- at the end of the bytes
+pub fault_of_rest : (w : List Record) (bytes : List ℕ) (s : Reading) (n : Nesting) → HasRead w bytes s → HasNested w n → (f : TextFault) → IsTruncated s.limit bytes f → IsFaultOfAll s.limit n.max_depth bytes (Text f)
+fault_of_rest w bytes s n h k f t = truncated f t (no_fault_yet w bytes s n h k)
+
+pub fault_of_end : (w : List Record) (bytes : List ℕ) (s : Reading) (n : Nesting) → HasRead w bytes s → HasNested w n → bytes ≡ text w → (HasEnded w → ⊥) → IsFaultOfAll s.limit n.max_depth bytes (Nest (record { place = n.count + 1; kind = Unfinished }))
+fault_of_end w bytes s n h k e running =
+    let P : ℕ → Type 0 = λ c. IsFaultOfAll s.limit n.max_depth bytes (Nest (record { place = c + 1; kind = Unfinished })) in
+    subst P (sym k.count_is) (unfinished w h.fits h.within e k.nested running)
+
+-- nothing comes
+pub consumes_none : (o : Option (List ℕ)) → Consumes o o []
+consumes_none None = tt
+consumes_none (Some xs) = refl
+
+pub consumes_kept : (o n : Option (List ℕ)) → Keeps o n → Consumes o n []
+consumes_kept None n k = tt
+consumes_kept (Some xs) None k = absurd k
+consumes_kept (Some xs) (Some ys) k = sym k
+
+pub consumes_more : (o m n : Option (List ℕ)) (xs ys : List ℕ) → Consumes o m xs → Consumes m n ys → Consumes o n (xs ++ ys)
+consumes_more None m n xs ys a b = tt
+consumes_more (Some os) None n xs ys a b = absurd a
+consumes_more (Some os) (Some ms) None xs ys a b = absurd b
+consumes_more (Some os) (Some ms) (Some ns) xs ys a b = a ∙ ap (λ z. xs ++ z) b ∙ sym (append_assoc xs ys ns)
+
+-- what is left of a window behind its first n elements
+pub window_split : (buffer : List ℕ) (start end n : ℕ) → n ≤ end - start → take (end - start) (drop start buffer) ≡ take n (take (end - start) (drop start buffer)) ++ take (end - (start + n)) (drop (start + n) buffer)
+window_split buffer start end n h =
+    sym (take-append-drop n window) ∙ ap (λ x. take n window ++ x) rest
+  where
+    window : List ℕ
+    window = take (end - start) (drop start buffer)
+
+    rest : drop n (take (end - start) (drop start buffer)) ≡ take (end - (start + n)) (drop (start + n) buffer)
+    rest =
+        let m : end - start ≡ n + (end - (start + n)) = omega arith in
+        ap (λ x. drop n (take x (drop start buffer))) m ∙ drop-take n (end - (start + n)) (drop start buffer) ∙ ap (take (end - (start + n))) (drop-drop n start buffer ∙ ap (λ x. drop x buffer) (omega arith))
+
+-- the reader has used the first n bytes that have come
+pub used_more : (w : List Record) (bytes : List ℕ) (s t : Feeding) (u : HasUsed w bytes s) (v : List Record) (n : ℕ) → HasRead v (u.used ++ take n s.coming) t.reading → s.coming ≡ take n s.coming ++ t.coming → HasUsed v bytes t
+used_more w bytes s t u v n read split =
+    record {
+      used = u.used ++ take n s.coming;
+      bytes_are = u.bytes_are ∙ ap (λ x. u.used ++ x) split ∙ sym (append_assoc u.used (take n s.coming) t.coming);
+      has_read = read;
+    }
+
+pub first_place_fault_at : (w : List Record) (r : Record) (bytes : List ℕ) (s : Feeding) → HasUsed (w ++ r ∷ []) bytes s → HasNested w s.nesting → (f : NestFault) → f.place ≡ s.nesting.count + 1 → IsMisplaced s.nesting.max_depth w r f.kind → IsFirstFault s.reading.limit s.nesting.max_depth bytes (Nest f)
+first_place_fault_at w r bytes s u nested f place misplaced =
+    let P : ℕ → Type 0 = λ p. IsFirstFault s.reading.limit s.nesting.max_depth bytes (Nest (record { place = p; kind = f.kind })) in
+    let e : length w + 1 ≡ f.place = omega (arith, place, nested.count_is) in
+    subst P e (first_place_fault w r bytes s u nested f.kind misplaced)
+
+-- where all bytes that have come were used
+pub read_all : (w : List Record) (bytes : List ℕ) (s : Feeding) → HasFed w bytes s → s.coming ≡ [] → HasRead w bytes s.reading
+read_all w bytes s h nothing =
+    let e : h.has_used.used ≡ bytes = sym (h.has_used.bytes_are ∙ ap (λ x. h.has_used.used ++ x) nothing ∙ append-nil _) in
+    let P : List ℕ → Type 0 = λ b. HasRead w b s.reading in
+    subst P e h.has_used.has_read
+
+-- bytes have come in two steps
+pub filled : (o m n : Option (List ℕ)) (w : List Record) (bytes : List ℕ) (s t : Feeding) → (came : List ℕ) × Consumes o m came × HasFed w (bytes ++ came) s → (came : List ℕ) × Consumes m n came × (t ≡ record s { coming = s.coming ++ came })
+    → (came : List ℕ) × Consumes o n came × HasFed w (bytes ++ came) t
+filled o m n w bytes s t (a, ca, fed) (b, cb, is) =
+    let P : Feeding → Type 0 = λ x. HasFed w ((bytes ++ a) ++ b) x in
+    let Q : List ℕ → Type 0 = λ x. HasFed w x t in
+    (a ++ b, consumes_more o m n a b ca cb, subst Q (append_assoc bytes a b) (subst P (sym is) (fed_more w (bytes ++ a) b s fed)))
+
+-- the limits are the same
+pub at_limits : (P : ℕ → ℕ → Type 0) (a b c d : ℕ) → a ≡ b → c ≡ d → P a c → P b d
+at_limits P a b c d e f p = let Q : ℕ → Type 0 = λ x. P x d in subst Q e (subst (P a) f p)

@@ -1,0 +1,64 @@
+-- What a feed has read of its source, and what its answers say.
+use Rattle.std.specs.Prelude.{◌≡◌, ℕ, ◌+◌, Bool, List, [], ◌∷◌, ◌++◌, length, Option, Some, None, Result, Ok, Err, ◌⊎◌}
+use Rattle.std.specs.Io.KnownBytes.{Consumes, IsAtEnd}
+use Rattle.trace.specs.declared.records.Record.{Record}
+use Rattle.trace.specs.declared.records.Placed.{Placed}
+use Rattle.trace.specs.declared.faults.Fault.{Fault}
+use Rattle.trace.specs.declared.faults.Fault.TheVariants as faults
+use Rattle.trace.specs.declared.feeding.Ending.{Ending}
+use Rattle.trace.specs.declared.feeding.Ending.TheVariants.{Running, Good, Bad}
+use Rattle.trace.specs.Traces.{IsWellNested}
+use Rattle.trace.specs.Text.{text, AllFit}
+use Rattle.trace.specs.Faults.{IsFirstFault, IsFaultOfAll}
+use Rattle.trace.specs.Devices.{HasRisen}
+use Rattle.trace.specs.Reading.{Reading, at_first_byte, HasRead}
+use Rattle.trace.specs.Nesting.{Nesting, at_first_place, HasNested}
+
+-- a feed: its reader and its nest, the bytes that have come and aren't used yet, and how it has ended
+pub record Feeding : Type 0 where
+  pub reading : Reading
+  pub nesting : Nesting
+  pub coming : List ℕ
+  pub ending : Ending
+
+abbrev pub before_all : ℕ → ℕ → Feeding
+before_all records depths = record { reading = at_first_byte records; nesting = at_first_place depths; coming = []; ending = Running }
+
+-- of the bytes that have come those in front were used, and gave the records w
+pub record HasUsed (w : List Record) (bytes : List ℕ) (s : Feeding) : Type 0 where
+  pub used : List ℕ
+  pub bytes_are : bytes ≡ used ++ s.coming
+  pub has_read : HasRead w used s.reading
+
+-- from these bytes the feed has given the records w, and it hasn't ended
+pub record HasFed (w : List Record) (bytes : List ℕ) (s : Feeding) : Type 0 where
+  pub has_used : HasUsed w bytes s
+  pub has_nested : HasNested w s.nesting
+  pub running : s.ending ≡ Running
+
+-- a fault of the text or the nesting is the first fault of the bytes so far, or at the end of the input
+-- that of all bytes
+abbrev pub IsFaultThen : ℕ → ℕ → List ℕ → Option (List ℕ) → Fault → Type 0
+IsFaultThen records depths bytes rest f = IsFirstFault records depths bytes f ⊎ (IsAtEnd rest × IsFaultOfAll records depths bytes f)
+
+-- What a fault says of the bytes that have come, of what the source has left, and of its count of failures.
+-- `Read` comes only where the source failed, and the bytes before that hold no fault.
+abbrev pub IsFaultFed : ℕ → ℕ → List ℕ → Option (List ℕ) → ℕ → ℕ → Fault → Type 0
+IsFaultFed records depths bytes rest before after (faults.Text f) = IsFaultThen records depths bytes rest (faults.Text f) × (after ≡ before)
+IsFaultFed records depths bytes rest before after (faults.Nest f) = IsFaultThen records depths bytes rest (faults.Nest f) × (after ≡ before)
+IsFaultFed records depths bytes rest before after faults.Read = ((g : Fault) → IsFirstFault records depths bytes g → ⊥) × HasRisen before after
+IsFaultFed records depths bytes rest before after faults.NoMemory = ⊥
+IsFaultFed records depths bytes rest before after faults.NoThread = ⊥
+
+-- the end of the input: the bytes are the text of w, and w is well nested within the limits
+pub record IsWhole (records depths : ℕ) (w : List Record) (bytes : List ℕ) (rest : Option (List ℕ)) : Type 0 where
+  pub at_end : IsAtEnd rest
+  pub bytes_are : bytes ≡ text w
+  pub fits : AllFit w
+  pub well_nested : IsWellNested w records depths
+
+-- What a feed's answer says that had given the records w: the next record in its place, the end, or a fault.
+abbrev pub IsFed : ℕ → ℕ → List Record → List ℕ → Option (List ℕ) → ℕ → ℕ → Feeding → Result (Option Placed) Fault → Type 0
+IsFed records depths w bytes rest before after new (Ok (Some p)) = (p.place ≡ length w + 1) × HasFed (w ++ p.what ∷ []) bytes new × (after ≡ before)
+IsFed records depths w bytes rest before after new (Ok None) = IsWhole records depths w bytes rest × (new.ending ≡ Good) × (after ≡ before)
+IsFed records depths w bytes rest before after new (Err f) = IsFaultFed records depths bytes rest before after f × (new.ending ≡ Bad f)
