@@ -4,3 +4,4 @@ pub mod Readings
 pub mod Fronts
 pub mod Places
 pub mod Nestings
+pub mod Readability
