@@ -5,3 +5,4 @@ pub mod Fronts
 pub mod Places
 pub mod Nestings
 pub mod Feedings
+pub mod Readability
