@@ -24,7 +24,7 @@ IsRead w l i = IsAccess w l i Read
 abbrev pub IsWrite : List Record → ℕ → ℕ → Type 0
 IsWrite w l i = IsAccess w l i Write
 
--- some location is accessed at place i
+-- a place at which some location is accessed
 abbrev pub IsAccessPlace : List Record → ℕ → Type 0
 IsAccessPlace w i = (l : ℕ) × (IsRead w l i ⊎ IsWrite w l i)
 
