@@ -10,10 +10,10 @@ use Rattle.trace.specs.Dag.{JoinsAt, Leads, IsParallel}
 use Rattle.trace.specs.Races.{IsAccessPlace}
 use Rattle.trace.proofs.World.{World, Shape, Step, joins, Pending}
 use Rattle.trace.proofs.Traced.{traced, shape_of, shape_at, has_record, step_at, shape-joins}
-use Rattle.trace.proofs.Paths.{pending-parallel, parallel-pending, access-place, some-place, leads_or_parallel}
+use Rattle.trace.proofs.Paths.{pending-parallel, parallel-pending, access-place, access-not_joins, some-place, leads_or_parallel}
 use Rattle.bags.specs.Procedures.{Active, Procedures, event, bags_from, bags_after, in_p, current, procedure_at}
 use Rattle.bags.specs.Paths.{TellsPaths, IsCompletedAt}
-use Rattle.bags.proofs.Standing.{Kept, Serial, kept-pending, serial-not_pending}
+use Rattle.trace.proofs.Standing.{Kept, Serial, kept-pending, serial-not_pending}
 use Rattle.bags.proofs.Stack.{Stands, AllStand, none, one_more, somewhere, Invariant, at_start, at_access, at_sync, at_return, at_spawn}
 
 -- the bags after one record more
@@ -103,12 +103,6 @@ in_p-parallel_at w h i t a l b n = (λ q. forth q, λ q. back q)
           let z = somewhere-serial (traced w h) (procedure_at w) (suc t) t _ _ i a.0 (omega arith) inv.each (inv.stand i a.0 (omega arith)) y in
           serial-not_pending (traced w h) t z.0 i p.0 a.0 b.1 z.1 p.1)
       ]
-
-access-not_joins : (w : List Record) (i : ℕ) → IsAccessPlace w i → JoinsAt w i → ⊥
-access-not_joins w i (l, inl e) (inl q) = cc
-access-not_joins w i (l, inl e) (inr q) = cc
-access-not_joins w i (l, inr e) (inl q) = cc
-access-not_joins w i (l, inr e) (inr q) = cc
 
 pub in_p-parallel : (w : List Record) {n d : ℕ} → IsWellNested w n d → (i t : ℕ) → IsPlace w i → i ≤ t → IsAccessPlace w (suc t) → (in_p (bags_after (take t (placed w))).active (procedure_at w i) ≡ true) ↔ IsParallel w i (suc t)
 in_p-parallel w h i t a l c = in_p-parallel_at w h i t a l (access-place w (suc t) c) (access-not_joins w (suc t) c)

@@ -8,7 +8,7 @@ use Rattle.std.specs.Ordering.{nat_cmp}
 use Rattle.std.specs.FinSet as set
 use Rattle.trace.proofs.World.{World, Shape, sync, spawned_return, called_return, joins, returns, up, leaves_by, spawned-returns}
 use Rattle.bags.specs.Procedures.{Bag, Active, Procedures, opened, synced, takes_in, after_sync, after_return, event, in_p, current}
-use Rattle.bags.proofs.Standing.{Kept, Serial, kept_stays, serial_stays, kept-above, kept_synced, returned, serial_now, own-serial, own-kept}
+use Rattle.trace.proofs.Standing.{Kept, Serial, kept_stays, serial_stays, kept-above, kept_synced, returned, serial_now, own-serial, own-kept}
 
 -- an active procedure at level d, for the places up to m; places are executed by the procedures `proc`
 pub record Stands (v : World) (proc : ℕ → ℕ) (m t count d : ℕ) (f : Active) : Type 0 where

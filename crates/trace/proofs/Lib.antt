@@ -1,3 +1,5 @@
 pub mod World
 pub mod Traced
 pub mod Paths
+pub mod Standing
+pub mod Meetings

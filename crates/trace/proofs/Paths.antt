@@ -3,7 +3,7 @@
 use Rattle.std.proofs.Common.{◌≡◌, ℕ, zero, suc, ◌<◌, ◌≤◌, List, Option, Some, ◌⊎◌, inl, inr, ap, arith}
 use Rattle.trace.specs.declared.records.Record.{Record}
 use Rattle.trace.specs.Traces.{at, IsPlace, IsWellNested}
-use Rattle.trace.specs.Dag.{Leads, IsParallel, IsInPart, OneWayOut}
+use Rattle.trace.specs.Dag.{JoinsAt, Leads, IsParallel, IsInPart, OneWayOut}
 use Rattle.trace.specs.Races.{IsAccessPlace, access}
 use Rattle.trace.specs.declared.records.Kind.TheVariants.{Read, Write}
 use Rattle.std.proofs.lemmas.Option.{slice_get_within}
@@ -55,6 +55,12 @@ some-place w (suc i) r e = (omega arith, slice_get_within w i r e)
 pub access-place : (w : List Record) (i : ℕ) → IsAccessPlace w i → IsPlace w i
 access-place w i (l, inl e) = some-place w i (access Read l) e
 access-place w i (l, inr e) = some-place w i (access Write l) e
+
+pub access-not_joins : (w : List Record) (i : ℕ) → IsAccessPlace w i → JoinsAt w i → ⊥
+access-not_joins w i (l, inl e) (inl q) = cc
+access-not_joins w i (l, inl e) (inr q) = cc
+access-not_joins w i (l, inr e) (inl q) = cc
+access-not_joins w i (l, inr e) (inr q) = cc
 
 pub parallel_through : (w : List Record) {n d : ℕ} → IsWellNested w n d → (i j k : ℕ) → i < j → j < k → IsAccessPlace w i → IsAccessPlace w j → IsAccessPlace w k → IsParallel w i j → IsParallel w j k → IsParallel w i k
 parallel_through w h i j k l m a b c p q = parallel_places_through w h i j k l m (access-place w i a) (access-place w k c) p q

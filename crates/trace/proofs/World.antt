@@ -124,6 +124,14 @@ step_rise call a b e h = refl
 step_rise spawned_return a b e h = absurd (omega arith)
 step_rise called_return a b e h = absurd (omega arith)
 
+pub step_rise_opens : (s : Shape) (a b : ℕ) → Step s a b → a < b → opens s ≡ true
+step_rise_opens access a b e h = absurd (omega arith)
+step_rise_opens sync a b e h = absurd (omega arith)
+step_rise_opens spawn a b e h = refl
+step_rise_opens call a b e h = refl
+step_rise_opens spawned_return a b e h = absurd (omega arith)
+step_rise_opens called_return a b e h = absurd (omega arith)
+
 pub returns-joins : (s : Shape) → returns s ≡ true → joins s ≡ true
 returns-joins access h = absurd (cc)
 returns-joins sync h = refl
@@ -157,6 +165,9 @@ leaves_by v i a b h = step_return (v.shape i) _ _ (v.step i a b) h
 
 pub rises : (v : World) (i : ℕ) → 1 ≤ i → i < v.size → v.depth i < v.depth (suc i) → returns (v.shape i) ≡ false
 rises v i a b h = step_rise (v.shape i) _ _ (v.step i a b) h
+
+pub rises_opens : (v : World) (i : ℕ) → 1 ≤ i → i < v.size → v.depth i < v.depth (suc i) → opens (v.shape i) ≡ true
+rises_opens v i a b h = step_rise_opens (v.shape i) _ _ (v.step i a b) h
 
 -- the return by which a procedure at depth m + 1 is left
 pub record Leaves (v : World) (m i j r : ℕ) : Type 0 where

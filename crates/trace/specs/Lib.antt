@@ -4,5 +4,6 @@ pub mod Text
 pub mod Faults
 pub mod Dag
 pub mod Races
+pub mod Meeting
 pub mod Shares
 pub mod Devices

@@ -3,6 +3,7 @@
 
 pub mod devices;
 pub mod faults;
+pub mod laws;
 pub mod records;
 
 pub use devices::{Counted, Failed, Sink, Source};
