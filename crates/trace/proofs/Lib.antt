@@ -3,3 +3,4 @@ pub mod Traced
 pub mod Paths
 pub mod Standing
 pub mod Meetings
+pub mod Walks
