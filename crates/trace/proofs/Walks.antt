@@ -1,7 +1,9 @@
 -- A walk from a place on: it knows how far it is above the least depth since, and whether a child that
 -- returned to that depth is still pending.
-use Rattle.std.proofs.Common.{◌≡◌, ℕ, zero, suc, ◌+◌, ◌-◌, ◌<◌, ◌≤◌, ◌↔◌, Bool, true, false, List, length, slice_get, Option, Some, ◌⊎◌, inl, inr, refl, sym, ◌∙◌, subst, ap, arith}
+use Rattle.std.proofs.Common.{◌≡◌, ℕ, zero, suc, ◌+◌, ◌-◌, ◌<◌, ◌≤◌, ◌↔◌, Bool, true, false, List, length, take, drop, get_or, slice_get, Option, Some, ◌⊎◌, inl, inr, refl, sym, ◌∙◌, subst, ap, arith, length-take, length-drop}
 use Rattle.std.proofs.lemmas.Bool.{cases_Bool, true≢false, false≢true}
+use Rattle.std.proofs.lemmas.List.{get_or-take, get_or-drop}
+use Rattle.std.proofs.lemmas.Option.{slice_get-get_or}
 use Rattle.trace.specs.declared.records.Record.{Record}
 use Rattle.trace.specs.declared.records.Record.TheVariants.{Spawn, Return, Sync, Read, Write}
 use Rattle.trace.specs.Traces.{at, depth, IsPlace, IsWellNested}
@@ -129,3 +131,42 @@ walk_end w i t above pending a l b s n d h j = (λ q. forth q, λ q. back q (cas
     back q (inr y) = absurd
         (let p = parallel-pending w h i (suc t) (a, omega arith) (omega arith, b) l q in
         serial-not_pending (traced w h) t k.least i p.0 a b (k.serial y) p.1)
+
+-- the same for a loop over the records from place i to the one before j, of which k are passed
+
+-- what the loop knows of the record that it comes to
+pub record Item (w : List Record) (t : ℕ) (r : Record) : Type 0 where
+  pub there : slice_get w t ≡ Some r
+  pub inside : suc (suc t) ≤ length w
+
+pub item_at : (w : List Record) (i j k : ℕ) (r d : Record) → 1 ≤ i → i < j → j ≤ length w → k < length (take (j - 1 - (i - 1)) (drop (i - 1) w))
+  → get_or (take (j - 1 - (i - 1)) (drop (i - 1) w)) k d ≡ r → Item w (i - 1 + k) r
+item_at w i j k r d a b c l e =
+    let u : length (take (j - 1 - (i - 1)) (drop (i - 1) w)) ≤ j - 1 - (i - 1) = omega (arith, length-take {A = Record}) in
+    let x : get_or (take (j - 1 - (i - 1)) (drop (i - 1) w)) k d ≡ get_or (drop (i - 1) w) k d = get_or-take (j - 1 - (i - 1)) (drop (i - 1) w) k d (omega arith) in
+    let y : get_or (drop (i - 1) w) k d ≡ get_or w (i - 1 + k) d = get_or-drop (i - 1) w k d in
+    let z : slice_get w (i - 1 + k) ≡ Some (get_or w (i - 1 + k) d) = slice_get-get_or w (i - 1 + k) d (omega arith) in
+    record {
+      there = z ∙ ap (λ (q : Record). Some q) (sym y ∙ (sym x ∙ e));
+      inside = omega arith
+    }
+
+pub walk_next : (w : List Record) (i k above more : ℕ) (pending later : Bool) → Walks w i (suc (i - 1 + k)) above pending → more ≡ above → later ≡ pending → Walks w i (i - 1 + (k + 1)) more later
+walk_next w i k above more pending later s e f =
+    let t : suc (i - 1 + k) ≡ i - 1 + (k + 1) = omega arith in
+    subst (λ (x : ℕ). Walks w i x more later) t
+      (subst (λ (y : ℕ). Walks w i (suc (i - 1 + k)) y later) (sym e)
+        (subst (λ (b : Bool). Walks w i (suc (i - 1 + k)) above b) (sym f) s))
+
+pub walk_first : (w : List Record) (i : ℕ) → 1 ≤ i → Walks w i (i - 1 + 0) 0 false
+walk_first w i a = walk_start w i (i - 1 + 0) (omega arith)
+
+pub walk_last : (w : List Record) (i j k above : ℕ) (pending : Bool) → 1 ≤ i → i < j → j ≤ length w
+  → k ≤ length (take (j - 1 - (i - 1)) (drop (i - 1) w)) → length (take (j - 1 - (i - 1)) (drop (i - 1) w)) ≤ k
+  → Walks w i (i - 1 + k) above pending
+  → (n d : ℕ) → IsWellNested w n d → (JoinsAt w j → ⊥) → (pending ≡ true) ↔ IsParallel w i j
+walk_last w i j k above pending a b c l m s n d h =
+    let u : length (take (j - 1 - (i - 1)) (drop (i - 1) w)) ≡ j - 1 - (i - 1) = omega (arith, length-take {A = Record}, length-drop {A = Record}) in
+    let e : suc (i - 1 + k) ≡ j = omega arith in
+    subst (λ (z : ℕ). (JoinsAt w z → ⊥) → (pending ≡ true) ↔ IsParallel w i z) e
+      (walk_end w i (i - 1 + k) above pending a (omega arith) (omega arith) s n d h)

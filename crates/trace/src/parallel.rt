@@ -21,10 +21,12 @@ pub fn is_parallel(records: &[Record], i: u64, j: u64) -> bool
     for record in walk {
         match record {
             Record::Spawn => above += 1,
-            Record::Return if above > 0 => above -= 1,
-            Record::Return => pending = true,
+            Record::Return if above == 0 => pending = true,
+            Record::Return => above -= 1,
             Record::Sync if above == 0 => pending = false,
-            Record::Sync | Record::Read(_) | Record::Write(_) => {}
+            Record::Sync => {}
+            Record::Read(_) => {}
+            Record::Write(_) => {}
         }
     }
     pending
