@@ -10,5 +10,4 @@ ghost use Rattle.trace.specs.Dag.{IsInPart, Leads};
 pub fn out()
     ensures one_way { (w : List Record) (records depths i r j : ℕ) → IsWellNested w records depths
         → IsPlace w i → IsPlace w j → IsInPart w i r → r < j → Leads w i j ↔ Leads w r j }
-{
-}
+{}

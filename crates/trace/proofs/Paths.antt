@@ -18,7 +18,7 @@ pub pending-parallel : (w : List Record) {n d : ℕ} (h : IsWellNested w n d) (i
 pending-parallel w h i j r l p = record {
   apart = λ e. omega arith;
   not_forth = λ q. sound (traced w h) i j r (leads-reach w h i j q) p;
-  not_back = λ q. (let b : j ≤ i = leads-le w j i q in omega arith)
+  not_back = λ q. (let b : j ≤ i = leads-le w j i q in omega arith);
 }
 
 pub parallel-pending : (w : List Record) {n d : ℕ} (h : IsWellNested w n d) (i j : ℕ) → IsPlace w i → IsPlace w j → i < j → IsParallel w i j → (r : ℕ) × Pending (traced w h) i j r
@@ -27,9 +27,9 @@ parallel-pending w h i j a b l p = not-reach (traced w h) i j a.0 (omega arith) 
 -- of two places a path leads, or they are parallel
 pub leads_or_parallel : (w : List Record) {n d : ℕ} → IsWellNested w n d → (i j : ℕ) → IsPlace w i → IsPlace w j → i < j → Leads w i j ⊎ IsParallel w i j
 leads_or_parallel w h i j a b l = elim (decided (traced w h) i j a.0 (omega arith) b.1) [
-    inl p ↦ inr (pending-parallel w h i j p.0 l p.1)
+  | inl p ↦ inr (pending-parallel w h i j p.0 l p.1)
   | inr q ↦ inl (reach-leads w h i j q)
-  ]
+]
 
 -- pseudotransitivity of places
 
@@ -74,6 +74,7 @@ pub in_part-within : (w : List Record) {n d : ℕ} (h : IsWellNested w n d) (i r
 in_part-within w h i r p = record { upto = p.upto; a_return = ap (λ (x : Option Record). returns (shape_of x)) p.a_return; inside = p.inside }
 
 pub one_way_out : (w : List Record) {n d : ℕ} → IsWellNested w n d → OneWayOut w
-one_way_out w h i r j a b p l =
-    ( (λ q. reach-leads w h r j (way_out (traced w h) i r j a.0 (omega arith) b.1 (in_part-within w h i r p) (leads-reach w h i j q)))
-    , (λ q. reach-leads w h i j (way_from (traced w h) i r j a.0 (omega (arith, b.1)) (in_part-within w h i r p) (leads-reach w h r j q))) )
+one_way_out w h i r j a b p l = (
+  (λ q. reach-leads w h r j (way_out (traced w h) i r j a.0 (omega arith) b.1 (in_part-within w h i r p) (leads-reach w h i j q))),
+  (λ q. reach-leads w h i j (way_from (traced w h) i r j a.0 (omega (arith, b.1)) (in_part-within w h i r p) (leads-reach w h r j q))),
+)

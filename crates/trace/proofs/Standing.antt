@@ -1,8 +1,8 @@
 -- Where a place stands once t records are done, at the level d of an active procedure: kept parallel by
 -- a child that returned and wasn't waited for, or serial to a place of that level.
-use Rattle.std.proofs.Common.{◌≡◌, ℕ, zero, suc, ◌+◌, ◌<◌, ◌≤◌, Bool, true, false, ◌⊎◌, inl, inr, refl, sym, ◌∙◌, subst, ap, arith}
+use Rattle.std.proofs.Common.{◌≡◌, ℕ, suc, ◌<◌, ◌≤◌, true, false, inl, inr, sym, subst, ap, arith}
 use Rattle.std.proofs.lemmas.Bool.{cases_lt, cases_eq}
-use Rattle.trace.proofs.World.{World, Shape, sync, spawned_return, called_return, joins, returns, Pending, leaves_by, spawned-returns, spawned-joins, called-returns, pending-shorter}
+use Rattle.trace.proofs.World.{World, spawned_return, called_return, joins, Pending, leaves_by, spawned-returns, spawned-joins, pending-shorter}
 
 pub record Kept (v : World) (t d i : ℕ) : Type 0 where
   pub closer : ℕ
@@ -24,15 +24,15 @@ pub record Serial (v : World) (t d i : ℕ) : Type 0 where
 
 one_more : (f : ℕ → ℕ) (d i t : ℕ) → ((k : ℕ) → i < k → k ≤ t → d ≤ f k) → d ≤ f (suc t) → (k : ℕ) → i < k → k ≤ suc t → d ≤ f k
 one_more f d i t h l k x y = elim (cases_eq k (suc t)) [
-    inl e ↦ (let g : f k ≡ f (suc t) = ap f e in omega arith)
+  | inl e ↦ (let g : f k ≡ f (suc t) = ap f e in omega arith)
   | inr n ↦ h k x (omega arith)
-  ]
+]
 
 one_more_from : (f : ℕ → ℕ) (d i t : ℕ) → ((k : ℕ) → i ≤ k → k ≤ t → d ≤ f k) → d ≤ f (suc t) → (k : ℕ) → i ≤ k → k ≤ suc t → d ≤ f k
 one_more_from f d i t h l k x y = elim (cases_eq k (suc t)) [
-    inl e ↦ (let g : f k ≡ f (suc t) = ap f e in omega arith)
+  | inl e ↦ (let g : f k ≡ f (suc t) = ap f e in omega arith)
   | inr n ↦ h k x (omega arith)
-  ]
+]
 
 -- one record more, which leaves the level alone
 
@@ -46,11 +46,11 @@ kept_stays v t d i l n h = record {
   inside = h.inside;
   after = one_more v.depth d h.closer (suc t) h.after l;
   unjoined = λ k x y e s. elim (cases_eq k (suc t)) [
-      inl q ↦ (let f : v.depth k ≡ v.depth (suc t) = ap v.depth q in
+    | inl q ↦ (let f : v.depth k ≡ v.depth (suc t) = ap v.depth q in
         let g : v.shape k ≡ v.shape (suc t) = ap v.shape q in
         n (omega arith) (cc))
     | inr q ↦ h.unjoined k x (omega arith) e s
-    ]
+  ];
 }
 
 pub serial_stays : (v : World) (t d i : ℕ) → d ≤ v.depth (suc (suc t)) → Serial v t d i → Serial v (suc t) d i
@@ -60,14 +60,14 @@ serial_stays v t d i l h = record {
   upto = omega (arith, h.upto);
   level = h.level;
   above = one_more_from v.depth d i (suc t) h.above l;
-  clear = h.clear
+  clear = h.clear;
 }
 
 pub kept-above : (v : World) (t d i : ℕ) → Kept v t d i → (k : ℕ) → i ≤ k → k ≤ suc t → d ≤ v.depth k
 kept-above v t d i h k x y = elim (cases_lt h.closer k) [
-    inl l ↦ h.after k l y
+  | inl l ↦ h.after k l y
   | inr l ↦ omega (arith, h.inside k x l)
-  ]
+]
 
 -- a sync of the level
 
@@ -75,11 +75,11 @@ not_pending_at_sync : (v : World) (t i r : ℕ) → 1 ≤ i → suc t ≤ v.size
 not_pending_at_sync v t i r a b h s p =
     let c : v.depth r ≤ suc (v.depth (suc t)) = p.held (suc t) p.before (omega arith) in
     elim (cases_eq (suc (v.depth (suc t))) (v.depth r)) [
-      inl e ↦ p.unjoined (suc t) p.before (omega arith) e s
-    | inr n ↦ elim (cases_lt h.closer r) [
-        inl l ↦ (let d : v.depth (suc t) ≤ v.depth r = h.after r l (omega (arith, p.before)) in
-          h.unjoined r l (omega (arith, p.before)) (omega arith) (spawned-joins (v.shape r) p.a_return))
-      | inr l ↦ omega (arith, h.inside r p.since l)
+      | inl e ↦ p.unjoined (suc t) p.before (omega arith) e s
+      | inr n ↦ elim (cases_lt h.closer r) [
+        | inl l ↦ (let d : v.depth (suc t) ≤ v.depth r = h.after r l (omega (arith, p.before)) in
+            h.unjoined r l (omega (arith, p.before)) (omega arith) (spawned-joins (v.shape r) p.a_return))
+        | inr l ↦ omega (arith, h.inside r p.since l)
       ]
     ]
 
@@ -90,13 +90,13 @@ kept_synced v t d i a b s e l h = record {
   upto = omega arith;
   level = e;
   above = one_more_from v.depth d i (suc t) (kept-above v t d i h) l;
-  clear = λ r p. not_pending_at_sync v t i r a b (subst (λ (z : ℕ). Kept v t z i) (sym e) h) s p
+  clear = λ r p. not_pending_at_sync v t i r a b (subst (λ (z : ℕ). Kept v t z i) (sym e) h) s p;
 }
 
 -- a return to the level, by which a child is closed
 
 pub returned : (v : World) (t d i : ℕ) → i ≤ suc t → v.shape (suc t) ≡ spawned_return → v.depth (suc t) ≡ suc d → v.depth (suc (suc t)) ≡ d
-  → ((k : ℕ) → i ≤ k → k ≤ suc t → suc d ≤ v.depth k) → Kept v (suc t) d i
+    → ((k : ℕ) → i ≤ k → k ≤ suc t → suc d ≤ v.depth k) → Kept v (suc t) d i
 returned v t d i a s e f h = record {
   closer = suc t;
   since = a;
@@ -105,33 +105,33 @@ returned v t d i a s e f h = record {
   level = e;
   inside = h;
   after = λ k x y. (let g : v.depth k ≡ v.depth (suc (suc t)) = ap v.depth (between k t x y) in omega arith);
-  unjoined = λ k x y. absurd (omega arith)
+  unjoined = λ k x y. absurd (omega arith);
 }
   where
     between : (k t : ℕ) → suc t < k → k ≤ suc (suc t) → k ≡ suc (suc t)
     between k t x y = omega arith
 
 not_pending_after : (v : World) (t d i r : ℕ) → 1 ≤ i → suc (suc t) ≤ v.size → v.shape (suc t) ≡ called_return → v.depth (suc t) ≡ suc d → joins (v.shape (suc t)) ≡ true
-  → ((k : ℕ) → i ≤ k → k ≤ suc t → suc d ≤ v.depth k) → Pending v i (suc (suc t)) r → ⊥
+    → ((k : ℕ) → i ≤ k → k ≤ suc t → suc d ≤ v.depth k) → Pending v i (suc (suc t)) r → ⊥
 not_pending_after v t d i r a b s e j h p = elim (cases_eq r (suc t)) [
-    inl q ↦ (let f : v.shape r ≡ v.shape (suc t) = ap v.shape q in let g : v.shape r ≡ spawned_return = p.a_return in cc)
+  | inl q ↦ (let f : v.shape r ≡ v.shape (suc t) = ap v.shape q in let g : v.shape r ≡ spawned_return = p.a_return in cc)
   | inr n ↦ (let l : r < suc t = omega (arith, p.before) in
       let c : v.depth r ≤ suc (v.depth (suc t)) = p.held (suc t) l (omega arith) in
       let u : suc (v.depth (suc t)) ≡ v.depth r → ⊥ = λ x. p.unjoined (suc t) l (omega arith) x j in
       let f : v.depth r ≡ suc (v.depth (suc r)) = leaves_by v r (omega (arith, p.since)) (omega arith) (spawned-returns (v.shape r) p.a_return) in
       let g : suc d ≤ v.depth (suc r) = h (suc r) (omega (arith, p.since)) l in
       omega arith)
-  ]
+]
 
 pub called_returned : (v : World) (t d i : ℕ) → 1 ≤ i → i ≤ suc t → suc (suc t) ≤ v.size → v.shape (suc t) ≡ called_return → v.depth (suc t) ≡ suc d → v.depth (suc (suc t)) ≡ d
-  → ((k : ℕ) → i ≤ k → k ≤ suc t → suc d ≤ v.depth k) → Serial v (suc t) d i
+    → ((k : ℕ) → i ≤ k → k ≤ suc t → suc d ≤ v.depth k) → Serial v (suc t) d i
 called_returned v t d i a c b s e f h = record {
   spot = suc (suc t);
   since = omega arith;
   upto = omega arith;
   level = f;
   above = one_more_from v.depth d i (suc t) (λ k x y. omega (arith, h k x y)) (omega arith);
-  clear = λ r p. not_pending_after v t d i r a b s e (ap joins s) h p
+  clear = λ r p. not_pending_after v t d i r a b s e (ap joins s) h p;
 }
 
 -- the place that comes next
@@ -143,7 +143,7 @@ serial_now v t d e = record {
   upto = omega arith;
   level = e;
   above = λ k x y. (let f : v.depth k ≡ v.depth (suc t) = ap v.depth (only k t x y) in omega arith);
-  clear = λ r p. omega (arith, p.since, p.before)
+  clear = λ r p. omega (arith, p.since, p.before);
 }
   where
     only : (k t : ℕ) → suc t ≤ k → k ≤ suc t → k ≡ suc t
@@ -174,17 +174,17 @@ kept-pending v t d i n h = record {
   inside = λ k x y. omega (arith, h.inside k x y, h.level);
   held = λ k x y. omega (arith, h.after k x y, h.level);
   unjoined = λ k x y e s. elim (cases_eq k (suc t)) [
-      inl q ↦ (let g : joins (v.shape k) ≡ joins (v.shape (suc t)) = ap (λ (z : ℕ). joins (v.shape z)) q in cc)
+    | inl q ↦ (let g : joins (v.shape k) ≡ joins (v.shape (suc t)) = ap (λ (z : ℕ). joins (v.shape z)) q in cc)
     | inr q ↦ h.unjoined k x (omega arith) (omega (arith, h.level)) s
-    ]
+  ];
 }
 
 pub serial-not_pending : (v : World) (t d i r : ℕ) → 1 ≤ i → suc t ≤ v.size → Serial v t d i → Pending v i (suc t) r → ⊥
 serial-not_pending v t d i r a b h p = elim (cases_lt r h.spot) [
-    inl l ↦ h.clear r (pending-shorter v i h.spot (suc t) r p l h.upto)
+  | inl l ↦ h.clear r (pending-shorter v i h.spot (suc t) r p l h.upto)
   | inr l ↦
       (let c : v.depth r ≤ v.depth h.spot = p.inside h.spot h.since l in
       let f : v.depth r ≡ suc (v.depth (suc r)) = leaves_by v r (omega (arith, p.since)) (omega (arith, p.before)) (spawned-returns (v.shape r) p.a_return) in
       let g : d ≤ v.depth (suc r) = h.above (suc r) (omega (arith, p.since)) p.before in
       omega (arith, h.level))
-  ]
+]

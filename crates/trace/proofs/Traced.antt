@@ -66,7 +66,7 @@ step_at w h zero a b = absurd (omega arith)
 step_at w h (suc i) a b =
     let r = has_record w i (omega arith) in
     subst (λ (o : Option Record). Step (shape_of o) (depth w (suc i)) (depth w (suc (suc i)))) (sym r.1)
-      (step_of r.0 _ _ _ _ (balanced w h i (omega arith)) (sum-take opens w i r.0 r.1) (sum-take closes w i r.0 r.1) (not_root w h i r.0 b r.1))
+    (step_of r.0 _ _ _ _ (balanced w h i (omega arith)) (sum-take opens w i r.0 r.1) (sum-take closes w i r.0 r.1) (not_root w h i r.0 b r.1))
 
 -- the world of a trace
 abbrev pub traced : (w : List Record) {n d : ℕ} → IsWellNested w n d → World
@@ -149,7 +149,7 @@ world_edge w h i j e = record {
   from = (edge_from w i j e).0;
   to = (edge_to w i j e).1;
   forth = edge-forth w i j e;
-  kind = world_kind w h i j e
+  kind = world_kind w h i j e;
 }
 
 edge_of : (w : List Record) {n d : ℕ} (h : IsWellNested w n d) (i j : ℕ) → IsPlace w i → IsPlace w j → i < j → world.Kind (traced w h) i j → dag.Edge w i j
@@ -160,7 +160,7 @@ edge_of w h i j a b l (world.joined s d t first) = dag.join a b l (record {
   a_return = shape-return (at w i) (world.spawned-returns (shape_at w i) s);
   above = omega arith;
   joins = shape-joins (at w j) t;
-  first = λ k x y e q. first k x y e (joins-shape (at w k) q)
+  first = λ k x y e q. first k x y e (joins-shape (at w k) q);
 })
 
 pub trace_edge : (w : List Record) {n d : ℕ} (h : IsWellNested w n d) (i j : ℕ) → world.Edge (traced w h) i j → dag.Edge w i j

@@ -181,7 +181,7 @@ leaves_at v m i j a b c h l = record {
   since = b;
   before = omega arith;
   level = omega (arith, down v j (omega arith) (omega arith));
-  a_return = falls v j (omega arith) (omega arith) (omega arith)
+  a_return = falls v j (omega arith) (omega arith) (omega arith);
 }
 
 leaves_longer : (v : World) (m i j r : ℕ) → Leaves v m i j r → Leaves v m i (suc j) r
@@ -190,12 +190,12 @@ leaves_longer v m i j r h = record { since = h.since; before = omega arith; leve
 pub leaves : (v : World) (m i j : ℕ) → 1 ≤ i → i ≤ j → j ≤ v.size → m < v.depth i → v.depth j ≤ m → (r : ℕ) × Leaves v m i j r
 leaves v m i zero a b c h l = absurd (omega arith)
 leaves v m i (suc j) a b c h l = elim (cases_eq i (suc j)) [
-    inl e ↦ absurd (let f : v.depth i ≡ v.depth (suc j) = ap v.depth e in omega arith)
+  | inl e ↦ absurd (let f : v.depth i ≡ v.depth (suc j) = ap v.depth e in omega arith)
   | inr n ↦ elim (cases_lt m (v.depth j)) [
-      inl k ↦ (j, leaves_at v m i j a (omega arith) c k l)
+    | inl k ↦ (j, leaves_at v m i j a (omega arith) c k l)
     | inr k ↦ let q = leaves v m i j a (omega arith) (omega arith) h k in (q.0, leaves_longer v m i j q.0 q.1)
-    ]
   ]
+]
 
 -- no edge crosses a pending return
 
@@ -206,7 +206,7 @@ pending-shorter v i j k r p a b = record {
   a_return = p.a_return;
   inside = p.inside;
   held = λ x c d. p.held x c (omega arith);
-  unjoined = λ x c d. p.unjoined x c (omega arith)
+  unjoined = λ x c d. p.unjoined x c (omega arith);
 }
 
 pub pending-later : (v : World) (i j k r : ℕ) → Pending v i k r → i ≤ j → j ≤ r → Pending v j k r
@@ -216,16 +216,16 @@ pending-later v i j k r p a b = record {
   a_return = p.a_return;
   inside = λ x c d. p.inside x (omega arith) d;
   held = p.held;
-  unjoined = p.unjoined
+  unjoined = p.unjoined;
 }
 
 no_goes_on : (v : World) (i j r : ℕ) → Pending v i j r → returns (v.shape i) ≡ false → v.depth j ≡ v.depth i → ((k : ℕ) → i < k → k < j → v.depth i < v.depth k) → ⊥
 no_goes_on v i j r p n d b = elim (cases_eq i r) [
-    inl e ↦ (let f : returns (v.shape r) ≡ true = spawned-returns (v.shape r) p.a_return in
-        let g : returns (v.shape i) ≡ returns (v.shape r) = ap (λ (z : ℕ). returns (v.shape z)) e in cc)
+  | inl e ↦ (let f : returns (v.shape r) ≡ true = spawned-returns (v.shape r) p.a_return in
+      let g : returns (v.shape i) ≡ returns (v.shape r) = ap (λ (z : ℕ). returns (v.shape z)) e in cc)
   | inr e ↦ (let f : v.depth r ≤ v.depth i = p.inside i (omega arith) p.since in
-        let g : v.depth i < v.depth r = b r (omega arith) p.before in omega arith)
-  ]
+      let g : v.depth i < v.depth r = b r (omega arith) p.before in omega arith)
+]
 
 no_goes_in : (v : World) (i j r : ℕ) → Pending v i j r → opens (v.shape i) ≡ true → j ≡ suc i → ⊥
 no_goes_in v i j r p n d =
@@ -241,28 +241,28 @@ no_comes_back v i j r p n d =
 
 -- a return on the joining place's level, or above it, stands before that place
 no_joined_at : (v : World) (i j r : ℕ) → 1 ≤ i → j ≤ v.size → Pending v i j r → i < r → v.shape i ≡ spawned_return → v.depth i ≡ suc (v.depth j)
-  → ((k : ℕ) → i < k → k < j → v.depth k ≡ v.depth j → joins (v.shape k) ≡ true → ⊥) → v.depth r ≤ v.depth j → ⊥
+    → ((k : ℕ) → i < k → k < j → v.depth k ≡ v.depth j → joins (v.shape k) ≡ true → ⊥) → v.depth r ≤ v.depth j → ⊥
 no_joined_at v i j r a c p l s d first h = elim (cases_eq (v.depth r) (v.depth j)) [
-    inl e ↦ first r l p.before e (spawned-joins (v.shape r) p.a_return)
+  | inl e ↦ first r l p.before e (spawned-joins (v.shape r) p.a_return)
   | inr n ↦
       (let g : v.depth i ≡ suc (v.depth (suc i)) = leaves_by v i a (omega arith) (spawned-returns (v.shape i) s) in
       let q : (m : ℕ) × (suc m ≡ v.depth j) = pred_of (v.depth r) (v.depth j) (omega arith) in
       let z = leaves v q.0 (suc i) r (omega arith) (omega arith) (omega arith) (omega arith) (omega arith) in
       first z.0 (omega (arith, z.1.since)) (omega (arith, z.1.before)) (omega (arith, z.1.level)) (returns-joins (v.shape z.0) z.1.a_return))
-  ]
+]
   where
     pred_of : (x y : ℕ) → x < y → (m : ℕ) × (suc m ≡ y)
     pred_of x zero h = absurd (omega arith)
     pred_of x (suc y) h = (y, refl)
 
 no_joined : (v : World) (i j r : ℕ) → 1 ≤ i → j ≤ v.size → Pending v i j r → v.shape i ≡ spawned_return → v.depth i ≡ suc (v.depth j) → joins (v.shape j) ≡ true
-  → ((k : ℕ) → i < k → k < j → v.depth k ≡ v.depth j → joins (v.shape k) ≡ true → ⊥) → ⊥
+    → ((k : ℕ) → i < k → k < j → v.depth k ≡ v.depth j → joins (v.shape k) ≡ true → ⊥) → ⊥
 no_joined v i j r a c p s d js first = elim (cases_eq (v.depth r) (v.depth i)) [
-    inl e ↦ p.unjoined j p.before (omega arith) (omega arith) js
+  | inl e ↦ p.unjoined j p.before (omega arith) (omega arith) js
   | inr n ↦ (let f : v.depth r ≤ v.depth i = p.inside i (omega arith) p.since in
       let g : i < r = apart i r p.since (λ e. n (sym (ap v.depth e))) in
       no_joined_at v i j r a c p g s d first (omega arith))
-  ]
+]
   where
     apart : (x y : ℕ) → x ≤ y → (x ≡ y → ⊥) → x < y
     apart x y h n = omega arith
@@ -294,9 +294,9 @@ reach_all v i j k p (next {j = h} q e) = next (reach_all v i j h p q) e
 
 sound_step : (v : World) (i h j r : ℕ) → i ≤ h → Edge v h j → (Pending v i h r → ⊥) → Pending v i j r → ⊥
 sound_step v i h j r l e ih p = elim (cases_lt r h) [
-    inl k ↦ ih (pending-shorter v i h j r p k (omega (arith, e.forth)))
+  | inl k ↦ ih (pending-shorter v i h j r p k (omega (arith, e.forth)))
   | inr k ↦ crossing v h j r e (pending-later v i h j r p l k)
-  ]
+]
 
 -- no path crosses a pending return
 pub sound : (v : World) (i j r : ℕ) → Reach v i j → Pending v i j r → ⊥
@@ -304,7 +304,6 @@ sound v i j r (here a b) p = omega (arith, p.since, p.before)
 sound v i j r (next {j = h} q e) p = sound_step v i h j r (reach-le v i h q) e (λ x. sound v i h r q x) p
 
 -- where no return is pending, a path leads
-
 
 -- the last place below depth m from i to j
 pub record LastBelow (v : World) (m i j o : ℕ) : Type 0 where
@@ -315,16 +314,16 @@ pub record LastBelow (v : World) (m i j o : ℕ) : Type 0 where
 
 all_more : (f : ℕ → ℕ) (m i j : ℕ) → ((k : ℕ) → i ≤ k → k ≤ j → m ≤ f k) → m ≤ f (suc j) → (k : ℕ) → i ≤ k → k ≤ suc j → m ≤ f k
 all_more f m i j h l k a b = elim (cases_eq k (suc j)) [
-    inl e ↦ (let g : f k ≡ f (suc j) = ap f e in omega arith)
+  | inl e ↦ (let g : f k ≡ f (suc j) = ap f e in omega arith)
   | inr n ↦ h k a (omega arith)
-  ]
+]
 
 last_more : (v : World) (m i j o : ℕ) → m ≤ v.depth (suc j) → LastBelow v m i j o → LastBelow v m i (suc j) o
 last_more v m i j o h l = record {
   since = l.since;
   upto = omega (arith, l.upto);
   below = l.below;
-  after = all_more v.depth m (suc o) j l.after h
+  after = all_more v.depth m (suc o) j l.after h;
 }
 
 last_here : (v : World) (m i j : ℕ) → i ≤ j → v.depth j < m → LastBelow v m i j j
@@ -332,19 +331,19 @@ last_here v m i j a h = record { since = a; upto = omega arith; below = h; after
 
 pub last_below : (v : World) (m i j : ℕ) → i ≤ j → ((k : ℕ) → i ≤ k → k ≤ j → m ≤ v.depth k) ⊎ ((o : ℕ) × LastBelow v m i j o)
 last_below v m i zero a = elim (cases_lt (v.depth zero) m) [
-    inl h ↦ inr (zero, last_here v m i zero a h)
+  | inl h ↦ inr (zero, last_here v m i zero a h)
   | inr h ↦ inl (λ k x y. let e : k ≡ zero = omega arith in let g : v.depth k ≡ v.depth zero = ap v.depth e in omega arith)
-  ]
+]
 last_below v m i (suc j) a = elim (cases_lt (v.depth (suc j)) m) [
-    inl h ↦ inr (suc j, last_here v m i (suc j) a h)
+  | inl h ↦ inr (suc j, last_here v m i (suc j) a h)
   | inr h ↦ elim (cases_eq i (suc j)) [
-      inl e ↦ inl (λ k x y. let q : k ≡ suc j = omega arith in let g : v.depth k ≡ v.depth (suc j) = ap v.depth q in omega arith)
+    | inl e ↦ inl (λ k x y. let q : k ≡ suc j = omega arith in let g : v.depth k ≡ v.depth (suc j) = ap v.depth q in omega arith)
     | inr n ↦ elim (last_below v m i j (omega arith)) [
-        inl all ↦ inl (all_more v.depth m i j all h)
+      | inl all ↦ inl (all_more v.depth m i j all h)
       | inr l ↦ inr (l.0, last_more v m i j l.0 h l.1)
-      ]
     ]
   ]
+]
 
 abbrev pub Decided : World → ℕ → ℕ → Type 0
 Decided v i j = ((r : ℕ) × Pending v i j r) ⊎ Reach v i j
@@ -359,23 +358,23 @@ not_pending_inside v i r q a b s h p =
 
 reach_return : (v : World) (i r : ℕ) → 1 ≤ i → r ≤ v.size → returns (v.shape r) ≡ true → ((k : ℕ) → i ≤ k → k ≤ r → v.depth r ≤ v.depth k) → Decided v i r → Reach v i r
 reach_return v i r a b s h d = elim d [
-    inl p ↦ absurd (not_pending_inside v i r p.0 a b s h p.1)
+  | inl p ↦ absurd (not_pending_inside v i r p.0 a b s h p.1)
   | inr q ↦ q
-  ]
+]
 
 -- a pending return stays pending over the next place, or joins it
 held_next : (v : World) (i j r : ℕ) → 1 ≤ i → suc j ≤ v.size → Pending v i j r → v.depth r ≤ suc (v.depth (suc j))
 held_next v i j r a b p =
     let h : v.depth r ≤ suc (v.depth j) = p.held j p.before (omega arith) in
     elim (cases_lt (v.depth (suc j)) (v.depth j)) [
-      inl l ↦ (let s = falls v j (omega (arith, p.since, p.before)) b l in
-        let e : v.depth j ≡ suc (v.depth (suc j)) = leaves_by v j (omega (arith, p.since, p.before)) b s in
-        omega (arith, λ (x : suc (v.depth j) ≡ v.depth r). p.unjoined j p.before (omega arith) x (returns-joins (v.shape j) s)))
-    | inr l ↦ omega arith
+      | inl l ↦ (let s = falls v j (omega (arith, p.since, p.before)) b l in
+          let e : v.depth j ≡ suc (v.depth (suc j)) = leaves_by v j (omega (arith, p.since, p.before)) b s in
+          omega (arith, λ (x : suc (v.depth j) ≡ v.depth r). p.unjoined j p.before (omega arith) x (returns-joins (v.shape j) s)))
+      | inr l ↦ omega arith
     ]
 
 pending_more : (v : World) (i j r : ℕ) → 1 ≤ i → suc j ≤ v.size → Pending v i j r
-  → (suc (v.depth (suc j)) ≡ v.depth r → joins (v.shape (suc j)) ≡ true → ⊥) → Pending v i (suc j) r
+    → (suc (v.depth (suc j)) ≡ v.depth r → joins (v.shape (suc j)) ≡ true → ⊥) → Pending v i (suc j) r
 pending_more v i j r a b p n = record {
   since = p.since;
   before = omega (arith, p.before);
@@ -383,35 +382,35 @@ pending_more v i j r a b p n = record {
   inside = p.inside;
   held = held_more v.depth j r p.held (held_next v i j r a b p);
   unjoined = λ k x y e s. elim (cases_eq k (suc j)) [
-      inl q ↦ (let f : v.depth k ≡ v.depth (suc j) = ap v.depth q in
+    | inl q ↦ (let f : v.depth k ≡ v.depth (suc j) = ap v.depth q in
         let g : v.shape k ≡ v.shape (suc j) = ap v.shape q in
         n (omega arith) (cc))
     | inr q ↦ p.unjoined k x (omega arith) e s
-    ]
+  ];
 }
   where
     held_more : (f : ℕ → ℕ) (j r : ℕ) → ((k : ℕ) → r < k → k ≤ j → f r ≤ suc (f k)) → f r ≤ suc (f (suc j)) → (k : ℕ) → r < k → k ≤ suc j → f r ≤ suc (f k)
     held_more f j r h l k x y = elim (cases_eq k (suc j)) [
-        inl e ↦ (let g : f k ≡ f (suc j) = ap f e in omega arith)
+      | inl e ↦ (let g : f k ≡ f (suc j) = ap f e in omega arith)
       | inr n ↦ h k x (omega arith)
-      ]
+    ]
 
 join_edge : (v : World) (i j r : ℕ) → 1 ≤ i → suc j ≤ v.size → Pending v i j r → suc (v.depth (suc j)) ≡ v.depth r → joins (v.shape (suc j)) ≡ true → Edge v r (suc j)
 join_edge v i j r a b p e s = record {
   from = omega (arith, p.since);
   to = b;
   forth = omega (arith, p.before);
-  kind = joined p.a_return (sym e) s (λ k x y d t. p.unjoined k x (omega arith) (omega arith) t)
+  kind = joined p.a_return (sym e) s (λ k x y d t. p.unjoined k x (omega arith) (omega arith) t);
 }
 
 over_next : (v : World) (i j r : ℕ) → 1 ≤ i → suc j ≤ v.size → Pending v i j r → Decided v i r → Decided v i (suc j)
 over_next v i j r a b p d = elim (cases_eq (suc (v.depth (suc j))) (v.depth r)) [
-    inl e ↦ elim (cases_Bool (joins (v.shape (suc j)))) [
-      inl s ↦ inr (next (reach_return v i r a (omega (arith, p.before)) (spawned-returns (v.shape r) p.a_return) p.inside d) (join_edge v i j r a b p e s))
+  | inl e ↦ elim (cases_Bool (joins (v.shape (suc j)))) [
+    | inl s ↦ inr (next (reach_return v i r a (omega (arith, p.before)) (spawned-returns (v.shape r) p.a_return) p.inside d) (join_edge v i j r a b p e s))
     | inr s ↦ inl (r, pending_more v i j r a b p (λ x t. both s t))
-    ]
-  | inr n ↦ inl (r, pending_more v i j r a b p (λ x t. n x))
   ]
+  | inr n ↦ inl (r, pending_more v i j r a b p (λ x t. n x))
+]
   where
     both : {t : Bool} → t ≡ false → t ≡ true → ⊥
     both x y = cc
@@ -433,18 +432,18 @@ straight_join v j a b s t = record {
   from = a;
   to = b;
   forth = omega arith;
-  kind = joined s (leaves_by v j a b (spawned-returns (v.shape j) s)) t (λ k x y. absurd (omega arith))
+  kind = joined s (leaves_by v j a b (spawned-returns (v.shape j) s)) t (λ k x y. absurd (omega arith));
 }
 
 by_edge : (v : World) (i j : ℕ) → 1 ≤ i → suc j ≤ v.size → Edge v j (suc j) → ((k : ℕ) → i ≤ k → k ≤ j → Decided v i k) → i ≤ j → Decided v i (suc j)
 by_edge v i j a b e ih l = elim (ih j l (omega arith)) [
-    inl p ↦ over_next v i j p.0 a b p.1 (ih p.0 p.1.since (omega (arith, p.1.before)))
+  | inl p ↦ over_next v i j p.0 a b p.1 (ih p.0 p.1.since (omega (arith, p.1.before)))
   | inr q ↦ inr (next q e)
-  ]
+]
 
 -- the return at j is pending, where i lies in the child that it closes
 new_pending : (v : World) (i j : ℕ) → 1 ≤ i → i ≤ j → suc j ≤ v.size → v.shape j ≡ spawned_return → joins (v.shape (suc j)) ≡ false
-  → ((k : ℕ) → i ≤ k → k ≤ j → v.depth j ≤ v.depth k) → Pending v i (suc j) j
+    → ((k : ℕ) → i ≤ k → k ≤ j → v.depth j ≤ v.depth k) → Pending v i (suc j) j
 new_pending v i j a l b s n h = record {
   since = l;
   before = omega arith;
@@ -456,7 +455,7 @@ new_pending v i j a l b s n h = record {
       omega arith);
   unjoined = λ k x y d t. (let e : k ≡ suc j = omega arith in
       let f : v.shape k ≡ v.shape (suc j) = ap v.shape e in
-      let z : joins (v.shape k) ≡ false = ap joins f ∙ n in cc)
+      let z : joins (v.shape k) ≡ false = ap joins f ∙ n in cc);
 }
 
 -- otherwise the place that opened the child lies between, and goes on at suc j
@@ -484,8 +483,8 @@ opener v i j o a b s l =
         to = b;
         forth = omega arith;
         kind = goes_on (rises v o (omega (arith, l.since)) (omega arith) (omega arith)) (omega arith)
-          (λ k x y. omega (arith, l.after k x (omega arith)))
-      }
+            (λ k x y. omega (arith, l.after k x (omega arith)));
+      };
     }
   where
     apart : (x y : ℕ) → x ≤ y → (x ≡ y → ⊥) → x < y
@@ -500,34 +499,34 @@ over_child v i j o r n l p =
       a_return = p.a_return;
       inside = p.inside;
       held = λ k x y. elim (cases_lt o k) [
-          inl c ↦ elim (cases_eq k (suc j)) [
-            inl e ↦ (let f : v.depth k ≡ v.depth (suc j) = ap v.depth e in omega (arith, l.level))
+        | inl c ↦ elim (cases_eq k (suc j)) [
+          | inl e ↦ (let f : v.depth k ≡ v.depth (suc j) = ap v.depth e in omega (arith, l.level))
           | inr e ↦ omega (arith, l.inner k c (omega arith), l.above)
-          ]
+        ]
         | inr c ↦ p.held k x c
-        ];
+      ];
       unjoined = λ k x y e t. elim (cases_lt o k) [
-          inl c ↦ elim (cases_eq k (suc j)) [
-            inl q ↦ (let f : v.shape k ≡ v.shape (suc j) = ap v.shape q in
+        | inl c ↦ elim (cases_eq k (suc j)) [
+          | inl q ↦ (let f : v.shape k ≡ v.shape (suc j) = ap v.shape q in
               let z : joins (v.shape k) ≡ false = ap joins f ∙ n in cc)
           | inr q ↦ omega (arith, l.inner k c (omega arith), l.above)
-          ]
-        | inr c ↦ p.unjoined k x c e t
         ]
+        | inr c ↦ p.unjoined k x c e t
+      ];
     }
 
 by_child : (v : World) (i j : ℕ) → 1 ≤ i → suc j ≤ v.size → v.shape j ≡ spawned_return → joins (v.shape (suc j)) ≡ false
-  → ((k : ℕ) → i ≤ k → k ≤ j → Decided v i k) → i ≤ j → Decided v i (suc j)
+    → ((k : ℕ) → i ≤ k → k ≤ j → Decided v i k) → i ≤ j → Decided v i (suc j)
 by_child v i j a b s n ih l = elim (last_below v (v.depth j) i j l) [
-    inl all ↦ inl (j, new_pending v i j a l b s n all)
+  | inl all ↦ inl (j, new_pending v i j a l b s n all)
   | inr z ↦ out z.0 z.1.since (opener v i j z.0 a b s z.1)
-  ]
+]
   where
     out : (o : ℕ) → i ≤ o → Opener v j o → Decided v i (suc j)
     out o c z = elim (ih o c (omega (arith, z.upto))) [
-        inl p ↦ inl (p.0, over_child v i j o p.0 n z p.1)
+      | inl p ↦ inl (p.0, over_child v i j o p.0 n z p.1)
       | inr q ↦ inr (next q z.edge)
-      ]
+    ]
 
 is_spawned_return : (s : Shape) → (s ≡ spawned_return) ⊎ (s ≡ spawned_return → ⊥)
 is_spawned_return access = inr (λ e. cc)
@@ -539,22 +538,22 @@ is_spawned_return called_return = inr (λ e. cc)
 
 complete_step : (v : World) (i j : ℕ) → 1 ≤ i → suc j ≤ v.size → ((k : ℕ) → i ≤ k → k ≤ j → Decided v i k) → i ≤ j → Decided v i (suc j)
 complete_step v i j a b ih l = elim (is_spawned_return (v.shape j)) [
-    inl s ↦ elim (cases_Bool (joins (v.shape (suc j)))) [
-      inl t ↦ by_edge v i j a b (straight_join v j (omega arith) b s t) ih l
+  | inl s ↦ elim (cases_Bool (joins (v.shape (suc j)))) [
+    | inl t ↦ by_edge v i j a b (straight_join v j (omega arith) b s t) ih l
     | inr t ↦ by_child v i j a b s t ih l
-    ]
-  | inr n ↦ by_edge v i j a b (straight v j (omega arith) b n) ih l
   ]
+  | inr n ↦ by_edge v i j a b (straight v j (omega arith) b n) ih l
+]
 
 complete_upto : (v : World) (i n : ℕ) → 1 ≤ i → n ≤ v.size → (k : ℕ) → i ≤ k → k ≤ n → Decided v i k
 complete_upto v i zero a b k x y = absurd (omega arith)
 complete_upto v i (suc n) a b k x y = elim (cases_eq k (suc n)) [
-    inl e ↦ subst (λ (z : ℕ). Decided v i z) (sym e) (elim (cases_eq i (suc n)) [
-        inl q ↦ inr (subst (λ (z : ℕ). Reach v i z) q (here a (omega arith)))
-      | inr q ↦ complete_step v i n a b (complete_upto v i n a (omega arith)) (omega arith)
-      ])
+  | inl e ↦ subst (λ (z : ℕ). Decided v i z) (sym e) (elim (cases_eq i (suc n)) [
+    | inl q ↦ inr (subst (λ (z : ℕ). Reach v i z) q (here a (omega arith)))
+    | inr q ↦ complete_step v i n a b (complete_upto v i n a (omega arith)) (omega arith)
+  ])
   | inr q ↦ complete_upto v i n a (omega arith) k x (omega arith)
-  ]
+]
 
 -- a return is pending, or a path leads
 pub decided : (v : World) (i j : ℕ) → 1 ≤ i → i ≤ j → j ≤ v.size → Decided v i j
@@ -572,19 +571,19 @@ through_first v i j k r q p s l = record {
   a_return = p.a_return;
   inside = p.inside;
   held = λ x a b. elim (cases_lt j x) [
-      inl c ↦ elim (cases_lt q x) [
-        inl d ↦ omega (arith, s.held x d b)
+    | inl c ↦ elim (cases_lt q x) [
+      | inl d ↦ omega (arith, s.held x d b)
       | inr d ↦ omega (arith, s.inside x (omega arith) d)
-      ]
-    | inr c ↦ p.held x a c
-    ];
-  unjoined = λ x a b e t. elim (cases_lt j x) [
-      inl c ↦ elim (cases_lt q x) [
-        inl d ↦ s.unjoined x d b (let h : v.depth q ≤ suc (v.depth x) = s.held x d b in omega arith) t
-      | inr d ↦ omega (arith, s.inside x (omega arith) d)
-      ]
-    | inr c ↦ p.unjoined x a c e t
     ]
+    | inr c ↦ p.held x a c
+  ];
+  unjoined = λ x a b e t. elim (cases_lt j x) [
+    | inl c ↦ elim (cases_lt q x) [
+      | inl d ↦ s.unjoined x d b (let h : v.depth q ≤ suc (v.depth x) = s.held x d b in omega arith) t
+      | inr d ↦ omega (arith, s.inside x (omega arith) d)
+    ]
+    | inr c ↦ p.unjoined x a c e t
+  ];
 }
 
 through_second : (v : World) (i j k r q : ℕ) → Pending v i j r → Pending v j k q → v.depth q < v.depth r → Pending v i k q
@@ -593,27 +592,27 @@ through_second v i j k r q p s l = record {
   before = s.before;
   a_return = s.a_return;
   inside = λ x a b. elim (cases_lt r x) [
-      inl c ↦ elim (cases_lt j x) [
-        inl d ↦ s.inside x (omega arith) b
+    | inl c ↦ elim (cases_lt j x) [
+      | inl d ↦ s.inside x (omega arith) b
       | inr d ↦ omega (arith, p.held x c d)
-      ]
+    ]
     | inr c ↦ omega (arith, p.inside x a c)
-    ];
+  ];
   held = s.held;
-  unjoined = s.unjoined
+  unjoined = s.unjoined;
 }
 
 pub pending_through : (v : World) (i j k r q : ℕ) → Pending v i j r → Pending v j k q → (x : ℕ) × Pending v i k x
 pending_through v i j k r q p s = elim (cases_lt (v.depth q) (v.depth r)) [
-    inl l ↦ (q, through_second v i j k r q p s l)
+  | inl l ↦ (q, through_second v i j k r q p s l)
   | inr l ↦ (r, through_first v i j k r q p s l)
-  ]
+]
 
 pub pending_after : (v : World) (i j k r : ℕ) → 1 ≤ i → i ≤ j → j ≤ k → k ≤ v.size → Reach v i j → Pending v i k r → Pending v j k r
 pending_after v i j k r a b c d q p = elim (cases_lt r j) [
-    inl l ↦ absurd (sound v i j r q (pending-shorter v i j k r p l c))
+  | inl l ↦ absurd (sound v i j r q (pending-shorter v i j k r p l c))
   | inr l ↦ pending-later v i j k r p b l
-  ]
+]
 
 -- All of i .. r is executed by the procedure that returns at r, or by its descendants.
 pub record Within (v : World) (i r : ℕ) : Type 0 where
@@ -630,19 +629,19 @@ pending_from v i r j q h p = record {
   before = p.before;
   a_return = p.a_return;
   inside = λ x a b. elim (cases_lt r x) [
-      inl c ↦ p.inside x (omega arith) b
+    | inl c ↦ p.inside x (omega arith) b
     | inr c ↦ (let e : v.depth q ≤ v.depth r = p.inside r (omega arith) p.since in omega (arith, h.inside x a c))
-    ];
+  ];
   held = p.held;
-  unjoined = p.unjoined
+  unjoined = p.unjoined;
 }
 
 -- the one way out of a procedure is by its return
 pub way_out : (v : World) (i r j : ℕ) → 1 ≤ i → r ≤ j → j ≤ v.size → Within v i r → Reach v i j → Reach v r j
 way_out v i r j a b c h q = elim (decided v r j (omega (arith, h.upto)) b c) [
-    inl p ↦ absurd (sound v i j p.0 q (pending_from v i r j p.0 h p.1))
+  | inl p ↦ absurd (sound v i j p.0 q (pending_from v i r j p.0 h p.1))
   | inr z ↦ z
-  ]
+]
 
 pub way_from : (v : World) (i r j : ℕ) → 1 ≤ i → r ≤ v.size → Within v i r → Reach v r j → Reach v i j
 way_from v i r j a b h q = reach_all v i r j (reach-return v i r a b h) q

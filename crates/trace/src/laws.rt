@@ -19,5 +19,4 @@ pub fn meeting()
     ensures parallel { (w : List Record) (records depths i j m : ℕ) → IsWellNested w records depths
         → IsAccessPlace w i → IsAccessPlace w j → i < j → IsMeeting w i j m
         → IsParallel w i j ↔ InOneBlock w m i j }
-{
-}
+{}

@@ -11,16 +11,16 @@ loop-record-init c = record { near = omega arith; walked = walk_first c.args.rec
 pub loop-record-preserved : goal.loop-record-preserved
 loop-record-preserved c = record {
   near = elim c.match-record.branch [
-      in-Spawn b ↦ omega arith
+    | in-Spawn b ↦ omega arith
     | in-Return b ↦ omega arith
     | in-Return-2 b ↦ omega arith
     | in-Sync b ↦ omega arith
     | in-Sync+else-above-eq0-2 b ↦ omega arith
     | in-Read b ↦ omega arith
     | in-Write b ↦ omega arith
-    ];
+  ];
   walked = elim c.match-record.branch [
-      in-Spawn b ↦ (let q = item Spawn b.in-Spawn.is in
+    | in-Spawn b ↦ (let q = item Spawn b.in-Spawn.is in
         walk_next w i k (a + 1) _ p _ (walk_spawn w i t a p q.inside q.there s) b.above-is b.pending-is)
     | in-Return b ↦ (let q = item Return b.in-Return.is in
         walk_next w i k a _ true _ (walk_return_out w i t a p (omega (arith, c.requires.some)) q.inside q.there b.if-above-eq0.true s) b.above-is b.pending-is)
@@ -34,25 +34,32 @@ loop-record-preserved c = record {
         walk_next w i k a _ p _ (walk_read w i t a _ p q.inside q.there s) b.above-is b.pending-is)
     | in-Write b ↦ (let q = item (Write _) b.in-Write.is in
         walk_next w i k a _ p _ (walk_write w i t a _ p q.inside q.there s) b.above-is b.pending-is)
-    ]
+  ];
 }
   where
     w : List Record
     w = c.args.records.now
+
     i : ℕ
     i = c.args.i
+
     k : ℕ
     k = c.loop-record.record-index
+
     t : ℕ
     t = c.args.i - 1 + c.loop-record.record-index
+
     a : ℕ
     a = c.loop-record.above
+
     p : Bool
     p = c.loop-record.pending
+
     s : Walks c.args.records.now c.args.i (c.args.i - 1 + c.loop-record.record-index) c.loop-record.above c.loop-record.pending
     s = c.loop-record.invariant.walked
+
     item : (r : Record) → get_or (take (c.args.j - 1 - (c.args.i - 1)) (drop (c.args.i - 1) c.args.records.now)) c.loop-record.record-index Spawn ≡ r
-      → Item c.args.records.now (c.args.i - 1 + c.loop-record.record-index) r
+        → Item c.args.records.now (c.args.i - 1 + c.loop-record.record-index) r
     item r e = item_at c.args.records.now c.args.i c.args.j c.loop-record.record-index r Spawn c.requires.some c.requires.in_order c.requires.within c.loop-record-test.true e
 
 pub returns : goal.returns
