@@ -1,5 +1,5 @@
 -- The S-bag and the P-bag of each active procedure, by the rules of SP-bags.
-use Rattle.std.specs.Prelude.{ℕ, ◌+◌, Bool, List, [], ◌∷◌, refl}
+use Rattle.std.specs.Prelude.{ℕ, zero, suc, ◌+◌, Bool, List, [], ◌∷◌, take, refl}
 use Rattle.std.specs.List.{list_any}
 use Rattle.std.specs.Ordering.{nat_cmp}
 use Rattle.std.specs.FinSet as set
@@ -7,6 +7,7 @@ use Rattle.std.specs.Coded.{Coded, code_by, coded×, coded_ℕ, coded_list}
 use Rattle.trace.specs.declared.records.Record.{Record}
 use Rattle.trace.specs.declared.records.Record.TheVariants.{Spawn, Return, Sync, Read, Write}
 use Rattle.trace.specs.declared.records.Placed.{Placed}
+use Rattle.trace.specs.Traces.{placed}
 
 -- a set of procedures; procedures are numbered by their spawns, and the root is 0
 abbrev pub Bag : Type 0
@@ -76,6 +77,11 @@ in_p fs p = list_any (λ f. set.contains f.parallel p) fs
 abbrev pub current : List Active → ℕ
 current [] = 0
 current (f ∷ fs) = f.own
+
+-- the procedure that executes the record at a place
+abbrev pub procedure_at : List Record → ℕ → ℕ
+procedure_at w zero = 0
+procedure_at w (suc t) = current (bags_after (take t (placed w))).active
 
 abbrev pub coded_active : Coded Active
 coded_active = code_by (ℕ × (Bag × Bag)) (coded× coded_ℕ (coded× (set.code coded_ℕ) (set.code coded_ℕ)))

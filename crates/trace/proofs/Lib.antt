@@ -6,3 +6,9 @@ pub mod Places
 pub mod Nestings
 pub mod Feedings
 pub mod Readability
+pub mod World
+pub mod Traced
+pub mod Paths
+pub mod Standing
+pub mod Meetings
+pub mod Walks

@@ -1,5 +1,5 @@
 -- The dag of a trace: its edges and paths, and which places are parallel.
-use Rattle.std.specs.Prelude.{◌≡◌, ◌≢◌, ℕ, ◌+◌, ◌<◌, List, [], ◌∷◌, Some, ◌⊎◌}
+use Rattle.std.specs.Prelude.{◌≡◌, ◌≢◌, ℕ, ◌+◌, ◌<◌, ◌≤◌, ◌↔◌, List, [], ◌∷◌, Some, ◌⊎◌}
 use Rattle.trace.specs.declared.records.Record.{Record}
 use Rattle.trace.specs.declared.records.Record.TheVariants.{Spawn, Return, Sync}
 use Rattle.trace.specs.Traces.{at, depth, IsPlace}
@@ -51,3 +51,13 @@ pub record IsParallel (w : List Record) (i j : ℕ) : Type 0 where
   pub apart : i ≢ j
   pub not_forth : Leads w i j → ⊥
   pub not_back : Leads w j i → ⊥
+
+-- place i lies in the part of the procedure that returns at r: nothing from i to r is less deep than r
+pub record IsInPart (w : List Record) (i r : ℕ) : Type 0 where
+  pub a_return : at w r ≡ Some Return
+  pub upto : i ≤ r
+  pub inside : (k : ℕ) → i ≤ k → k ≤ r → depth w r ≤ depth w k
+
+-- from a place in the part of a procedure that returns at r, the paths to places after r are those of r
+abbrev pub OneWayOut : List Record → Type 0
+OneWayOut w = (i r j : ℕ) → IsPlace w i → IsPlace w j → IsInPart w i r → r < j → Leads w i j ↔ Leads w r j

@@ -4,6 +4,7 @@ pub mod Text
 pub mod Faults
 pub mod Dag
 pub mod Races
+pub mod Meeting
 pub mod Shares
 pub mod Devices
 pub mod Reading

@@ -24,6 +24,10 @@ IsRead w l i = IsAccess w l i Read
 abbrev pub IsWrite : List Record → ℕ → ℕ → Type 0
 IsWrite w l i = IsAccess w l i Write
 
+-- a place at which some location is accessed
+abbrev pub IsAccessPlace : List Record → ℕ → Type 0
+IsAccessPlace w i = (l : ℕ) × (IsRead w l i ⊎ IsWrite w l i)
+
 -- two accesses of l, in trace order and parallel, of which one writes
 pub record IsRace (w : List Record) (l i j : ℕ) : Type 0 where
   pub in_order : i < j

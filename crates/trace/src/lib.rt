@@ -4,9 +4,11 @@
 pub mod devices;
 pub mod faults;
 pub mod feeding;
+pub mod laws;
 mod lines;
 pub mod nesting;
 mod numbers;
+pub mod parallel;
 pub mod reading;
 pub mod records;
 #[cfg(test)]
@@ -17,5 +19,6 @@ pub use faults::{Fault, NestFault, NestKind, NoMemory, TextFault, TextKind, Writ
 pub use feeding::{Feed, Intake};
 pub use nesting::Nest;
 pub use numbers::decimal_of;
+pub use parallel::is_parallel;
 pub use reading::{Reader, Taken};
 pub use records::{Access, Kind, Limits, Placed, Race, Record};

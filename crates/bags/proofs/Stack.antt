@@ -1,0 +1,347 @@
+-- The bags after t records: at each level of the active procedures, the places of the procedures in the
+-- S-bag are serial, and those in the P-bag are kept parallel.
+use Rattle.std.proofs.Common.{◌≡◌, ℕ, suc, ◌+◌, ◌<◌, ◌≤◌, Bool, true, false, ◌||◌, List, [], ◌∷◌, length, ◌⊎◌, inl, inr, refl, sym, ◌∙◌, subst, ap, arith, eqb}
+use Rattle.std.proofs.lemmas.Bool.{cases_eq, both_ways, or_cases, eqb-true, eq-eqb}
+use Rattle.std.specs.List.{list_any}
+use Rattle.std.specs.Cmp.{nat_cmp_total}
+use Rattle.std.specs.Ordering.{nat_cmp}
+use Rattle.std.specs.FinSet as set
+use Rattle.trace.proofs.World.{World, spawned_return, joins}
+use Rattle.bags.specs.Procedures.{Bag, Active, opened, synced, takes_in, after_sync, after_return, current}
+use Rattle.trace.proofs.Standing.{Kept, Serial, kept_stays, serial_stays, kept-above, kept_synced, returned, serial_now, own-serial, own-kept}
+
+-- an active procedure at level d, for the places up to m; places are executed by the procedures `proc`
+pub record Stands (v : World) (proc : ℕ → ℕ) (m t count d : ℕ) (f : Active) : Type 0 where
+  pub serial : (i : ℕ) → 1 ≤ i → i ≤ m → set.contains f.serial (proc i) ≡ true → Serial v t d i
+  pub parallel : (i : ℕ) → 1 ≤ i → i ≤ m → set.contains f.parallel (proc i) ≡ true → Kept v t d i
+  pub serial_below : (p : ℕ) → set.contains f.serial p ≡ true → p < count
+  pub parallel_below : (p : ℕ) → set.contains f.parallel p ≡ true → p < count
+  pub home : ℕ
+  pub home_from : 1 ≤ home
+  pub home_upto : home ≤ suc t
+  pub home_own : proc home ≡ f.own
+  pub home_level : v.depth home ≡ d
+  pub home_above : (k : ℕ) → home ≤ k → k ≤ suc t → d ≤ v.depth k
+
+pub data AllStand (v : World) (proc : ℕ → ℕ) (m t count : ℕ) : List Active → Type 0 where
+  none : AllStand v proc m t count []
+  one_more : {f : Active} {fs : List Active} → Stands v proc m t count (length fs) f → AllStand v proc m t count fs → AllStand v proc m t count (f ∷ fs)
+
+-- a procedure stands in some bag
+abbrev pub somewhere : List Active → ℕ → Bool
+somewhere fs p = list_any (λ f. set.contains f.serial p || set.contains f.parallel p) fs
+
+pub record Invariant (v : World) (proc : ℕ → ℕ) (t count : ℕ) (fs : List Active) : Type 0 where
+  pub deep : length fs ≡ suc (v.depth (suc t))
+  pub each : AllStand v proc (suc t) t count fs
+  pub stand : (i : ℕ) → 1 ≤ i → i ≤ suc t → somewhere fs (proc i) ≡ true
+
+-- sets
+
+pub contains-one : (k q : ℕ) → set.contains (set.insert (set.empty {R = nat_cmp}) k) q ≡ (eqb k q || false)
+contains-one k q = set.contains-from_list_nat (k ∷ []) q
+
+in_one : (k q : ℕ) → set.contains (set.insert (set.empty {R = nat_cmp}) k) q ≡ true → q ≡ k
+in_one k q h = sym (eqb-true k q (only (eqb k q) (sym (contains-one k q) ∙ h)))
+  where
+    only : (b : Bool) → (b || false) ≡ true → b ≡ true
+    only true e = refl
+    only false e = e
+
+one_in : (k : ℕ) → set.contains (set.insert (set.empty {R = nat_cmp}) k) k ≡ true
+one_in k = contains-one k k ∙ ap (λ (b : Bool). b || false) (eq-eqb k k refl)
+
+pub in_none : {X : Type 0} (q : ℕ) → set.contains (set.empty {R = nat_cmp}) q ≡ true → X
+in_none q h = let e : set.contains (set.empty {R = nat_cmp}) q ≡ false = set.contains-empty nat_cmp q in absurd (cc)
+
+in_union : (a b : Bag) (q : ℕ) → set.contains (set.union a b) q ≡ true → (set.contains a q ≡ true) ⊎ (set.contains b q ≡ true)
+in_union a b q h = or_cases _ _ (sym (set.contains-union nat_cmp_total a b q) ∙ h)
+
+-- a place more: what stands at it
+
+more_stand : (v : World) (proc : ℕ → ℕ) (m t count d : ℕ) (f : Active)
+    → (set.contains f.serial (proc (suc m)) ≡ true → Serial v t d (suc m))
+    → (set.contains f.parallel (proc (suc m)) ≡ true → Kept v t d (suc m))
+    → Stands v proc m t count d f → Stands v proc (suc m) t count d f
+more_stand v proc m t count d f a b h = record {
+  serial = λ i x y c. elim (cases_eq i (suc m)) [
+    | inl e ↦ subst (λ (z : ℕ). Serial v t d z) (sym e) (a (subst (λ (z : ℕ). set.contains f.serial (proc z) ≡ true) e c))
+    | inr n ↦ h.serial i x (omega arith) c
+  ];
+  parallel = λ i x y c. elim (cases_eq i (suc m)) [
+    | inl e ↦ subst (λ (z : ℕ). Kept v t d z) (sym e) (b (subst (λ (z : ℕ). set.contains f.parallel (proc z) ≡ true) e c))
+    | inr n ↦ h.parallel i x (omega arith) c
+  ];
+  serial_below = h.serial_below;
+  parallel_below = h.parallel_below;
+  home = h.home;
+  home_from = h.home_from;
+  home_upto = h.home_upto;
+  home_own = h.home_own;
+  home_level = h.home_level;
+  home_above = h.home_above;
+}
+
+-- the next place is executed by a procedure whose own place is known: it stands at that place's level
+more_of_known : (v : World) (proc : ℕ → ℕ) (t count d y : ℕ) (f : Active) → suc t ≤ v.size → 1 ≤ y → y < suc t → proc (suc t) ≡ proc y
+    → v.depth (suc t) ≡ v.depth y → ((k : ℕ) → y ≤ k → k ≤ suc t → v.depth y ≤ v.depth k)
+    → Stands v proc t t count d f → Stands v proc (suc t) t count d f
+more_of_known v proc t count d y f b x l p e h s = more_stand v proc t t count d f
+    (λ c. let z : Serial v t d y = s.serial y x (omega arith) (subst (λ (q : ℕ). set.contains f.serial q ≡ true) p c) in
+    let g : d ≡ v.depth y = own-serial v t d (v.depth y) y (omega arith) refl h z in
+    serial_now v t d (e ∙ sym g))
+    (λ c. let z : Kept v t d y = s.parallel y x (omega arith) (subst (λ (q : ℕ). set.contains f.parallel q ≡ true) p c) in
+    absurd (own-kept v t d (v.depth y) y x b refl h z))
+    s
+
+more_of_known_all : (v : World) (proc : ℕ → ℕ) (t count y : ℕ) (fs : List Active) → suc t ≤ v.size → 1 ≤ y → y < suc t → proc (suc t) ≡ proc y
+    → v.depth (suc t) ≡ v.depth y → ((k : ℕ) → y ≤ k → k ≤ suc t → v.depth y ≤ v.depth k)
+    → AllStand v proc t t count fs → AllStand v proc (suc t) t count fs
+more_of_known_all v proc t count y [] b x l p e h s = none
+more_of_known_all v proc t count y (f ∷ fs) b x l p e h (one_more s r) =
+    one_more (more_of_known v proc t count (length fs) y f b x l p e h s) (more_of_known_all v proc t count y fs b x l p e h r)
+
+-- the next place is executed by a new procedure
+more_of_new : (v : World) (proc : ℕ → ℕ) (t old count d : ℕ) (f : Active) → old ≤ proc (suc t)
+    → Stands v proc t t old d f → old ≤ count → Stands v proc (suc t) t count d f
+more_of_new v proc t old count d f n s l = more_stand v proc t t count d f
+    (λ c. absurd (let x : proc (suc t) < old = s.serial_below (proc (suc t)) c in omega arith))
+    (λ c. absurd (let x : proc (suc t) < old = s.parallel_below (proc (suc t)) c in omega arith))
+    (record {
+      serial = s.serial;
+      parallel = s.parallel;
+      serial_below = λ p c. omega (arith, s.serial_below p c);
+      parallel_below = λ p c. omega (arith, s.parallel_below p c);
+      home = s.home;
+      home_from = s.home_from;
+      home_upto = s.home_upto;
+      home_own = s.home_own;
+      home_level = s.home_level;
+      home_above = s.home_above;
+    })
+
+more_of_new_all : (v : World) (proc : ℕ → ℕ) (t old count : ℕ) (fs : List Active) → old ≤ proc (suc t)
+    → AllStand v proc t t old fs → old ≤ count → AllStand v proc (suc t) t count fs
+more_of_new_all v proc t old count [] n s l = none
+more_of_new_all v proc t old count (f ∷ fs) n (one_more s r) l =
+    one_more (more_of_new v proc t old count (length fs) f n s l) (more_of_new_all v proc t old count fs n r l)
+
+-- a record more, which leaves a level alone
+
+home_more : (f : ℕ → ℕ) (d y t : ℕ) → ((k : ℕ) → y ≤ k → k ≤ t → d ≤ f k) → d ≤ f (suc t) → (k : ℕ) → y ≤ k → k ≤ suc t → d ≤ f k
+home_more f d y t h l k x z = elim (cases_eq k (suc t)) [
+  | inl e ↦ (let g : f k ≡ f (suc t) = ap f e in omega arith)
+  | inr n ↦ h k x (omega arith)
+]
+
+stays : (v : World) (proc : ℕ → ℕ) (m t count d : ℕ) (f : Active) → d ≤ v.depth (suc (suc t)) → (v.depth (suc t) ≡ d → joins (v.shape (suc t)) ≡ true → ⊥)
+    → Stands v proc m t count d f → Stands v proc m (suc t) count d f
+stays v proc m t count d f l n s = record {
+  serial = λ i x y c. serial_stays v t d i l (s.serial i x y c);
+  parallel = λ i x y c. kept_stays v t d i l n (s.parallel i x y c);
+  serial_below = s.serial_below;
+  parallel_below = s.parallel_below;
+  home = s.home;
+  home_from = s.home_from;
+  home_upto = omega (arith, s.home_upto);
+  home_own = s.home_own;
+  home_level = s.home_level;
+  home_above = home_more v.depth d s.home (suc t) s.home_above l;
+}
+
+stay : (v : World) (proc : ℕ → ℕ) (m t count : ℕ) (fs : List Active) → length fs ≤ suc (v.depth (suc (suc t))) → (joins (v.shape (suc t)) ≡ true → length fs ≤ v.depth (suc t))
+    → AllStand v proc m t count fs → AllStand v proc m (suc t) count fs
+stay v proc m t count [] l n s = none
+stay v proc m t count (f ∷ fs) l n (one_more s r) = one_more
+    (stays v proc m t count (length fs) f (omega arith) (λ e j. omega (arith, n j)) s)
+    (stay v proc m t count fs (omega arith) (λ j. omega (arith, n j)) r)
+
+-- a sync
+
+syncs : (v : World) (proc : ℕ → ℕ) (m t count d : ℕ) (f : Active) → suc t ≤ v.size → joins (v.shape (suc t)) ≡ true → v.depth (suc t) ≡ d → d ≤ v.depth (suc (suc t))
+    → Stands v proc m t count d f → Stands v proc m (suc t) count d (synced f)
+syncs v proc m t count d f b j e l s = record {
+  serial = λ i x y c. elim (in_union f.serial f.parallel (proc i) c) [
+    | inl q ↦ serial_stays v t d i l (s.serial i x y q)
+    | inr q ↦ kept_synced v t d i x b j e l (s.parallel i x y q)
+  ];
+  parallel = λ i x y c. in_none (proc i) c;
+  serial_below = λ p c. elim (in_union f.serial f.parallel p c) [ inl q ↦ s.serial_below p q | inr q ↦ s.parallel_below p q ];
+  parallel_below = λ p c. in_none p c;
+  home = s.home;
+  home_from = s.home_from;
+  home_upto = omega (arith, s.home_upto);
+  home_own = s.home_own;
+  home_level = s.home_level;
+  home_above = home_more v.depth d s.home (suc t) s.home_above l;
+}
+
+-- a return
+
+closes : (v : World) (proc : ℕ → ℕ) (t count d : ℕ) (f g : Active) → suc (suc t) ≤ v.size → v.shape (suc t) ≡ spawned_return → v.depth (suc t) ≡ suc d → v.depth (suc (suc t)) ≡ d
+    → Stands v proc (suc t) t count (suc d) g → Stands v proc (suc t) t count d f → Stands v proc (suc t) (suc t) count d (takes_in f g)
+closes v proc t count d f g b e a l u s = record {
+  serial = λ i x y c. serial_stays v t d i (omega arith) (s.serial i x y c);
+  parallel = λ i x y c. elim (in_union f.parallel (set.union g.serial g.parallel) (proc i) c) [
+    | inl q ↦ kept_stays v t d i (omega arith) (λ z w. omega arith) (s.parallel i x y q)
+    | inr q ↦ elim (in_union g.serial g.parallel (proc i) q) [
+      | inl w ↦ returned v t d i y e a l (u.serial i x y w).above
+      | inr w ↦ returned v t d i y e a l (kept-above v t (suc d) i (u.parallel i x y w))
+    ]
+  ];
+  serial_below = s.serial_below;
+  parallel_below = λ p c. elim (in_union f.parallel (set.union g.serial g.parallel) p c) [
+    | inl q ↦ s.parallel_below p q
+    | inr q ↦ elim (in_union g.serial g.parallel p q) [ inl w ↦ u.serial_below p w | inr w ↦ u.parallel_below p w ]
+  ];
+  home = s.home;
+  home_from = s.home_from;
+  home_upto = omega (arith, s.home_upto);
+  home_own = s.home_own;
+  home_level = s.home_level;
+  home_above = home_more v.depth d s.home (suc t) s.home_above (omega arith);
+}
+
+-- no procedure is lost
+
+regroup_sync : (a b c : Bool) → (((a || b) || false) || c) ≡ ((a || b) || c)
+regroup_sync a b c = grind arith
+
+regroup_return : (a b c d e : Bool) → ((c || (d || (a || b))) || e) ≡ ((a || b) || ((c || d) || e))
+regroup_return a b c d e = grind arith
+
+somewhere-synced : (f : Active) (fs : List Active) (p : ℕ) → somewhere (synced f ∷ fs) p ≡ somewhere (f ∷ fs) p
+somewhere-synced f fs p =
+    (λ i. (set.contains-union nat_cmp_total f.serial f.parallel p i || set.contains-empty nat_cmp p i) || somewhere fs p)
+    ∙ regroup_sync (set.contains f.serial p) (set.contains f.parallel p) (somewhere fs p)
+
+somewhere-takes_in : (f g : Active) (fs : List Active) (p : ℕ) → somewhere (takes_in f g ∷ fs) p ≡ somewhere (g ∷ f ∷ fs) p
+somewhere-takes_in f g fs p =
+    (λ i. (set.contains f.serial p || set.contains-union nat_cmp_total f.parallel (set.union g.serial g.parallel) p i) || somewhere fs p)
+    ∙ (λ i. (set.contains f.serial p || (set.contains f.parallel p || set.contains-union nat_cmp_total g.serial g.parallel p i)) || somewhere fs p)
+    ∙ regroup_return (set.contains g.serial p) (set.contains g.parallel p) (set.contains f.serial p) (set.contains f.parallel p) (somewhere fs p)
+
+somewhere_below : (v : World) (proc : ℕ → ℕ) (m t count : ℕ) (fs : List Active) (p : ℕ) → AllStand v proc m t count fs → somewhere fs p ≡ true → p < count
+somewhere_below v proc m t count [] p s h = absurd (cc)
+somewhere_below v proc m t count (f ∷ fs) p (one_more s r) h = elim (or_cases _ _ h) [
+  | inl q ↦ elim (or_cases _ _ q) [ inl w ↦ s.serial_below p w | inr w ↦ s.parallel_below p w ]
+  | inr q ↦ somewhere_below v proc m t count fs p r q
+]
+
+-- one record
+
+-- the next place is executed by the first active procedure, which has a place already
+pub finish : (v : World) (proc : ℕ → ℕ) (t count y : ℕ) (f : Active) (fs : List Active) → suc (suc t) ≤ v.size → 1 ≤ y → y ≤ suc t → proc y ≡ f.own → v.depth y ≡ length fs
+    → ((k : ℕ) → y ≤ k → k ≤ suc t → length fs ≤ v.depth k) → length fs ≡ v.depth (suc (suc t)) → proc (suc (suc t)) ≡ f.own
+    → AllStand v proc (suc t) (suc t) count (f ∷ fs) → ((i : ℕ) → 1 ≤ i → i ≤ suc t → somewhere (f ∷ fs) (proc i) ≡ true)
+    → Invariant v proc (suc t) count (f ∷ fs)
+finish v proc t count y f fs b x l o e h d n s a = record {
+  deep = omega arith;
+  each = more_of_known_all v proc (suc t) count y (f ∷ fs) b x (omega arith) (n ∙ sym o) (omega arith)
+      (home_more v.depth (v.depth y) y (suc t) (λ k p q. omega (arith, h k p q)) (omega arith)) s;
+  stand = λ i p q. elim (cases_eq i (suc (suc t))) [
+    | inl z ↦ ap (λ (j : ℕ). somewhere (f ∷ fs) j) (ap proc z ∙ (n ∙ sym o)) ∙ a y x l
+    | inr z ↦ a i p (omega arith)
+  ];
+}
+
+pub at_access : (v : World) (proc : ℕ → ℕ) (t count : ℕ) (fs : List Active) → suc (suc t) ≤ v.size → joins (v.shape (suc t)) ≡ false → v.depth (suc (suc t)) ≡ v.depth (suc t)
+    → proc (suc (suc t)) ≡ current fs → Invariant v proc t count fs → Invariant v proc (suc t) count fs
+at_access v proc t count [] b n d p h = absurd (omega (arith, h.deep))
+at_access v proc t count (f ∷ fs) b n d p h = from_top h.each
+  where
+    from_top : AllStand v proc (suc t) t count (f ∷ fs) → Invariant v proc (suc t) count (f ∷ fs)
+    from_top (one_more s r) = finish v proc t count s.home f fs b s.home_from s.home_upto s.home_own s.home_level s.home_above (omega (arith, h.deep)) p
+        (stay v proc (suc t) t count (f ∷ fs) (omega (arith, h.deep)) (λ j. absurd (both_ways _ n j)) h.each) h.stand
+
+pub at_sync : (v : World) (proc : ℕ → ℕ) (t count : ℕ) (fs : List Active) → suc (suc t) ≤ v.size → joins (v.shape (suc t)) ≡ true → v.depth (suc (suc t)) ≡ v.depth (suc t)
+    → proc (suc (suc t)) ≡ current (after_sync fs) → Invariant v proc t count fs → Invariant v proc (suc t) count (after_sync fs)
+at_sync v proc t count [] b n d p h = absurd (omega (arith, h.deep))
+at_sync v proc t count (f ∷ fs) b n d p h = from_top h.each
+  where
+    from_top : AllStand v proc (suc t) t count (f ∷ fs) → Invariant v proc (suc t) count (synced f ∷ fs)
+    from_top (one_more s r) = finish v proc t count s.home (synced f) fs b s.home_from s.home_upto s.home_own s.home_level s.home_above (omega (arith, h.deep)) p
+        (one_more (syncs v proc (suc t) t count (length fs) f (omega arith) n (omega (arith, h.deep)) (omega (arith, h.deep)) s)
+        (stay v proc (suc t) t count fs (omega (arith, h.deep)) (λ j. omega (arith, h.deep)) r))
+        (λ i x y. somewhere-synced f fs (proc i) ∙ h.stand i x y)
+
+pub at_return : (v : World) (proc : ℕ → ℕ) (t count : ℕ) (fs : List Active) → suc (suc t) ≤ v.size → v.shape (suc t) ≡ spawned_return → v.depth (suc t) ≡ suc (v.depth (suc (suc t)))
+    → proc (suc (suc t)) ≡ current (after_return fs) → Invariant v proc t count fs → Invariant v proc (suc t) count (after_return fs)
+at_return v proc t count [] b n d p h = absurd (omega (arith, h.deep))
+at_return v proc t count (g ∷ []) b n d p h = absurd (omega (arith, h.deep))
+at_return v proc t count (g ∷ f ∷ fs) b n d p h = from_top h.each
+  where
+    from_next : Stands v proc (suc t) t count (suc (length fs)) g → AllStand v proc (suc t) t count (f ∷ fs) → Invariant v proc (suc t) count (takes_in f g ∷ fs)
+    from_next u (one_more s r) = finish v proc t count s.home (takes_in f g) fs b s.home_from s.home_upto s.home_own s.home_level s.home_above (omega (arith, h.deep)) p
+        (one_more (closes v proc t count (length fs) f g b n (omega (arith, h.deep)) (omega (arith, h.deep)) u s)
+        (stay v proc (suc t) t count fs (omega (arith, h.deep)) (λ j. omega (arith, h.deep)) r))
+        (λ i x y. somewhere-takes_in f g fs (proc i) ∙ h.stand i x y)
+
+    from_top : AllStand v proc (suc t) t count (g ∷ f ∷ fs) → Invariant v proc (suc t) count (takes_in f g ∷ fs)
+    from_top (one_more u r) = from_next u r
+
+pub at_spawn : (v : World) (proc : ℕ → ℕ) (t count : ℕ) (fs : List Active) → suc (suc t) ≤ v.size → joins (v.shape (suc t)) ≡ false → v.depth (suc (suc t)) ≡ suc (v.depth (suc t))
+    → proc (suc (suc t)) ≡ count → Invariant v proc t count fs → Invariant v proc (suc t) (count + 1) (opened count ∷ fs)
+at_spawn v proc t count fs b n d p h = record {
+  deep = omega (arith, h.deep);
+  each = one_more (record {
+    serial = λ i x y c. elim (cases_eq i (suc (suc t))) [
+      | inl z ↦ subst (λ (j : ℕ). Serial v (suc t) (length fs) j) (sym z) (serial_now v (suc t) (length fs) level)
+      | inr z ↦ absurd (let e : proc i ≡ count = in_one count (proc i) c in
+          let l : proc i < count = somewhere_below v proc (suc t) t count fs (proc i) h.each (h.stand i x (omega arith)) in omega arith)
+    ];
+    parallel = λ i x y c. in_none (proc i) c;
+    serial_below = λ q c. omega (arith, in_one count q c);
+    parallel_below = λ q c. in_none q c;
+    home = suc (suc t);
+    home_from = omega arith;
+    home_upto = omega arith;
+    home_own = p;
+    home_level = omega (arith, h.deep);
+    home_above = λ k x y. (let e : v.depth k ≡ v.depth (suc (suc t)) = ap v.depth (only k t x y) in omega (arith, h.deep));
+  }) (more_of_new_all v proc (suc t) count (count + 1) fs (omega arith)
+      (stay v proc (suc t) t count fs (omega (arith, h.deep)) (λ j. absurd (both_ways _ n j)) h.each) (omega arith));
+  stand = λ i x y. elim (cases_eq i (suc (suc t))) [
+    | inl z ↦ new_stands (proc i) (ap proc z ∙ p)
+    | inr z ↦ old_stands (proc i) (h.stand i x (omega arith))
+  ];
+}
+  where
+    level : v.depth (suc (suc t)) ≡ length fs
+    level = omega (arith, h.deep)
+
+    only : (k t : ℕ) → suc (suc t) ≤ k → k ≤ suc (suc t) → k ≡ suc (suc t)
+    only k t x y = omega arith
+
+    new_stands : (q : ℕ) → q ≡ count → somewhere (opened count ∷ fs) q ≡ true
+    new_stands q e = ap (λ (j : ℕ). somewhere (opened count ∷ fs) j) e
+        ∙ ap (λ (c : Bool). (c || set.contains (set.empty {R = nat_cmp}) count) || somewhere fs count) (one_in count)
+
+    or_more : (c d : Bool) → d ≡ true → (c || d) ≡ true
+    or_more c d e = grind arith
+
+    old_stands : (q : ℕ) → somewhere fs q ≡ true → somewhere (opened count ∷ fs) q ≡ true
+    old_stands q e = or_more (set.contains (opened count).serial q || set.contains (opened count).parallel q) (somewhere fs q) e
+
+pub at_start : (v : World) (proc : ℕ → ℕ) → v.depth 1 ≡ 0 → proc 1 ≡ 0 → Invariant v proc 0 1 (opened 0 ∷ [])
+at_start v proc d p = record {
+  deep = omega arith;
+  each = one_more (record {
+    serial = λ i x y c. subst (λ (j : ℕ). Serial v 0 0 j) (only i x y) (serial_now v 0 0 d);
+    parallel = λ i x y c. in_none (proc i) c;
+    serial_below = λ q c. omega (arith, in_one 0 q c);
+    parallel_below = λ q c. in_none q c;
+    home = 1;
+    home_from = omega arith;
+    home_upto = omega arith;
+    home_own = p;
+    home_level = d;
+    home_above = λ k x y. omega arith;
+  }) none;
+  stand = λ i x y. ap (λ (j : ℕ). somewhere (opened 0 ∷ []) (proc j)) (sym (only i x y))
+      ∙ ap (λ (j : ℕ). somewhere (opened 0 ∷ []) j) p
+      ∙ ap (λ (c : Bool). (c || set.contains (set.empty {R = nat_cmp}) 0) || false) (one_in 0);
+}
+  where
+    only : (i : ℕ) → 1 ≤ i → i ≤ 1 → 1 ≡ i
+    only i x y = omega arith
