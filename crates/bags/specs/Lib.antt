@@ -1,1 +1,3 @@
 pub mod Procedures
+pub mod Ranges
+pub mod Search
