@@ -1,2 +1,7 @@
 //! Shadow memory: the kept writer and reader of each location, by the read rule and the write rule of SP-bags.
 #![tactic(auto)]
+
+mod cell;
+mod memory;
+
+pub use memory::Shadow;
