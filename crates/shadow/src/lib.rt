@@ -3,5 +3,7 @@
 
 mod cell;
 mod memory;
+mod rules;
 
 pub use memory::Shadow;
+pub use rules::apply;
