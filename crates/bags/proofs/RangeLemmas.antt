@@ -1,5 +1,5 @@
 -- Runs of numbers that lie side by side, and what a sync, a return and a look-up do to ranges.
-use Rattle.std.proofs.Common.{◌≡◌, ℕ, zero, suc, ◌+◌, ◌-◌, ◌<◌, ◌≤◌, Bool, true, false, ◌||◌, ◌&&◌, eqb, ltb, leb, List, [], ◌∷◌, ◌++◌, reverse, length, set, get_or, Option, Some, None, IsSome, refl, sym, ap, subst, ◌∙◌, arith}
+use Rattle.std.proofs.Common.{◌≡◌, ℕ, zero, suc, ◌+◌, ◌-◌, ◌<◌, ◌≤◌, Bool, false, ◌||◌, ◌&&◌, eqb, ltb, leb, List, [], ◌∷◌, ◌++◌, reverse, length, set, get_or, Option, Some, None, IsSome, refl, sym, ap, subst, ◌∙◌, arith}
 use Rattle.std.proofs.lemmas.Bool.Decides.{nat_tests}
 use Rattle.std.proofs.lemmas.List.{length-reverse, reverse-append, reverse-reverse, get_or-reverse}
 use Rattle.std.proofs.Math.Seq.{set-append_seam}
@@ -8,7 +8,7 @@ use Rattle.std.specs.Option.{option_to_list}
 use Rattle.std.specs.Cmp.{nat_cmp_total}
 use Rattle.std.specs.FinSet as bag
 use Rattle.bags.specs.declared.Ranges.{Ranges}
-use Rattle.bags.specs.Procedures.{Bag, Active, synced, takes_in, after_sync, after_return, in_p, event}
+use Rattle.bags.specs.Procedures.{synced, takes_in, after_sync, after_return, in_p, event}
 use Rattle.bags.specs.Search.{own_at}
 use Rattle.trace.specs.declared.records.Record.TheVariants.{Sync, Return}
 use Rattle.bags.specs.Ranges.{run, active_of, actives_of, procedures_of, AreRanges, AreHeld}
@@ -34,10 +34,10 @@ nothing a q = grind (arith, nat_tests)
 pub union-run : (a b c : ℕ) → a ≤ b → b ≤ c → bag.union (run a b) (run b c) ≡ run a c
 union-run a b c ab bc =
     bag.same_set nat_cmp_total bag.nat_cmp-IsAntisymmetric _ _ (λ q.
-      bag.contains-union nat_cmp_total (run a b) (run b c) q
-      ∙ (λ i. contains-run a b q ab i || contains-run b c q bc i)
-      ∙ side_by_side a b c q ab bc
-      ∙ sym (contains-run a c q (omega arith)))
+    bag.contains-union nat_cmp_total (run a b) (run b c) q
+    ∙ (λ i. contains-run a b q ab i || contains-run b c q bc i)
+    ∙ side_by_side a b c q ab bc
+    ∙ sym (contains-run a c q (omega arith)))
 
 pub run-empty : (a : ℕ) → run a a ≡ bag.empty
 run-empty a = let none : a - a ≡ 0 = omega arith in ap (λ n. bag.from_list (range_with_len a n)) none
@@ -54,7 +54,7 @@ takes_in_ranges next f g low up within =
     λ i. record {
       own = f.own;
       serial = run f.own f.parallel_from;
-      parallel = (sym (union-run f.parallel_from g.own next low (omega arith)) ∙ ap (bag.union (run f.parallel_from g.own)) (sym (union-run g.own g.parallel_from next up within))) i
+      parallel = (sym (union-run f.parallel_from g.own next low (omega arith)) ∙ ap (bag.union (run f.parallel_from g.own)) (sym (union-run g.own g.parallel_from next up within))) i;
     }
 
 -- an index from the front, and the same from the back
@@ -130,33 +130,36 @@ in_p_kept next (f ∷ fs) (suc j) p d h low known kept above =
 -- a sync of the last procedure
 synced_last : (count : ℕ) (fs : List Ranges) (x : Ranges) (n : ℕ) → 1 ≤ count → AreRanges count fs → n ≡ length fs → x ≡ get_or (reverse fs) (n - 1) x
     → AreRanges count (reverse (set (reverse fs) (n - 1) (record { own = x.own; parallel_from = count })))
-      × (actives_of count (reverse (set (reverse fs) (n - 1) (record { own = x.own; parallel_from = count }))) ≡ after_sync (actives_of count fs))
+    × (actives_of count (reverse (set (reverse fs) (n - 1) (record { own = x.own; parallel_from = count }))) ≡ after_sync (actives_of count fs))
 synced_last count [] x n some h len at = absurd (omega arith)
 synced_last count (g ∷ fs) x n some h len at =
     let last : n - 1 ≡ length fs = omega arith in
     let is : x ≡ g = at ∙ ap (λ k. get_or (reverse (g ∷ fs)) k x) last ∙ get_or-last fs g x in
     let set_is : reverse (set (reverse (g ∷ fs)) (n - 1) (record { own = x.own; parallel_from = count })) ≡ record { own = g.own; parallel_from = count } ∷ fs
-        = (λ i. reverse (set (reverse (g ∷ fs)) (last i) (record { own = (is i).own; parallel_from = count }))) ∙ reverse-set_last fs g _ in
-    let ranges : AreRanges count (record { own = g.own; parallel_from = count } ∷ fs) = (omega arith, omega arith, h.2) in
-    ( subst (AreRanges count) (sym set_is) ranges
-    , ap (actives_of count) set_is ∙ ap (λ a. a ∷ actives_of g.own fs) (synced_ranges count g (omega arith) h.1) )
+    = (λ i. reverse (set (reverse (g ∷ fs)) (last i) (record { own = (is i).own; parallel_from = count }))) ∙ reverse-set_last fs g _ in
+    let ranges : AreRanges count (record { own = g.own; parallel_from = count } ∷ fs) = (omega arith, omega arith, h.2) in (
+      subst (AreRanges count) (sym set_is) ranges,
+      ap (actives_of count) set_is ∙ ap (λ a. a ∷ actives_of g.own fs) (synced_ranges count g (omega arith) h.1),
+    )
 
 pub sync_held : (count : ℕ) (xs : List Ranges) (x : Ranges) (n : ℕ) → AreHeld count xs → n ≡ length xs → x ≡ get_or xs (n - 1) x
     → AreHeld count (set xs (n - 1) (record { own = x.own; parallel_from = count }))
-      × (procedures_of count (set xs (n - 1) (record { own = x.own; parallel_from = count })) ≡ event (procedures_of count xs) Sync)
+    × (procedures_of count (set xs (n - 1) (record { own = x.own; parallel_from = count })) ≡ event (procedures_of count xs) Sync)
 sync_held count xs x n held len at =
     let back : reverse (reverse xs) ≡ xs = reverse-reverse xs in
-    let both = synced_last count (reverse xs) x n held.some held.ranges (len ∙ sym (length-reverse xs)) (rw back at) in
-    ( record { some = held.some; ranges = rw back at both.0 }
-    , λ i. record { count = count; active = (rw back at both.1) i } )
+    let both = synced_last count (reverse xs) x n held.some held.ranges (len ∙ sym (length-reverse xs)) (rw back at) in (
+      record { some = held.some; ranges = rw back at both.0 },
+      λ i. record { count = count; active = (rw back at both.1) i },
+    )
 
 -- a return of the last procedure
 returned_last : (count : ℕ) (g : Ranges) (fs : List Ranges) → AreRanges count (g ∷ fs) → 1 < length (g ∷ fs)
     → AreRanges count fs × (actives_of count fs ≡ after_return (actives_of count (g ∷ fs)))
 returned_last count g [] h more = absurd (omega arith)
-returned_last count g (f ∷ fs) h more =
-    ( (h.2.0, omega arith, h.2.2)
-    , ap (λ a. a ∷ actives_of f.own fs) (takes_in_ranges count f g h.2.1 (omega arith) h.1) )
+returned_last count g (f ∷ fs) h more = (
+  (h.2.0, omega arith, h.2.2),
+  ap (λ a. a ∷ actives_of f.own fs) (takes_in_ranges count f g h.2.1 (omega arith) h.1),
+)
 
 pub return_held : (count : ℕ) (xs ys : List Ranges) (o : Option Ranges) → AreHeld count xs → 1 < length xs → xs ≡ ys ++ option_to_list o → IsSome o
     → AreHeld count ys × (procedures_of count ys ≡ event (procedures_of count xs) Return)
@@ -164,9 +167,10 @@ return_held count xs ys None held more is some = cc
 return_held count xs ys (Some g) held more is some =
     let reversed : reverse xs ≡ g ∷ reverse ys = ap reverse is ∙ reverse-last ys g in
     let len : length (g ∷ reverse ys) ≡ length xs = ap length (sym reversed) ∙ length-reverse xs in
-    let both = returned_last count g (reverse ys) (subst (AreRanges count) reversed held.ranges) (omega arith) in
-    ( record { some = held.some; ranges = both.0 }
-    , λ i. record { count = count; active = (both.1 ∙ ap (λ r. after_return (actives_of count r)) (sym reversed)) i } )
+    let both = returned_last count g (reverse ys) (subst (AreRanges count) reversed held.ranges) (omega arith) in (
+      record { some = held.some; ranges = both.0 },
+      λ i. record { count = count; active = (both.1 ∙ ap (λ r. after_return (actives_of count r)) (sym reversed)) i },
+    )
 
 pub length-procedures_of : (count : ℕ) (xs : List Ranges) → length xs ≡ length (procedures_of count xs).active
 length-procedures_of count xs = sym (length-reverse xs) ∙ sym (length-actives_of count (reverse xs))
@@ -199,10 +203,10 @@ in_p_keeper count xs x k p held low at known not_above above =
     let back : length xs - 1 - (length xs - 1 - k) ≡ k = omega arith in
     let is : get_or (reverse xs) (length xs - 1 - k) x ≡ x = get_or-reverse xs (length xs - 1 - k) x (omega arith) ∙ ap (λ n. get_or xs n x) back ∙ sym at in
     let next : (i : ℕ) → length xs - 1 - k ≡ suc i → p < own_at (reverse xs) i
-        = λ i e.
-          let later : k + 1 < length xs = omega arith in
-          let place : length xs - 1 - i ≡ k + 1 = omega arith in
-          rw (own_at-reverse xs i x (omega arith), place) (above later) in
+    = λ i e.
+    let later : k + 1 < length xs = omega arith in
+    let place : length xs - 1 - i ≡ k + 1 = omega arith in
+    rw (own_at-reverse xs i x (omega arith), place) (above later) in
     sym (in_p_kept count (reverse xs) (length xs - 1 - k) p x held.ranges (omega arith) known (rw is kept) next ∙ ap (λ f. leb f.parallel_from p) is)
 
 -- the executing procedure keeps what is not below it

@@ -150,3 +150,95 @@ fn keeper_of(ranges: &[Ranges], procedure: u64) -> usize
     }
     keeper
 }
+
+#[cfg(test)]
+mod tests {
+    use super::*;
+    use std::alloc::AllocError;
+    use std::test::Fail;
+    use trace::Record;
+
+    /// The call that a record makes.
+    fn call(bags: &mut Bags, what: Record) -> Result<(), NoMemory> {
+        match what {
+            Record::Spawn if bags.count() < 1000 => bags.spawn()?,
+            Record::Sync => bags.sync(),
+            Record::Return if bags.active() > 1 => bags.ret(),
+            _ => (),
+        }
+        Ok(())
+    }
+
+    /// The procedures that stand in a P-bag.
+    fn parallel(alloc: Global, bags: &Bags) -> Result<Vec<u64>, AllocError> {
+        let mut procedures = Vec::new(alloc);
+        for procedure in 0..bags.count() {
+            if bags.in_p(procedure) {
+                procedures.push(procedure)?;
+            }
+        }
+        Ok(procedures)
+    }
+
+    // After each record: the executing procedure, how many are active, how many there are, and
+    // which stand in a P-bag. The sync in procedure 2 leaves the root's P-bag alone.
+    #[test]
+    fn sync_in_sibling(rt: HostRuntime) -> Result<(), Fail> {
+        let none: &[u64] = &[];
+        let steps: [(Record, u64, u64, u64, &[u64]); 8] = [
+            (Record::Spawn, 1, 2, 2, none),
+            (Record::Write(1), 1, 2, 2, none),
+            (Record::Return, 0, 1, 2, &[1]),
+            (Record::Spawn, 2, 2, 3, &[1]),
+            (Record::Sync, 2, 2, 3, &[1]),
+            (Record::Write(1), 2, 2, 3, &[1]),
+            (Record::Return, 0, 1, 3, &[1, 2]),
+            (Record::Sync, 0, 1, 3, none),
+        ];
+        let mut bags = Bags::new(rt.alloc())?;
+        assert_eq!(rt; (bags.current(), bags.active(), bags.count()), (0, 1, 1));
+        assert!(rt; parallel(rt.alloc(), &bags)?.is_empty());
+        for (what, current, active, count, in_p) in steps {
+            call(&mut bags, what)?;
+            assert_eq!(rt;
+                (bags.current(), bags.active(), bags.count()),
+                (current, active, count),
+                "after {what:?}"
+            );
+            assert_eq!(rt;
+                parallel(rt.alloc(), &bags)?.as_slice(),
+                in_p,
+                "after {what:?}"
+            );
+        }
+        Ok(())
+    }
+
+    // Each procedure has a completed child, of an odd number, and below the last one an active one.
+    #[test]
+    fn completed_child_at_each_depth(rt: HostRuntime) -> Result<(), Fail> {
+        let mut bags = Bags::new(rt.alloc())?;
+        for _ in 0..100 {
+            call(&mut bags, Record::Spawn)?;
+            call(&mut bags, Record::Return)?;
+            call(&mut bags, Record::Spawn)?;
+        }
+        assert_eq!(rt;
+            (bags.current(), bags.active(), bags.count()),
+            (200, 101, 201)
+        );
+        for procedure in 0..bags.count() {
+            assert_eq!(rt;
+                bags.in_p(procedure),
+                procedure % 2 == 1,
+                "procedure {procedure}"
+            );
+        }
+        for _ in 0..100 {
+            call(&mut bags, Record::Return)?;
+        }
+        let all: Vec<u64> = (1..201).collect(rt.alloc())?;
+        assert_eq!(rt; parallel(rt.alloc(), &bags)?.as_slice(), all.as_slice());
+        Ok(())
+    }
+}

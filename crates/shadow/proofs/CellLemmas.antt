@@ -1,10 +1,7 @@
 -- Kept names stay earlier than later places, and what an access leaves of each location.
-use Rattle.std.proofs.Common.{◌≡◌, ℕ, ◌+◌, ◌<◌, ◌≤◌, List, Option, Some, None, Result, Ok, Err, OnOk, OnErr, is_ok, is_some, IsSome, Bool, true, false, cond, eqb, nat_eq, unwrap_or, refl, sym, ap, subst, ◌∙◌, arith}
-use Rattle.std.proofs.lemmas.Bool.Decides.{nat_tests}
-use Rattle.std.specs.Option.{ForSome}
+use Rattle.std.proofs.Common.{◌≡◌, ℕ, ◌+◌, ◌<◌, ◌≤◌, List, Some, Result, Ok, Err, OnOk, OnErr, is_ok, Bool, true, false, cond, nat_eq, unwrap_or, sym, ap, subst, arith}
 use Rattle.std.specs.Map.{lookup}
 use Rattle.shadow.specs.Cells.{Named, Cell, untouched}
-use Rattle.shadow.specs.Found.{with_cell}
 use Rattle.shadow.specs.Before.{IsNameBefore, IsCellBefore}
 use Rattle.shadow.specs.Memory.{Memory, kept_of, IsMemoryBefore}
 

@@ -1,5 +1,5 @@
 -- One more record: the state after it, and the races found up to it.
-use Rattle.std.proofs.Common.{◌≡◌, ℕ, ◌+◌, ◌<◌, ◌≤◌, List, [], ◌∷◌, ◌++◌, Option, Some, None, Bool, true, false, cond, nat_eq, refl, sym, ap, subst, ◌∙◌, append_assoc, append-nil, Result, Ok, Err, OnOk, IfOk, length, arith}
+use Rattle.std.proofs.Common.{◌≡◌, ℕ, ◌≤◌, List, [], ◌∷◌, ◌++◌, Option, None, refl, sym, ap, subst, ◌∙◌, append_assoc, append-nil, Result, Ok, Err, OnOk, IfOk, length, arith}
 use Rattle.std.specs.Option.{option_to_list}
 use Rattle.trace.specs.declared.records.Record.{Record}
 use Rattle.trace.specs.declared.records.Record.TheVariants as records
@@ -7,10 +7,10 @@ use Rattle.trace.specs.declared.records.Placed.{Placed}
 use Rattle.trace.specs.declared.records.Kind.{Kind}
 use Rattle.trace.specs.declared.records.Kind.TheVariants.{Read, Write}
 use Rattle.trace.specs.Accesses.{RaceAt}
-use Rattle.bags.specs.Procedures.{Procedures, Active, event, at_start, after_return}
-use Rattle.shadow.specs.Cells.{Cell, touched, race_at, untouched}
+use Rattle.bags.specs.Procedures.{Procedures, Active, event, after_return}
+use Rattle.shadow.specs.Cells.{touched, race_at}
 use Rattle.shadow.specs.Found.{State, start, with_cell, after_access, after_record, race_of, state_from, state_after, found_from, found}
-use Rattle.shadow.specs.Memory.{Memory, kept_of, HaveSeen, IsSameMemory, AreReadyFor}
+use Rattle.shadow.specs.Memory.{Memory, kept_of, HaveSeen}
 
 pub state_from-append : (s : State) (u : List Placed) (p : Placed) → state_from s (u ++ p ∷ []) ≡ after_record (state_from s u) p.place p.what
 state_from-append s [] p = refl
@@ -36,17 +36,17 @@ seen_by u p bags m bags_are kept_are =
 pub seen_spawn : (u : List Placed) (p : Placed) (bags : Procedures) (m : Memory) → p.what ≡ records.Spawn → HaveSeen u bags m → HaveSeen (u ++ p ∷ []) (event bags records.Spawn) m
 seen_spawn u p bags m is seen =
     seen_by u p _ m (ap (λ b. event b records.Spawn) seen.bags_are ∙ ap (λ r. (after_record (state_after u) p.place r).bags) (sym is))
-      (λ l. seen.kept_are l ∙ ap (λ r. (after_record (state_after u) p.place r).kept l) (sym is))
+    (λ l. seen.kept_are l ∙ ap (λ r. (after_record (state_after u) p.place r).kept l) (sym is))
 
 pub seen_sync : (u : List Placed) (p : Placed) (bags : Procedures) (m : Memory) → p.what ≡ records.Sync → HaveSeen u bags m → HaveSeen (u ++ p ∷ []) (event bags records.Sync) m
 seen_sync u p bags m is seen =
     seen_by u p _ m (ap (λ b. event b records.Sync) seen.bags_are ∙ ap (λ r. (after_record (state_after u) p.place r).bags) (sym is))
-      (λ l. seen.kept_are l ∙ ap (λ r. (after_record (state_after u) p.place r).kept l) (sym is))
+    (λ l. seen.kept_are l ∙ ap (λ r. (after_record (state_after u) p.place r).kept l) (sym is))
 
 pub seen_return : (u : List Placed) (p : Placed) (bags : Procedures) (m : Memory) → p.what ≡ records.Return → HaveSeen u bags m → HaveSeen (u ++ p ∷ []) (event bags records.Return) m
 seen_return u p bags m is seen =
     seen_by u p _ m (ap (λ b. event b records.Return) seen.bags_are ∙ ap (λ r. (after_record (state_after u) p.place r).bags) (sym is))
-      (λ l. seen.kept_are l ∙ ap (λ r. (after_record (state_after u) p.place r).kept l) (sym is))
+    (λ l. seen.kept_are l ∙ ap (λ r. (after_record (state_after u) p.place r).kept l) (sym is))
 
 after_root_return : (fs : List Active) → length fs ≤ 1 → after_return fs ≡ fs
 after_root_return [] few = refl
@@ -64,9 +64,9 @@ module _ (u : List Placed) (p : Placed) (bags : Procedures) (m : Memory) (l : �
       → ((q : ℕ) → kept_of n q ≡ with_cell l (touched bags.active k p.place (kept_of m l)) (kept_of m) q) → HaveSeen (u ++ p ∷ []) bags n
   touched_seen n is kept =
       seen_by u p bags n (seen.bags_are ∙ ap (λ s. s.bags) (sym is))
-        (λ q. kept q
-          ∙ (λ i. with_cell l (touched (seen.bags_are i).active k p.place (seen.kept_are l i)) (λ x. seen.kept_are x i) q)
-          ∙ ap (λ s. s.kept q) (sym is))
+      (λ q. kept q
+      ∙ (λ i. with_cell l (touched (seen.bags_are i).active k p.place (seen.kept_are l i)) (λ x. seen.kept_are x i) q)
+      ∙ ap (λ s. s.kept q) (sym is))
 
   race_seen : race_at bags.active l k p.place (kept_of m l) ≡ race_at (state_after u).bags.active l k p.place ((state_after u).kept l)
   race_seen = λ i. race_at (seen.bags_are i).active l k p.place (seen.kept_are l i)

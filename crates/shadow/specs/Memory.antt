@@ -1,5 +1,5 @@
 -- Shadow memory: what is kept of each location, and how far the run has come.
-use Rattle.std.specs.Prelude.{◌≡◌, ℕ, ◌+◌, ◌<◌, ◌≤◌, List, ◌∷◌, [], ◌++◌, nat_eq, unwrap_or}
+use Rattle.std.specs.Prelude.{◌≡◌, ℕ, ◌+◌, ◌<◌, ◌≤◌, List, nat_eq, unwrap_or}
 use Rattle.std.specs.Map.{lookup}
 use Rattle.trace.specs.declared.records.Placed.{Placed}
 use Rattle.bags.specs.Procedures.{Procedures}

@@ -1,4 +1,4 @@
-use Rattle.std.proofs.Common.{ap, ◌∙◌, ◌+◌, ◌<◌, ◌≤◌, ◌≡◌, length, List, sym, arith, subst, ℕ}
+use Rattle.std.proofs.Common.{ap, ◌∙◌, ◌+◌, ◌<◌, ◌≤◌, ◌≡◌, length, List, arith, ℕ}
 use Rattle.bags.specs.declared.Ranges.{Ranges}
 use Rattle.bags.specs.Procedures.{Procedures, in_p}
 use Rattle.bags.specs.Search.{own_at}
@@ -11,7 +11,7 @@ returns-then-executing-procedure c =
     let some : 0 < length c.self.inside.nested.items = held_some c.self.inside.count c.self.inside.nested.items c.self.invariant in
     let len : c.len.result ≡ length c.self.inside.nested.items = c.len.ensures ∙ c.self.inside.nested.ok.0 in
     in_p_newest c.self.inside.count c.self.inside.nested.items c.index-executing.result.now c.len.result c.args.procedure
-      c.self.invariant len (omega arith) c.index-executing.ensures (omega arith) c.if-executing-procedure.true
+    c.self.invariant len (omega arith) c.index-executing.ensures (omega arith) c.if-executing-procedure.true
     ∙ ap (λ (p : Procedures). in_p p.active c.args.procedure) c.self.view_is
 
 pub keeper_of-keeper-requires-clause-root : goal.keeper_of-keeper-requires-clause-root

@@ -1,7 +1,6 @@
-use Rattle.std.proofs.Common.{ap, ◌∙◌, ◌<◌, ◌≡◌, length, sym, arith, subst, IsSome, ℕ, vec_len}
+use Rattle.std.proofs.Common.{ap, ◌∙◌, ◌<◌, ◌≡◌, length, arith, IsSome}
 use Rattle.trace.specs.declared.records.Record.TheVariants.{Return}
 use Rattle.bags.specs.Procedures.{Procedures, event}
-use Rattle.bags.specs.Ranges.{procedures_of}
 use Rattle.bags.proofs.RangeLemmas.{return_held, length-procedures_of}
 use Rattle.bags.proofs.Bags.ret.Goals as goal
 

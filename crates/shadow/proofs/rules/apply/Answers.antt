@@ -1,8 +1,5 @@
 use Rattle.std.proofs.Common.{refl, ◌≤◌, subst}
 use Rattle.trace.specs.declared.records.Record.TheVariants.{Spawn, Sync, Return}
-use Rattle.shadow.specs.Memory.{HaveSeen}
-use Rattle.bags.specs.Procedures.{Procedures}
-use Rattle.shadow.proofs.CellLemmas.{on_ok}
 use Rattle.shadow.proofs.StateLemmas.{seen_read, seen_write, seen_spawn, seen_sync, seen_return, seen_root_return, found_read, found_write, found_none, map_OnOk, map_IfOk}
 use Rattle.shadow.proofs.rules.apply.Goals as goal
 use Rattle.shadow.proofs.rules.apply.Goals.{in-Spawn+in_ok-spawn-in-Spawn, in-Sync, in-Return+then-active-gt1, in-Return+else-active-gt1}
@@ -29,7 +26,8 @@ returns-clause-seen g c u seen =
       | in-Spawn+in_ok-spawn-in-Spawn w ↦ rw (w.bags-is, w.in_ok-spawn-in-Spawn.ensures.ok) (seen_spawn u c.args.placed c.args.bags.now c.args.shadow.now w.in-Spawn.is seen)
       | in-Sync w ↦ rw (w.bags-is, w.sync.ensures) (seen_sync u c.args.placed c.args.bags.now c.args.shadow.now w.in-Sync.is seen)
       | in-Return+then-active-gt1 w ↦ rw (w.bags-is, w.ret.ensures) (seen_return u c.args.placed c.args.bags.now c.args.shadow.now w.in-Return.is seen)
-      | in-Return+else-active-gt1 w ↦ rw w.bags-is (seen_root_return u c.args.placed c.args.bags.now c.args.shadow.now w.in-Return.is (subst (λ n. n ≤ 1) w.active.ensures.procedures w.if-active-gt1.false) seen) ]
+      | in-Return+else-active-gt1 w ↦ rw w.bags-is (seen_root_return u c.args.placed c.args.bags.now c.args.shadow.now w.in-Return.is (subst (λ n. n ≤ 1) w.active.ensures.procedures w.if-active-gt1.false) seen)
+    ]
 
 pub returns-clause-found : goal.returns-clause-found
 returns-clause-found g c u seen =
@@ -37,4 +35,5 @@ returns-clause-found g c u seen =
       | in-Spawn+in_ok-spawn-in-Spawn w ↦ found_none u c.args.placed Spawn w.in-Spawn.is (λ s. refl)
       | in-Sync w ↦ found_none u c.args.placed Sync w.in-Sync.is (λ s. refl)
       | in-Return+then-active-gt1 w ↦ found_none u c.args.placed Return w.in-Return.is (λ s. refl)
-      | in-Return+else-active-gt1 w ↦ found_none u c.args.placed Return w.in-Return.is (λ s. refl) ]
+      | in-Return+else-active-gt1 w ↦ found_none u c.args.placed Return w.in-Return.is (λ s. refl)
+    ]

@@ -1,4 +1,4 @@
-use Rattle.std.proofs.Common.{◌≡◌, ◌∙◌, ℕ, Bool, true, false, is_ok, is_some, sym, ap, arith}
+use Rattle.std.proofs.Common.{◌≡◌, ◌∙◌, true, false, is_ok, is_some, sym, ap, arith}
 use Rattle.shadow.specs.Memory.{Memory}
 use Rattle.shadow.proofs.CellLemmas.{found_before, cells_before, entries_stay, on_ok, on_err}
 use Rattle.shadow.proofs.memory.Shadow.touch.Goals as goal
@@ -32,6 +32,7 @@ invariant_of-self-2 g c =
           (cells_before m _ c.args.place c.args.bags.now.count c.args.location w.touched.result c.self.invariant (omega arith) (omega arith) w.touched.ensures.earlier ((c.get_mut.follows.holds w.touched.result).3 (ap is_some (sym w.in-Some.ensures.value))).0)
       | in-None+in_ok-map_err-in-None w ↦ rw (w.self-inside-is, c.count-self-inside.ensures.procedures)
           (cells_before m _ c.args.place c.args.bags.now.count c.args.location w.touched-kept.result c.self.invariant (omega arith) (omega arith) w.touched-kept.ensures.earlier
-            (let taken : is_ok w.insert.result ≡ true = sym w.map_err.ensures.variant ∙ ap is_ok w.in_ok-map_err-in-None.was in
-             let now = (on_ok w.insert.result _ w.insert.ensures.updates taken).0 in
-             rw c.get_mut.follows.holds-at-none at now)) ]
+          (let taken : is_ok w.insert.result ≡ true = sym w.map_err.ensures.variant ∙ ap is_ok w.in_ok-map_err-in-None.was in
+          let now = (on_ok w.insert.result _ w.insert.ensures.updates taken).0 in
+          rw c.get_mut.follows.holds-at-none at now))
+    ]
