@@ -8,7 +8,7 @@ use Rattle.std.specs.Option.{option_to_list}
 use Rattle.std.specs.Cmp.{nat_cmp_total}
 use Rattle.std.specs.FinSet as bag
 use Rattle.bags.specs.declared.Ranges.{Ranges}
-use Rattle.bags.specs.Procedures.{synced, takes_in, after_sync, after_return, in_p, event}
+use Rattle.bags.specs.Procedures.{Procedures, synced, takes_in, after_sync, after_return, in_p, event}
 use Rattle.bags.specs.Search.{own_at}
 use Rattle.trace.specs.declared.records.Record.TheVariants.{Sync, Return}
 use Rattle.bags.specs.Ranges.{run, active_of, actives_of, procedures_of, AreRanges, AreHeld}
@@ -220,3 +220,8 @@ in_p_newest count xs x n p held len some at known kept =
 pub held_some : (count : ℕ) (xs : List Ranges) → AreHeld count xs → 0 < length xs
 held_some count [] held = let none : count ≡ 0 = held.ranges in let some : 1 ≤ count = held.some in absurd (omega arith)
 held_some count (f ∷ fs) held = omega arith
+
+pub more_than_root : (count : ℕ) (xs : List Ranges) (p : Procedures) → procedures_of count xs ≡ p → 1 < length p.active → 1 < length xs
+more_than_root count xs p is more =
+    let active : length xs ≡ length p.active = length-procedures_of count xs ∙ ap (λ q. length q.active) is in
+    omega arith
