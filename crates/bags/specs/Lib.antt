@@ -1,2 +1,4 @@
 pub mod Procedures
 pub mod Paths
+pub mod Ranges
+pub mod Search

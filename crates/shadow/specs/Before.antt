@@ -1,0 +1,23 @@
+-- Kept names of earlier accesses, and what an access can race with.
+use Rattle.std.specs.Prelude.{ℕ, ◌<◌, ◌≤◌, ◌||◌, IsTrue}
+use Rattle.std.specs.Option.{ForSome}
+use Rattle.trace.specs.declared.records.Kind.{Kind}
+use Rattle.trace.specs.declared.records.Access.{Access}
+use Rattle.trace.specs.Accesses.{writes}
+use Rattle.shadow.specs.Cells.{Named, Cell}
+
+-- a name that was kept before a place, of one of so many procedures
+pub record IsNameBefore (place count : ℕ) (n : Named) : Type 0 where
+  pub from_one : 1 ≤ n.place
+  pub earlier : n.place < place
+  pub known : n.procedure < count
+
+pub record IsCellBefore (place count : ℕ) (c : Cell) : Type 0 where
+  pub writer : ForSome c.writer (IsNameBefore place count)
+  pub reader : ForSome c.reader (IsNameBefore place count)
+
+-- an earlier access that makes a race with one of this kind at this place, where the two are parallel
+pub record CanRace (kind : Kind) (place : ℕ) (first : Access) : Type 0 where
+  pub from_one : 1 ≤ first.place
+  pub earlier : first.place < place
+  pub one_writes : IsTrue (writes first.kind || writes kind)

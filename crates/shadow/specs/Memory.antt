@@ -1,0 +1,44 @@
+-- Shadow memory: what is kept of each location, and how far the run has come.
+use Rattle.std.specs.Prelude.{◌≡◌, ℕ, ◌+◌, ◌<◌, ◌≤◌, List, nat_eq, unwrap_or}
+use Rattle.std.specs.Map.{lookup}
+use Rattle.trace.specs.declared.records.Placed.{Placed}
+use Rattle.bags.specs.Procedures.{Procedures}
+use Rattle.shadow.specs.Cells.{Cell, untouched}
+use Rattle.shadow.specs.Before.{IsCellBefore}
+use Rattle.shadow.specs.Found.{state_after}
+
+-- the cells of the locations that were touched, the place of the last touch, and the count of its bags
+pub record Memory : Type 0 where
+  pub entries : List (ℕ × Cell)
+  pub last_place : ℕ
+  pub least_count : ℕ
+
+-- what is kept of a location
+abbrev pub kept_of : Memory → ℕ → Cell
+kept_of m l = unwrap_or (lookup (nat_eq l) m.entries) untouched
+
+abbrev pub last_place_of : Memory → ℕ
+last_place_of m = m.last_place
+
+abbrev pub least_count_of : Memory → ℕ
+least_count_of m = m.least_count
+
+-- nothing changed
+pub record IsSameMemory (old new : Memory) : Type 0 where
+  pub kept : (l : ℕ) → kept_of new l ≡ kept_of old l
+  pub last_place : last_place_of new ≡ last_place_of old
+  pub least_count : least_count_of new ≡ least_count_of old
+
+abbrev pub IsMemoryBefore : Memory → Type 0
+IsMemoryBefore m = (l : ℕ) → IsCellBefore (m.last_place + 1) m.least_count (kept_of m l)
+
+-- the bags and the shadow memory may take a record at this place
+pub record AreReadyFor (bags : Procedures) (m : Memory) (place : ℕ) : Type 0 where
+  pub later : last_place_of m < place
+  pub no_fewer : least_count_of m ≤ bags.count
+  pub numbered : bags.count ≤ place
+
+-- the bags and the shadow memory are those after the records u
+pub record HaveSeen (u : List Placed) (bags : Procedures) (m : Memory) : Type 0 where
+  pub bags_are : bags ≡ (state_after u).bags
+  pub kept_are : (l : ℕ) → kept_of m l ≡ (state_after u).kept l

@@ -1,0 +1,99 @@
+//! Shadow memory: what is kept of each location.
+ghost use Rattle.std.specs.Prelude.{◌≡◌, ◌≢◌, ℕ, ◌<◌, ◌≤◌, ◌^◌, IfOk, OnOk, OnErr, IsOk};
+ghost use Rattle.shadow.specs.Cells.{untouched, race_at, touched};
+ghost use Rattle.shadow.specs.Found.{with_cell};
+
+use crate::cell::{Kept, race_at, touched};
+use bags::Bags;
+use indexmap::IndexMap;
+use std::alloc::Global;
+use std::hash::BuildHasher;
+use std::marker::Model;
+use trace::{Kind, NoMemory, Race};
+
+/// The shadow memory of a serial run: the kept writer and the kept reader of each location.
+#[derive(Drop)]
+pub struct Shadow<S: BuildHasher> {
+    cells: IndexMap<u64, Kept, S>,
+    last_place: u64,
+    least_count: u64,
+}
+
+impl<S: BuildHasher> Model for Shadow<S> {
+    ghost use Rattle.shadow.specs.Memory.{Memory, IsMemoryBefore};
+
+    ghost Value = { Memory };
+
+    ghost view = { λ s. record { entries = s.cells.entries; last_place = s.last_place; least_count = s.least_count } };
+
+    ghost invariant = { λ s. IsMemoryBefore (record { entries = s.cells.entries; last_place = s.last_place; least_count = s.least_count }) };
+}
+
+impl<S: BuildHasher> Shadow<S> {
+    ghost use Rattle.shadow.specs.Memory.{kept_of, last_place_of, least_count_of, IsSameMemory};
+
+    /// Shadow memory of which nothing was touched. It takes no memory.
+    pub fn with_hasher(alloc: Global, hasher: S) -> Shadow<S>
+        ensures kept { (l : ℕ) → kept_of result l ≡ untouched }
+        ensures last_place { last_place_of result ≡ 0 }
+        ensures least_count { least_count_of result ≡ 1 }
+    {
+        Shadow {
+            cells: IndexMap::with_hasher(alloc, hasher),
+            last_place: 0,
+            least_count: 1,
+        }
+    }
+
+    /// The place of the last touch, or 0 before the first.
+    pub fn last_place(&self) -> u64
+        ensures { result ≡ last_place_of self.now }
+    {
+        self.last_place
+    }
+
+    /// How many procedures the bags of the last touch had, or 1 before the first.
+    pub fn least_count(&self) -> u64
+        ensures { result ≡ least_count_of self.now }
+    {
+        self.least_count
+    }
+
+    /// An access by the executing procedure of the bags: the race that it tells, if any.
+    pub fn touch(
+        &mut self,
+        bags: &Bags,
+        location: u64,
+        kind: Kind,
+        place: u64,
+    ) -> Result<Option<Race>, NoMemory>
+        requires later { last_place_of self.old < place }
+        requires to_limit { place ≤ 2 ^ 48 }
+        requires no_fewer { least_count_of self.old ≤ bags.now.count }
+
+        ensures race { IfOk result (λ race. race ≡ race_at bags.now.active location kind place (kept_of self.old location)) }
+        ensures kept { OnOk result ((l : ℕ) → kept_of self.new l ≡ with_cell location (touched bags.now.active kind place (kept_of self.old location)) (kept_of self.old) l) }
+        ensures last_place { OnOk result (last_place_of self.new ≡ place) }
+        ensures least_count { OnOk result (least_count_of self.new ≡ bags.now.count) }
+
+        // A refusal changes nothing, and a location that is there meets none.
+        ensures err { OnErr result (IsSameMemory self.old self.new) }
+        ensures there { kept_of self.old location ≢ untouched → IsOk result }
+    {
+        let race = match self.cells.get_mut(&location) {
+            Some(kept) => {
+                let race = race_at(bags, location, kind, place, *kept);
+                *kept = touched(bags, kind, place, *kept, race.is_some());
+                race
+            }
+            None => {
+                let kept = touched(bags, kind, place, Kept::untouched(), false);
+                self.cells.insert(location, kept).map_err(|_| NoMemory)?;
+                None
+            }
+        };
+        self.last_place = place;
+        self.least_count = bags.count();
+        Ok(race)
+    }
+}
