@@ -12,3 +12,5 @@ pub mod Paths
 pub mod Standing
 pub mod Meetings
 pub mod Walks
+pub mod Readers
+pub mod Once

@@ -1,0 +1,22 @@
+//! That the rules of SP-bags find just the races of the dag, in every well nested trace.
+
+ghost use Rattle.std.specs.Prelude.{◌≡◌, ℕ, List, [], take, ◌↔◌};
+ghost use Rattle.trace.specs.Traces.{placed};
+ghost use Rattle.trace.specs.Accesses.{RaceAt};
+ghost use Rattle.trace.specs.Races.{IsReport};
+ghost use Rattle.shadow.specs.Found.{found, verdict};
+ghost use Rattle.detect.specs.Dag.{OfWellNested, IsParallelThrough, IsParallelAfter, KeepsParallelReader, AreEarlyRaces, HasRace, HasLocation};
+
+/// Of every well nested trace: what parallel accesses say of a third one; that the kept reader stands for
+/// all reads before an access; and that the races found are those of the dag, up to every place and in all.
+pub fn dag()
+    ensures parallel_through { OfWellNested IsParallelThrough }
+    ensures parallel_after { OfWellNested IsParallelAfter }
+    ensures kept_reader { OfWellNested KeepsParallelReader }
+    // what is found up to place t stands, whatever follows
+    ensures early_races { (t : ℕ) → OfWellNested (λ w. AreEarlyRaces w t (found (take t (placed w)))) }
+    ensures verdict_is_report { OfWellNested (λ w. IsReport w (verdict w)) }
+    ensures one_report { OfWellNested (λ w. (rs : List RaceAt) → IsReport w rs → rs ≡ verdict w) }
+    ensures racy { OfWellNested (λ w. (l : ℕ) → HasRace w l ↔ HasLocation (verdict w) l) }
+    ensures race_free { OfWellNested (λ w. (verdict w ≡ []) ↔ ((l : ℕ) → HasRace w l → ⊥)) }
+{}
