@@ -6,3 +6,4 @@ pub mod Dag
 pub mod Races
 pub mod Shares
 pub mod Devices
+pub mod Writers
