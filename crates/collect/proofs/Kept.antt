@@ -93,7 +93,7 @@ cond_over : {T : Type 0} (a b : Bool) (x y z : T) → a ≡ b → cond a x z ≡
 cond_over true b x y z e = refl
 cond_over false b x y z e = ap (λ t. cond t y z) e
 
-cond_swap : {T : Type 0} (a b : Bool) (x y z : T) → (a ≡ true → b ≡ true → ⊥) → cond a x (cond b y z) ≡ cond b y (cond a x z)
+pub cond_swap : {T : Type 0} (a b : Bool) (x y z : T) → (a ≡ true → b ≡ true → ⊥) → cond a x (cond b y z) ≡ cond b y (cond a x z)
 cond_swap true true x y z h = absurd (h refl refl)
 cond_swap true false x y z h = refl
 cond_swap false b x y z h = refl

@@ -2,7 +2,10 @@
 #![tactic(auto)]
 
 pub mod collectors;
+mod lines;
 pub mod reports;
+pub mod writers;
 
 pub use collectors::Collector;
 pub use reports::Report;
+pub use writers::write_report;
