@@ -14,3 +14,5 @@ pub mod Meetings
 pub mod Walks
 pub mod Readers
 pub mod Once
+pub mod Parts
+pub mod SpelledLines

@@ -11,3 +11,4 @@ pub mod Reading
 pub mod Nesting
 pub mod Cuts
 pub mod Feeding
+pub mod Writers

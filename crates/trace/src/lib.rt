@@ -13,6 +13,7 @@ pub mod reading;
 pub mod records;
 #[cfg(test)]
 mod tests;
+pub mod writers;
 
 pub use devices::{Counted, Failed, Sink, Source};
 pub use faults::{Fault, NestFault, NestKind, NoMemory, TextFault, TextKind, WriteFault};
@@ -22,3 +23,4 @@ pub use numbers::decimal_of;
 pub use parallel::is_parallel;
 pub use reading::{Reader, Taken};
 pub use records::{Access, Kind, Limits, Placed, Race, Record};
+pub use writers::{put_all, write_header, write_record};

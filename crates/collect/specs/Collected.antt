@@ -1,0 +1,55 @@
+-- What a collector keeps of the races that it was given.
+use Rattle.std.specs.Prelude.{◌≡◌, ℕ, Bool, true, false, List, [], ◌∷◌, Option, Some, None, find, fold, ◌==◌, nat_lt, nat_le, if◌then◌else◌}
+use Rattle.std.specs.Option.{option_map_or}
+use Rattle.shard.specs.declared.Back.{Back}
+use Rattle.shard.specs.declared.Back.TheVariants.{Race, NoMemory}
+use Rattle.trace.specs.Accesses.{RaceAt}
+use Rattle.collect.specs.Reports.{IsReportList}
+
+-- the races among what shards handed back, in order
+abbrev pub races_of : List Back → List RaceAt
+races_of [] = []
+races_of (Race r ∷ g) = r ∷ races_of g
+races_of (NoMemory ∷ g) = races_of g
+
+-- whether a shard told that it ran out of memory
+abbrev pub fails : List Back → Bool
+fails [] = false
+fails (Race r ∷ g) = fails g
+fails (NoMemory ∷ g) = true
+
+-- the first race on a location
+abbrev pub race_on : ℕ → List RaceAt → Option RaceAt
+race_on l rs = find (λ r. r.location == l) rs
+
+-- of two races the one with the lesser second place, on equal places the one that came first
+abbrev pub better : RaceAt → RaceAt → RaceAt
+better kept r = if nat_lt r.second.place kept.second.place then r else kept
+
+-- whether a race of the list has the location of r, and a second place that is no later
+abbrev pub has_better : List RaceAt → RaceAt → Bool
+has_better rs r = option_map_or (λ k. nat_le k.second.place r.second.place) (race_on r.location rs) false
+
+-- what is kept of location l after one more race
+abbrev pub kept_after : ℕ → Option RaceAt → RaceAt → Option RaceAt
+kept_after l kept r = if r.location == l then Some (option_map_or (λ k. better k r) kept r) else kept
+
+-- of the races on location l the one with the least second place, the first of those on equal places
+abbrev pub best : ℕ → List RaceAt → Option RaceAt
+best l rs = fold (kept_after l) None rs
+
+-- what a collector is seen as: the races that it keeps, and whether it was told of a refused growth
+pub record Kept : Type 0 where
+  pub races : List RaceAt
+  pub refused : Bool
+
+-- the collector was given exactly these, one after another
+pub record Holds (g : List Back) (c : Kept) : Type 0 where
+  pub refused : c.refused ≡ fails g
+  pub best_on : (l : ℕ) → race_on l c.races ≡ best l (races_of g)
+
+-- the report of what was handed back: of each location the best race, and no growth was refused
+pub record IsCollected (g : List Back) (rs : List RaceAt) : Type 0 where
+  pub none_failed : fails g ≡ false
+  pub is_report : IsReportList rs
+  pub best_on : (l : ℕ) → race_on l rs ≡ best l (races_of g)

@@ -1,0 +1,4 @@
+pub mod Reports
+pub mod Collected
+pub mod ReportText
+pub mod Keyed

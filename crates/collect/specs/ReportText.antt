@@ -1,0 +1,32 @@
+-- The text of a report: a head line with the number of races, and a line for each race.
+use Rattle.std.specs.Prelude.{ℕ, List, [], ◌∷◌, ◌++◌, length, codes, decimal}
+use Rattle.std.specs.List.{flat_map}
+use Rattle.trace.specs.declared.records.Kind.{Kind}
+use Rattle.trace.specs.declared.records.Kind.TheVariants.{Read, Write}
+use Rattle.trace.specs.declared.records.Access.{Access}
+use Rattle.trace.specs.Accesses.{RaceAt}
+use Rattle.trace.specs.Text.{ended}
+
+abbrev pub space : ℕ
+space = 32
+
+abbrev pub word : Kind → List ℕ
+word Read = codes "read"
+word Write = codes "write"
+
+-- an access, as it stands in the line of a race
+abbrev pub told : Access → List ℕ
+told a = word a.kind ++ space ∷ decimal a.place
+
+abbrev pub head : ℕ → List ℕ
+head n = ended (codes "races " ++ decimal n)
+
+abbrev pub race_line : RaceAt → List ℕ
+race_line r = ended (codes "race " ++ decimal r.location ++ space ∷ told r.first ++ space ∷ told r.second)
+
+abbrev pub race_lines : List RaceAt → List ℕ
+race_lines rs = flat_map race_line rs
+
+-- the one text of a report
+abbrev pub rtext : List RaceAt → List ℕ
+rtext rs = head (length rs) ++ race_lines rs

@@ -1,0 +1,96 @@
+// The races of all shards, kept by location.
+ghost use Rattle.std.specs.Prelude.{◌≡◌, List, [], ◌∷◌, ◌++◌, true, OnOk, OnErr, IfOk, IsErr};
+ghost use Rattle.shard.specs.declared.Back.{Back};
+ghost use Rattle.collect.specs.Collected.{Holds, IsCollected, fails, has_better};
+
+use crate::reports::Report;
+use shard::Back;
+use std::alloc::Global;
+use std::collections::BTreeMap;
+use std::marker::Model;
+use trace::{NoMemory, Race};
+
+/// Keeps of each location the race with the least second place; of two on equal places, the one
+/// that came first.
+#[derive(Drop)]
+pub struct Collector {
+    alloc: Global,
+    kept: BTreeMap<u64, Race>,
+    refused: bool,
+}
+
+impl Model for Collector {
+    ghost use Rattle.std.specs.BTreeMap.{values};
+    ghost use Rattle.collect.specs.Collected.{Kept};
+    ghost use Rattle.collect.specs.Keyed.{IsKeyed};
+
+    ghost Value = { Kept };
+
+    ghost view = { λ c. record { races = values c.kept; refused = c.refused } };
+
+    ghost invariant = { λ c. IsKeyed c.kept.entries };
+}
+
+impl Collector {
+    /// A collector that was given nothing. It takes no memory yet.
+    pub fn new(alloc: Global) -> Collector
+        ensures { Holds [] result }
+    {
+        Collector {
+            alloc,
+            kept: BTreeMap::new(alloc),
+            refused: false,
+        }
+    }
+
+    /// Takes what a shard handed back. A refused growth changes nothing.
+    pub fn take(&mut self, back: Back) -> Result<(), NoMemory>
+        ensures ok { OnOk result ((g : List Back) → Holds g self.old → Holds (g ++ back ∷ []) self.new) }
+        ensures err { OnErr result (self.new ≡ self.old) }
+    {
+        match back {
+            Back::Race(race) => self.keep(race),
+            Back::NoMemory => {
+                self.refused = true;
+                Ok(())
+            }
+        }
+    }
+
+    /// The report of what was taken. It refuses where a shard ran out of memory.
+    pub fn finish(self) -> Result<Report, NoMemory>
+        ensures ok { IfOk result (λ r. (g : List Back) → Holds g self → IsCollected g r) }
+        ensures refuses { (g : List Back) → Holds g self → fails g ≡ true → IsErr result }
+    {
+        if self.refused {
+            return Err(NoMemory);
+        }
+        match self.kept.into_values().collect(self.alloc) {
+            Ok(races) => Ok(Report { races }),
+            Err(_) => Err(NoMemory),
+        }
+    }
+
+    fn keep(&mut self, race: Race) -> Result<(), NoMemory>
+        ensures ok { OnOk result ((g : List Back) → Holds g self.old → Holds (g ++ Back.Race race ∷ []) self.new) }
+        ensures err { OnErr result (self.new ≡ self.old) }
+    {
+        if self.has_better(&race) {
+            return Ok(());
+        }
+        match self.kept.insert(race.location, race) {
+            Ok(_) => Ok(()),
+            Err(_) => Err(NoMemory),
+        }
+    }
+
+    // Whether the race that is kept of this location has a second place that is no later.
+    fn has_better(&self, race: &Race) -> bool
+        ensures { result ≡ has_better self.now.races race.now }
+    {
+        match self.kept.get(&race.location) {
+            Some(kept) => kept.second.place <= race.second.place,
+            None => false,
+        }
+    }
+}

@@ -1,0 +1,11 @@
+//! Reports: the races of a trace by ascending location, collected race by race, and their text.
+#![tactic(auto)]
+
+pub mod collectors;
+mod lines;
+pub mod reports;
+pub mod writers;
+
+pub use collectors::Collector;
+pub use reports::Report;
+pub use writers::write_report;

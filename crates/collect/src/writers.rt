@@ -1,0 +1,57 @@
+// The writer of a report's text. On a fault a beginning of the text was written.
+ghost use Rattle.std.specs.Prelude.{◌≡◌, OnOk, OnErr};
+ghost use Rattle.std.specs.Io.KnownBytes.{Appends};
+ghost use Rattle.trace.specs.Devices.{Counts};
+ghost use Rattle.trace.specs.Writers.{AppendsFront};
+ghost use Rattle.collect.specs.ReportText.{head, race_line, rtext};
+
+use crate::lines::Line;
+use crate::reports::Report;
+use trace::{Race, Sink, WriteFault, put_all};
+
+/// Writes the text of a report. It takes no memory.
+pub fn write_report<W: Sink>(report: &Report, sink: &mut W) -> Result<(), WriteFault>
+    ensures whole { OnOk result (Appends (W.held sink.old) (W.held sink.new) (rtext report.now)) }
+    ensures front { OnErr result (AppendsFront (W.held sink.old) (W.held sink.new) (rtext report.now)) }
+    ensures count { Counts result (W.failures sink.old) (W.failures sink.new) }
+{
+    let races = report.races();
+    write_head(races.len() as u64, sink)?;
+    for race in races {
+        write_race(race, sink)?;
+    }
+    Ok(())
+}
+
+fn write_head<W: Sink>(count: u64, sink: &mut W) -> Result<(), WriteFault>
+    ensures whole { OnOk result (Appends (W.held sink.old) (W.held sink.new) (head count)) }
+    ensures front { OnErr result (AppendsFront (W.held sink.old) (W.held sink.new) (head count)) }
+    ensures count { Counts result (W.failures sink.old) (W.failures sink.new) }
+{
+    let mut line = Line::end();
+    line.number(count);
+    line.word(b"races ");
+    put_all(sink, line.as_bytes())
+}
+
+fn write_race<W: Sink>(race: &Race, sink: &mut W) -> Result<(), WriteFault>
+    ensures whole { OnOk result (Appends (W.held sink.old) (W.held sink.new) (race_line race.now)) }
+    ensures front { OnErr result (AppendsFront (W.held sink.old) (W.held sink.new) (race_line race.now)) }
+    ensures count { Counts result (W.failures sink.old) (W.failures sink.new) }
+{
+    let line = line_of(race);
+    put_all(sink, line.as_bytes())
+}
+
+fn line_of(race: &Race) -> Line
+    ensures { result ≡ race_line race.now }
+{
+    let mut line = Line::end();
+    line.access(race.second);
+    line.word(b" ");
+    line.access(race.first);
+    line.word(b" ");
+    line.number(race.location);
+    line.word(b"race ");
+    line
+}
