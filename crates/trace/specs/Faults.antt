@@ -1,7 +1,6 @@
 -- The first fault of bytes that should be the text of a trace, within limits.
 use Rattle.std.specs.Prelude.{◌≡◌, ◌≢◌, ℕ, suc, ◌+◌, ◌<◌, ◌≤◌, List, [], ◌∷◌, ◌++◌, length}
 use Rattle.trace.specs.declared.records.Record.{Record}
-use Rattle.trace.specs.declared.records.Limits.{Limits}
 use Rattle.trace.specs.declared.faults.TextFault.{TextFault}
 use Rattle.trace.specs.declared.faults.TextKind.TheVariants.{Header, Line, TooMany, Truncated}
 use Rattle.trace.specs.declared.faults.NestFault.{NestFault}
@@ -58,14 +57,14 @@ pub data IsBadPlace (depths : ℕ) (bytes : List ℕ) : NestFault → Type 0 whe
 
 -- The first fault of bytes after which others may come: of the first faulty line and the first faulty
 -- place the one that comes first, where the record at place p stands on line p + 1; on one line the line's.
-pub data IsFirstFault (limits : Limits) (bytes : List ℕ) : Fault → Type 0 where
-  bad_line : {f : TextFault} → IsBadLine limits.records bytes f → ((n : NestFault) → IsBadPlace limits.depth bytes n → f.line ≤ n.place + 1) → IsFirstFault limits bytes (Text f)
-  bad_place : {n : NestFault} → IsBadPlace limits.depth bytes n → ((f : TextFault) → IsBadLine limits.records bytes f → n.place + 1 < f.line) → IsFirstFault limits bytes (Nest n)
+pub data IsFirstFault (records depths : ℕ) (bytes : List ℕ) : Fault → Type 0 where
+  bad_line : (f : TextFault) → IsBadLine records bytes f → ((n : NestFault) → IsBadPlace depths bytes n → f.line ≤ n.place + 1) → IsFirstFault records depths bytes (Text f)
+  bad_place : (n : NestFault) → IsBadPlace depths bytes n → ((f : TextFault) → IsBadLine records bytes f → n.place + 1 < f.line) → IsFirstFault records depths bytes (Nest n)
 
 -- The first fault of bytes that have ended. A rest without a line end is a fault where nothing before it is;
 -- and last, that the root hasn't returned.
-pub data IsFaultOfAll (limits : Limits) (bytes : List ℕ) : Fault → Type 0 where
-  before_end : {f : Fault} → IsFirstFault limits bytes f → IsFaultOfAll limits bytes f
-  truncated : {f : TextFault} → IsTruncated limits.records bytes f → ((g : Fault) → IsFirstFault limits bytes g → ⊥) → IsFaultOfAll limits bytes (Text f)
-  unfinished : (w : List Record) → AllFit w → length w ≤ limits.records → bytes ≡ text w → AreNested limits.depth w → (HasEnded w → ⊥)
-      → IsFaultOfAll limits bytes (Nest (record { place = length w + 1; kind = Unfinished }))
+pub data IsFaultOfAll (records depths : ℕ) (bytes : List ℕ) : Fault → Type 0 where
+  before_end : (f : Fault) → IsFirstFault records depths bytes f → IsFaultOfAll records depths bytes f
+  truncated : (f : TextFault) → IsTruncated records bytes f → ((g : Fault) → IsFirstFault records depths bytes g → ⊥) → IsFaultOfAll records depths bytes (Text f)
+  unfinished : (w : List Record) → AllFit w → length w ≤ records → bytes ≡ text w → AreNested depths w → (HasEnded w → ⊥)
+    → IsFaultOfAll records depths bytes (Nest (record { place = length w + 1; kind = Unfinished }))

@@ -6,3 +6,6 @@ pub mod Dag
 pub mod Races
 pub mod Shares
 pub mod Devices
+pub mod Reading
+pub mod Nesting
+pub mod Cuts

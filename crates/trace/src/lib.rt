@@ -3,8 +3,19 @@
 
 pub mod devices;
 pub mod faults;
+pub mod feeding;
+mod lines;
+pub mod nesting;
+mod numbers;
+pub mod reading;
 pub mod records;
+#[cfg(test)]
+mod tests;
 
 pub use devices::{Counted, Failed, Sink, Source};
 pub use faults::{Fault, NestFault, NestKind, NoMemory, TextFault, TextKind, WriteFault};
+pub use feeding::{Feed, Intake};
+pub use nesting::Nest;
+pub use numbers::decimal_of;
+pub use reading::{Reader, Taken};
 pub use records::{Access, Kind, Limits, Placed, Race, Record};

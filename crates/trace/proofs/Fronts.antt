@@ -1,0 +1,25 @@
+-- Lines at the front of a piece, byte by byte.
+use Rattle.std.proofs.Common.{◌≡◌, ℕ, suc, ◌+◌, ◌-◌, ◌<◌, ◌≤◌, List, [], ◌∷◌, ◌++◌, length, take, drop, get_or, arith, refl, sym, ◌∙◌, ap, decimal, append_assoc}
+use Rattle.std.proofs.Math.Seq.{take-add}
+use Rattle.std.proofs.lemmas.List.{take_more, take-take, length-take, length-drop}
+use Rattle.trace.specs.Text.{newline, ended}
+
+pub take_five : (xs : List ℕ) (a b c d e : ℕ) → 5 ≤ length xs → get_or xs 0 0 ≡ a → get_or xs 1 0 ≡ b → get_or xs 2 0 ≡ c → get_or xs 3 0 ≡ d → get_or xs 4 0 ≡ e → take 5 xs ≡ a ∷ b ∷ c ∷ d ∷ e ∷ []
+take_five (v ∷ w ∷ x ∷ y ∷ z ∷ xs) a b c d e h p q r s t = cc
+take_five [] a b c d e h p q r s t = absurd (omega arith)
+take_five (v ∷ []) a b c d e h p q r s t = absurd (omega arith)
+take_five (v ∷ w ∷ []) a b c d e h p q r s t = absurd (omega arith)
+take_five (v ∷ w ∷ x ∷ []) a b c d e h p q r s t = absurd (omega arith)
+take_five (v ∷ w ∷ x ∷ y ∷ []) a b c d e h p q r s t = absurd (omega arith)
+
+pub take_six : (xs : List ℕ) (a b c d e f : ℕ) → 6 ≤ length xs → get_or xs 0 0 ≡ a → get_or xs 1 0 ≡ b → get_or xs 2 0 ≡ c → get_or xs 3 0 ≡ d → get_or xs 4 0 ≡ e → get_or xs 5 0 ≡ f → take 6 xs ≡ a ∷ b ∷ c ∷ d ∷ e ∷ f ∷ []
+take_six (u ∷ xs) a b c d e f h p q r s t v = let rest = take_five xs b c d e f (omega arith) q r s t v in cc
+take_six [] a b c d e f h p q r s t v = absurd (omega arith)
+
+-- a word, and after it digits in front of a line's end
+pub word_and_digits : (piece word digits : List ℕ) (k d n : ℕ) → take k piece ≡ word → digits ≡ take 20 (drop k piece) → d < 20 → k + 20 ≤ length piece → take d digits ≡ decimal n → get_or digits d 0 ≡ newline
+  → take (k + (d + 1)) piece ≡ word ++ ended (decimal n)
+word_and_digits piece word digits k d n front is few room spelled end =
+    let within : d < length digits = omega (arith, ap length is, length-take 20 (drop k piece), length-drop k piece) in
+    take-add k (d + 1) piece ∙ ap (λ x. x ++ take (d + 1) (drop k piece)) front
+    ∙ ap (λ x. word ++ x) (sym (ap (take (d + 1)) is ∙ take-take (d + 1) 20 (drop k piece) (omega arith)) ∙ take_more digits d 0 within ∙ ap (λ x. x ++ get_or digits d 0 ∷ []) spelled ∙ ap (λ x. decimal n ++ x ∷ []) end)

@@ -1,0 +1,44 @@
+-- Texts of traces: one more record, how long a line is, and bytes that end no line.
+use Rattle.std.proofs.Common.{◌≡◌, ◌≢◌, ℕ, suc, ◌+◌, ◌-◌, ◌*◌, ◌<◌, ◌≤◌, ◌^◌, List, [], ◌∷◌, ◌++◌, length, take, drop, get_or, arith, refl, sym, ◌∙◌, ap, subst, decimal, append_assoc, length-append, codes}
+use Rattle.std.specs.List.{flat_map, AllByRecursion, All}
+use Rattle.std.proofs.lemmas.Grind.{flat_map-append}
+use Rattle.std.proofs.lemmas.List.{append-nil, take-append-drop, take_more, length-drop}
+use Rattle.std.proofs.Math.Seq.{take-add, take-length}
+use Rattle.std.proofs.lemmas.List.Elements.{All-append}
+use Rattle.std.proofs.lemmas.Fmt.{length-decimal-le}
+use Rattle.trace.specs.declared.records.Record.{Record}
+use Rattle.trace.specs.declared.records.Record.TheVariants.{Spawn, Return, Sync, Read, Write}
+use Rattle.trace.specs.Text.{newline, header, spell, Fits, AllFit, ended, line, text, IsUnended, IsOpen}
+
+pub text-push : (w : List Record) (r : Record) → text (w ++ r ∷ []) ≡ text w ++ line r
+text-push w r = ap (λ x. ended header ++ x) (flat_map-append line w (r ∷ []) ∙ ap (λ x. flat_map line w ++ x) (append-nil (line r))) ∙ sym (append_assoc (ended header) (flat_map line w) (line r))
+
+pub AllFit-push : (w : List Record) (r : Record) → AllFit w → Fits r → AllFit (w ++ r ∷ [])
+AllFit-push [] r all fits = (fits, tt)
+AllFit-push (x ∷ w) r all fits = (all.0, AllFit-push w r all.1 fits)
+
+-- no line has more than 26 bytes
+pub length-spell : (r : Record) → Fits r → length (spell r) ≤ 26
+length-spell Spawn fits = omega arith
+length-spell Return fits = omega arith
+length-spell Sync fits = omega arith
+length-spell (Read l) fits = omega (arith, length-append (codes "read ") (decimal l), length-decimal-le 20 l (omega arith) (omega arith) fits)
+length-spell (Write l) fits = omega (arith, length-append (codes "write ") (decimal l), length-decimal-le 20 l (omega arith) (omega arith) fits)
+
+pub unended-append : (xs ys : List ℕ) → IsUnended xs → IsUnended ys → IsUnended (xs ++ ys)
+unended-append xs ys = All-append (λ b. b ≢ newline) xs ys
+
+-- a piece up to its first line end, and that end
+pub take-ended : (piece : List ℕ) (k : ℕ) → k < length piece → get_or piece k 0 ≡ newline → take (k + 1) piece ≡ ended (take k piece)
+take-ended piece k h e = take_more piece k 0 h ∙ ap (λ x. take k piece ++ x ∷ []) e
+
+pub split-ended : (piece : List ℕ) (k : ℕ) → k < length piece → get_or piece k 0 ≡ newline → piece ≡ ended (take k piece) ++ drop (k + 1) piece
+split-ended piece k h e = sym (take-append-drop (k + 1) piece) ∙ ap (λ x. x ++ drop (k + 1) piece) (take-ended piece k h e)
+
+-- what is taken of a piece in two steps
+pub take_rest : (bytes piece : List ℕ) (n m : ℕ) → (bytes ++ take n piece) ++ take m (take (length piece - n) (drop n piece)) ≡ bytes ++ take (n + m) piece
+take_rest bytes piece n m =
+    append_assoc bytes _ _ ∙ ap (λ x. bytes ++ (take n piece ++ take m x)) all ∙ ap (λ x. bytes ++ x) (sym (take-add n m piece))
+  where
+    all : take (length piece - n) (drop n piece) ≡ drop n piece
+    all = ap (λ x. take x (drop n piece)) (sym (length-drop n piece)) ∙ take-length (drop n piece)

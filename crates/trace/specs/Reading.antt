@@ -1,0 +1,40 @@
+-- What a reader of a trace's text has read: whole records, and an unfinished line.
+use Rattle.std.specs.Prelude.{◌≡◌, ℕ, ◌+◌, ◌-◌, ◌<◌, ◌≤◌, Bool, true, false, List, [], ◌∷◌, ◌++◌, length, take, slice_index, Option, Some, None}
+use Rattle.std.specs.Option.{option_to_list}
+use Rattle.trace.specs.declared.records.Record.{Record}
+use Rattle.trace.specs.declared.faults.TextFault.{TextFault}
+use Rattle.trace.specs.Text.{newline, header, ended, text, AllFit, IsUnended, IsOpen}
+
+-- a reader: its limit on records, whether the header has come, how many records it has given, the bytes
+-- of the unfinished line, and the fault that it has met
+pub record Reading : Type 0 where
+  pub limit : ℕ
+  pub begun : Bool
+  pub count : ℕ
+  pub rest : List ℕ
+  pub fault : Option TextFault
+
+abbrev pub at_first_byte : ℕ → Reading
+at_first_byte limit = record { limit = limit; begun = false; count = 0; rest = []; fault = None }
+
+-- the bytes are the header, the lines of w and the rest; or the header hasn't come, and they are a rest of line 1
+abbrev pub AreBytes : Bool → List Record → List ℕ → List ℕ → Type 0
+AreBytes true w rest bytes = bytes ≡ text w ++ rest
+AreBytes false w rest bytes = (w ≡ []) × (bytes ≡ rest)
+
+-- from these bytes the reader has given the records w, and has met no fault
+pub record HasRead (w : List Record) (bytes : List ℕ) (s : Reading) : Type 0 where
+  pub bytes_are : AreBytes s.begun w s.rest bytes
+  pub fits : AllFit w
+  pub unfinished : IsOpen s.rest
+  pub count_is : s.count ≡ length w
+  pub within : length w ≤ s.limit
+  pub no_fault : s.fault ≡ None
+
+-- how many bytes are held back: those of the header, and those of the unfinished line
+abbrev pub header_length : Bool → ℕ
+header_length true = length (ended header)
+header_length false = 0
+
+abbrev pub held_back : Reading → ℕ
+held_back s = header_length s.begun + length s.rest

@@ -1,0 +1,163 @@
+ghost use Rattle.std.specs.Prelude.{◌≡◌, ◌++◌, ◌+◌, ◌≤◌, ◌<◌, length, take, IfSome, IfNone, codes, IsTrue, ◌↔◌};
+ghost use Rattle.trace.specs.Text.{spell, line, header, Fits};
+ghost use Rattle.trace.specs.Faults.{IsNoRecord};
+ghost use Rattle.trace.specs.Cuts.{IsCut};
+
+use crate::numbers::{decimal_of, number_of};
+use crate::records::Record;
+use memchr::memchr;
+
+/// How many bytes the longest line of a trace has, its end not counted.
+pub const LONGEST: usize = 26;
+
+/// The record that a line spells, its end left out.
+pub fn record_of(line: &[u8]) -> Option<Record>
+    ensures found { IfSome result (λ r. line.now ≡ spell r) }
+    ensures fits { IfSome result Fits }
+    ensures none { IfNone result (IsNoRecord line.now) }
+{
+    match line {
+        b"spawn" => Some(Record::Spawn),
+        b"return" => Some(Record::Return),
+        b"sync" => Some(Record::Sync),
+        [b'r', b'e', b'a', b'd', b' ', digits @ ..] => match decimal_of(digits) {
+            Some(location) => Some(Record::Read(location)),
+            None => None,
+        },
+        [b'w', b'r', b'i', b't', b'e', b' ', digits @ ..] => match decimal_of(digits) {
+            Some(location) => Some(Record::Write(location)),
+            None => None,
+        },
+        _ => None,
+    }
+}
+
+/// Whether a line is the header, its end left out.
+pub fn is_header(line: &[u8]) -> bool
+    ensures { IsTrue result ↔ (line.now ≡ header) }
+{
+    line == b"trace 1".as_slice()
+}
+
+/// Where the line ends of which some bytes are held, and to which the bytes of a piece are added.
+pub enum Cut {
+    /// At this byte of the piece.
+    End(usize),
+    /// Not before its 27th byte, so it is no line of a trace.
+    Long,
+    /// Not in this piece, after which it has at most 26 bytes.
+    Open,
+}
+
+/// Looks for the end of a line of which `held` bytes came before the piece.
+pub fn cut_of(held: usize, piece: &[u8]) -> Cut
+    requires { held ≤ LONGEST }
+    ensures { IsCut held piece.now result }
+{
+    let missing = LONGEST + 1 - held;
+    let window = missing.min(piece.len());
+    match memchr(b'\n', &piece[..window]) {
+        Some(end) => Cut::End(end),
+        None if window == missing => Cut::Long,
+        None => Cut::Open,
+    }
+}
+
+/// A record at the front of a piece, and how many bytes its line has with its end.
+#[derive(Clone, Copy)]
+pub struct Front {
+    pub record: Record,
+    pub used: usize,
+}
+
+/// The record whose line stands whole at the front of a piece, where it is easily told; the answer
+/// `None` says nothing.
+#[inline(always)]
+pub fn front_of(piece: &[u8]) -> Option<Front>
+    requires { 27 ≤ length piece.now }
+    ensures within { IfSome result (λ f. f.used ≤ length piece.now) }
+    ensures line { IfSome result (λ f. take f.used piece.now ≡ line f.record) }
+    ensures fits { IfSome result (λ f. Fits f.record) }
+{
+    if piece[0] == b'r' {
+        if piece[4] == b' ' { read_of(piece) } else { return_of(piece) }
+    } else if piece[0] == b'w' {
+        write_of(piece)
+    } else {
+        structure_of(piece)
+    }
+}
+
+#[inline(always)]
+fn read_of(piece: &[u8]) -> Option<Front>
+    requires { 27 ≤ length piece.now }
+    ensures within { IfSome result (λ f. f.used ≤ length piece.now) }
+    ensures line { IfSome result (λ f. take f.used piece.now ≡ line f.record) }
+    ensures fits { IfSome result (λ f. Fits f.record) }
+{
+    if piece[0] != b'r' || piece[1] != b'e' || piece[2] != b'a' || piece[3] != b'd' {
+        return None;
+    }
+    if piece[4] != b' ' {
+        return None;
+    }
+    let Some(number) = number_of(&piece[5..25]) else {
+        return None;
+    };
+    Some(Front {
+        record: Record::Read(number.value),
+        used: number.digits + 6,
+    })
+}
+
+#[inline(always)]
+fn write_of(piece: &[u8]) -> Option<Front>
+    requires { 27 ≤ length piece.now }
+    ensures within { IfSome result (λ f. f.used ≤ length piece.now) }
+    ensures line { IfSome result (λ f. take f.used piece.now ≡ line f.record) }
+    ensures fits { IfSome result (λ f. Fits f.record) }
+{
+    if piece[0] != b'w' || piece[1] != b'r' || piece[2] != b'i' || piece[3] != b't' {
+        return None;
+    }
+    if piece[4] != b'e' || piece[5] != b' ' {
+        return None;
+    }
+    let Some(number) = number_of(&piece[6..26]) else {
+        return None;
+    };
+    Some(Front {
+        record: Record::Write(number.value),
+        used: number.digits + 7,
+    })
+}
+
+#[inline(always)]
+fn return_of(piece: &[u8]) -> Option<Front>
+    requires { 27 ≤ length piece.now }
+    ensures within { IfSome result (λ f. f.used ≤ length piece.now) }
+    ensures line { IfSome result (λ f. take f.used piece.now ≡ line f.record) }
+    ensures fits { IfSome result (λ f. Fits f.record) }
+{
+    if &piece[..7] == b"return\n".as_slice() {
+        Some(Front { record: Record::Return, used: 7 })
+    } else {
+        None
+    }
+}
+
+#[inline(always)]
+fn structure_of(piece: &[u8]) -> Option<Front>
+    requires { 27 ≤ length piece.now }
+    ensures within { IfSome result (λ f. f.used ≤ length piece.now) }
+    ensures line { IfSome result (λ f. take f.used piece.now ≡ line f.record) }
+    ensures fits { IfSome result (λ f. Fits f.record) }
+{
+    if &piece[..6] == b"spawn\n".as_slice() {
+        Some(Front { record: Record::Spawn, used: 6 })
+    } else if &piece[..5] == b"sync\n".as_slice() {
+        Some(Front { record: Record::Sync, used: 5 })
+    } else {
+        None
+    }
+}

@@ -1,0 +1,110 @@
+ghost use Rattle.std.specs.Prelude.{◌≡◌, ◌≤◌, ◌+◌, ◌<◌, ◌^◌, ◌++◌, ◌∷◌, [], List, length, IfOk, IfErr, OnOk, OnErr, MatchResult};
+ghost use Rattle.trace.specs.declared.records.Record.{Record};
+
+use crate::faults::{NestFault, NestKind};
+use crate::records::{Placed, Record};
+use std::marker::Model;
+
+/// Counts records, and tells whether their procedures nest.
+#[derive(Drop)]
+pub struct Nest {
+    max_depth: u32,
+    count: u64,
+    depth: u32,
+    ended: bool,
+}
+
+impl Model for Nest {
+    ghost use Rattle.std.specs.Prelude.{◌≤◌, ◌^◌};
+    ghost use Rattle.trace.specs.Nesting.{Nesting};
+
+    ghost Value = { Nesting };
+
+    ghost view = { λ n. record { max_depth = n.max_depth; count = n.count; depth = n.depth; ended = n.ended } };
+
+    ghost invariant = { λ n. (n.count ≤ 2 ^ 48) × (n.depth ≤ n.max_depth) };
+}
+
+impl Nest {
+    ghost use Rattle.trace.specs.Nesting.{at_first_place, HasNested};
+    ghost use Rattle.trace.specs.Traces.{IsWellNested};
+    ghost use Rattle.trace.specs.Faults.{IsMisplaced, HasEnded};
+    ghost use Rattle.trace.specs.declared.faults.NestKind.TheVariants.{Unfinished};
+
+    /// No record has come. No procedure may lie deeper than the limit.
+    pub fn new(max_depth: u32) -> Self
+        ensures { result ≡ at_first_place max_depth }
+    {
+        Nest {
+            max_depth,
+            count: 0,
+            depth: 0,
+            ended: false,
+        }
+    }
+
+    /// How many records were accepted.
+    pub fn count(&self) -> u64
+        ensures { result ≡ self.now.count }
+    {
+        self.count
+    }
+
+    /// Gives the next record its place, unless it is misplaced there. A refused record changes nothing.
+    #[inline(always)]
+    pub fn accept(&mut self, what: Record) -> Result<Placed, NestFault>
+        requires { self.old.count < 2 ^ 48 }
+        ensures place { IfOk result (λ p. p ≡ record { place = self.old.count + 1; what = what }) }
+        ensures accepted { (u : List Record) → HasNested u self.old → OnOk result (HasNested (u ++ what ∷ []) self.new) }
+        ensures misplaced { (u : List Record) → HasNested u self.old → IfErr result (λ f. IsMisplaced self.old.max_depth u what f.kind) }
+        ensures fault_place { IfErr result (λ f. f.place ≡ self.old.count + 1) }
+        ensures refused { OnErr result (self.new ≡ self.old) }
+        ensures limit { self.new.max_depth ≡ self.old.max_depth }
+        ensures count { OnOk result (self.new.count ≡ self.old.count + 1) }
+    {
+        let place = self.count + 1;
+        if self.ended {
+            return Err(NestFault {
+                place,
+                kind: NestKind::AfterEnd,
+            });
+        }
+        match what {
+            Record::Spawn => {
+                if self.depth >= self.max_depth {
+                    return Err(NestFault {
+                        place,
+                        kind: NestKind::TooDeep,
+                    });
+                }
+                self.depth += 1;
+            }
+            Record::Return => {
+                if self.depth == 0 {
+                    self.ended = true;
+                } else {
+                    self.depth -= 1;
+                }
+            }
+            Record::Sync | Record::Read(_) | Record::Write(_) => {}
+        }
+        self.count = place;
+        Ok(Placed { place, what })
+    }
+
+    /// Whether the accepted records are well nested, so that none may follow.
+    pub fn end(&self) -> Result<(), NestFault>
+        ensures ok { (u : List Record) → HasNested u self.now → OnOk result (IsWellNested u self.now.count self.now.max_depth) }
+        ensures unfinished { IfErr result (λ f. f ≡ record { place = self.now.count + 1; kind = Unfinished }) }
+        ensures err { (u : List Record) → HasNested u self.now → OnErr result (HasEnded u → ⊥) }
+    {
+        if self.ended {
+            Ok(())
+        } else {
+            Err(NestFault {
+                place: self.count + 1,
+                kind: NestKind::Unfinished,
+            })
+        }
+    }
+}

@@ -1,0 +1,322 @@
+ghost use Rattle.std.specs.Prelude.{◌≡◌, ◌≤◌, ◌+◌, ◌<◌, ◌^◌, ◌++◌, ◌∷◌, [], ℕ, List, length, take, IfOk, IfErr, IfSome, IfNone, OnOk, Some, None, Ok, Err, true, false, IsTrue, ◌↔◌};
+ghost use Rattle.std.specs.Option.{option_to_list};
+ghost use Rattle.trace.specs.declared.records.Record.{Record};
+ghost use Rattle.trace.specs.Text.{text, header, spell, Fits};
+ghost use Rattle.trace.specs.Faults.{IsBadLine, IsTruncated, IsNoRecord};
+
+use crate::faults::{TextFault, TextKind};
+use crate::lines::{Cut, LONGEST, cut_of, front_of, is_header, record_of};
+use crate::records::Record;
+use std::marker::Model;
+
+/// What a step of a reader took from the front of a piece, and the record that it gives.
+#[derive(Clone, Copy, Debug, PartialEq, Eq)]
+pub struct Taken {
+    pub used: usize,
+    pub what: Option<Record>,
+}
+
+// The bytes of an unfinished line.
+#[derive(Drop)]
+struct Held {
+    bytes: [u8; 26],
+    len: usize,
+}
+
+impl Model for Held {
+    ghost use Rattle.std.specs.Prelude.{◌≤◌, ℕ, List, take};
+
+    ghost Value = { List ℕ };
+
+    ghost view = { λ h. take h.len h.bytes };
+
+    ghost invariant = { λ h. h.len ≤ 26 };
+}
+
+impl Held {
+    fn new() -> Self
+        ensures { result ≡ [] }
+    {
+        Held {
+            bytes: [0; 26],
+            len: 0,
+        }
+    }
+
+    fn len(&self) -> usize
+        ensures len { result ≡ length self.now }
+        ensures short { length self.now ≤ 26 }
+    {
+        self.len
+    }
+
+    fn as_slice(&self) -> &[u8]
+        ensures { result.now ≡ self.now }
+    {
+        let bytes: &[u8] = &self.bytes;
+        &bytes[..self.len]
+    }
+
+    fn push_all(&mut self, more: &[u8])
+        requires { length self.old + length more.now ≤ 26 }
+        ensures { self.new ≡ self.old ++ more.now }
+    {
+        put_at(&mut self.bytes, self.len, more);
+        self.len += more.len();
+    }
+
+    fn clear(&mut self)
+        ensures { self.new ≡ [] }
+    {
+        self.len = 0;
+    }
+}
+
+// Writes the bytes from an index on.
+fn put_at(buffer: &mut [u8], start: usize, bytes: &[u8])
+    requires { start + length bytes.now ≤ length buffer.old }
+    ensures { take (start + length bytes.now) buffer.new ≡ take start buffer.old ++ bytes.now }
+{
+    let end = start + bytes.len();
+    buffer[start..end].copy_from_slice(bytes);
+}
+
+// The record that the held bytes and those of the end spell together; then nothing is held.
+fn record_with(held: &mut Held, end: &[u8]) -> Option<Record>
+    requires { length held.old + length end.now ≤ 26 }
+    ensures found { IfSome result (λ r. held.old ++ end.now ≡ spell r) }
+    ensures fits { IfSome result Fits }
+    ensures none { IfNone result (IsNoRecord (held.old ++ end.now)) }
+    ensures cleared { held.new ≡ [] }
+{
+    if held.len() == 0 {
+        return record_of(end);
+    }
+    held.push_all(end);
+    let record = record_of(held.as_slice());
+    held.clear();
+    record
+}
+
+/// Reads the text of a trace in pieces of any size, and gives its records.
+#[derive(Drop)]
+pub struct Reader {
+    limit: u64,
+    begun: bool,
+    count: u64,
+    held: Held,
+    fault: Option<TextFault>,
+}
+
+impl Model for Reader {
+    ghost use Rattle.std.specs.Prelude.{◌≤◌, ◌^◌, length};
+    ghost use Rattle.trace.specs.Reading.{Reading};
+
+    ghost Value = { Reading };
+
+    ghost view = { λ r. record { limit = r.limit; begun = r.begun; count = r.count; rest = r.held; fault = r.fault } };
+
+    ghost invariant = { λ r. (r.limit ≤ 2 ^ 48) × (r.count ≤ r.limit) × (length r.held ≤ 26) };
+}
+
+impl Reader {
+    ghost use Rattle.trace.specs.Reading.{at_first_byte, HasRead, held_back};
+
+    /// A reader of a text of at most so many records, of which nothing has come.
+    pub fn new(max_records: u64) -> Self
+        requires { max_records ≤ 2 ^ 48 }
+        ensures { result ≡ at_first_byte max_records }
+    {
+        Reader {
+            limit: max_records,
+            begun: false,
+            count: 0,
+            held: Held::new(),
+            fault: None,
+        }
+    }
+
+    /// Reads on from the front of the piece, up to the end of the next record's line. Where that line
+    /// doesn't end in the piece, all of the piece is used and no record is given. After a fault every
+    /// call answers that fault.
+    #[inline(always)]
+    pub fn step(&mut self, piece: &[u8]) -> Result<Taken, TextFault>
+        ensures used { IfOk result (λ t. t.used ≤ length piece.now) }
+        ensures whole { IfOk result (λ t. t.what ≡ None → t.used ≡ length piece.now) }
+        ensures taken { (w : List Record) (bytes : List ℕ) → HasRead w bytes self.old →
+            IfOk result (λ t. HasRead (w ++ option_to_list t.what) (bytes ++ take t.used piece.now) self.new) }
+        ensures fault { (w : List Record) (bytes : List ℕ) → HasRead w bytes self.old →
+            IfErr result (λ f. IsBadLine self.old.limit (bytes ++ piece.now) f) }
+        ensures kept { IfErr result (λ f. self.new.fault ≡ Some f) }
+        ensures again { IfSome self.old.fault (λ f. (result ≡ Err f) × (self.new ≡ self.old)) }
+        ensures held_back { IfOk result (λ t. t.what ≡ None → held_back self.new ≡ held_back self.old + t.used) }
+        ensures short { length self.new.rest ≤ 26 }
+        ensures limit { self.new.limit ≡ self.old.limit }
+        ensures count { IfOk result (λ t. self.new.count ≡ self.old.count + length (option_to_list t.what)) }
+        ensures most { self.new.count ≤ 2 ^ 48 }
+    {
+        if self.begun && self.fault.is_none() && self.count < self.limit && self.held.len() == 0 {
+            if piece.len() > LONGEST {
+                if let Some(front) = front_of(piece) {
+                    self.count += 1;
+                    return Ok(Taken {
+                        used: front.used,
+                        what: Some(front.record),
+                    });
+                }
+            }
+        }
+        self.any_step(piece)
+    }
+
+    #[cold]
+    fn any_step(&mut self, piece: &[u8]) -> Result<Taken, TextFault>
+        ensures used { IfOk result (λ t. t.used ≤ length piece.now) }
+        ensures whole { IfOk result (λ t. t.what ≡ None → t.used ≡ length piece.now) }
+        ensures taken { (w : List Record) (bytes : List ℕ) → HasRead w bytes self.old →
+            IfOk result (λ t. HasRead (w ++ option_to_list t.what) (bytes ++ take t.used piece.now) self.new) }
+        ensures fault { (w : List Record) (bytes : List ℕ) → HasRead w bytes self.old →
+            IfErr result (λ f. IsBadLine self.old.limit (bytes ++ piece.now) f) }
+        ensures kept { IfErr result (λ f. self.new.fault ≡ Some f) }
+        ensures again { IfSome self.old.fault (λ f. (result ≡ Err f) × (self.new ≡ self.old)) }
+        ensures held_back { IfOk result (λ t. t.what ≡ None → held_back self.new ≡ held_back self.old + t.used) }
+        ensures short { length self.new.rest ≤ 26 }
+        ensures limit { self.new.limit ≡ self.old.limit }
+        ensures count { IfOk result (λ t. self.new.count ≡ self.old.count + length (option_to_list t.what)) }
+        ensures most { self.new.count ≤ 2 ^ 48 }
+    {
+        if let Some(fault) = self.fault {
+            return Err(fault);
+        }
+        if self.begun {
+            return self.next(piece);
+        }
+        match self.open(piece) {
+            Err(fault) => Err(fault),
+            Ok(used) => {
+                if !self.begun {
+                    return Ok(Taken { used, what: None });
+                }
+                match self.next(&piece[used..]) {
+                    Err(fault) => Err(fault),
+                    Ok(taken) => Ok(Taken {
+                        used: used + taken.used,
+                        what: taken.what,
+                    }),
+                }
+            }
+        }
+    }
+
+    // Reads on in line 1, up to its end where that comes.
+    fn open(&mut self, piece: &[u8]) -> Result<usize, TextFault>
+        requires begun { self.old.begun ≡ false }
+        requires no_fault { self.old.fault ≡ None }
+        ensures used { IfOk result (λ n. n ≤ length piece.now) }
+        ensures whole { IfOk result (λ n. self.new.begun ≡ false → n ≡ length piece.now) }
+        ensures taken { (w : List Record) (bytes : List ℕ) → HasRead w bytes self.old →
+            IfOk result (λ n. HasRead w (bytes ++ take n piece.now) self.new) }
+        ensures fault { (w : List Record) (bytes : List ℕ) → HasRead w bytes self.old →
+            IfErr result (λ f. IsBadLine self.old.limit (bytes ++ piece.now) f) }
+        ensures kept { IfErr result (λ f. self.new.fault ≡ Some f) }
+        ensures no_fault { OnOk result (self.new.fault ≡ None) }
+        ensures held_back { IfOk result (λ n. held_back self.new ≡ held_back self.old + n) }
+        ensures short { length self.new.rest ≤ 26 }
+        ensures limit { self.new.limit ≡ self.old.limit }
+        ensures count { self.new.count ≡ self.old.count }
+        ensures most { self.new.count ≤ 2 ^ 48 }
+    {
+        match cut_of(self.held.len(), piece) {
+            Cut::End(end) => {
+                self.held.push_all(&piece[..end]);
+                self.begun = is_header(self.held.as_slice());
+                self.held.clear();
+                if self.begun {
+                    Ok(end + 1)
+                } else {
+                    Err(self.fail(1, TextKind::Header))
+                }
+            }
+            Cut::Long => Err(self.fail(1, TextKind::Header)),
+            Cut::Open => {
+                self.held.push_all(piece);
+                Ok(piece.len())
+            }
+        }
+    }
+
+    // Reads on in a line after line 1, up to its end where that comes.
+    fn next(&mut self, piece: &[u8]) -> Result<Taken, TextFault>
+        requires begun { self.old.begun ≡ true }
+        requires no_fault { self.old.fault ≡ None }
+        ensures used { IfOk result (λ t. t.used ≤ length piece.now) }
+        ensures whole { IfOk result (λ t. t.what ≡ None → t.used ≡ length piece.now) }
+        ensures taken { (w : List Record) (bytes : List ℕ) → HasRead w bytes self.old →
+            IfOk result (λ t. HasRead (w ++ option_to_list t.what) (bytes ++ take t.used piece.now) self.new) }
+        ensures fault { (w : List Record) (bytes : List ℕ) → HasRead w bytes self.old →
+            IfErr result (λ f. IsBadLine self.old.limit (bytes ++ piece.now) f) }
+        ensures kept { IfErr result (λ f. self.new.fault ≡ Some f) }
+        ensures held_back { IfOk result (λ t. t.what ≡ None → held_back self.new ≡ held_back self.old + t.used) }
+        ensures short { length self.new.rest ≤ 26 }
+        ensures limit { self.new.limit ≡ self.old.limit }
+        ensures count { IfOk result (λ t. self.new.count ≡ self.old.count + length (option_to_list t.what)) }
+        ensures most { self.new.count ≤ 2 ^ 48 }
+    {
+        let line = self.count + 2;
+        match cut_of(self.held.len(), piece) {
+            Cut::End(end) => match record_with(&mut self.held, &piece[..end]) {
+                None => Err(self.fail(line, TextKind::Line)),
+                Some(record) => {
+                    if self.count == self.limit {
+                        return Err(self.fail(line, TextKind::TooMany));
+                    }
+                    self.count += 1;
+                    Ok(Taken {
+                        used: end + 1,
+                        what: Some(record),
+                    })
+                }
+            },
+            Cut::Long => Err(self.fail(line, TextKind::Line)),
+            Cut::Open => {
+                self.held.push_all(piece);
+                Ok(Taken {
+                    used: piece.len(),
+                    what: None,
+                })
+            }
+        }
+    }
+
+    fn fail(&mut self, line: u64, kind: TextKind) -> TextFault
+        ensures fault { result ≡ record { line = line; kind = kind } }
+        ensures kept { self.new ≡ record self.old { fault = Some result } }
+    {
+        let fault = TextFault { line, kind };
+        self.fault = Some(fault);
+        fault
+    }
+
+    /// Whether the bytes so far are the whole text of a trace. `Ok` changes nothing.
+    pub fn end(&mut self) -> Result<(), TextFault>
+        ensures ok { (w : List Record) (bytes : List ℕ) → HasRead w bytes self.old → OnOk result (bytes ≡ text w) }
+        ensures truncated { (w : List Record) (bytes : List ℕ) → HasRead w bytes self.old →
+            IfErr result (IsTruncated self.old.limit bytes) }
+        ensures unchanged { OnOk result (self.new ≡ self.old) }
+        ensures kept { IfErr result (λ f. self.new.fault ≡ Some f) }
+        ensures again { IfSome self.old.fault (λ f. (result ≡ Err f) × (self.new ≡ self.old)) }
+        ensures limit { self.new.limit ≡ self.old.limit }
+    {
+        if let Some(fault) = self.fault {
+            return Err(fault);
+        }
+        if !self.begun {
+            return Err(self.fail(1, TextKind::Truncated));
+        }
+        if self.held.len() > 0 {
+            let line = self.count + 2;
+            return Err(self.fail(line, TextKind::Truncated));
+        }
+        Ok(())
+    }
+}
