@@ -1,1 +1,2 @@
 pub mod Dag
+pub mod Runs

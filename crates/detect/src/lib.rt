@@ -1,4 +1,8 @@
 //! Determinacy races of a trace: what the rules of SP-bags find is what the dag has.
 #![tactic(auto)]
 
+mod detector;
 pub mod laws;
+pub mod plain;
+
+pub use plain::detect_plain;

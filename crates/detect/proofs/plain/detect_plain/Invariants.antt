@@ -1,0 +1,24 @@
+use Rattle.std.proofs.Common.{◌≡◌, ◌+◌, ◌-◌, ℕ, List, length}
+use Rattle.std.specs.Io.KnownBytes.{Consumes}
+use Rattle.trace.specs.declared.records.Record.{Record}
+use Rattle.trace.specs.Traces.{placed}
+use Rattle.trace.specs.Feeding.{HasFed}
+use Rattle.shadow.specs.Memory.{AreReadyFor}
+use Rattle.detect.specs.Runs.{HasDetected}
+use Rattle.detect.proofs.plain.detect_plain.Given as goal
+
+abbrev pub invariant-loop-detector : goal.invariant-loop-detector
+invariant-loop-detector g l = record {
+  trace : List Record;
+  came : List ℕ;
+  consumed : Consumes (g.R.Source.rest l.fn.reader) (g.R.Source.rest l.reader) came;
+  fed : HasFed trace came l.intake;
+  detected : HasDetected (placed trace) l.detector.bags l.detector.shadow l.detector.collector;
+  ready : AreReadyFor l.detector.bags l.detector.shadow (length trace + 1);
+  count : g.R.Source.failures l.reader ≡ g.R.Source.failures l.fn.reader;
+  records : l.intake.reading.limit ≡ l.limits.records;
+  depths : l.intake.nesting.max_depth ≡ l.limits.depth;
+}
+
+abbrev pub decreases-loop-detector : goal.decreases-loop-detector
+decreases-loop-detector g l = l.limits.records - l.intake.reading.count

@@ -1,0 +1,37 @@
+-- What a run over the records of a trace has found, what it reports, and how it fails.
+use Rattle.std.specs.Prelude.{◌≡◌, ℕ, false, List, Option, ◌⊎◌}
+use Rattle.std.specs.Io.KnownBytes.{Consumes}
+use Rattle.shard.specs.declared.Back.{Back}
+use Rattle.trace.specs.declared.records.Record.{Record}
+use Rattle.trace.specs.declared.records.Placed.{Placed}
+use Rattle.trace.specs.declared.faults.Fault.{Fault}
+use Rattle.trace.specs.declared.faults.Fault.TheVariants.{NoMemory}
+use Rattle.trace.specs.Accesses.{RaceAt}
+use Rattle.trace.specs.Feeding.{IsWhole, IsFaultFed}
+use Rattle.trace.specs.Races.{IsReport}
+use Rattle.bags.specs.Procedures.{Procedures}
+use Rattle.shadow.specs.Memory.{Memory, HaveSeen}
+use Rattle.shadow.specs.Found.{found, verdict}
+use Rattle.collect.specs.Collected.{Kept, Holds, races_of, fails}
+
+-- the bags and the shadow memory have seen the records u, and the collector was given the races found in them
+pub record HasDetected (u : List Placed) (bags : Procedures) (memory : Memory) (collector : Kept) : Type 0 where
+  pub seen : HaveSeen u bags memory
+  pub given : List Back
+  pub holds : Holds given collector
+  pub none_failed : fails given ≡ false
+  pub races : races_of given ≡ found u
+
+-- The bytes that came are the text of a trace that is well nested within the limits, and they are all that the
+-- source had; the races are the verdict on it, which is its report by the dag.
+pub record Reports (records depths : ℕ) (before after : Option (List ℕ)) (races : List RaceAt) : Type 0 where
+  pub came : List ℕ
+  pub consumed : Consumes before after came
+  pub trace : List Record
+  pub whole : IsWhole records depths trace came after
+  pub is_verdict : races ≡ verdict trace
+  pub is_report : IsReport trace races
+
+-- no memory was left, or the fault is the first of the bytes that came; or the source failed before any fault
+abbrev pub FailsBy : ℕ → ℕ → Option (List ℕ) → Option (List ℕ) → ℕ → ℕ → Fault → Type 0
+FailsBy records depths before after count count' f = (f ≡ NoMemory) ⊎ ((came : List ℕ) × Consumes before after came × IsFaultFed records depths came after count count' f)
