@@ -4,6 +4,8 @@
 mod answers;
 mod input;
 mod messages;
+#[cfg(test)]
+mod tests;
 mod words;
 
 use answers::{answer, refuse};

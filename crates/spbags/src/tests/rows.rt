@@ -1,0 +1,257 @@
+//! Worked rows: traces, and what `check` says of them.
+use super::devices::{Broken, Full, Slow};
+use super::{run, trace_of, words_of};
+use crate::answers::{answer, refuse};
+use crate::words::{WordsFault, read_words};
+use std::alloc::{AllocError, Global};
+use std::io::ErrorKind;
+use std::test::Fail;
+use trace::Counted;
+
+// Traces by their records, and the lines of their reports after the head.
+const ROWS: [(&str, &str); 17] = [
+    ("return", ""),
+    ("spawn, write 5, return, write 5, return", "race 5 write 2 write 4\n"),
+    ("spawn, write 5, return, sync, write 5, return", ""),
+    ("spawn, read 5, return, read 5, return", ""),
+    (
+        "spawn, read 9, return, spawn, read 9, return, write 9, return",
+        "race 9 read 2 write 7\n",
+    ),
+    ("read 9, spawn, read 9, return, write 9, return", "race 9 read 3 write 5\n"),
+    ("spawn, spawn, write 1, return, return, sync, read 1, return", ""),
+    (
+        "spawn, write 1, return, spawn, sync, write 1, return, return",
+        "race 1 write 2 write 6\n",
+    ),
+    ("spawn, spawn, write 1, return, return, read 1, return", "race 1 write 3 read 6\n"),
+    ("write 18446744073709551615, return", ""),
+    (
+        "spawn, write 3, return, spawn, write 3, return, write 3, return",
+        "race 3 write 2 write 5\n",
+    ),
+    ("spawn, read 4, return, read 4, write 4, return", "race 4 read 2 write 5\n"),
+    ("spawn, read 7, write 7, return, write 7, return", "race 7 write 3 write 5\n"),
+    ("write 7, spawn, read 7, return, write 7, return", "race 7 read 3 write 5\n"),
+    (
+        "spawn, write 8, write 2, return, read 8, read 2, return",
+        "race 2 write 3 read 6\nrace 8 write 2 read 5\n",
+    ),
+    ("spawn, return, spawn, return, return", ""),
+    ("sync, return", ""),
+];
+
+#[test]
+fn checks_rows(rt: HostRuntime) -> Result<(), Fail> {
+    for (records, lines) in ROWS {
+        let trace = trace_of(rt.alloc(), records)?;
+        let count = lines.split('\n').count() - 1;
+        let report = format!(in rt.alloc(); "races {count}\n{lines}")?;
+        for step in [1, 4096] {
+            let ran = run(rt.alloc(), "check -", trace.as_slice(), step)?;
+            assert_eq!(rt; ran.status, if count == 0 { 0 } else { 1 }, "{records}");
+            assert_eq!(rt; ran.out.as_slice(), report.as_bytes(), "{records}");
+            assert!(rt; ran.err.is_empty(), "{records}");
+        }
+    }
+    Ok(())
+}
+
+// Texts that are no traces, and the message.
+const FAULTS: [(&str, &str, &str); 26] = [
+    ("check -", "trace 1\nwrite 18446744073709551616\nreturn\n", "line 2: bad line"),
+    ("check -", "", "line 1: truncated"),
+    ("check -", "trace 1\n", "place 1: unfinished"),
+    ("check -", "trace 1\nreturn\nread 1\n", "place 2: after end"),
+    ("check -", "trace 1\nread 01\nreturn\n", "line 2: bad line"),
+    ("check -", "trace 1\nreturn", "line 2: truncated"),
+    ("check -", "trace 1\naaaaaaaaaaaaaaaaaaaaaaaaaaa", "line 2: bad line"),
+    ("check -", "trace 1\naaaaaaaaaaaaaaaaaaaaaaaaaa", "line 2: truncated"),
+    ("check -", "trace 2\nreturn\n", "line 1: header"),
+    ("check -", "trace 1\ncall\nreturn\nreturn\n", "line 2: bad line"),
+    ("check -", "trace 1\r\nreturn\n", "line 1: header"),
+    ("check -", "trace 01\nreturn\n", "line 1: header"),
+    ("check -", "trace 1", "line 1: truncated"),
+    ("check -", "trace 1\n\nreturn\n", "line 2: bad line"),
+    ("check -", "trace 1\nread  1\nreturn\n", "line 2: bad line"),
+    ("check -", "trace 1\nspawn \n", "line 2: bad line"),
+    ("check -", "trace 1\nspawn\r\n", "line 2: bad line"),
+    ("check -", "trace 1\nread -1\n", "line 2: bad line"),
+    ("check -", "trace 1\nread\n", "line 2: bad line"),
+    ("check -", "trace 1\nreturn\nreturn", "line 3: truncated"),
+    ("check -", "trace 1\nreturn\nreturn\n", "place 2: after end"),
+    ("check -", "trace 1\nreturn\nx\n", "line 3: bad line"),
+    ("check -", "trace 1\n\0\nreturn\n", "line 2: bad line"),
+    (
+        "check --depth 1 -",
+        "trace 1\nspawn\nspawn\nwrite 1\nreturn\nreturn\nsync\nread 1\nreturn\n",
+        "place 2: too deep",
+    ),
+    (
+        "check --depth 0 -",
+        "trace 1\nspawn\nwrite 5\nreturn\nwrite 5\nreturn\n",
+        "place 1: too deep",
+    ),
+    ("check -", "trace 1\nspawn\nwrite 5\nreturn\nwrite 5\n", "place 5: unfinished"),
+];
+
+#[test]
+fn names_faults(rt: HostRuntime) -> Result<(), Fail> {
+    for (line, trace, message) in FAULTS {
+        let want = format!(in rt.alloc(); "spbags: {message}\n")?;
+        for step in [1, 4096] {
+            let ran = run(rt.alloc(), line, trace.as_bytes(), step)?;
+            assert_eq!(rt; ran.status, 2, "{trace}");
+            assert!(rt; ran.out.is_empty(), "{trace}");
+            assert_eq!(rt; ran.err.as_slice(), want.as_bytes(), "{trace}");
+        }
+    }
+    let ran = run(rt.alloc(), "check -", b"trace 1\n\xff\n", 1)?;
+    assert_eq!(rt; ran.err.as_slice(), b"spbags: line 2: bad line\n".as_slice());
+    Ok(())
+}
+
+// A child and its parent write the same thousand locations.
+fn flood(alloc: Global) -> Result<Vec<u8>, AllocError> {
+    let mut text = Vec::from_slice(alloc, b"trace 1\nspawn\n")?;
+    for _ in 0..2 {
+        for place in 0..1000u64 {
+            let line = format!(in alloc; "write {}\n", place * 2)?;
+            text.extend_from_slice(line.as_bytes())?;
+        }
+        text.extend_from_slice(b"return\n")?;
+    }
+    Ok(text)
+}
+
+#[test]
+fn tells_a_thousand_races(rt: HostRuntime) -> Result<(), Fail> {
+    let text = flood(rt.alloc())?;
+    let ran = run(rt.alloc(), "check -", text.as_slice(), 4096)?;
+    assert_eq!(rt; ran.status, 1);
+    let mut want = String::from_str(rt.alloc(), "races 1000\n")?;
+    for race in 0..1000u64 {
+        let line = format!(in rt.alloc(); "race {} write {} write {}\n", race * 2, race + 2, race + 1003)?;
+        want.push_str(line.as_str())?;
+    }
+    assert!(rt; ran.out.as_slice() == want.as_bytes());
+
+    // A fault at the end leaves nothing of them.
+    let (text, _) = text.split_at(text.len() - b"return\n".len().min(text.len()));
+    let ran = run(rt.alloc(), "check -", text, 4096)?;
+    assert_eq!(rt; ran.status, 2);
+    assert!(rt; ran.out.is_empty());
+    assert_eq!(rt; ran.err.as_slice(), b"spbags: place 2003: unfinished\n".as_slice());
+    Ok(())
+}
+
+// Procedures one inside another, and then their returns.
+fn nested(alloc: Global, depth: u32) -> Result<Vec<u8>, AllocError> {
+    let mut text = Vec::from_slice(alloc, b"trace 1\n")?;
+    for _ in 0..depth {
+        text.extend_from_slice(b"spawn\n")?;
+    }
+    for _ in 0..depth {
+        text.extend_from_slice(b"return\n")?;
+    }
+    text.extend_from_slice(b"return\n")?;
+    Ok(text)
+}
+
+#[test]
+fn keeps_to_its_depth(rt: HostRuntime) -> Result<(), Fail> {
+    for (line, depth) in [("check -", 65536), ("check --depth 0 -", 0)] {
+        let text = nested(rt.alloc(), depth)?;
+        let ran = run(rt.alloc(), line, text.as_slice(), 4096)?;
+        assert_eq!(rt; ran.out.as_slice(), b"races 0\n".as_slice(), "{line}");
+        let text = nested(rt.alloc(), depth + 1)?;
+        let ran = run(rt.alloc(), line, text.as_slice(), 4096)?;
+        let want = format!(in rt.alloc(); "spbags: place {}: too deep\n", depth + 1)?;
+        assert_eq!(rt; ran.err.as_slice(), want.as_bytes(), "{line}");
+    }
+    Ok(())
+}
+
+#[test]
+fn tells_a_failed_reader(rt: HostRuntime) -> Result<(), Fail> {
+    let whole = trace_of(rt.alloc(), "spawn, write 5, return, write 5, return")?;
+    let table = [
+        ("trace 1\nx\n", "spbags: line 2: bad line\n"),
+        ("trace 1\nreturn\nsync\n", "spbags: place 2: after end\n"),
+        ("trace 1\nretu", "spbags: cannot read\n"),
+        ("trace 1\nreturn\n", "spbags: cannot read\n"),
+        ("", "spbags: cannot read\n"),
+    ];
+    for (trace, want) in table {
+        let err = read_from(rt.alloc(), trace.as_bytes(), ErrorKind::Other)?;
+        assert_eq!(rt; err.as_slice(), want.as_bytes(), "{trace}");
+    }
+    for cut in 0..whole.len() {
+        let (front, _) = whole.split_at(cut);
+        for kind in [ErrorKind::Interrupted, ErrorKind::Other] {
+            let err = read_from(rt.alloc(), front, kind)?;
+            assert_eq!(rt; err.as_slice(), b"spbags: cannot read\n".as_slice(), "at {cut}");
+        }
+    }
+    Ok(())
+}
+
+// What standard error gets where the reader fails after these bytes.
+fn read_from(alloc: Global, bytes: &[u8], kind: ErrorKind) -> Result<Vec<u8>, Fail> {
+    let mut out = Vec::new(alloc);
+    let mut err = Vec::new(alloc);
+    let words = words_of(alloc, "check -")?;
+    let Ok(asked) = read_words(alloc, words.as_slice()) else {
+        return Err(Fail::from("check -"));
+    };
+    {
+        let mut reader = Counted::new(Broken::new(bytes, kind));
+        let mut answers = Counted::new(&mut out);
+        let mut faults = Counted::new(&mut err);
+        if answer(alloc, &asked, &mut reader, &mut answers, &mut faults) != 2 {
+            return Err(Fail::from("a fault has status 2"));
+        }
+    }
+    if !out.is_empty() {
+        return Err(Fail::from("a fault has no answer"));
+    }
+    Ok(err)
+}
+
+#[test]
+fn tells_a_full_output(rt: HostRuntime) -> Result<(), Fail> {
+    let report = b"races 1\nrace 5 write 2 write 4\n";
+    let trace = trace_of(rt.alloc(), "spawn, write 5, return, write 5, return")?;
+    let words = words_of(rt.alloc(), "check -")?;
+    let Ok(asked) = read_words(rt.alloc(), words.as_slice()) else {
+        return Err(Fail::from("check -"));
+    };
+    for room in 0..=report.len() {
+        let mut out = Vec::new(rt.alloc());
+        let mut err = Vec::new(rt.alloc());
+        let status = {
+            let mut reader = Counted::new(Slow::new(trace.as_slice(), 4096));
+            let mut answers = Counted::new(Full::new(&mut out, room));
+            let mut faults = Counted::new(&mut err);
+            answer(rt.alloc(), &asked, &mut reader, &mut answers, &mut faults)
+        };
+        assert_eq!(rt; status, 2, "room for {room}");
+        let (front, _) = report.split_at(room);
+        assert_eq!(rt; out.as_slice(), front, "room for {room}");
+        assert_eq!(rt; err.as_slice(), b"spbags: cannot write\n".as_slice(), "room for {room}");
+    }
+
+    // A full standard error changes nothing else, and help may fail too.
+    let mut out = Vec::new(rt.alloc());
+    let mut err = Vec::new(rt.alloc());
+    let fault = WordsFault::Help(String::from_str(rt.alloc(), "a text")?);
+    let status = refuse(
+        &fault,
+        &mut Counted::new(Full::new(&mut out, 3)),
+        &mut Counted::new(Full::new(&mut err, 6)),
+    );
+    assert_eq!(rt; status, 2);
+    assert_eq!(rt; out.as_slice(), b"a t".as_slice());
+    assert_eq!(rt; err.as_slice(), b"spbags".as_slice());
+    Ok(())
+}
