@@ -12,8 +12,10 @@ took_into {a} {b} {s} {t} {u} {m} {n} {k} p q = record {
     front = a ++ q.bytes.front;
     back = q.bytes.back;
     split = append_assoc a q.bytes.front q.bytes.back ∙ ap (λ l. a ++ l) q.bytes.split;
-    appended = Appends-trans s t u a q.bytes.front p.bytes q.bytes.appended };
-  failures = subst (λ x. HasRisen x k) p.failures q.failures }
+    appended = Appends-trans s t u a q.bytes.front p.bytes q.bytes.appended;
+  };
+  failures = subst (λ x. HasRisen x k) p.failures q.failures;
+}
 
 -- a text, and then nothing
 pub took_then_none : {a : List ℕ} {s t u : Option (List ℕ)} {m n k : ℕ} → Took a s t m n → IsUntouched t u n k → Took a s u m k

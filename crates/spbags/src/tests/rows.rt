@@ -11,28 +11,49 @@ use trace::Counted;
 // Traces by their records, and the lines of their reports after the head.
 const ROWS: [(&str, &str); 17] = [
     ("return", ""),
-    ("spawn, write 5, return, write 5, return", "race 5 write 2 write 4\n"),
+    (
+        "spawn, write 5, return, write 5, return",
+        "race 5 write 2 write 4\n",
+    ),
     ("spawn, write 5, return, sync, write 5, return", ""),
     ("spawn, read 5, return, read 5, return", ""),
     (
         "spawn, read 9, return, spawn, read 9, return, write 9, return",
         "race 9 read 2 write 7\n",
     ),
-    ("read 9, spawn, read 9, return, write 9, return", "race 9 read 3 write 5\n"),
-    ("spawn, spawn, write 1, return, return, sync, read 1, return", ""),
+    (
+        "read 9, spawn, read 9, return, write 9, return",
+        "race 9 read 3 write 5\n",
+    ),
+    (
+        "spawn, spawn, write 1, return, return, sync, read 1, return",
+        "",
+    ),
     (
         "spawn, write 1, return, spawn, sync, write 1, return, return",
         "race 1 write 2 write 6\n",
     ),
-    ("spawn, spawn, write 1, return, return, read 1, return", "race 1 write 3 read 6\n"),
+    (
+        "spawn, spawn, write 1, return, return, read 1, return",
+        "race 1 write 3 read 6\n",
+    ),
     ("write 18446744073709551615, return", ""),
     (
         "spawn, write 3, return, spawn, write 3, return, write 3, return",
         "race 3 write 2 write 5\n",
     ),
-    ("spawn, read 4, return, read 4, write 4, return", "race 4 read 2 write 5\n"),
-    ("spawn, read 7, write 7, return, write 7, return", "race 7 write 3 write 5\n"),
-    ("write 7, spawn, read 7, return, write 7, return", "race 7 read 3 write 5\n"),
+    (
+        "spawn, read 4, return, read 4, write 4, return",
+        "race 4 read 2 write 5\n",
+    ),
+    (
+        "spawn, read 7, write 7, return, write 7, return",
+        "race 7 write 3 write 5\n",
+    ),
+    (
+        "write 7, spawn, read 7, return, write 7, return",
+        "race 7 read 3 write 5\n",
+    ),
     (
         "spawn, write 8, write 2, return, read 8, read 2, return",
         "race 2 write 3 read 6\nrace 8 write 2 read 5\n",
@@ -59,16 +80,32 @@ fn checks_rows(rt: HostRuntime) -> Result<(), Fail> {
 
 // Texts that are no traces, and the message.
 const FAULTS: [(&str, &str, &str); 26] = [
-    ("check -", "trace 1\nwrite 18446744073709551616\nreturn\n", "line 2: bad line"),
+    (
+        "check -",
+        "trace 1\nwrite 18446744073709551616\nreturn\n",
+        "line 2: bad line",
+    ),
     ("check -", "", "line 1: truncated"),
     ("check -", "trace 1\n", "place 1: unfinished"),
     ("check -", "trace 1\nreturn\nread 1\n", "place 2: after end"),
     ("check -", "trace 1\nread 01\nreturn\n", "line 2: bad line"),
     ("check -", "trace 1\nreturn", "line 2: truncated"),
-    ("check -", "trace 1\naaaaaaaaaaaaaaaaaaaaaaaaaaa", "line 2: bad line"),
-    ("check -", "trace 1\naaaaaaaaaaaaaaaaaaaaaaaaaa", "line 2: truncated"),
+    (
+        "check -",
+        "trace 1\naaaaaaaaaaaaaaaaaaaaaaaaaaa",
+        "line 2: bad line",
+    ),
+    (
+        "check -",
+        "trace 1\naaaaaaaaaaaaaaaaaaaaaaaaaa",
+        "line 2: truncated",
+    ),
     ("check -", "trace 2\nreturn\n", "line 1: header"),
-    ("check -", "trace 1\ncall\nreturn\nreturn\n", "line 2: bad line"),
+    (
+        "check -",
+        "trace 1\ncall\nreturn\nreturn\n",
+        "line 2: bad line",
+    ),
     ("check -", "trace 1\r\nreturn\n", "line 1: header"),
     ("check -", "trace 01\nreturn\n", "line 1: header"),
     ("check -", "trace 1", "line 1: truncated"),
@@ -92,7 +129,11 @@ const FAULTS: [(&str, &str, &str); 26] = [
         "trace 1\nspawn\nwrite 5\nreturn\nwrite 5\nreturn\n",
         "place 1: too deep",
     ),
-    ("check -", "trace 1\nspawn\nwrite 5\nreturn\nwrite 5\n", "place 5: unfinished"),
+    (
+        "check -",
+        "trace 1\nspawn\nwrite 5\nreturn\nwrite 5\n",
+        "place 5: unfinished",
+    ),
 ];
 
 #[test]
@@ -107,7 +148,10 @@ fn names_faults(rt: HostRuntime) -> Result<(), Fail> {
         }
     }
     let ran = run(rt.alloc(), "check -", b"trace 1\n\xff\n", 1)?;
-    assert_eq!(rt; ran.err.as_slice(), b"spbags: line 2: bad line\n".as_slice());
+    assert_eq!(rt;
+        ran.err.as_slice(),
+        b"spbags: line 2: bad line\n".as_slice()
+    );
     Ok(())
 }
 
@@ -131,7 +175,12 @@ fn tells_a_thousand_races(rt: HostRuntime) -> Result<(), Fail> {
     assert_eq!(rt; ran.status, 1);
     let mut want = String::from_str(rt.alloc(), "races 1000\n")?;
     for race in 0..1000u64 {
-        let line = format!(in rt.alloc(); "race {} write {} write {}\n", race * 2, race + 2, race + 1003)?;
+        let line = format!(in rt.alloc();
+            "race {} write {} write {}\n",
+            race * 2,
+            race + 2,
+            race + 1003
+        )?;
         want.push_str(line.as_str())?;
     }
     assert!(rt; ran.out.as_slice() == want.as_bytes());
@@ -141,7 +190,10 @@ fn tells_a_thousand_races(rt: HostRuntime) -> Result<(), Fail> {
     let ran = run(rt.alloc(), "check -", text, 4096)?;
     assert_eq!(rt; ran.status, 2);
     assert!(rt; ran.out.is_empty());
-    assert_eq!(rt; ran.err.as_slice(), b"spbags: place 2003: unfinished\n".as_slice());
+    assert_eq!(rt;
+        ran.err.as_slice(),
+        b"spbags: place 2003: unfinished\n".as_slice()
+    );
     Ok(())
 }
 
@@ -190,7 +242,11 @@ fn tells_a_failed_reader(rt: HostRuntime) -> Result<(), Fail> {
         let (front, _) = whole.split_at(cut);
         for kind in [ErrorKind::Interrupted, ErrorKind::Other] {
             let err = read_from(rt.alloc(), front, kind)?;
-            assert_eq!(rt; err.as_slice(), b"spbags: cannot read\n".as_slice(), "at {cut}");
+            assert_eq!(rt;
+                err.as_slice(),
+                b"spbags: cannot read\n".as_slice(),
+                "at {cut}"
+            );
         }
     }
     Ok(())
@@ -238,7 +294,11 @@ fn tells_a_full_output(rt: HostRuntime) -> Result<(), Fail> {
         assert_eq!(rt; status, 2, "room for {room}");
         let (front, _) = report.split_at(room);
         assert_eq!(rt; out.as_slice(), front, "room for {room}");
-        assert_eq!(rt; err.as_slice(), b"spbags: cannot write\n".as_slice(), "room for {room}");
+        assert_eq!(rt;
+            err.as_slice(),
+            b"spbags: cannot write\n".as_slice(),
+            "room for {room}"
+        );
     }
 
     // A full standard error changes nothing else, and help may fail too.

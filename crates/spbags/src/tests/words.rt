@@ -55,16 +55,33 @@ fn refuses_command_lines(rt: HostRuntime) -> Result<(), Fail> {
         let ran = run(rt.alloc(), line, b"trace 1\nreturn\n", 1)?;
         assert_eq!(rt; ran.status, 2, "{line}");
         assert!(rt; ran.out.is_empty(), "{line}");
-        assert_eq!(rt; ran.err.as_slice(), b"spbags: bad command line\n".as_slice(), "{line}");
+        assert_eq!(rt;
+            ran.err.as_slice(),
+            b"spbags: bad command line\n".as_slice(),
+            "{line}"
+        );
     }
     let none = [String::new(rt.alloc())];
-    assert!(rt; matches!(read_words(rt.alloc(), none.as_slice()), Err(WordsFault::Bad)));
+    assert!(rt;
+        matches!(
+            read_words(rt.alloc(), none.as_slice()),
+            Err(WordsFault::Bad)
+        )
+    );
     Ok(())
 }
 
 #[test]
 fn helps(rt: HostRuntime) -> Result<(), Fail> {
-    for line in ["--help", "-h", "check --help", "check -h", "check - --help", "--version", "-V"] {
+    for line in [
+        "--help",
+        "-h",
+        "check --help",
+        "check -h",
+        "check - --help",
+        "--version",
+        "-V",
+    ] {
         let ran = run(rt.alloc(), line, b"", 1)?;
         assert_eq!(rt; ran.status, 0, "{line}");
         assert!(rt; ran.err.is_empty(), "{line}");
@@ -77,8 +94,14 @@ fn helps(rt: HostRuntime) -> Result<(), Fail> {
 
 #[test]
 fn shows_its_faults(rt: HostRuntime) -> Result<(), Fail> {
-    assert_eq!(rt; WordsFault::Bad.to_string(rt.alloc())?.as_str(), "bad command line");
-    assert_eq!(rt; WordsFault::NoMemory.to_string(rt.alloc())?.as_str(), "out of memory");
+    assert_eq!(rt;
+        WordsFault::Bad.to_string(rt.alloc())?.as_str(),
+        "bad command line"
+    );
+    assert_eq!(rt;
+        WordsFault::NoMemory.to_string(rt.alloc())?.as_str(),
+        "out of memory"
+    );
     let help = WordsFault::Help(String::from_str(rt.alloc(), "a text")?);
     assert_eq!(rt; help.to_string(rt.alloc())?.as_str(), "a text");
     Ok(())

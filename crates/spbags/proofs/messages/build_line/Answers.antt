@@ -39,8 +39,8 @@ returns-clause-built c =
     let start = digits - length c.args.head.now in
     let buffer = c.write_digits-digits.new.buf in
     let rest : drop digits buffer ≡ decimal c.args.number ++ c.args.ending.now =
-        c.write_digits-digits.ensures.written
-        ∙ ap (λ l. decimal c.args.number ++ l) (drop-put_mid-end end 54 c.args.bytes.now c.copy_from_slice.new.self (omega arith) (omega (arith, told)) ∙ c.copy_from_slice.ensures.after) in
+    c.write_digits-digits.ensures.written
+    ∙ ap (λ l. decimal c.args.number ++ l) (drop-put_mid-end end 54 c.args.bytes.now c.copy_from_slice.new.self (omega arith) (omega (arith, told)) ∙ c.copy_from_slice.ensures.after) in
     drop-put_mid-start start digits buffer c.copy_from_slice-2.new.self (omega arith) (omega (arith, c.write_digits-digits.auto.buf, whole, told))
     ∙ ap (λ l. l ++ drop digits buffer) c.copy_from_slice-2.ensures.after
     ∙ ap (λ l. c.args.head.now ++ l) rest
