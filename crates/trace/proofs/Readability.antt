@@ -136,7 +136,7 @@ same_lines (r ∷ u) (s ∷ w) x y hu hw e =
 
 -- two readings of the same bytes: one goes on from the other
 pub same_front : (u w : List Record) (x y : List ℕ) → AllFit u → AllFit w → text u ++ x ≡ text w ++ y →
-   ((v : List Record) × (u ≡ w ++ v) × AllFit v × (y ≡ flat_map line v ++ x)) ⊎ ((v : List Record) × (w ≡ u ++ v) × AllFit v × (x ≡ flat_map line v ++ y))
+    ((v : List Record) × (u ≡ w ++ v) × AllFit v × (y ≡ flat_map line v ++ x)) ⊎ ((v : List Record) × (w ≡ u ++ v) × AllFit v × (x ≡ flat_map line v ++ y))
 same_front u w x y hu hw e =
     same_lines u w x y hu hw (append_cancel_left (ended header) (flat_map line u ++ x) (flat_map line w ++ y) (sym (append_assoc (ended header) (flat_map line u) x) ∙ e ∙ append_assoc (ended header) (flat_map line w) y))
 
@@ -300,7 +300,7 @@ well_fine records depths u r (s ∷ v) h nested k (too_deep running opening full
     let j : ℕ = suc (length (u ++ r ∷ [])) in
     let below : depth (u ++ r ∷ s ∷ v) j ≤ depths = h.not_too_deep j (omega arith, omega (arith, length-append u (r ∷ []), length-append u (r ∷ s ∷ v))) in
     let deep : depth (u ++ r ∷ s ∷ v) j ≡ (sum_by opens u + opens r) - (sum_by closes u + closes r) =
-      ap (λ z. depth z j) (sym (append_assoc u (r ∷ []) (s ∷ v))) ∙ depth-front (u ++ r ∷ []) (s ∷ v) j (omega arith) ∙ depth-pushed u r in
+    ap (λ z. depth z j) (sym (append_assoc u (r ∷ []) (s ∷ v))) ∙ depth-front (u ++ r ∷ []) (s ∷ v) j (omega arith) ∙ depth-pushed u r in
     absurd (omega (arith, depth-next u, balanced depths nested running, closes_none r opening))
 
 nested_from : (d : ℕ) (v u : List Record) → AreNested d u → ((u' : List Record) (r : Record) (v' : List Record) → u ++ v ≡ u' ++ r ∷ v' → AreNested d u' → (k : NestKind) → IsMisplaced d u' r k → ⊥) → AreNested d (u ++ v)
@@ -352,7 +352,7 @@ same_nest_fault n m k j e f = ap (λ z. nest_fault z k) e ∙ ap (nest_fault m) 
 
 -- a line that is no record isn't past the limit
 bad_not_past : (records : ℕ) (w u : List Record) (rest : List ℕ) {body : List ℕ} (r : Record) (more : List ℕ) → AllFit w → length w ≤ records → IsJudged rest body → IsNoRecord body → AllFit u → length u ≡ records → Fits r
-  → text w ++ rest ≡ text u ++ (line r ++ more) → ⊥
+    → text w ++ rest ≡ text u ++ (line r ++ more) → ⊥
 bad_not_past records w u rest r more hw le judged no_spelling hu full fits e = go (same_front w u rest (line r ++ more) hw hu e)
   where
     go : GoesOn w u rest (line r ++ more) ⊎ GoesOn u w (line r ++ more) rest → ⊥
@@ -381,7 +381,7 @@ one_kind d u r k j (too_deep running opening full) (after_end e) = absurd (runni
 one_kind d u r k j (too_deep running opening full) (too_deep running' opening' full') = refl
 
 same_place : (d : ℕ) (u w : List Record) (r s : Record) (k j : NestKind) (more more' : List ℕ) → u ≡ w ++ [] → Fits r → Fits s → line s ++ more' ≡ line r ++ more → IsMisplaced d u r k → IsMisplaced d w s j
-  → nest_fault (length u + 1) k ≡ nest_fault (length w + 1) j
+    → nest_fault (length u + 1) k ≡ nest_fault (length w + 1) j
 same_place d u w r s k j more more' on fr fs is bad bad' =
     let same = same_record s r more' more fs fr (sym (one_line s more') ∙ is ∙ one_line r more) in
     let whole : u ≡ w = on ∙ append-nil w in
