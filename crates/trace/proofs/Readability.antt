@@ -431,3 +431,25 @@ one_fault records depths bytes f g (unfinished w hw le e nested running) (before
 one_fault records depths bytes f g (unfinished w hw le e nested running) (truncated b t clear) = let P : List ℕ → Type 0 = λ x. IsTruncated records x b in absurd (no_truncated records w b hw (subst P e t))
 one_fault records depths bytes f g (unfinished w hw le e nested running) (unfinished u hu le' e' nested' running') =
     ap Nest (same_nest_fault (length w + 1) (length u + 1) Unfinished Unfinished (ap (λ z. length z + 1) (text_injective w u hw hu (sym e ∙ e'))) refl)
+
+judged_more : {bytes body : List ℕ} (more : List ℕ) → IsJudged bytes body → IsJudged (bytes ++ more) body
+judged_more {body = body} more (at_end _ rest unended) = let P : List ℕ → Type 0 = λ x. IsJudged x body in subst P (sym (append_assoc (ended body) rest more)) (at_end body (rest ++ more) unended)
+judged_more {body = body} more (at_length _ rest unended long) = let P : List ℕ → Type 0 = λ x. IsJudged x body in subst P (sym (append_assoc body rest more)) (at_length body (rest ++ more) unended long)
+
+-- a bad line of bytes is one of them with more behind
+bad_line_more : (records : ℕ) (bytes more : List ℕ) (f : TextFault) → IsBadLine records bytes f → IsBadLine records (bytes ++ more) f
+bad_line_more records bytes more f (bad_header body judged other) = bad_header body (judged_more more judged) other
+bad_line_more records bytes more f (bad_line w rest body fit le e judged no_spelling) = bad_line w (rest ++ more) body fit le (ap (λ x. x ++ more) e ∙ append_assoc (text w) rest more) (judged_more more judged) no_spelling
+bad_line_more records bytes more f (too_many w r rest fit full fits e) = too_many w r (rest ++ more) fit full fits (ap (λ x. x ++ more) e ∙ append_assoc (text w) (line r ++ rest) more ∙ ap (λ x. text w ++ x) (append_assoc (line r) rest more))
+
+bad_place_more : (depths : ℕ) (bytes more : List ℕ) (n : NestFault) → IsBadPlace depths bytes n → IsBadPlace depths (bytes ++ more) n
+bad_place_more depths bytes more n (bad_place u r rest k fit fits e nested bad) = bad_place u r (rest ++ more) k fit fits (ap (λ x. x ++ more) e ∙ append_assoc (text u) (line r ++ rest) more ∙ ap (λ x. text u ++ x) (append_assoc (line r) rest more)) nested bad
+
+-- bytes in front of the text of a well nested trace have no first fault
+pub no_fault_in_front : (records depths : ℕ) (w : List Record) (bytes more : List ℕ) (g : Fault) → AllFit w → IsWellNested w records depths → text w ≡ bytes ++ more → IsFirstFault records depths bytes g → ⊥
+no_fault_in_front records depths w bytes more g fit h e (bad_line f bad first) =
+    let P : List ℕ → Type 0 = λ x. IsBadLine records x f in
+    no_bad_line records w [] f fit h.within open_nil (subst P (sym e ∙ sym (append-nil (text w))) (bad_line_more records bytes more f bad))
+no_fault_in_front records depths w bytes more g fit h e (bad_place n bad first) =
+    let P : List ℕ → Type 0 = λ x. IsBadPlace depths x n in
+    no_bad_place depths w [] n fit open_nil (nested_well records depths w h) (subst P (sym e ∙ sym (append-nil (text w))) (bad_place_more depths bytes more n bad))
