@@ -1,5 +1,5 @@
 -- What stands in front of bytes.
-use Rattle.std.proofs.Common.{◌≡◌, ◌≢◌, ℕ, zero, suc, ◌+◌, ◌<◌, ◌≤◌, ◌^◌, Bool, true, false, List, [], ◌∷◌, ◌++◌, length, get_or, take, drop, decimal, arith, refl, sym, ap, ◌∙◌, subst, append_assoc, append-nil, take-append-drop, drop-cons, add-one}
+use Rattle.std.proofs.Common.{◌≡◌, ℕ, suc, ◌<◌, ◌^◌, Bool, true, false, List, [], ◌∷◌, ◌++◌, length, get_or, take, drop, decimal, arith, refl, sym, ap, ◌∙◌, subst, take-append-drop, drop-cons}
 use Rattle.std.specs.Prelude.{codes, Option, Some, None, IfSome, IfNone, MatchOption, IsTrue}
 use Rattle.std.proofs.lemmas.List.{length-append, length-take, get_or-take}
 use Rattle.trace.specs.declared.records.Kind.{Kind}
@@ -7,8 +7,8 @@ use Rattle.trace.specs.declared.records.Access.{Access}
 use Rattle.trace.specs.Accesses.{RaceAt, IsRaceShape}
 use Rattle.trace.specs.Text.{newline}
 use Rattle.collect.specs.Reports.{IsEntry}
-use Rattle.collect.specs.ReportText.{space, word, told, head, race_line}
-use Rattle.collect.proofs.Unique.{HasNo, same_parts, HasNo-decimal, same_number, same_kind, same_told, told-before, race_line-parts, head-parts, after_race, after_location, after_first}
+use Rattle.collect.specs.ReportText.{space, word, told, race_line}
+use Rattle.collect.proofs.Unique.{HasNo, same_parts, HasNo-decimal, same_number, same_kind, same_told, told-before, race_line-parts, after_race, after_location, after_first}
 
 get_or-middle : (xs : List ℕ) (s : ℕ) (more : List ℕ) → get_or (xs ++ s ∷ more) (length xs) 0 ≡ s
 get_or-middle [] s more = refl
@@ -30,8 +30,8 @@ pub front_is_number : (s : ℕ) (bs : List ℕ) (i n : ℕ) (more : List ℕ) �
     → bs ≡ decimal n ++ s ∷ more → take i bs ≡ decimal n
 front_is_number s bs i n more low small h here before e =
     let none : HasNo s (take i bs) = HasNo-from_places s (take i bs) (λ k lt at.
-        let below : k < i = omega (arith, length-take i bs) in
-        before k below (sym (get_or-take i bs k 0 below) ∙ at)) in
+    let below : k < i = omega (arith, length-take i bs) in
+    before k below (sym (get_or-take i bs k 0 below) ∙ at)) in
     (same_parts s (take i bs) (decimal n) (drop (suc i) bs) more none (HasNo-decimal s n low small) (sym (cut_at s bs i h here) ∙ e)).0
 
 -- ---- no access

@@ -1,5 +1,5 @@
 -- A report's list with one race more.
-use Rattle.std.proofs.Common.{◌≡◌, ◌≢◌, ℕ, zero, suc, Bool, true, false, eqb, ltb, ◌+◌, ◌-◌, ◌<◌, ◌≤◌, ◌^◌, List, [], ◌∷◌, ◌++◌, Option, Some, None, length, arith, refl, sym, ap, ◌∙◌, subst, append_assoc, append-nil}
+use Rattle.std.proofs.Common.{◌≡◌, ℕ, suc, Bool, true, false, eqb, ltb, ◌+◌, ◌-◌, ◌<◌, ◌≤◌, ◌^◌, List, [], ◌∷◌, ◌++◌, Option, Some, None, length, arith, refl, sym, ap, ◌∙◌, subst, append_assoc, append-nil}
 use Rattle.std.specs.List.{AllByRecursion, slice_get}
 use Rattle.std.specs.Option.{option_map_or}
 use Rattle.std.proofs.lemmas.Bool.{eqb-true, ltb-true, ltb-false}
@@ -10,7 +10,7 @@ use Rattle.collect.specs.Reports.{IsEntry, IsReportList, may_follow}
 use Rattle.collect.specs.ReportText.{head, race_line, race_lines, rtext}
 use Rattle.collect.specs.ReportFaults.{IsFirstBadLine, no_head, no_race, no_end, OneList}
 use Rattle.collect.proofs.Ascending.{Above, Ascends, Ascends-from_increasing, increasing_from_ascends}
-use Rattle.collect.proofs.Unique.{same_line, same_head, GoesOn, goes_on}
+use Rattle.collect.proofs.Unique.{same_line, same_head, goes_on}
 
 -- each location of the list is below l
 abbrev pub Below : ℕ → List RaceAt → Type 0
@@ -66,7 +66,7 @@ last_none (r ∷ s ∷ rs) e = let empty : s ∷ rs ≡ [] = last_none (s ∷ rs
 pub IsReportList-push : (rs : List RaceAt) (r : RaceAt) → IsReportList rs → IsEntry r → Below r.location rs → IsReportList (rs ++ r ∷ [])
 IsReportList-push rs r h p b = record {
   ascending = increasing_from_ascends (rs ++ r ∷ []) (Ascends-push rs r (Ascends-from_increasing rs h.ascending) b);
-  entries = All-push IsEntry rs r h.entries p
+  entries = All-push IsEntry rs r h.entries p;
 }
 
 -- whether the last race, if there is one, is below l
@@ -139,7 +139,7 @@ Ascends-front (r ∷ rs) more a = (All-front (λ s. r.location < s.location) rs 
 IsReportList-front : (rs more : List RaceAt) → IsReportList (rs ++ more) → IsReportList rs
 IsReportList-front rs more h = record {
   ascending = increasing_from_ascends rs (Ascends-front rs more (Ascends-from_increasing (rs ++ more) h.ascending));
-  entries = All-front IsEntry rs more h.entries
+  entries = All-front IsEntry rs more h.entries;
 }
 
 -- the next line is there

@@ -1,19 +1,18 @@
 -- One text of a report belongs to one list.
-use Rattle.std.proofs.Common.{◌≡◌, ◌≢◌, ℕ, zero, suc, ◌+◌, ◌<◌, ◌≤◌, ◌^◌, List, [], ◌∷◌, ◌++◌, length, get_or, take, drop, decimal, arith, refl, sym, ap, ◌∙◌, subst, append_assoc, append-nil}
+use Rattle.std.proofs.Common.{◌≡◌, ◌≢◌, ℕ, ◌<◌, ◌≤◌, ◌^◌, List, [], ◌∷◌, ◌++◌, length, decimal, arith, refl, sym, ap, ◌∙◌, append_assoc}
 use Rattle.std.specs.Prelude.{codes}
 use Rattle.std.specs.Int.{IsInRange}
 use Rattle.std.specs.List.{AllByRecursion}
-use Rattle.std.specs.Char.{digit_value}
 use Rattle.std.specs.Str.Parse.{AllDigits, digits_value}
 use Rattle.std.proofs.lemmas.Fmt.{digits_decimal, digits_value-decimal}
 use Rattle.std.proofs.lemmas.Str.Parse.{IsNumeralModel, numerals_by_value, tells_digits, digit_from_value}
 use Rattle.trace.specs.declared.records.Kind.{Kind}
 use Rattle.trace.specs.declared.records.Kind.TheVariants.{Read, Write}
 use Rattle.trace.specs.declared.records.Access.{Access}
-use Rattle.trace.specs.Accesses.{RaceAt, IsRaceShape}
+use Rattle.trace.specs.Accesses.{RaceAt}
 use Rattle.trace.specs.Text.{newline}
 use Rattle.collect.specs.Reports.{IsEntry}
-use Rattle.collect.specs.ReportText.{space, word, told, head, race_line, race_lines, rtext}
+use Rattle.collect.specs.ReportText.{space, word, told, head, race_line, race_lines}
 
 -- ---- what stands in front of the first stop
 
@@ -135,7 +134,7 @@ goes_on [] ss x y h k le e = record { more = ss; list = refl; text = e }
 goes_on (r ∷ rs) [] x y h k le e = absurd (omega arith)
 goes_on (r ∷ rs) (s ∷ ss) x y h k le e =
     let both = same_line r s (race_lines rs ++ x) (race_lines ss ++ y) h.0 k.0
-      (sym (append_assoc (race_line r) (race_lines rs) x) ∙ e ∙ append_assoc (race_line s) (race_lines ss) y) in
+    (sym (append_assoc (race_line r) (race_lines rs) x) ∙ e ∙ append_assoc (race_line s) (race_lines ss) y) in
     let rest = goes_on rs ss x y h.1 k.1 (omega arith) both.1 in
     let one : r ≡ s = both.0 in
     let list : ss ≡ rs ++ rest.more = rest.list in

@@ -4,5 +4,4 @@ ghost use Rattle.collect.specs.ReportFaults.{OneList};
 /// One text belongs to one list of races.
 pub fn one_list()
     ensures { OneList }
-{
-}
+{}

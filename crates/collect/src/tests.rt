@@ -106,7 +106,10 @@ fn rows(rt: HostRuntime) {
             b"races 1\nrace 18446744073709551615 read 2 write 4\n",
             Ok(1),
         ),
-        (b"races 1\nrace 18446744073709551616 read 2 write 4\n", bad(2)),
+        (
+            b"races 1\nrace 18446744073709551616 read 2 write 4\n",
+            bad(2),
+        ),
         (b"races 18446744073709551615\n", bad(2)),
         (
             b"races 2\nrace 4 write 2 read 4\nrace 5 read 2 write 4\n",

@@ -1,4 +1,4 @@
-use Rattle.std.proofs.Common.{◌≡◌, true, Some, ap, ◌∙◌, ltb}
+use Rattle.std.proofs.Common.{true, Some, ap, ◌∙◌, ltb}
 use Rattle.std.specs.Option.{option_map_or}
 use Rattle.collect.proofs.readers.may_follow.Goals as goal
 

@@ -1,7 +1,6 @@
-use Rattle.std.proofs.Common.{◌≡◌, ◌<◌, ◌+◌, ◌++◌, length, arith, sym, ap, ◌∙◌, append-nil}
-use Rattle.trace.specs.Accesses.{RaceAt}
+use Rattle.std.proofs.Common.{◌≡◌, ◌+◌, ◌++◌, length, arith, sym, ap, ◌∙◌, append-nil}
 use Rattle.collect.specs.ReportText.{rtext}
-use Rattle.collect.specs.ReportFaults.{IsFirstBadLine, no_head}
+use Rattle.collect.specs.ReportFaults.{no_head}
 use Rattle.collect.proofs.Listed.{room_for_line, no_report, bad_race, bad_end, whole_text, few_races, one_list, is_empty_list, not_empty_list}
 use Rattle.collect.proofs.readers.read_report.Goals as goal
 
@@ -28,9 +27,9 @@ pub returns-in_default-next_race-clause-exact : goal.returns-in_default-next_rac
 returns-in_default-next_race-clause-exact c r h e =
     let i = c.loop-races.invariant in
     absurd (no_report c.args.bytes.now c.line_after.result r (omega arith)
-        (bad_race c.args.bytes.now c.in-Some.count c.loop-races.races.items c.as_slice.result.now c.loop-races.rest.now c.line_after.result
-        c.in-Some.ensures.fits (omega arith) i.report i.text c.as_slice.ensures.value c.in_default-next_race.ensures.none
-        (c.line_after.ensures ∙ ap (λ l. length l + 2) (c.as_slice-in_default-next_race.ensures.value ∙ sym c.as_slice.ensures.value))) h e)
+    (bad_race c.args.bytes.now c.in-Some.count c.loop-races.races.items c.as_slice.result.now c.loop-races.rest.now c.line_after.result
+    c.in-Some.ensures.fits (omega arith) i.report i.text c.as_slice.ensures.value c.in_default-next_race.ensures.none
+    (c.line_after.ensures ∙ ap (λ l. length l + 2) (c.as_slice-in_default-next_race.ensures.value ∙ sym c.as_slice.ensures.value))) h e)
 
 pub line_after-requires-else-is_empty : goal.line_after-requires-else-is_empty
 line_after-requires-else-is_empty c =
@@ -57,5 +56,5 @@ pub returns-else-is_empty-clause-exact : goal.returns-else-is_empty-clause-exact
 returns-else-is_empty-clause-exact c r h e =
     let i = c.loop-races.invariant in
     absurd (no_report c.args.bytes.now c.line_after-else-is_empty.result r (omega arith)
-        (bad_end c.args.bytes.now c.in-Some.count c.loop-races.races.items c.as_slice-else-is_empty.result.now c.loop-races.rest.now c.line_after-else-is_empty.result
-        c.in-Some.ensures.fits (omega arith) i.report i.text c.as_slice-else-is_empty.ensures.value (not_empty_list c.loop-races.rest.now (sym c.is_empty.ensures ∙ c.if-is_empty.false)) c.line_after-else-is_empty.ensures) h e)
+    (bad_end c.args.bytes.now c.in-Some.count c.loop-races.races.items c.as_slice-else-is_empty.result.now c.loop-races.rest.now c.line_after-else-is_empty.result
+    c.in-Some.ensures.fits (omega arith) i.report i.text c.as_slice-else-is_empty.ensures.value (not_empty_list c.loop-races.rest.now (sym c.is_empty.ensures ∙ c.if-is_empty.false)) c.line_after-else-is_empty.ensures) h e)
