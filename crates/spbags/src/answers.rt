@@ -1,13 +1,20 @@
 //! The answers of the program: what goes to standard output and to standard error, and the exit status.
-ghost use Rattle.std.specs.Prelude.{◌≡◌, ◌<◌, ◌≤◌, ◌↔◌, ◌⊎◌, [], List, IfSome, IfNone, MatchResult};
+ghost use Rattle.std.specs.Prelude.{◌≡◌, ◌<◌, ◌≤◌, ◌^◌, ◌↔◌, ◌⊎◌, [], List, Some, IfSome, IfNone, MatchResult};
 ghost use Rattle.trace.specs.Accesses.{RaceAt};
+ghost use Rattle.trace.specs.Devices.{HasRisen};
+ghost use Rattle.trace.specs.Text.{text, AllFit};
+ghost use Rattle.trace.specs.Traces.{IsWellNested};
 ghost use Rattle.trace.specs.declared.faults.Fault.{Fault};
+ghost use Rattle.trace.specs.declared.faults.Fault.TheVariants.{NoMemory};
+ghost use Rattle.trace.specs.declared.records.Record.{Record};
 ghost use Rattle.collect.specs.ReportText.{rtext};
+ghost use Rattle.detect.specs.Runs.{Reports, FailsBy};
 ghost use Rattle.spbags.specs.Answers.{IsUntouched, Puts, Took, TookFront, WasGiven};
+ghost use Rattle.spbags.specs.Asked.{depth_of};
 ghost use Rattle.spbags.specs.Messages.{message, cannot_write, help_of, refusal};
 
 use crate::messages::{put, say, say_fault};
-use crate::words::{Asked, Check, WordsFault};
+use crate::words::{Asked, WordsFault};
 use collect::{Report, write_report};
 use detect::detect_plain;
 use std::alloc::Global;
@@ -27,44 +34,30 @@ pub fn answer<R: Source, W: Sink, E: Sink>(
 ) -> u8
     ensures status { result ≤ 2 }
 
-    // Status 0 or 1: the report was written, and it is 0 exactly where the report is empty.
+    // Status 0 or 1: all bytes of the trace were read, and the report of its races was written.
     ensures told { result < 2 → (races : List RaceAt)
+        × Reports (2 ^ 48) (depth_of asked.now) (R.rest trace.old) (R.rest trace.new) races
         × Took (rtext races) (W.held out.old) (W.held out.new) (W.failures out.old) (W.failures out.new)
         × ((result ≡ 0) ↔ (races ≡ []))
         × IsUntouched (E.held err.old) (E.held err.new) (E.failures err.old) (E.failures err.new) }
 
-    // Status 2: a fault, and nothing of an answer was written; or writing the report failed.
+    // Status 2: the first fault, and nothing of an answer; or writing the report failed.
     ensures failed { result ≡ 2 → ((fault : Fault)
+        × FailsBy (2 ^ 48) (depth_of asked.now) (R.rest trace.old) (R.rest trace.new) (R.failures trace.old) (R.failures trace.new) fault
         × IsUntouched (W.held out.old) (W.held out.new) (W.failures out.old) (W.failures out.new)
         × WasGiven (message fault) (E.held err.old) (E.held err.new) (E.failures err.old) (E.failures err.new))
         ⊎ ((races : List RaceAt)
+        × Reports (2 ^ 48) (depth_of asked.now) (R.rest trace.old) (R.rest trace.new) races
         × TookFront (rtext races) (W.held out.old) (W.held out.new) (W.failures out.old) (W.failures out.new)
         × WasGiven cannot_write (E.held err.old) (E.held err.new) (E.failures err.old) (E.failures err.new)) }
-{
-    match asked {
-        Asked::Check(check) => answer_check(alloc, check, trace, out, err),
-    }
-}
 
-fn answer_check<R: Source, W: Sink, E: Sink>(
-    alloc: Global,
-    check: &Check,
-    trace: &mut R,
-    out: &mut W,
-    err: &mut E,
-) -> u8
-    ensures status { result ≤ 2 }
-    ensures told { result < 2 → (races : List RaceAt)
-        × Took (rtext races) (W.held out.old) (W.held out.new) (W.failures out.old) (W.failures out.new)
-        × ((result ≡ 0) ↔ (races ≡ []))
-        × IsUntouched (E.held err.old) (E.held err.new) (E.failures err.old) (E.failures err.new) }
-    ensures failed { result ≡ 2 → ((fault : Fault)
-        × IsUntouched (W.held out.old) (W.held out.new) (W.failures out.old) (W.failures out.new)
-        × WasGiven (message fault) (E.held err.old) (E.held err.new) (E.failures err.old) (E.failures err.new))
-        ⊎ ((races : List RaceAt)
-        × TookFront (rtext races) (W.held out.old) (W.held out.new) (W.failures out.old) (W.failures out.new)
-        × WasGiven cannot_write (E.held err.old) (E.held err.new) (E.failures err.old) (E.failures err.new)) }
+    // A good trace from a reader that doesn't fail has status 2 only for want of memory, or where writing failed.
+    ensures honest { (w : List Record) → R.rest trace.old ≡ Some (text w) → AllFit w → IsWellNested w (2 ^ 48) (depth_of asked.now)
+        → (HasRisen (R.failures trace.old) (R.failures trace.new) → ⊥) → result ≡ 2
+        → WasGiven (message NoMemory) (E.held err.old) (E.held err.new) (E.failures err.old) (E.failures err.new)
+        ⊎ HasRisen (W.failures out.old) (W.failures out.new) }
 {
+    let Asked::Check(check) = asked;
     let limits = Limits {
         records: MOST_RECORDS,
         depth: check.depth,

@@ -1,12 +1,11 @@
 use Rattle.std.proofs.Common.{◌≡◌, ◌-◌, ◌++◌, length, drop, decimal, arith, sym, ap, ◌∙◌, append_assoc}
-use borrow.Rule.Slice.PartMut.{put_mid}
-use Rattle.trace.proofs.Lines.{length-decimal-location, drop-put_mid-start, length-mid_of}
-use Rattle.spbags.proofs.Lines.{length-put_mid, drop-put_mid-end}
+use borrow.Rule.Slice.PartMut.{mid_len}
+use Rattle.spbags.proofs.Lines.{length-decimal-20, length-put_mid, drop-put_mid-start, drop-put_mid-end}
 use Rattle.spbags.proofs.messages.build_line.Goals as goal
 
 pub write_digits-digits-requires : goal.write_digits-digits-requires
 write_digits-digits-requires c =
-    let short = length-decimal-location c.args.number c.ranges.number.fits in
+    let short = length-decimal-20 c.args.number c.ranges.number.fits in
     let end = 54 - length c.args.ending.now in
     let told = c.told-bytes in
     let span : length c.copy_from_slice.new.self ≡ 54 - end = ap length c.copy_from_slice.ensures.after ∙ omega arith in
@@ -15,11 +14,11 @@ write_digits-digits-requires c =
 
 pub overflow_sub-start : goal.overflow_sub-start
 overflow_sub-start c =
-    let short = length-decimal-location c.args.number c.ranges.number.fits in omega arith
+    let short = length-decimal-20 c.args.number c.ranges.number.fits in omega arith
 
 pub copy_from_slice-requires-2 : goal.copy_from_slice-requires-2
 copy_from_slice-requires-2 c =
-    let short = length-decimal-location c.args.number c.ranges.number.fits in
+    let short = length-decimal-20 c.args.number c.ranges.number.fits in
     let end = 54 - length c.args.ending.now in
     let told = c.told-bytes in
     let span : length c.copy_from_slice.new.self ≡ 54 - end = ap length c.copy_from_slice.ensures.after ∙ omega arith in
@@ -27,11 +26,11 @@ copy_from_slice-requires-2 c =
     let digits = c.write_digits-digits.result in
     let start = digits - length c.args.head.now in
     let same : digits - start ≡ length c.args.head.now = omega arith in
-    length-mid_of start digits c.write_digits-digits.new.buf (omega arith) (omega (arith, c.write_digits-digits.auto.buf, whole, told)) ∙ same
+    mid_len start digits c.write_digits-digits.new.buf (omega (arith, c.write_digits-digits.auto.buf, whole, told)) ∙ same
 
 pub returns-clause-built : goal.returns-clause-built
 returns-clause-built c =
-    let short = length-decimal-location c.args.number c.ranges.number.fits in
+    let short = length-decimal-20 c.args.number c.ranges.number.fits in
     let end = 54 - length c.args.ending.now in
     let told = c.told-bytes in
     let span : length c.copy_from_slice.new.self ≡ 54 - end = ap length c.copy_from_slice.ensures.after ∙ omega arith in
