@@ -1,5 +1,5 @@
 -- Runs over the records of a trace: one more record, the report at the end, and traces that have no fault.
-use Rattle.std.proofs.Common.{◌≡◌, ◌≢◌, ℕ, suc, ◌+◌, ◌<◌, ◌≤◌, false, true, List, [], ◌∷◌, ◌++◌, length, take, Option, Some, None, ◌⊎◌, inl, inr, refl, sym, ◌∙◌, ap, subst, append_assoc, arith, length-append, Result, Ok, Err, IfOk, OnOk}
+use Rattle.std.proofs.Common.{◌≡◌, ◌≢◌, ◌↔◌, ℕ, suc, ◌+◌, ◌<◌, ◌≤◌, false, true, List, [], ◌∷◌, ◌++◌, length, take, Option, Some, None, ◌⊎◌, inl, inr, refl, sym, ◌∙◌, ap, subst, append_assoc, arith, length-append, Result, Ok, Err, IfOk, OnOk}
 use Rattle.std.specs.Option.{option_to_list}
 use Rattle.std.proofs.lemmas.List.{append-nil}
 use Rattle.std.specs.Io.KnownBytes.{Consumes, IsAtEnd}
@@ -23,10 +23,11 @@ use Rattle.bags.specs.Procedures.{Procedures}
 use Rattle.shadow.specs.Memory.{Memory, HaveSeen}
 use Rattle.shadow.specs.Found.{start, found, put_in, by_location}
 use Rattle.shadow.proofs.FoundLaws.{Apart, found_from-apart}
-use Rattle.shadow.proofs.Headlines.{verdict_is_report}
+use Rattle.shadow.proofs.Headlines.{verdict_is_report, racy}
 use Rattle.collect.specs.Collected.{Kept, Holds, IsCollected, races_of, fails, best}
 use Rattle.collect.proofs.Best.{races_of-append, fails-push_race}
 use Rattle.collect.proofs.Sorted.{AreApart, NoneOn, collected_is_sorted}
+use Rattle.detect.specs.Dag.{HasRace, HasLocation}
 use Rattle.detect.specs.Runs.{HasDetected, Reports, FailsBy}
 
 -- the records of a list that is longer by one
@@ -70,7 +71,7 @@ reported u bags m c rs h collected =
 -- the end of a run
 pub reports : (records depths : ℕ) (before after : Option (List ℕ)) (w : List Record) (came : List ℕ) (rs : List RaceAt) → Consumes before after came → IsWhole records depths w came after → rs ≡ by_location (found (placed w)) → Reports records depths before after rs
 reports records depths before after w came rs consumed whole is =
-    record { came = came; consumed = consumed; trace = w; whole = whole; is_verdict = is; is_report = subst (IsReport w) (sym is) (verdict_is_report w whole.well_nested) }
+    record { came = came; consumed = consumed; trace = w; whole = whole; is_verdict = is; is_report = subst (IsReport w) (sym is) (verdict_is_report w whole.well_nested); racy = λ l. let P : List RaceAt → Type 0 = λ xs. HasRace w l ↔ HasLocation xs l in subst P (sym is) (racy w whole.well_nested l) }
 
 pub reported_if : {E : Type 0} (u : List Placed) (bags : Procedures) (m : Memory) (c : Kept) (r : Result (List RaceAt) E) → HasDetected u bags m c → IfOk r (λ rs. (g : List Back) → Holds g c → IsCollected g rs) → IfOk r (λ rs. rs ≡ by_location (found u))
 reported_if u bags m c (Ok rs) h collected = reported u bags m c rs h collected
