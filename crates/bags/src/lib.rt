@@ -46,6 +46,7 @@ impl Model for Bags {
 }
 
 impl Bags {
+    ghost use Rattle.bags.specs.Paths.{TellsPaths};
     ghost use Rattle.bags.specs.Procedures.{at_start, event, in_p, current};
     ghost use Rattle.trace.specs.declared.records.Record.TheVariants.{Spawn, Sync, Return};
 
@@ -120,7 +121,10 @@ impl Bags {
     /// Whether a procedure stands in a P-bag: whether it is parallel to what executes next.
     pub fn in_p(&self, procedure: u64) -> bool
         requires { procedure < self.now.count }
-        ensures { result ≡ in_p self.now.active procedure }
+        ensures bags { result ≡ in_p self.now.active procedure }
+        // After the records before a place that neither syncs nor returns: a completed procedure stands in
+        // a P-bag exactly where no path leads from its return to that place.
+        ensures paths { TellsPaths self.now procedure result }
     {
         let executing = self.nested[self.nested.len() - 1];
         if executing.own <= procedure {

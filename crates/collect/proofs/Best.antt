@@ -1,5 +1,5 @@
 -- What a collector holds after one more race.
-use Rattle.std.proofs.Common.{◌≡◌, ℕ, Bool, true, false, cond, eqb, leb, ltb, List, [], ◌∷◌, ◌++◌, Option, Some, None, fold, refl, arith, sym, ap, ◌∙◌, append-nil}
+use Rattle.std.proofs.Common.{◌≡◌, ℕ, Bool, true, false, cond, eqb, leb, ltb, List, [], ◌∷◌, ◌++◌, Option, Some, None, refl, arith, sym, ap, ◌∙◌, append-nil}
 use Rattle.std.specs.Option.{option_map_or}
 use Rattle.std.proofs.lemmas.Bool.{eqb-true}
 use Rattle.std.proofs.lemmas.Bool.Decides.{nat_tests}
@@ -68,18 +68,18 @@ no_later-on l rs r b h e = let same = eqb-true r.location l e in ap (λ m. no_la
 pub Holds-kept : (g : List Back) (c : Kept) (r : RaceAt) → has_better c.races r ≡ true → Holds g c → Holds (g ++ Race r ∷ []) c
 Holds-kept g c r b h = record {
   refused = h.refused ∙ sym (fails-push_race g r);
-  best_on = λ l. sym (best-push_race l g r ∙ ap (λ o. kept_after l o r) (sym (h.best_on l)) ∙ kept_stays (eqb r.location l) (race_on l c.races) r (no_later-on l c.races r true b))
+  best_on = λ l. sym (best-push_race l g r ∙ ap (λ o. kept_after l o r) (sym (h.best_on l)) ∙ kept_stays (eqb r.location l) (race_on l c.races) r (no_later-on l c.races r true b));
 }
 
 pub Holds-put : (g : List Back) (c d : Kept) (r : RaceAt) → has_better c.races r ≡ false → d.races ≡ put r c.races → d.refused ≡ c.refused → Holds g c → Holds (g ++ Race r ∷ []) d
 Holds-put g c d r b races same h = record {
   refused = same ∙ h.refused ∙ sym (fails-push_race g r);
   best_on = λ l. ap (race_on l) races ∙ race_on-put l r c.races
-      ∙ sym (best-push_race l g r ∙ ap (λ o. kept_after l o r) (sym (h.best_on l)) ∙ kept_goes (eqb r.location l) (race_on l c.races) r (no_later-on l c.races r false b))
+      ∙ sym (best-push_race l g r ∙ ap (λ o. kept_after l o r) (sym (h.best_on l)) ∙ kept_goes (eqb r.location l) (race_on l c.races) r (no_later-on l c.races r false b));
 }
 
 pub Holds-refused : (g : List Back) (c d : Kept) (back : Back) → back ≡ NoMemory → d.races ≡ c.races → d.refused ≡ true → Holds g c → Holds (g ++ back ∷ []) d
 Holds-refused g c d back is races now h = rw is (record {
   refused = now ∙ sym (fails-push_none g);
-  best_on = λ l. ap (race_on l) races ∙ h.best_on l ∙ sym (best-push_none l g)
+  best_on = λ l. ap (race_on l) races ∙ h.best_on l ∙ sym (best-push_none l g);
 })

@@ -1,7 +1,7 @@
 -- Races put into an ascending list, each in the place of an earlier one on its location.
-use Rattle.std.proofs.Common.{◌≡◌, ◌≢◌, ℕ, ◌<◌, Bool, true, false, cond, eqb, List, [], ◌∷◌, Option, Some, None, map, refl, arith, sym, ap, ◌∙◌, subst}
+use Rattle.std.proofs.Common.{◌≡◌, ℕ, ◌<◌, Bool, true, false, cond, eqb, List, [], ◌∷◌, Some, map, refl, arith, sym, ap, ◌∙◌, subst}
 use Rattle.std.specs.BTreeMap.{insert_entry, is_at}
-use Rattle.std.specs.Cmp.{ranked, unsigned_tied}
+use Rattle.std.specs.Cmp.{ranked}
 use Rattle.std.specs.List.{AllByRecursion}
 use Rattle.std.specs.Map.{lookup}
 use Rattle.std.specs.Ordering.{nat_cmp, match_ordering, is_eq, MatchOrdering}
@@ -32,7 +32,7 @@ values-keyed (r ∷ rs) = ap (λ l. r ∷ l) (values-keyed rs)
 insert_entry-at : (r s : RaceAt) (rs : List RaceAt) (o : Ordering) → MatchOrdering o (r.location < s.location) (r.location ≡ s.location) (s.location < r.location)
     → insert_entry nat_cmp (keyed rs) r.location r ≡ keyed (put r rs)
     → match_ordering o ((r.location, r) ∷ keyed (s ∷ rs)) ((s.location, r) ∷ keyed rs) ((s.location, s) ∷ insert_entry nat_cmp (keyed rs) r.location r)
-      ≡ keyed (placed_at o r s rs (put r rs))
+    ≡ keyed (placed_at o r s rs (put r rs))
 insert_entry-at r s rs Less h e = refl
 insert_entry-at r s rs Equal h e = ap (λ l. (l, r) ∷ keyed rs) (sym h)
 insert_entry-at r s rs Greater h e = ap (λ l. (s.location, s) ∷ l) e
@@ -125,11 +125,11 @@ values-put r es new h e = ap (map (λ e. e.1)) (insert_entry-values r es new h e
 IsReportList-put : (r : RaceAt) (rs : List RaceAt) → IsEntry r → IsReportList rs → IsReportList (put r rs)
 IsReportList-put r rs p h = record {
   ascending = increasing_from_ascends (put r rs) (Ascends-put r rs (Ascends-from_increasing rs h.ascending));
-  entries = All-put IsEntry r rs p h.entries
+  entries = All-put IsEntry r rs p h.entries;
 }
 
 pub IsKeyed-put : (r : RaceAt) (es new : List (ℕ × RaceAt)) → IsEntry r → IsKeyed es → new ≡ insert_entry nat_cmp es r.location r → IsKeyed new
 IsKeyed-put r es new p h e = record {
   keys = insert_entry-values r es new h e ∙ ap keyed (sym (values-put r es new h e));
-  report = subst IsReportList (sym (values-put r es new h e)) (IsReportList-put r (map (λ e. e.1) es) p h.report)
+  report = subst IsReportList (sym (values-put r es new h e)) (IsReportList-put r (map (λ e. e.1) es) p h.report);
 }

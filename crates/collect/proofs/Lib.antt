@@ -3,3 +3,6 @@ pub mod Kept
 pub mod Best
 pub mod Sorted
 pub mod Written
+pub mod Unique
+pub mod Fronts
+pub mod Listed

@@ -1,5 +1,5 @@
 -- A list of races with one race a location, sorted by location.
-use Rattle.std.proofs.Common.{◌≡◌, ◌≢◌, ℕ, ◌<◌, Bool, true, false, cond, eqb, ltb, List, [], ◌∷◌, ◌++◌, Option, Some, None, fold, refl, arith, sym, ap, ◌∙◌, subst}
+use Rattle.std.proofs.Common.{◌≡◌, ◌≢◌, ℕ, ◌<◌, Bool, true, false, cond, eqb, ltb, List, [], ◌∷◌, Option, Some, None, fold, refl, arith, sym, ap, ◌∙◌, subst}
 use Rattle.std.specs.List.{AllByRecursion}
 use Rattle.std.specs.Option.{option_map_or}
 use Rattle.std.proofs.lemmas.Bool.{eqb-true, eq-eqb, ltb-true, ltb-false}
@@ -112,7 +112,6 @@ module _ (put_in : RaceAt → List RaceAt → List RaceAt) (by_location : List R
     (put_in-cons : (r s : RaceAt) (rs : List RaceAt) → put_in r (s ∷ rs) ≡ cond (ltb r.location s.location) (r ∷ s ∷ rs) (s ∷ put_in r rs))
     (by_location-nil : by_location [] ≡ [])
     (by_location-cons : (r : RaceAt) (rs : List RaceAt) → by_location (r ∷ rs) ≡ put_in r (by_location rs)) where
-
   Above-put_at : (l : ℕ) (r s : RaceAt) (rs more : List RaceAt) (b : Bool) → l < r.location → Above l (s ∷ rs) → Above l more → Above l (cond b (r ∷ s ∷ rs) (s ∷ more))
   Above-put_at l r s rs more true p a m = (p, a)
   Above-put_at l r s rs more false p a m = (a.0, m)

@@ -1,5 +1,5 @@
 -- Lines that are written one after another.
-use Rattle.std.proofs.Common.{◌≡◌, ℕ, ◌+◌, ◌<◌, ◌≤◌, ◌^◌, List, [], ◌∷◌, ◌++◌, Option, Result, Ok, Err, length, take, drop, get_or, decimal, arith, refl, sym, ap, ◌∙◌, subst, append_assoc, append-nil, take-append-drop}
+use Rattle.std.proofs.Common.{◌≡◌, ℕ, ◌+◌, ◌<◌, ◌≤◌, ◌^◌, List, [], ◌∷◌, ◌++◌, Option, Result, Ok, Err, length, take, drop, get_or, decimal, arith, sym, ap, ◌∙◌, subst, append_assoc, append-nil, take-append-drop}
 use Rattle.std.specs.Io.KnownBytes.{Appends}
 use Rattle.std.specs.List.{flat_map}
 use Rattle.std.specs.Result.{OnErr}
@@ -22,7 +22,7 @@ AppendsFront-more a b xs ys f = record {
   front = f.front;
   back = f.back ++ ys;
   split = sym (append_assoc f.front f.back ys) ∙ ap (λ l. l ++ ys) f.split;
-  appended = f.appended
+  appended = f.appended;
 }
 
 pub AppendsFront-after : (a b c : Option (List ℕ)) (xs ys : List ℕ) → Appends a b xs → AppendsFront b c ys → AppendsFront a c (xs ++ ys)
@@ -30,7 +30,7 @@ AppendsFront-after a b c xs ys p f = record {
   front = xs ++ f.front;
   back = f.back;
   split = append_assoc xs f.front f.back ∙ ap (λ l. xs ++ l) f.split;
-  appended = Appends-trans a b c xs f.front p f.appended
+  appended = Appends-trans a b c xs f.front p f.appended;
 }
 
 module _ {X : Type 0} (f : X → List ℕ) where

@@ -43,6 +43,11 @@ pub record Kept : Type 0 where
   pub races : List RaceAt
   pub refused : Bool
 
+-- a race on a location of which none is kept
+abbrev pub IsNew : Kept → Back → Type 0
+IsNew c (Race r) = race_on r.location c.races ≡ None
+IsNew c NoMemory = ⊥
+
 -- the collector was given exactly these, one after another
 pub record Holds (g : List Back) (c : Kept) : Type 0 where
   pub refused : c.refused ≡ fails g

@@ -2,3 +2,4 @@ pub mod Reports
 pub mod Collected
 pub mod ReportText
 pub mod Keyed
+pub mod ReportFaults

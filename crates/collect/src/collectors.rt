@@ -1,7 +1,7 @@
 // The races of all shards, kept by location.
 ghost use Rattle.std.specs.Prelude.{◌≡◌, List, [], ◌∷◌, ◌++◌, true, OnOk, OnErr, IfOk, IsErr};
 ghost use Rattle.shard.specs.declared.Back.{Back};
-ghost use Rattle.collect.specs.Collected.{Holds, IsCollected, fails, has_better};
+ghost use Rattle.collect.specs.Collected.{Holds, IsCollected, IsNew, fails, has_better};
 
 use crate::reports::Report;
 use shard::Back;
@@ -43,10 +43,12 @@ impl Collector {
         }
     }
 
-    /// Takes what a shard handed back. A refused growth changes nothing.
+    /// Takes what a shard handed back. Only a race on a new location asks for memory; a refused
+    /// growth changes nothing.
     pub fn take(&mut self, back: Back) -> Result<(), NoMemory>
         ensures ok { OnOk result ((g : List Back) → Holds g self.old → Holds (g ++ back ∷ []) self.new) }
         ensures err { OnErr result (self.new ≡ self.old) }
+        ensures cause { OnErr result (IsNew self.old back) }
     {
         match back {
             Back::Race(race) => self.keep(race),
@@ -74,6 +76,7 @@ impl Collector {
     fn keep(&mut self, race: Race) -> Result<(), NoMemory>
         ensures ok { OnOk result ((g : List Back) → Holds g self.old → Holds (g ++ Back.Race race ∷ []) self.new) }
         ensures err { OnErr result (self.new ≡ self.old) }
+        ensures cause { OnErr result (IsNew self.old (Back.Race race)) }
     {
         if self.has_better(&race) {
             return Ok(());

@@ -2,10 +2,15 @@
 #![tactic(auto)]
 
 pub mod collectors;
+pub mod laws;
 mod lines;
+pub mod readers;
 pub mod reports;
+#[cfg(test)]
+mod tests;
 pub mod writers;
 
 pub use collectors::Collector;
+pub use readers::{ReportFault, read_report};
 pub use reports::Report;
 pub use writers::write_report;

@@ -28,10 +28,10 @@ fn write_head<W: Sink>(count: u64, sink: &mut W) -> Result<(), WriteFault>
     ensures front { OnErr result (AppendsFront (W.held sink.old) (W.held sink.new) (head count)) }
     ensures count { Counts result (W.failures sink.old) (W.failures sink.new) }
 {
-    let mut line = Line::end();
-    line.number(count);
-    line.word(b"races ");
-    put_all(sink, line.as_bytes())
+    let mut first = Line::end();
+    first.number(count);
+    first.word(b"races ");
+    put_all(sink, first.as_bytes())
 }
 
 fn write_race<W: Sink>(race: &Race, sink: &mut W) -> Result<(), WriteFault>

@@ -37,18 +37,17 @@ pub fn detect_plain<R: Source, S: BuildHasher + Drop>(
         return Err(Fault::NoMemory);
     };
     let mut intake = Intake::new(limits);
-    loop {
+    'records: loop {
         match intake.next_from(reader) {
             Err(fault) => return Err(fault),
             Ok(None) => match detector.finish() {
                 Ok(report) => return Ok(report),
                 Err(_) => return Err(Fault::NoMemory),
             },
-            Ok(Some(placed)) => {
-                if detector.take(placed).is_err() {
-                    return Err(Fault::NoMemory);
-                }
-            }
+            Ok(Some(placed)) => match detector.take(placed) {
+                Ok(()) => {}
+                Err(_) => return Err(Fault::NoMemory),
+            },
         }
     }
 }

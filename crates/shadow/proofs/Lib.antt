@@ -1,3 +1,4 @@
+pub mod CallerLemmas
 pub mod CellLemmas
 pub mod StateLemmas
 pub mod FoundLaws

@@ -25,7 +25,7 @@ pub fn apply<S: BuildHasher>(
 
     ensures seen { OnOk result ((u : List Placed) → HaveSeen u bags.old shadow.old → HaveSeen (u ++ placed ∷ []) bags.new shadow.new) }
     ensures found { IfOk result (λ race. (u : List Placed) → HaveSeen u bags.old shadow.old → found (u ++ placed ∷ []) ≡ found u ++ option_to_list race) }
-    ensures ready { OnOk result ((next : ℕ) → placed.place < next → AreReadyFor bags.new shadow.new next) }
+    ensures ready { (next : ℕ) → placed.place < next → AreReadyFor bags.new shadow.new next }
 
     // A refusal changes nothing.
     ensures same_bags { OnErr result (bags.new ≡ bags.old) }

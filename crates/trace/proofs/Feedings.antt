@@ -16,7 +16,9 @@ use Rattle.trace.specs.Faults.{HasEnded, IsMisplaced, AreNested, IsBadLine, IsBa
 use Rattle.trace.specs.Faults as faults
 use Rattle.trace.specs.Reading.{Reading, AreBytes, HasRead}
 use Rattle.trace.specs.Nesting.{Nesting, HasNested}
-use Rattle.trace.specs.Feeding.{Feeding, HasUsed, HasFed}
+use Rattle.trace.specs.Feeding.{Feeding, before_all, HasUsed, HasFed}
+use Rattle.trace.proofs.Readings.{open_nil}
+use Rattle.trace.proofs.Nestings.{nested_none}
 use Rattle.trace.proofs.Texts.{text-push}
 use Rattle.trace.proofs.Readability.{bad_line_after, bad_place_after, no_first_fault, no_first_fault_first}
 
@@ -151,3 +153,16 @@ filled o m n w bytes s t (a, ca, fed) (b, cb, is) =
 -- the limits are the same
 pub at_limits : (P : ℕ → ℕ → Type 0) (a b c d : ℕ) → a ≡ b → c ≡ d → P a c → P b d
 at_limits P a b c d e f p = let Q : ℕ → Type 0 = λ x. P x d in subst Q e (subst (P a) f p)
+
+-- nothing has come
+pub fed_none : (records depths : ℕ) → HasFed [] [] (before_all records depths)
+fed_none records depths =
+    record {
+      has_used = record {
+        used = [];
+        bytes_are = refl;
+        has_read = record { bytes_are = (refl, refl); fits = tt; unfinished = open_nil; count_is = refl; within = omega arith; no_fault = refl };
+      };
+      has_nested = nested_none depths;
+      running = refl;
+    }

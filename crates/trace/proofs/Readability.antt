@@ -1,16 +1,18 @@
 -- Which trace a text is of, and which faults bytes can have: no two traces have one text, good lines have
 -- no fault, and no bytes have two first faults.
-use Rattle.std.proofs.Common.{◌≡◌, ◌≢◌, ℕ, zero, suc, ◌+◌, ◌-◌, ◌%◌, ◌<◌, ◌≤◌, ◌^◌, List, [], ◌∷◌, ◌++◌, length, Some, ◌⊎◌, inl, inr, ⊎_elim, arith, refl, sym, ◌∙◌, ap, subst, decimal, codes, append_assoc, length-append}
-use Rattle.std.specs.List.{flat_map, sum_by, AllByRecursion, All}
+use Rattle.std.proofs.Common.{◌≡◌, ◌≢◌, ℕ, suc, ◌+◌, ◌-◌, ◌%◌, ◌<◌, ◌≤◌, ◌^◌, List, [], ◌∷◌, ◌++◌, length, Some, ◌⊎◌, inl, inr, arith, refl, sym, ◌∙◌, ap, subst, decimal, codes, append_assoc, length-append}
+use Rattle.std.specs.List.{flat_map, sum_by, AllByRecursion}
 use Rattle.std.proofs.lemmas.List.{append-nil, append_cancel_left}
-use Rattle.std.proofs.lemmas.List.Elements.{All-from_recursion, All-nil, All-cons, All-head, All-tail, All-append, All-push}
+use Rattle.std.proofs.lemmas.List.Elements.{All-from_recursion, All-nil, All-cons, All-head, All-tail, All-push}
 use Rattle.std.proofs.lemmas.Fmt.{decimal_by_steps, decimal_injective}
 use Rattle.trace.specs.declared.records.Record.{Record}
 use Rattle.trace.specs.declared.records.Record.TheVariants.{Spawn, Return, Sync, Read, Write}
 use Rattle.trace.specs.declared.faults.TextFault.{TextFault}
+use Rattle.trace.specs.declared.faults.TextKind.{TextKind}
+use Rattle.trace.specs.declared.faults.TextKind.TheVariants.{Line, TooMany, Truncated}
 use Rattle.trace.specs.declared.faults.NestFault.{NestFault}
 use Rattle.trace.specs.declared.faults.NestKind.{NestKind}
-use Rattle.trace.specs.declared.faults.NestKind.TheVariants.{AfterEnd, TooDeep, Unfinished}
+use Rattle.trace.specs.declared.faults.NestKind.TheVariants.{Unfinished}
 use Rattle.trace.specs.declared.faults.Fault.{Fault}
 use Rattle.trace.specs.declared.faults.Fault.TheVariants.{Text, Nest}
 use Rattle.trace.specs.Traces.{at, depth, opens, closes, IsWellNested}
@@ -134,7 +136,7 @@ same_lines (r ∷ u) (s ∷ w) x y hu hw e =
 
 -- two readings of the same bytes: one goes on from the other
 pub same_front : (u w : List Record) (x y : List ℕ) → AllFit u → AllFit w → text u ++ x ≡ text w ++ y →
-   ((v : List Record) × (u ≡ w ++ v) × AllFit v × (y ≡ flat_map line v ++ x)) ⊎ ((v : List Record) × (w ≡ u ++ v) × AllFit v × (x ≡ flat_map line v ++ y))
+    ((v : List Record) × (u ≡ w ++ v) × AllFit v × (y ≡ flat_map line v ++ x)) ⊎ ((v : List Record) × (w ≡ u ++ v) × AllFit v × (x ≡ flat_map line v ++ y))
 same_front u w x y hu hw e =
     same_lines u w x y hu hw (append_cancel_left (ended header) (flat_map line u ++ x) (flat_map line w ++ y) (sym (append_assoc (ended header) (flat_map line u) x) ∙ e ∙ append_assoc (ended header) (flat_map line w) y))
 
@@ -298,7 +300,7 @@ well_fine records depths u r (s ∷ v) h nested k (too_deep running opening full
     let j : ℕ = suc (length (u ++ r ∷ [])) in
     let below : depth (u ++ r ∷ s ∷ v) j ≤ depths = h.not_too_deep j (omega arith, omega (arith, length-append u (r ∷ []), length-append u (r ∷ s ∷ v))) in
     let deep : depth (u ++ r ∷ s ∷ v) j ≡ (sum_by opens u + opens r) - (sum_by closes u + closes r) =
-      ap (λ z. depth z j) (sym (append_assoc u (r ∷ []) (s ∷ v))) ∙ depth-front (u ++ r ∷ []) (s ∷ v) j (omega arith) ∙ depth-pushed u r in
+    ap (λ z. depth z j) (sym (append_assoc u (r ∷ []) (s ∷ v))) ∙ depth-front (u ++ r ∷ []) (s ∷ v) j (omega arith) ∙ depth-pushed u r in
     absurd (omega (arith, depth-next u, balanced depths nested running, closes_none r opening))
 
 nested_from : (d : ℕ) (v u : List Record) → AreNested d u → ((u' : List Record) (r : Record) (v' : List Record) → u ++ v ≡ u' ++ r ∷ v' → AreNested d u' → (k : NestKind) → IsMisplaced d u' r k → ⊥) → AreNested d (u ++ v)
@@ -335,3 +337,119 @@ pub no_fault_of_text : (records depths : ℕ) (w : List Record) (g : Fault) → 
 no_fault_of_text records depths w g hw h (before_end f fault) = no_first_fault_of_text records depths w (text w) f hw h.within (nested_well records depths w h) refl fault
 no_fault_of_text records depths w g hw h (truncated f t clear) = no_truncated records w f hw t
 no_fault_of_text records depths w g hw h (unfinished u hu le e nested running) = running (subst HasEnded (text_injective w u hw hu e) (length w, (h.some, omega arith), h.last))
+
+abbrev text_fault : ℕ → TextKind → TextFault
+text_fault n k = record { line = n; kind = k }
+
+abbrev nest_fault : ℕ → NestKind → NestFault
+nest_fault n k = record { place = n; kind = k }
+
+same_text_fault : (n m : ℕ) (k : TextKind) → n ≡ m → text_fault n k ≡ text_fault m k
+same_text_fault n m k e = ap (λ z. text_fault z k) e
+
+same_nest_fault : (n m : ℕ) (k j : NestKind) → n ≡ m → k ≡ j → nest_fault n k ≡ nest_fault m j
+same_nest_fault n m k j e f = ap (λ z. nest_fault z k) e ∙ ap (nest_fault m) f
+
+-- a line that is no record isn't past the limit
+bad_not_past : (records : ℕ) (w u : List Record) (rest : List ℕ) {body : List ℕ} (r : Record) (more : List ℕ) → AllFit w → length w ≤ records → IsJudged rest body → IsNoRecord body → AllFit u → length u ≡ records → Fits r
+    → text w ++ rest ≡ text u ++ (line r ++ more) → ⊥
+bad_not_past records w u rest r more hw le judged no_spelling hu full fits e = go (same_front w u rest (line r ++ more) hw hu e)
+  where
+    go : GoesOn w u rest (line r ++ more) ⊎ GoesOn u w (line r ++ more) rest → ⊥
+    go (inl ([], on, fit, is)) = record_judged judged no_spelling r more fits (sym is ∙ one_line r more)
+    go (inl (s ∷ v, on, fit, is)) = absurd (omega (arith, length_on w u (s ∷ v) on))
+    go (inr ([], on, fit, is)) = record_judged judged no_spelling r more fits (is ∙ one_line r more)
+    go (inr (s ∷ v, on, fit, is)) = record_judged judged no_spelling s (flat_map line v ++ (line r ++ more)) fit.0 (is ∙ lines_open s v (line r ++ more))
+
+-- bytes have one first faulty line
+pub one_bad_line : (records : ℕ) (bytes : List ℕ) (f g : TextFault) → IsBadLine records bytes f → IsBadLine records bytes g → f ≡ g
+one_bad_line records bytes f g (bad_header body judged other) (bad_header body' judged' other') = refl
+one_bad_line records bytes f g (bad_header body judged other) (bad_line u rest body' hu le e judged' no_spelling) = absurd (other (header_judged judged u rest e))
+one_bad_line records bytes f g (bad_header body judged other) (too_many u r more hu full fits e) = absurd (other (header_judged judged u (line r ++ more) e))
+one_bad_line records bytes f g (bad_line w rest body hw le e judged no_spelling) (bad_header body' judged' other) = absurd (other (header_judged judged' w rest e))
+one_bad_line records bytes f g (bad_line w rest body hw le e judged no_spelling) (bad_line u rest' body' hu le' e' judged' no_spelling') =
+    same_text_fault (length w + 2) (length u + 2) Line (omega (arith, behind_good w u rest rest' hw hu judged' no_spelling' (sym e ∙ e'), behind_good u w rest' rest hu hw judged no_spelling (sym e' ∙ e)))
+one_bad_line records bytes f g (bad_line w rest body hw le e judged no_spelling) (too_many u r more hu full fits e') = absurd (bad_not_past records w u rest r more hw le judged no_spelling hu full fits (sym e ∙ e'))
+one_bad_line records bytes f g (too_many w r more hw full fits e) (bad_header body judged other) = absurd (other (header_judged judged w (line r ++ more) e))
+one_bad_line records bytes f g (too_many w r more hw full fits e) (bad_line u rest body hu le e' judged no_spelling) = absurd (bad_not_past records u w rest r more hu le judged no_spelling hw full fits (sym e' ∙ e))
+one_bad_line records bytes f g (too_many w r more hw full fits e) (too_many u s more' hu full' fits' e') = same_text_fault (length w + 2) (length u + 2) TooMany (omega arith)
+
+one_kind : (d : ℕ) (u : List Record) (r : Record) (k j : NestKind) → IsMisplaced d u r k → IsMisplaced d u r j → k ≡ j
+one_kind d u r k j (after_end e) (after_end e') = refl
+one_kind d u r k j (after_end e) (too_deep running opening full) = absurd (running e)
+one_kind d u r k j (too_deep running opening full) (after_end e) = absurd (running e)
+one_kind d u r k j (too_deep running opening full) (too_deep running' opening' full') = refl
+
+same_place : (d : ℕ) (u w : List Record) (r s : Record) (k j : NestKind) (more more' : List ℕ) → u ≡ w ++ [] → Fits r → Fits s → line s ++ more' ≡ line r ++ more → IsMisplaced d u r k → IsMisplaced d w s j
+    → nest_fault (length u + 1) k ≡ nest_fault (length w + 1) j
+same_place d u w r s k j more more' on fr fs is bad bad' =
+    let same = same_record s r more' more fs fr (sym (one_line s more') ∙ is ∙ one_line r more) in
+    let whole : u ≡ w = on ∙ append-nil w in
+    let P : List Record → Type 0 = λ z. IsMisplaced d z s j in
+    let Q : Record → Type 0 = λ z. IsMisplaced d u z j in
+    same_nest_fault (length u + 1) (length w + 1) k j (ap (λ z. length z + 1) whole) (one_kind d u r k j bad (subst Q same.0 (subst P (sym whole) bad')))
+
+-- bytes have one first faulty place
+pub one_bad_place : (depths : ℕ) (bytes : List ℕ) (m n : NestFault) → IsBadPlace depths bytes m → IsBadPlace depths bytes n → m ≡ n
+one_bad_place depths bytes m n (bad_place u r more k hu fr e nested bad) (bad_place w s more' j hw fs e' nested' bad') = go (same_front u w (line r ++ more) (line s ++ more') hu hw (sym e ∙ e'))
+  where
+    go : GoesOn u w (line r ++ more) (line s ++ more') ⊎ GoesOn w u (line s ++ more') (line r ++ more) → nest_fault (length u + 1) k ≡ nest_fault (length w + 1) j
+    go (inl ([], on, fit, is)) = same_place depths u w r s k j more more' on fr fs is bad bad'
+    go (inl (a ∷ v, on, fit, is)) = absurd (fine_next depths u w v s a j more' (line r ++ more) nested on fs fit.0 is bad')
+    go (inr ([], on, fit, is)) = sym (same_place depths w u s r j k more' more on fs fr is bad' bad)
+    go (inr (a ∷ v, on, fit, is)) = absurd (fine_next depths w u v r a k more (line s ++ more') nested' on fr fit.0 is bad)
+
+-- bytes have one first fault
+pub one_first_fault : (records depths : ℕ) (bytes : List ℕ) (f g : Fault) → IsFirstFault records depths bytes f → IsFirstFault records depths bytes g → f ≡ g
+one_first_fault records depths bytes f g (bad_line a bad first) (bad_line b bad' first') = ap Text (one_bad_line records bytes a b bad bad')
+one_first_fault records depths bytes f g (bad_line a bad first) (bad_place n bad' first') = absurd (omega (arith, first n bad', first' a bad))
+one_first_fault records depths bytes f g (bad_place n bad first) (bad_line a bad' first') = absurd (omega (arith, first a bad', first' n bad))
+one_first_fault records depths bytes f g (bad_place m bad first) (bad_place n bad' first') = ap Nest (one_bad_place depths bytes m n bad bad')
+
+-- bytes are truncated at one line
+pub one_truncated : (records : ℕ) (bytes : List ℕ) (f g : TextFault) → IsTruncated records bytes f → IsTruncated records bytes g → f ≡ g
+one_truncated records bytes f g (no_header h) (no_header h') = refl
+one_truncated records bytes f g (no_header h) (no_line_end w rest hw le e h' some) = absurd (open_no_text bytes w rest h e)
+one_truncated records bytes f g (no_line_end w rest hw le e h some) (no_header h') = absurd (open_no_text bytes w rest h' e)
+one_truncated records bytes f g (no_line_end w rest hw le e h some) (no_line_end u rest' hu le' e' h' some') = go (same_front w u rest rest' hw hu (sym e ∙ e'))
+  where
+    go : GoesOn w u rest rest' ⊎ GoesOn u w rest' rest → text_fault (length w + 2) Truncated ≡ text_fault (length u + 2) Truncated
+    go (inl ([], on, fit, is)) = same_text_fault (length w + 2) (length u + 2) Truncated (omega (arith, length_on w u [] on))
+    go (inl (r ∷ v, on, fit, is)) = absurd (open_no_lines rest' r v rest h' is)
+    go (inr ([], on, fit, is)) = same_text_fault (length w + 2) (length u + 2) Truncated (omega (arith, length_on u w [] on))
+    go (inr (r ∷ v, on, fit, is)) = absurd (open_no_lines rest r v rest' h is)
+
+-- whole bytes have one fault
+pub one_fault : (records depths : ℕ) (bytes : List ℕ) (f g : Fault) → IsFaultOfAll records depths bytes f → IsFaultOfAll records depths bytes g → f ≡ g
+one_fault records depths bytes f g (before_end a first) (before_end b first') = one_first_fault records depths bytes a b first first'
+one_fault records depths bytes f g (before_end a first) (truncated b t clear) = absurd (clear a first)
+one_fault records depths bytes f g (before_end a first) (unfinished w hw le e nested running) = absurd (no_first_fault_of_text records depths w bytes a hw le nested e first)
+one_fault records depths bytes f g (truncated a t clear) (before_end b first) = absurd (clear b first)
+one_fault records depths bytes f g (truncated a t clear) (truncated b t' clear') = ap Text (one_truncated records bytes a b t t')
+one_fault records depths bytes f g (truncated a t clear) (unfinished w hw le e nested running) = let P : List ℕ → Type 0 = λ x. IsTruncated records x a in absurd (no_truncated records w a hw (subst P e t))
+one_fault records depths bytes f g (unfinished w hw le e nested running) (before_end b first) = absurd (no_first_fault_of_text records depths w bytes b hw le nested e first)
+one_fault records depths bytes f g (unfinished w hw le e nested running) (truncated b t clear) = let P : List ℕ → Type 0 = λ x. IsTruncated records x b in absurd (no_truncated records w b hw (subst P e t))
+one_fault records depths bytes f g (unfinished w hw le e nested running) (unfinished u hu le' e' nested' running') =
+    ap Nest (same_nest_fault (length w + 1) (length u + 1) Unfinished Unfinished (ap (λ z. length z + 1) (text_injective w u hw hu (sym e ∙ e'))) refl)
+
+judged_more : {bytes body : List ℕ} (more : List ℕ) → IsJudged bytes body → IsJudged (bytes ++ more) body
+judged_more {body = body} more (at_end _ rest unended) = let P : List ℕ → Type 0 = λ x. IsJudged x body in subst P (sym (append_assoc (ended body) rest more)) (at_end body (rest ++ more) unended)
+judged_more {body = body} more (at_length _ rest unended long) = let P : List ℕ → Type 0 = λ x. IsJudged x body in subst P (sym (append_assoc body rest more)) (at_length body (rest ++ more) unended long)
+
+-- a bad line of bytes is one of them with more behind
+bad_line_more : (records : ℕ) (bytes more : List ℕ) (f : TextFault) → IsBadLine records bytes f → IsBadLine records (bytes ++ more) f
+bad_line_more records bytes more f (bad_header body judged other) = bad_header body (judged_more more judged) other
+bad_line_more records bytes more f (bad_line w rest body fit le e judged no_spelling) = bad_line w (rest ++ more) body fit le (ap (λ x. x ++ more) e ∙ append_assoc (text w) rest more) (judged_more more judged) no_spelling
+bad_line_more records bytes more f (too_many w r rest fit full fits e) = too_many w r (rest ++ more) fit full fits (ap (λ x. x ++ more) e ∙ append_assoc (text w) (line r ++ rest) more ∙ ap (λ x. text w ++ x) (append_assoc (line r) rest more))
+
+bad_place_more : (depths : ℕ) (bytes more : List ℕ) (n : NestFault) → IsBadPlace depths bytes n → IsBadPlace depths (bytes ++ more) n
+bad_place_more depths bytes more n (bad_place u r rest k fit fits e nested bad) = bad_place u r (rest ++ more) k fit fits (ap (λ x. x ++ more) e ∙ append_assoc (text u) (line r ++ rest) more ∙ ap (λ x. text u ++ x) (append_assoc (line r) rest more)) nested bad
+
+-- bytes in front of the text of a well nested trace have no first fault
+pub no_fault_in_front : (records depths : ℕ) (w : List Record) (bytes more : List ℕ) (g : Fault) → AllFit w → IsWellNested w records depths → text w ≡ bytes ++ more → IsFirstFault records depths bytes g → ⊥
+no_fault_in_front records depths w bytes more g fit h e (bad_line f bad first) =
+    let P : List ℕ → Type 0 = λ x. IsBadLine records x f in
+    no_bad_line records w [] f fit h.within open_nil (subst P (sym e ∙ sym (append-nil (text w))) (bad_line_more records bytes more f bad))
+no_fault_in_front records depths w bytes more g fit h e (bad_place n bad first) =
+    let P : List ℕ → Type 0 = λ x. IsBadPlace depths x n in
+    no_bad_place depths w [] n fit open_nil (nested_well records depths w h) (subst P (sym e ∙ sym (append-nil (text w))) (bad_place_more depths bytes more n bad))

@@ -23,7 +23,7 @@ are_bytes : (b : Bool) (w : List Record) (rest bytes : List ℕ) → b ≡ true 
 are_bytes true w rest bytes e h = h
 are_bytes false w rest bytes e h = absurd (cc)
 
-open_nil : IsOpen []
+pub open_nil : IsOpen []
 open_nil = record { unended = λ k d h. absurd (omega arith); short = omega arith }
 
 -- what a long line is: not the spelling of a record

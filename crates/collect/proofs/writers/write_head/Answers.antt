@@ -3,7 +3,7 @@ use Rattle.trace.proofs.SpelledLines.{length-decimal-location}
 use Rattle.collect.proofs.writers.write_head.Goals as goal
 
 pub number-requires : goal.number-requires
-number-requires g c = let short = length-decimal-location c.args.count c.ranges.count.fits in let one : length c.end-line.result ≡ 1 = ap length c.end-line.ensures in omega arith
+number-requires g c = let short = length-decimal-location c.args.count c.ranges.count.fits in let one : length c.end-first.result ≡ 1 = ap length c.end-first.ensures in omega arith
 
 pub word-requires : goal.word-requires
-word-requires g c = let short = length-decimal-location c.args.count c.ranges.count.fits in let one : length c.end-line.result ≡ 1 = ap length c.end-line.ensures in omega arith
+word-requires g c = let short = length-decimal-location c.args.count c.ranges.count.fits in let one : length c.end-first.result ≡ 1 = ap length c.end-first.ensures in omega arith

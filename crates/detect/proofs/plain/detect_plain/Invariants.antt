@@ -7,8 +7,8 @@ use Rattle.shadow.specs.Memory.{AreReadyFor}
 use Rattle.detect.specs.Runs.{HasDetected}
 use Rattle.detect.proofs.plain.detect_plain.Given as goal
 
-abbrev pub invariant-loop-detector : goal.invariant-loop-detector
-invariant-loop-detector g l = record {
+abbrev pub invariant-records : goal.invariant-records
+invariant-records g l = record {
   trace : List Record;
   came : List ℕ;
   consumed : Consumes (g.R.Source.rest l.fn.reader) (g.R.Source.rest l.reader) came;
@@ -16,9 +16,9 @@ invariant-loop-detector g l = record {
   detected : HasDetected (placed trace) l.detector.bags l.detector.shadow l.detector.collector;
   ready : AreReadyFor l.detector.bags l.detector.shadow (length trace + 1);
   count : g.R.Source.failures l.reader ≡ g.R.Source.failures l.fn.reader;
-  records : l.intake.reading.limit ≡ l.limits.records;
-  depths : l.intake.nesting.max_depth ≡ l.limits.depth;
+  records : l.intake.reading.limit ≡ l.fn.limits.records;
+  depths : l.intake.nesting.max_depth ≡ l.fn.limits.depth;
 }
 
-abbrev pub decreases-loop-detector : goal.decreases-loop-detector
-decreases-loop-detector g l = l.limits.records - l.intake.reading.count
+abbrev pub decreases-records : goal.decreases-records
+decreases-records g l = l.fn.limits.records - l.intake.reading.count

@@ -1,0 +1,3 @@
+pub mod Marks
+pub mod Roles
+pub mod Steps

@@ -1,0 +1,9 @@
+//! Lanes: bounded queues of one sender and one taker, with a finish mark and a receipt of what was put.
+#![tactic(auto)]
+
+mod ends;
+mod item;
+mod rule;
+
+pub use ends::{End, Sender, Taker, lane};
+pub use item::Item;
