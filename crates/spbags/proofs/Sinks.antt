@@ -1,6 +1,5 @@
 -- What a sink got in several calls, one after the other.
-use Rattle.std.proofs.Common.{◌≡◌, ℕ, List, [], ◌++◌, Option, refl, sym, ap, ◌∙◌, append_assoc, append-nil, subst, Result, Ok, Err, MatchResult}
-use Rattle.std.specs.Io.KnownBytes.{Keeps, Appends}
+use Rattle.std.proofs.Common.{◌≡◌, ℕ, List, [], ◌++◌, Option, ap, ◌∙◌, append_assoc, append-nil, subst, Result, Ok, Err, MatchResult}
 use Rattle.std.proofs.KnownBytes.{Appends-trans, Appends-kept}
 use Rattle.trace.specs.Devices.{HasRisen}
 use Rattle.spbags.specs.Answers.{IsUntouched, Took, TookFront, WasGiven}
