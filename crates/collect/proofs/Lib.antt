@@ -6,3 +6,4 @@ pub mod Written
 pub mod Unique
 pub mod Fronts
 pub mod Listed
+pub mod OneFault

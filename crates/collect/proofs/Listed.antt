@@ -136,7 +136,7 @@ Ascends-front : (rs more : List RaceAt) → Ascends (rs ++ more) → Ascends rs
 Ascends-front [] more a = tt
 Ascends-front (r ∷ rs) more a = (All-front (λ s. r.location < s.location) rs more a.0, Ascends-front rs more a.1)
 
-IsReportList-front : (rs more : List RaceAt) → IsReportList (rs ++ more) → IsReportList rs
+pub IsReportList-front : (rs more : List RaceAt) → IsReportList (rs ++ more) → IsReportList rs
 IsReportList-front rs more h = record {
   ascending = increasing_from_ascends rs (Ascends-front rs more (Ascends-from_increasing (rs ++ more) h.ascending));
   entries = All-front IsEntry rs more h.entries;

@@ -23,3 +23,11 @@ IsReportFault bytes NoMemory = Unit {0}
 -- one text belongs to one list
 abbrev pub OneList : Type 0
 OneList = (rs ss : List RaceAt) → IsReportList rs → IsReportList ss → length rs < 2 ^ 64 → length ss < 2 ^ 64 → rtext rs ≡ rtext ss → rs ≡ ss
+
+-- bytes have one first faulty line at most
+abbrev pub OneFault : Type 0
+OneFault = (bytes : List ℕ) (m n : ℕ) → IsFirstBadLine bytes m → IsFirstBadLine bytes n → m ≡ n
+
+-- the text of a report has no faulty line
+abbrev pub NoFault : Type 0
+NoFault = (rs : List RaceAt) (line : ℕ) → IsReportList rs → length rs < 2 ^ 64 → IsFirstBadLine (rtext rs) line → ⊥

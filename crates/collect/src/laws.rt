@@ -1,7 +1,13 @@
 // Laws of reports that belong to no value.
-ghost use Rattle.collect.specs.ReportFaults.{OneList};
+ghost use Rattle.collect.specs.ReportFaults.{OneFault, NoFault, OneList};
 
 /// One text belongs to one list of races.
 pub fn one_list()
     ensures { OneList }
+{}
+
+/// Bytes have one first faulty line at most, and the text of a report has none.
+pub fn one_fault()
+    ensures one { OneFault }
+    ensures none { NoFault }
 {}

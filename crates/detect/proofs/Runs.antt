@@ -44,7 +44,7 @@ detected_none u p bags bags' m m' c h seen e =
 
 -- a race is told at it
 pub detected_race : (u : List Placed) (p : Placed) (bags bags' : Procedures) (m m' : Memory) (c c' : Kept) (r : RaceAt) → HasDetected u bags m c → HaveSeen (u ++ p ∷ []) bags' m' → found (u ++ p ∷ []) ≡ found u ++ r ∷ []
-  → ((g : List Back) → Holds g c → Holds (g ++ backs.Race r ∷ []) c') → HasDetected (u ++ p ∷ []) bags' m' c'
+    → ((g : List Back) → Holds g c → Holds (g ++ backs.Race r ∷ []) c') → HasDetected (u ++ p ∷ []) bags' m' c'
 detected_race u p bags bags' m m' c c' r h seen e taken =
     record {
       seen = seen;
@@ -79,8 +79,8 @@ reported_if u bags m c (Err e) h collected = tt
 
 -- the same, where the collector takes it
 pub detected_if : {T E : Type 0} (p : Placed) (bags bags' : Procedures) (m m' : Memory) (c c' : Kept) (r : RaceAt) (o : Result T E) → ((u : List Placed) → HaveSeen u bags m → HaveSeen (u ++ p ∷ []) bags' m')
-  → ((u : List Placed) → HaveSeen u bags m → found (u ++ p ∷ []) ≡ found u ++ r ∷ []) → OnOk o ((g : List Back) → Holds g c → Holds (g ++ backs.Race r ∷ []) c')
-  → OnOk o ((u : List Placed) → HasDetected u bags m c → HasDetected (u ++ p ∷ []) bags' m' c')
+    → ((u : List Placed) → HaveSeen u bags m → found (u ++ p ∷ []) ≡ found u ++ r ∷ []) → OnOk o ((g : List Back) → Holds g c → Holds (g ++ backs.Race r ∷ []) c')
+    → OnOk o ((u : List Placed) → HasDetected u bags m c → HasDetected (u ++ p ∷ []) bags' m' c')
 detected_if p bags bags' m m' c c' r (Ok t) seen found taken = λ u h. detected_race u p bags bags' m m' c c' r h (seen u h.seen) (found u h.seen) taken
 detected_if p bags bags' m m' c c' r (Err e) seen found taken = tt
 
@@ -108,6 +108,7 @@ honest_memory records depths before after count count' f w is fit h steady (inr 
   where
     consumed' : Consumes (Some (text w)) after came
     consumed' = let P : Option (List ℕ) → Type 0 = λ o. Consumes o after came in subst P is consumed
+
     go : (f' : Fault) → IsFaultFed records depths came after count count' f' → f' ≡ NoMemory
     go (Text t) x = absurd (no_fault_then records depths w came after (Text t) fit h consumed' x.0)
     go (Nest n) x = absurd (no_fault_then records depths w came after (Nest n) fit h consumed' x.0)

@@ -1,5 +1,5 @@
 //! Shadow memory: what is kept of each location.
-ghost use Rattle.std.specs.Prelude.{◌≡◌, ◌≢◌, ℕ, ◌<◌, ◌≤◌, ◌^◌, IfOk, OnOk, OnErr, IsOk};
+ghost use Rattle.std.specs.Prelude.{◌≡◌, ℕ, ◌<◌, ◌≤◌, ◌^◌, IfOk, OnOk, OnErr};
 ghost use Rattle.shadow.specs.Cells.{untouched, race_at, touched};
 ghost use Rattle.shadow.specs.Found.{with_cell};
 
@@ -76,9 +76,9 @@ impl<S: BuildHasher> Shadow<S> {
         ensures last_place { OnOk result (last_place_of self.new ≡ place) }
         ensures least_count { OnOk result (least_count_of self.new ≡ bags.now.count) }
 
-        // A refusal changes nothing, and a location that is there meets none.
+        // A refusal changes nothing, and comes only where nothing is kept of the location yet.
         ensures err { OnErr result (IsSameMemory self.old self.new) }
-        ensures there { kept_of self.old location ≢ untouched → IsOk result }
+        ensures not_there { OnErr result (kept_of self.old location ≡ untouched) }
     {
         let race = match self.cells.get_mut(&location) {
             Some(kept) => {

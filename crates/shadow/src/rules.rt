@@ -3,7 +3,7 @@ ghost use Rattle.std.specs.Prelude.{◌≡◌, ℕ, ◌<◌, ◌≤◌, ◌^◌,
 ghost use Rattle.std.specs.Option.{option_to_list};
 ghost use Rattle.trace.specs.declared.records.Placed.{Placed};
 ghost use Rattle.shadow.specs.Found.{found};
-ghost use Rattle.shadow.specs.Memory.{AreReadyFor, HaveSeen, IsSameMemory};
+ghost use Rattle.shadow.specs.Memory.{AreReadyFor, HaveSeen, IsSameMemory, MayGrow};
 
 use crate::memory::Shadow;
 use bags::Bags;
@@ -27,9 +27,10 @@ pub fn apply<S: BuildHasher>(
     ensures found { IfOk result (λ race. (u : List Placed) → HaveSeen u bags.old shadow.old → found (u ++ placed ∷ []) ≡ found u ++ option_to_list race) }
     ensures ready { (next : ℕ) → placed.place < next → AreReadyFor bags.new shadow.new next }
 
-    // A refusal changes nothing.
+    // A refusal changes nothing, and comes only at a spawn or at the first access of a location.
     ensures same_bags { OnErr result (bags.new ≡ bags.old) }
     ensures same_memory { OnErr result (IsSameMemory shadow.old shadow.new) }
+    ensures refused { OnErr result (MayGrow shadow.old placed.what) }
 {
     match placed.what {
         Record::Spawn => bags.spawn()?,

@@ -44,7 +44,7 @@ returns-in-Ok-finish-clause-report g c =
     let end = given_end _ _ _ _ _ _ _ _ _ c.in-Ok-None.field-0-is fed.2 in
     let P : ℕ → ℕ → Type 0 = λ r d. IsWhole r d i.trace (i.came ++ fed.0) (g.R.Source.rest c.next_from.new.source) in
     reports c.args.limits.records c.args.limits.depth _ _ i.trace (i.came ++ fed.0) c.in-Ok-finish.report (consumes_more _ _ _ i.came fed.0 i.consumed fed.1)
-      (at_limits P _ _ _ _ i.records i.depths end) (c.in-Ok-finish.ensures (placed i.trace) i.detected)
+    (at_limits P _ _ _ _ i.records i.depths end) (c.in-Ok-finish.ensures (placed i.trace) i.detected)
 
 pub take-requires-clause-ready : goal.take-requires-clause-ready
 take-requires-clause-ready g c =

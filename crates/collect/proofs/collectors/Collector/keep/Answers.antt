@@ -32,6 +32,6 @@ returns-clause-ok c =
 pub returns-clause-cause : goal.returns-clause-cause
 returns-clause-cause c =
     elim c.match-insert.branch [
-      in-Ok w ↦ rw w.result-is tt
+      | in-Ok w ↦ rw w.result-is tt
       | in-Err w ↦ rw w.result-is (rw (← c.self.view_is, ← c.race.view_is) (sym (race_on-values _ _ c.self.invariant) ∙ w.in-Err.ensures.absent))
     ]
