@@ -1,5 +1,5 @@
 -- The mark in a list that grows at its end.
-use Rattle.std.proofs.Common.{◌≡◌, true, false, ◌&&◌, true≢false, List, [], ◌∷◌, ◌++◌, sym, refl, ap, ◌∙◌, append-nil}
+use Rattle.std.proofs.Common.{◌≡◌, true, false, true≢false, List, [], ◌∷◌, ◌++◌, sym, refl, ap, ◌∙◌, append-nil}
 use Rattle.lane.specs.declared.item.Item.{Item}
 use Rattle.lane.specs.declared.item.Item.TheVariants.{One, Finish}
 use Rattle.lane.specs.Items.{is_finish, has_mark, mark_last, records, IsBeginning}

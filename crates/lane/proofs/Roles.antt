@@ -1,5 +1,5 @@
 -- A role that one view at most has: where it stays and where it goes, as views change.
-use Rattle.std.proofs.Common.{◌≡◌, ◌≢◌, ℕ, zero, suc, Bool, true, false, true≢false, List, [], ◌∷◌, ◌++◌, length, set, sym, refl, ap, ◌∙◌, subst, ⊎_elim}
+use Rattle.std.proofs.Common.{◌≡◌, ◌≢◌, ℕ, zero, suc, Bool, true, false, true≢false, List, [], ◌∷◌, ◌++◌, length, set, sym, refl, ap, ◌∙◌, ⊎_elim}
 use mathlib.Core.Option.{some, some-injective, some-ne-none}
 use lib.ListN.{get_elem?}
 use Rattle.crossbeam_queue.proofs.Lists.{at_set, at_snoc}
@@ -23,7 +23,7 @@ module _ {V L : Type 0} (role : V → Bool) (known : V → L) where
     holder,
     λ j u e may. ⊎_elim
         (λ (x : (j ≡ port) × (w ≡ u)).
-            let p = less (ap role x.1 ∙ may) in let mine = h port v at p.0 in (x.0 ∙ mine.0, ap known (sym x.1) ∙ p.1 ∙ mine.1))
+        let p = less (ap role x.1 ∙ may) in let mine = h port v at p.0 in (x.0 ∙ mine.0, ap known (sym x.1) ∙ p.1 ∙ mine.1))
         (λ (x : (j ≢ port) × (get_elem? views j ≡ some u)). h j u x.1 may) (at_set views port j w u e),
   )
 
@@ -47,8 +47,8 @@ module _ {V L : Type 0} (role : V → Bool) (known : V → L) where
       → Knows role known (set views port left ++ right ∷ []) all
   goes_over views port v left right all at mine lacks same (holder, h) =
       let none : (j : ℕ) (u : V) → get_elem? (set views port left) j ≡ some u → role u ≡ true → ⊥ = λ j u e may. ⊎_elim
-          (λ (x : (j ≡ port) × (left ≡ u)). true≢false (sym may ∙ ap role (sym x.1) ∙ lacks))
-          (λ (x : (j ≢ port) × (get_elem? views j ≡ some u)). x.0 ((h j u x.1 may).0 ∙ sym (h port v at mine).0)) (at_set views port j left u e) in (
+      (λ (x : (j ≡ port) × (left ≡ u)). true≢false (sym may ∙ ap role (sym x.1) ∙ lacks))
+      (λ (x : (j ≢ port) × (get_elem? views j ≡ some u)). x.0 ((h j u x.1 may).0 ∙ sym (h port v at mine).0)) (at_set views port j left u e) in (
         length (set views port left),
         λ j u e may. ⊎_elim (λ (x : get_elem? (set views port left) j ≡ some u). absurd (none j u x may))
             (λ (x : right ≡ u). (at_end (set views port left) right u j (λ x. none j u x may) e, ap known (sym x) ∙ same ∙ (h port v at mine).1)) (at_snoc (set views port left) right u j e),
@@ -63,6 +63,6 @@ module _ {V L : Type 0} (role : V → Bool) (known : V → L) where
         port,
         λ j y e may. ⊎_elim (λ (x : (j ≡ other) × (spent ≡ y)). absurd (true≢false (sym may ∙ ap role (sym x.1) ∙ lacks)))
             (λ (x : (j ≢ other) × (get_elem? (set views port both) j ≡ some y)). ⊎_elim
-                (λ (z : (j ≡ port) × (both ≡ y)). (z.0, ap known (sym z.1) ∙ same ∙ it.1))
-                (λ (z : (j ≢ port) × (get_elem? views j ≡ some y)). absurd (x.0 ((h j y z.1 may).0 ∙ sym it.0))) (at_set views port j both y x.1)) (at_set (set views port both) other j spent y e),
+            (λ (z : (j ≡ port) × (both ≡ y)). (z.0, ap known (sym z.1) ∙ same ∙ it.1))
+            (λ (z : (j ≢ port) × (get_elem? views j ≡ some y)). absurd (x.0 ((h j y z.1 may).0 ∙ sym it.0))) (at_set views port j both y x.1)) (at_set (set views port both) other j spent y e),
       )

@@ -1,13 +1,11 @@
 -- Each step keeps the rule of a lane.
-use Rattle.std.proofs.Common.{◌≡◌, ◌≤◌, ℕ, ◌<◌, Bool, true, false, true≢false, List, [], ◌∷◌, ◌++◌, length, set, sym, refl, ap, ◌∙◌, subst, ⊎_elim, append_assoc, length-append, arith}
-use mathlib.Core.Option.{some, some-ne-none}
+use Rattle.std.proofs.Common.{◌≡◌, ◌≤◌, ℕ, Bool, true, false, true≢false, List, [], ◌∷◌, ◌++◌, length, set, sym, refl, ap, ◌∙◌, append_assoc, length-append, arith}
 use Rattle.std.proofs.Common.{◌&&◌, Option, Some, None, Result, Ok, Err, MatchOption, MatchResult, IfSome, is_ok}
-use lib.ListN.{get_elem?}
 use Rattle.crossbeam_queue.specs.Fifo.{Pushes, Pops, Forks, Merges, Learns}
 use Rattle.lane.specs.declared.item.Item.{Item}
 use Rattle.lane.specs.declared.rule.Log.{Log}
 use Rattle.lane.specs.Items.{is_finish, has_mark, mark_last}
-use Rattle.lane.specs.Rule.{log, Knows, Carries}
+use Rattle.lane.specs.Rule.{log, Carries}
 use Rattle.lane.proofs.Marks.{has_mark-snoc, mark_last-snoc, no_mark_before}
 use Rattle.lane.proofs.Roles.{alone, stays, grows, comes, goes_over, goes_to}
 

@@ -8,9 +8,8 @@ mod making;
 mod sending;
 mod taking;
 
-pub use making::lane;
-
 use crate::rule::{Line, LinePass};
+pub use making::lane;
 use std::alloc::Global;
 use std::sync::Arc;
 

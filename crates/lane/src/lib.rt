@@ -4,6 +4,8 @@
 mod ends;
 mod item;
 mod rule;
+#[cfg(test)]
+mod tests;
 
 pub use ends::{End, Sender, Taker, lane};
 pub use item::Item;

@@ -121,11 +121,7 @@ pub fn pop<T: Copy + Send, R: Wait>(
 }
 
 /// Learns that what was taken is a beginning of what was put. Both views stay as they are.
-pub fn compare<T: Copy + Send>(
-    line: &Line<T>,
-    taker: &mut LinePass<T>,
-    sender: &mut LinePass<T>,
-)
+pub fn compare<T: Copy + Send>(line: &Line<T>, taker: &mut LinePass<T>, sender: &mut LinePass<T>)
     requires taker { IsPassOf line.now taker.old × ((view taker.old).takes ≡ true) }
     requires sender { IsPassOf line.now sender.old × ((view sender.old).puts ≡ true) }
     ensures taker { IsPassOf line.now taker.new × (taker.new.table_id ≡ taker.old.table_id) }

@@ -21,10 +21,7 @@ pub fn lane<T: Copy + Send>(
     made(alloc, capacity).map_err(|_| NoMemory)
 }
 
-fn made<T: Copy + Send>(
-    alloc: Global,
-    capacity: usize,
-) -> Result<(Sender<T>, Taker<T>), AllocError>
+fn made<T: Copy + Send>(alloc: Global, capacity: usize) -> Result<(Sender<T>, Taker<T>), AllocError>
     requires { (1 ≤ capacity) × (capacity ≤ 65536) }
     ensures lane { IfOk result (λ r. lane_of r.0 ≡ taker_lane r.1) }
     ensures empty { IfOk result (λ r. (put_of r.0 ≡ []) × (taken_of r.1 ≡ [])) }
