@@ -16,3 +16,4 @@ pub mod Readers
 pub mod Once
 pub mod Parts
 pub mod SpelledLines
+pub mod Cuttings

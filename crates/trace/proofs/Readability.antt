@@ -104,10 +104,10 @@ spell_injective (Write l) (Read m) fr fs e = absurd (differ_first _ _ _ _ (omega
 spell_injective (Write l) (Write m) fr fs e = ap Write (decimal_injective l m fr fs (append_cancel_left (codes "write ") _ _ e))
 
 -- the lines of one record more, with what follows, up to the first line end
-one_line : (r : Record) (more : List ℕ) → line r ++ more ≡ spell r ++ newline ∷ more
+pub one_line : (r : Record) (more : List ℕ) → line r ++ more ≡ spell r ++ newline ∷ more
 one_line r more = append_assoc (spell r) (newline ∷ []) more
 
-lines_open : (r : Record) (v : List Record) (x : List ℕ) → flat_map line (r ∷ v) ++ x ≡ spell r ++ newline ∷ (flat_map line v ++ x)
+pub lines_open : (r : Record) (v : List Record) (x : List ℕ) → flat_map line (r ∷ v) ++ x ≡ spell r ++ newline ∷ (flat_map line v ++ x)
 lines_open r v x = append_assoc (line r) (flat_map line v) x ∙ one_line r (flat_map line v ++ x)
 
 text_open : (w : List Record) (x : List ℕ) → text w ++ x ≡ header ++ newline ∷ (flat_map line w ++ x)
@@ -117,10 +117,10 @@ text_open w x = append_assoc (ended header) (flat_map line w) x ∙ append_assoc
 abbrev pub GoesOn : List Record → List Record → List ℕ → List ℕ → Type 0
 GoesOn u w x y = (v : List Record) × (u ≡ w ++ v) × AllFit v × (y ≡ flat_map line v ++ x)
 
-length_on : (u w v : List Record) → u ≡ w ++ v → length u ≡ length w + length v
+pub length_on : (u w v : List Record) → u ≡ w ++ v → length u ≡ length w + length v
 length_on u w v on = ap length on ∙ length-append w v
 
-same_record : (r s : Record) (A B : List ℕ) → Fits r → Fits s → spell r ++ newline ∷ A ≡ spell s ++ newline ∷ B → (r ≡ s) × (A ≡ B)
+pub same_record : (r s : Record) (A B : List ℕ) → Fits r → Fits s → spell r ++ newline ∷ A ≡ spell s ++ newline ∷ B → (r ≡ s) × (A ≡ B)
 same_record r s A B fr fs e = let split = unended_split (spell r) (spell s) A B (unended-spell r fr) (unended-spell s fs) e in (spell_injective r s fr fs split.0, split.1)
 
 cons_front : (r s : Record) (u w : List Record) (x y : List ℕ) → r ≡ s → GoesOn u w x y ⊎ GoesOn w u y x → GoesOn (r ∷ u) (s ∷ w) x y ⊎ GoesOn (s ∷ w) (r ∷ u) y x
@@ -158,14 +158,14 @@ judged_is : {bytes body : List ℕ} → IsJudged bytes body → (h more : List �
 judged_is (at_end b rest un) h more hh short e = (unended_split b h rest more un hh (sym (append_assoc b (newline ∷ []) rest) ∙ e)).0
 judged_is (at_length b rest un long) h more hh short e = absurd (not_longer b h rest more un (omega arith) e)
 
-header_judged : {bytes body : List ℕ} → IsJudged bytes body → (w : List Record) (x : List ℕ) → bytes ≡ text w ++ x → body ≡ header
+pub header_judged : {bytes body : List ℕ} → IsJudged bytes body → (w : List Record) (x : List ℕ) → bytes ≡ text w ++ x → body ≡ header
 header_judged judged w x e = judged_is judged header (flat_map line w ++ x) unended-header (omega arith) (e ∙ text_open w x)
 
 record_judged : {bytes body : List ℕ} → IsJudged bytes body → IsNoRecord body → (r : Record) (more : List ℕ) → Fits r → bytes ≡ spell r ++ newline ∷ more → ⊥
 record_judged judged no_spelling r more fits e = no_spelling r fits (judged_is judged (spell r) more (unended-spell r fits) (length-spell r fits) e)
 
 -- a bad line comes behind all good ones
-behind_good : (w u : List Record) (x rest : List ℕ) {body : List ℕ} → AllFit w → AllFit u → IsJudged rest body → IsNoRecord body → text w ++ x ≡ text u ++ rest → length w ≤ length u
+pub behind_good : (w u : List Record) (x rest : List ℕ) {body : List ℕ} → AllFit w → AllFit u → IsJudged rest body → IsNoRecord body → text w ++ x ≡ text u ++ rest → length w ≤ length u
 behind_good w u x rest hw hu judged no_spelling e = go (same_front w u x rest hw hu e)
   where
     go : GoesOn w u x rest ⊎ GoesOn u w rest x → length w ≤ length u
@@ -223,13 +223,13 @@ open_not_judged : {bytes body : List ℕ} → IsJudged bytes body → IsOpen byt
 open_not_judged (at_end b rest un) h = unended_no_line (ended b ++ rest) b rest h.unended (append_assoc b (newline ∷ []) rest)
 open_not_judged (at_length b rest un long) h = absurd (omega (arith, h.short, length-append b rest))
 
-open_no_lines : (rest : List ℕ) (r : Record) (v : List Record) (x : List ℕ) → IsOpen rest → rest ≡ flat_map line (r ∷ v) ++ x → ⊥
+pub open_no_lines : (rest : List ℕ) (r : Record) (v : List Record) (x : List ℕ) → IsOpen rest → rest ≡ flat_map line (r ∷ v) ++ x → ⊥
 open_no_lines rest r v x h e = unended_no_line rest (spell r) (flat_map line v ++ x) h.unended (e ∙ lines_open r v x)
 
 open_no_line : (rest : List ℕ) (r : Record) (more : List ℕ) → IsOpen rest → rest ≡ line r ++ more → ⊥
 open_no_line rest r more h e = unended_no_line rest (spell r) more h.unended (e ∙ one_line r more)
 
-open_no_text : (rest : List ℕ) (w : List Record) (x : List ℕ) → IsOpen rest → rest ≡ text w ++ x → ⊥
+pub open_no_text : (rest : List ℕ) (w : List Record) (x : List ℕ) → IsOpen rest → rest ≡ text w ++ x → ⊥
 open_no_text rest w x h e = unended_no_line rest header (flat_map line w ++ x) h.unended (e ∙ text_open w x)
 
 -- an unfinished line is no fault
@@ -437,12 +437,12 @@ judged_more {body = body} more (at_end _ rest unended) = let P : List ℕ → Ty
 judged_more {body = body} more (at_length _ rest unended long) = let P : List ℕ → Type 0 = λ x. IsJudged x body in subst P (sym (append_assoc body rest more)) (at_length body (rest ++ more) unended long)
 
 -- a bad line of bytes is one of them with more behind
-bad_line_more : (records : ℕ) (bytes more : List ℕ) (f : TextFault) → IsBadLine records bytes f → IsBadLine records (bytes ++ more) f
+pub bad_line_more : (records : ℕ) (bytes more : List ℕ) (f : TextFault) → IsBadLine records bytes f → IsBadLine records (bytes ++ more) f
 bad_line_more records bytes more f (bad_header body judged other) = bad_header body (judged_more more judged) other
 bad_line_more records bytes more f (bad_line w rest body fit le e judged no_spelling) = bad_line w (rest ++ more) body fit le (ap (λ x. x ++ more) e ∙ append_assoc (text w) rest more) (judged_more more judged) no_spelling
 bad_line_more records bytes more f (too_many w r rest fit full fits e) = too_many w r (rest ++ more) fit full fits (ap (λ x. x ++ more) e ∙ append_assoc (text w) (line r ++ rest) more ∙ ap (λ x. text w ++ x) (append_assoc (line r) rest more))
 
-bad_place_more : (depths : ℕ) (bytes more : List ℕ) (n : NestFault) → IsBadPlace depths bytes n → IsBadPlace depths (bytes ++ more) n
+pub bad_place_more : (depths : ℕ) (bytes more : List ℕ) (n : NestFault) → IsBadPlace depths bytes n → IsBadPlace depths (bytes ++ more) n
 bad_place_more depths bytes more n (bad_place u r rest k fit fits e nested bad) = bad_place u r (rest ++ more) k fit fits (ap (λ x. x ++ more) e ∙ append_assoc (text u) (line r ++ rest) more ∙ ap (λ x. text u ++ x) (append_assoc (line r) rest more)) nested bad
 
 -- bytes in front of the text of a well nested trace have no first fault

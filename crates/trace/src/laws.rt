@@ -1,8 +1,14 @@
-//! What holds of every well nested trace.
+//! What holds of every text, and of every well nested trace.
 
-ghost use Rattle.std.specs.Prelude.{ℕ, ◌<◌, ◌↔◌, List};
+ghost use Rattle.std.specs.Prelude.{◌≡◌, ℕ, ◌<◌, ◌↔◌, ◌++◌, List, Some, Err};
 ghost use Rattle.trace.specs.declared.records.Record.{Record};
+ghost use Rattle.trace.specs.declared.faults.Fault.{Fault};
+ghost use Rattle.trace.specs.declared.faults.Fault.TheVariants.{Read};
 ghost use Rattle.trace.specs.Traces.{IsPlace, IsWellNested};
+ghost use Rattle.trace.specs.Text.{text, AllFit};
+ghost use Rattle.trace.specs.Faults.{IsFirstFault, IsFaultOfAll};
+ghost use Rattle.trace.specs.Feeding.{Feeding, IsFed};
+ghost use Rattle.trace.specs.Reading.{Reading, HasRead};
 ghost use Rattle.trace.specs.Dag.{IsParallel};
 ghost use Rattle.trace.specs.Races.{IsAccessPlace};
 ghost use Rattle.trace.specs.Meeting.{ExactlyOne, Holds, InOneBlock, IsMeeting, IsStand};
@@ -19,4 +25,28 @@ pub fn meeting()
     ensures parallel { (w : List Record) (records depths i j m : ℕ) → IsWellNested w records depths
         → IsAccessPlace w i → IsAccessPlace w j → i < j → IsMeeting w i j m
         → IsParallel w i j ↔ InOneBlock w m i j }
+{}
+
+/// No two traces have one text, and what a reader gives of bytes is the same however they were cut.
+/// Bytes have one first fault, which stays their first fault when more bytes come; and one fault once they
+/// have ended. The text of a well nested trace has none, and neither have the bytes in front of its end: a feed
+/// over it, whose source tells what it has left, fails only where the source does.
+pub fn texts()
+    ensures one_trace { (u w : List Record) → AllFit u → AllFit w → text u ≡ text w → u ≡ w }
+    ensures any_cutting { (u w : List Record) (bytes : List ℕ) (s t : Reading) → HasRead u bytes s
+        → HasRead w bytes t → u ≡ w }
+    ensures one_first_fault { (records depths : ℕ) (bytes : List ℕ) (f g : Fault)
+        → IsFirstFault records depths bytes f → IsFirstFault records depths bytes g → f ≡ g }
+    ensures first_stays { (records depths : ℕ) (bytes more : List ℕ) (f : Fault)
+        → IsFirstFault records depths bytes f → IsFirstFault records depths (bytes ++ more) f }
+    ensures one_fault { (records depths : ℕ) (bytes : List ℕ) (f g : Fault)
+        → IsFaultOfAll records depths bytes f → IsFaultOfAll records depths bytes g → f ≡ g }
+    ensures none { (records depths : ℕ) (w : List Record) (f : Fault) → AllFit w
+        → IsWellNested w records depths → IsFaultOfAll records depths (text w) f → ⊥ }
+    ensures none_in_front { (records depths : ℕ) (w : List Record) (bytes more : List ℕ) (f : Fault)
+        → AllFit w → IsWellNested w records depths → text w ≡ bytes ++ more
+        → IsFirstFault records depths bytes f → ⊥ }
+    ensures only_read { (records depths before after : ℕ) (u w : List Record) (bytes left : List ℕ) (feed : Feeding) (f : Fault)
+        → AllFit u → IsWellNested u records depths → bytes ++ left ≡ text u
+        → IsFed records depths w bytes (Some left) before after feed (Err f) → f ≡ Read }
 {}

@@ -1,4 +1,4 @@
-ghost use Rattle.std.specs.Prelude.{◌≡◌, ◌≤◌, ◌+◌, ◌<◌, ◌^◌, ◌++◌, ◌∷◌, [], List, length, IfOk, IfErr, OnOk, OnErr, MatchResult};
+ghost use Rattle.std.specs.Prelude.{◌≡◌, ℕ, ◌≤◌, ◌+◌, ◌<◌, ◌^◌, ◌++◌, ◌∷◌, [], List, length, IfOk, IfErr, OnOk, OnErr, MatchResult};
 ghost use Rattle.trace.specs.declared.records.Record.{Record};
 
 use crate::faults::{NestFault, NestKind};
@@ -95,6 +95,7 @@ impl Nest {
     /// Whether the accepted records are well nested, so that none may follow.
     pub fn end(&self) -> Result<(), NestFault>
         ensures ok { (u : List Record) → HasNested u self.now → OnOk result (IsWellNested u self.now.count self.now.max_depth) }
+        ensures not_well { (u : List Record) → HasNested u self.now → OnErr result ((records depths : ℕ) → IsWellNested u records depths → ⊥) }
         ensures unfinished { IfErr result (λ f. f ≡ record { place = self.now.count + 1; kind = Unfinished }) }
         ensures err { (u : List Record) → HasNested u self.now → OnErr result (HasEnded u → ⊥) }
     {
