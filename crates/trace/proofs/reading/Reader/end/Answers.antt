@@ -1,5 +1,5 @@
-use Rattle.std.proofs.Common.{◌≡◌, ◌≢◌, List, [], ℕ, length, Bool, true, false, subst, sym, ap, ◌∙◌, arith}
-use Rattle.trace.specs.Reading.{Reading, HasRead}
+use Rattle.std.proofs.Common.{◌≡◌, ◌≢◌, [], length, true, false, sym, ap, ◌∙◌, arith}
+use Rattle.trace.specs.Reading.{Reading}
 use Rattle.trace.proofs.Readings.{truncated_header, truncated_line}
 use Rattle.trace.proofs.Cuttings.{truncated_not_text}
 use Rattle.trace.proofs.reading.Reader.end.Goals as goal
