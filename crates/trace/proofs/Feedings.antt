@@ -1,7 +1,6 @@
 -- What each step of a feed leaves of `HasFed`, and that the fault that it meets is the first.
-use Rattle.std.proofs.Common.{◌≡◌, ◌≢◌, ℕ, zero, suc, ◌+◌, ◌-◌, ◌<◌, ◌≤◌, Bool, true, false, List, [], ◌∷◌, ◌++◌, length, take, drop, Option, Some, None, ◌⊎◌, inl, inr, arith, refl, sym, ◌∙◌, ap, subst, append_assoc, length-append}
-use Rattle.std.specs.Option.{option_to_list}
-use Rattle.std.specs.Io.KnownBytes.{Consumes, IsAtEnd, Keeps}
+use Rattle.std.proofs.Common.{◌≡◌, ℕ, ◌+◌, ◌-◌, ◌≤◌, Bool, true, false, List, [], ◌∷◌, ◌++◌, length, take, drop, Option, Some, None, arith, refl, sym, ◌∙◌, ap, subst, append_assoc, length-append}
+use Rattle.std.specs.Io.KnownBytes.{Consumes, Keeps}
 use Rattle.std.proofs.lemmas.List.{append-nil, take-append-drop, drop-take, drop-drop}
 use Rattle.trace.specs.declared.records.Record.{Record}
 use Rattle.trace.specs.declared.faults.TextFault.{TextFault}
@@ -10,8 +9,7 @@ use Rattle.trace.specs.declared.faults.NestKind.{NestKind}
 use Rattle.trace.specs.declared.faults.NestKind.TheVariants.{Unfinished}
 use Rattle.trace.specs.declared.faults.Fault.{Fault}
 use Rattle.trace.specs.declared.faults.Fault.TheVariants.{Text, Nest}
-use Rattle.trace.specs.declared.feeding.Ending.TheVariants.{Running}
-use Rattle.trace.specs.Text.{Fits, AllFit, line, text, IsOpen}
+use Rattle.trace.specs.Text.{Fits, AllFit, line, text}
 use Rattle.trace.specs.Faults.{HasEnded, IsMisplaced, AreNested, IsBadLine, IsBadPlace, bad_place, IsTruncated, IsFirstFault, IsFaultOfAll, truncated, unfinished}
 use Rattle.trace.specs.Faults as faults
 use Rattle.trace.specs.Reading.{Reading, AreBytes, HasRead}

@@ -1,5 +1,5 @@
 -- What each step of a nest leaves of `HasNested`, and what its end tells.
-use Rattle.std.proofs.Common.{◌≡◌, ◌≢◌, ℕ, zero, suc, ◌+◌, ◌-◌, ◌<◌, ◌≤◌, Bool, true, false, IsTrue, List, [], ◌∷◌, ◌++◌, length, Option, Some, None, ◌⊎◌, inl, inr, ⊎_elim, arith, refl, sym, ◌∙◌, ap, subst, length-append, ◌↔◌}
+use Rattle.std.proofs.Common.{◌≡◌, ◌≢◌, ℕ, zero, suc, ◌+◌, ◌-◌, ◌<◌, ◌≤◌, Bool, true, false, IsTrue, List, [], ◌∷◌, ◌++◌, length, ◌⊎◌, inl, inr, ⊎_elim, arith, refl, sym, ◌∙◌, subst, length-append, ◌↔◌}
 use native.Mathlib.Decide.{dec_le}
 use Rattle.std.specs.List.{sum_by}
 use Rattle.std.proofs.lemmas.Bool.{false≢true}
@@ -8,10 +8,10 @@ use Rattle.trace.specs.declared.records.Record.{Record}
 use Rattle.trace.specs.declared.records.Record.TheVariants.{Spawn, Return, Sync, Read, Write}
 use Rattle.trace.specs.declared.faults.NestKind.{NestKind}
 use Rattle.trace.specs.declared.faults.NestKind.TheVariants.{AfterEnd, TooDeep, Unfinished}
-use Rattle.trace.specs.Traces.{at, depth, opens, closes, IsPlace, IsRootReturn, IsWellNested}
+use Rattle.trace.specs.Traces.{depth, opens, closes, IsPlace, IsRootReturn, IsWellNested}
 use Rattle.trace.specs.Faults.{HasEnded, IsMisplaced, after_end, too_deep, AreNested, none, next}
 use Rattle.trace.specs.Nesting.{Nesting, HasNested}
-use Rattle.trace.proofs.Places.{at-front, at-seam, depth-front, depth-next, depth-pushed, ended_before, ended_by, ended_after}
+use Rattle.trace.proofs.Places.{at-front, depth-front, depth-next, depth-pushed, ended_before, ended_by, ended_after}
 
 -- where no record is misplaced and the root hasn't returned, no more procedures have returned than were opened
 pub balanced : (d : ℕ) {u : List Record} → AreNested d u → (HasEnded u → ⊥) → sum_by closes u ≤ sum_by opens u

@@ -1,5 +1,5 @@
 -- Records, depths and root returns of a list of records that is extended at its end.
-use Rattle.std.proofs.Common.{◌≡◌, ℕ, zero, suc, ◌+◌, ◌-◌, ◌<◌, ◌≤◌, List, [], ◌∷◌, ◌++◌, length, take, Option, Some, None, ◌⊎◌, inl, inr, arith, refl, sym, ◌∙◌, ap, subst, length-append}
+use Rattle.std.proofs.Common.{◌≡◌, ℕ, zero, suc, ◌+◌, ◌-◌, ◌<◌, ◌≤◌, List, [], ◌∷◌, ◌++◌, length, Some, ◌⊎◌, inl, inr, arith, refl, sym, ◌∙◌, ap, length-append}
 use native.Mathlib.Decide.{dec_le}
 use Rattle.std.specs.List.{sum_by, slice_get}
 use Rattle.std.proofs.lemmas.List.{take-append-le}
@@ -7,7 +7,7 @@ use Rattle.std.proofs.lemmas.List.Sums.{sum_by-append}
 use Rattle.std.proofs.Math.Seq.{take-length}
 use Rattle.trace.specs.declared.records.Record.{Record}
 use Rattle.trace.specs.declared.records.Record.TheVariants.{Return}
-use Rattle.trace.specs.Traces.{at, depth, opens, closes, IsPlace, IsRootReturn}
+use Rattle.trace.specs.Traces.{at, depth, opens, closes}
 use Rattle.trace.specs.Faults.{HasEnded}
 
 slice_get-front : (u v : List Record) (i : ℕ) → i < length u → slice_get (u ++ v) i ≡ slice_get u i

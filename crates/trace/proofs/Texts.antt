@@ -1,6 +1,6 @@
 -- Texts of traces: one more record, how long a line is, and bytes that end no line.
-use Rattle.std.proofs.Common.{◌≡◌, ◌≢◌, ℕ, suc, ◌+◌, ◌-◌, ◌*◌, ◌<◌, ◌≤◌, ◌^◌, List, [], ◌∷◌, ◌++◌, length, take, drop, get_or, arith, refl, sym, ◌∙◌, ap, subst, decimal, append_assoc, length-append, codes}
-use Rattle.std.specs.List.{flat_map, AllByRecursion, All}
+use Rattle.std.proofs.Common.{◌≡◌, ◌≢◌, ℕ, ◌+◌, ◌-◌, ◌<◌, ◌≤◌, List, [], ◌∷◌, ◌++◌, length, take, drop, get_or, arith, sym, ◌∙◌, ap, decimal, append_assoc, length-append, codes}
+use Rattle.std.specs.List.{flat_map}
 use Rattle.std.proofs.lemmas.Grind.{flat_map-append}
 use Rattle.std.proofs.lemmas.List.{append-nil, take-append-drop, take_more, length-drop}
 use Rattle.std.proofs.Math.Seq.{take-add, take-length}
@@ -8,7 +8,7 @@ use Rattle.std.proofs.lemmas.List.Elements.{All-append}
 use Rattle.std.proofs.lemmas.Fmt.{length-decimal-le}
 use Rattle.trace.specs.declared.records.Record.{Record}
 use Rattle.trace.specs.declared.records.Record.TheVariants.{Spawn, Return, Sync, Read, Write}
-use Rattle.trace.specs.Text.{newline, header, spell, Fits, AllFit, ended, line, text, IsUnended, IsOpen}
+use Rattle.trace.specs.Text.{newline, header, spell, Fits, AllFit, ended, line, text, IsUnended}
 
 pub text-push : (w : List Record) (r : Record) → text (w ++ r ∷ []) ≡ text w ++ line r
 text-push w r = ap (λ x. ended header ++ x) (flat_map-append line w (r ∷ []) ∙ ap (λ x. flat_map line w ++ x) (append-nil (line r))) ∙ sym (append_assoc (ended header) (flat_map line w) (line r))

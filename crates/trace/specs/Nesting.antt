@@ -1,5 +1,5 @@
 -- What a nest keeps of the records that it has accepted.
-use Rattle.std.specs.Prelude.{◌≡◌, ℕ, suc, Bool, true, false, List, length, ◌↔◌, IsTrue}
+use Rattle.std.specs.Prelude.{◌≡◌, ℕ, suc, Bool, false, List, length, ◌↔◌, IsTrue}
 use Rattle.trace.specs.declared.records.Record.{Record}
 use Rattle.trace.specs.Traces.{depth}
 use Rattle.trace.specs.Faults.{AreNested, HasEnded}

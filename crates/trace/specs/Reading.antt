@@ -1,9 +1,8 @@
 -- What a reader of a trace's text has read: whole records, and an unfinished line.
-use Rattle.std.specs.Prelude.{◌≡◌, ℕ, ◌+◌, ◌-◌, ◌<◌, ◌≤◌, Bool, true, false, List, [], ◌∷◌, ◌++◌, length, take, slice_index, Option, Some, None}
-use Rattle.std.specs.Option.{option_to_list}
+use Rattle.std.specs.Prelude.{◌≡◌, ℕ, ◌+◌, ◌≤◌, Bool, true, false, List, [], ◌++◌, length, Option, None}
 use Rattle.trace.specs.declared.records.Record.{Record}
 use Rattle.trace.specs.declared.faults.TextFault.{TextFault}
-use Rattle.trace.specs.Text.{newline, header, ended, text, AllFit, IsUnended, IsOpen}
+use Rattle.trace.specs.Text.{header, ended, text, AllFit, IsOpen}
 
 -- a reader: its limit on records, whether the header has come, how many records it has given, the bytes
 -- of the unfinished line, and the fault that it has met

@@ -1,4 +1,4 @@
-ghost use Rattle.std.specs.Prelude.{◌≡◌, ◌≤◌, ◌+◌, ◌<◌, ◌^◌, ◌++◌, ◌∷◌, [], ℕ, List, length, take, IfOk, IfErr, IfSome, IfNone, OnOk, Some, None, Ok, Err, true, false, IsTrue, ◌↔◌};
+ghost use Rattle.std.specs.Prelude.{◌≡◌, ◌≢◌, ◌≤◌, ◌+◌, ◌<◌, ◌^◌, ◌++◌, ◌∷◌, [], ℕ, List, length, take, IfOk, IfErr, IfSome, IfNone, OnOk, OnErr, Some, None, Ok, Err, true, false, IsTrue, ◌↔◌};
 ghost use Rattle.std.specs.Option.{option_to_list};
 ghost use Rattle.trace.specs.declared.records.Record.{Record};
 ghost use Rattle.trace.specs.Text.{text, header, spell, Fits};
@@ -307,6 +307,7 @@ impl Reader {
     /// Whether the bytes so far are the whole text of a trace. `Ok` changes nothing.
     pub fn end(&mut self) -> Result<(), TextFault>
         ensures ok { (w : List Record) (bytes : List ℕ) → HasRead w bytes self.old → OnOk result (bytes ≡ text w) }
+        ensures not_text { (w : List Record) (bytes : List ℕ) → HasRead w bytes self.old → OnErr result (bytes ≢ text w) }
         ensures truncated { (w : List Record) (bytes : List ℕ) → HasRead w bytes self.old →
             IfErr result (IsTruncated self.old.limit bytes) }
         ensures unchanged { OnOk result (self.new ≡ self.old) }

@@ -7,20 +7,27 @@ use crate::faults::{Fault, NestFault, NestKind, TextFault, TextKind};
 use crate::feeding::Feed;
 use crate::records::{Limits, Placed, Record};
 
-// Hands out the bytes, so many at each call, and fails after so many calls.
+// Hands out the bytes, so many at each call, and fails once they have all come, if that is asked. A call
+// after the failure would hand out the end of the input.
 #[derive(Drop)]
 struct Pieces<'a> {
     bytes: &'a [u8],
     size: usize,
-    calls: usize,
+    fails: bool,
+    failed: u64,
 }
 
 impl<'a> Source for Pieces<'a> {
     ghost rest = { λ _. None };
 
-    ghost failures = { λ s. 0 };
+    ghost failures = { λ s. s.failed };
 
     fn get(&mut self, buffer: &mut [u8]) -> Result<usize, Failed> {
+        if self.bytes.is_empty() && self.fails {
+            self.fails = false;
+            self.failed = self.failed.saturating_add(1);
+            return Err(Failed);
+        }
         let count = self.size.min(self.bytes.len()).min(buffer.len());
         let (front, back) = self.bytes.split_at(count);
         buffer[..count].copy_from_slice(front);
@@ -37,23 +44,35 @@ fn nest(place: u64, kind: NestKind) -> Fault {
     Fault::Nest(NestFault { place, kind })
 }
 
-// Reads all records, and answers how many there were or the fault.
-fn read_all(bytes: &[u8], size: usize, records: u64, depth: u32) -> Result<u64, Fault> {
-    let limits = Limits { records, depth };
-    let mut feed = Feed::new(
-        limits,
-        Pieces {
-            bytes,
-            size,
-            calls: 0,
-        },
-    );
+// Reads all records, and answers how many there were or the fault, where the next call answers that too.
+fn read_all(
+    bytes: &[u8],
+    size: usize,
+    fails: bool,
+    records: u64,
+    depth: u32,
+) -> Result<u64, Fault> {
+    let pieces = Pieces {
+        bytes,
+        size,
+        fails,
+        failed: 0,
+    };
+    let records = records.min(1 << 48);
+    let mut feed = Feed::new(Limits { records, depth }, pieces);
     let mut count: u64 = 0;
     for _ in 0..1_000_000 {
         match feed.next() {
             Ok(Some(_)) => count = count.saturating_add(1),
             Ok(None) => return Ok(count),
-            Err(fault) => return Err(fault),
+            Err(fault) => {
+                let again = feed.next();
+                return if again == Err(fault) {
+                    Err(fault)
+                } else {
+                    Ok(count)
+                };
+            }
         }
     }
     Ok(count)
@@ -202,10 +221,39 @@ fn first_faults(rt: HostRuntime) {
     for (bytes, records, depth, answer) in rows {
         for size in [1, 2, 7, 4096] {
             assert_eq!(rt;
-                read_all(bytes, size, records, depth),
+                read_all(bytes, size, false, records, depth),
                 answer,
                 "{bytes:?} by {size}"
             );
         }
+    }
+}
+
+#[test]
+fn failing_sources(rt: HostRuntime) {
+    let most = 1 << 48;
+    let rows: [(&[u8], Fault); 4] = [
+        (b"trace 1\nx\n", text(2, TextKind::Line)),
+        (b"trace 1\nretu", Fault::Read),
+        (b"trace 1\nreturn\n", Fault::Read),
+        (b"trace 1\nreturn\nsync\n", nest(2, NestKind::AfterEnd)),
+    ];
+    for (bytes, fault) in rows {
+        for size in [1, 2, 7, 4096] {
+            assert_eq!(rt;
+                read_all(bytes, size, true, most, 9),
+                Err(fault),
+                "{bytes:?} by {size}"
+            );
+        }
+    }
+    let race: &[u8] = b"trace 1\nspawn\nwrite 5\nreturn\nwrite 5\nreturn\n";
+    for calls in 0..=race.len() {
+        let front = &race[..calls];
+        assert_eq!(rt;
+            read_all(front, 1, true, most, 9),
+            Err(Fault::Read),
+            "at call {calls}"
+        );
     }
 }

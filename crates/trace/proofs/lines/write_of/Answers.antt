@@ -1,4 +1,4 @@
-use Rattle.std.proofs.Common.{◌≡◌, ◌<◌, ◌+◌, ℕ, List, [], ◌∷◌, length, take, ap, ◌∙◌, arith, refl}
+use Rattle.std.proofs.Common.{◌≡◌, ◌+◌, [], ◌∷◌, take, ap, ◌∙◌, arith, refl}
 use Rattle.trace.proofs.Fronts.{take_six, word_and_digits}
 use Rattle.trace.proofs.lines.write_of.Goals as goal
 

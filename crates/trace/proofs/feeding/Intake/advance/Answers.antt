@@ -1,4 +1,4 @@
-use Rattle.std.proofs.Common.{◌≡◌, ◌≤◌, ◌-◌, ◌+◌, ℕ, List, ◌++◌, take, drop, length, arith, sym, subst}
+use Rattle.std.proofs.Common.{◌≤◌, ◌-◌, ◌++◌, take, drop, arith, sym, subst}
 use Rattle.std.specs.Option.{option_to_list}
 use Rattle.std.proofs.lemmas.List.{length-take}
 use Rattle.trace.specs.Feeding.{Feeding, HasUsed}

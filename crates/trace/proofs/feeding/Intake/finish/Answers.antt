@@ -1,4 +1,4 @@
-use Rattle.std.proofs.Common.{◌≡◌, ◌+◌, ◌-◌, ℕ, List, ◌++◌, [], take, drop, inr, refl, ap, sym, subst, ◌∙◌}
+use Rattle.std.proofs.Common.{◌≡◌, ◌-◌, [], take, drop, inr, refl, ap, sym, subst, ◌∙◌}
 use Rattle.trace.specs.declared.faults.NestFault.{NestFault}
 use Rattle.trace.specs.declared.faults.Fault.TheVariants.{Text, Nest}
 use Rattle.trace.specs.Faults.{IsFaultOfAll}

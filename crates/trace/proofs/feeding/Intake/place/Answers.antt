@@ -1,4 +1,4 @@
-use Rattle.std.proofs.Common.{◌≡◌, ◌+◌, ◌-◌, ℕ, List, ◌++◌, ◌∷◌, [], take, drop, inl, refl, ap, sym, subst}
+use Rattle.std.proofs.Common.{◌-◌, ◌++◌, ◌∷◌, [], take, drop, inl, refl, ap, sym, subst}
 use Rattle.trace.specs.declared.faults.Fault.TheVariants.{Nest}
 use Rattle.trace.specs.Faults.{IsFirstFault}
 use Rattle.trace.specs.Feeding.{Feeding, HasUsed}

@@ -1,13 +1,12 @@
-use Rattle.std.proofs.Common.{◌≡◌, ◌≤◌, ◌+◌, ℕ, List, ◌++◌, ◌∷◌, [], length, Option, Ok, inl, refl, ap, sym, subst, ◌∙◌}
+use Rattle.std.proofs.Common.{◌≡◌, ℕ, List, ◌++◌, Option, Ok, inl, ap, sym, subst, ◌∙◌}
 use Rattle.std.specs.Option.{option_to_list}
 use Rattle.std.proofs.lemmas.List.{append-nil}
 use Rattle.trace.specs.declared.faults.Fault.{Fault}
-use Rattle.trace.specs.declared.records.Placed.{Placed}
 use Rattle.trace.specs.declared.faults.Fault.TheVariants.{Text}
 use Rattle.trace.specs.declared.records.Record.{Record}
 use Rattle.trace.specs.Faults.{IsFirstFault}
 use Rattle.trace.specs.Nesting.{Nesting, HasNested}
-use Rattle.trace.specs.Feeding.{Feeding, HasUsed, HasFed, IsFed}
+use Rattle.trace.specs.Feeding.{Feeding, HasUsed, IsFed}
 use Rattle.trace.proofs.Feedings.{filled, read_all, no_fault_yet, first_line_fault, at_limits}
 use Rattle.trace.proofs.feeding.Intake.read_on.Goals as goal
 

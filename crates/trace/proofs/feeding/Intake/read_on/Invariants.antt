@@ -1,4 +1,4 @@
-use Rattle.std.proofs.Common.{◌≡◌, ◌-◌, ◌≤◌, ℕ, List, ◌++◌, length}
+use Rattle.std.proofs.Common.{◌≡◌, ◌-◌, ℕ, List, ◌++◌}
 use Rattle.std.specs.Io.KnownBytes.{Consumes}
 use Rattle.trace.specs.declared.records.Record.{Record}
 use Rattle.trace.specs.declared.feeding.Ending.TheVariants.{Running}

@@ -1,5 +1,4 @@
-use Rattle.std.proofs.Common.{◌≡◌, ◌<◌, Bool, true, false, ap, sym, subst, ◌∙◌, ◌++◌, ◌∷◌, [], arith, List}
-use Rattle.trace.specs.declared.records.Record.{Record}
+use Rattle.std.proofs.Common.{ap, sym, subst, ◌∙◌, arith}
 use Rattle.trace.specs.declared.records.Record.TheVariants.{Spawn}
 use Rattle.trace.specs.declared.faults.NestKind.TheVariants.{TooDeep}
 use Rattle.trace.specs.Faults.{IsMisplaced}

@@ -1,6 +1,6 @@
-use Rattle.std.proofs.Common.{◌≡◌, ◌++◌, ◌+◌, ◌-◌, ℕ, List, take, drop, length, ap, sym, subst, ◌∙◌, append_assoc, arith}
+use Rattle.std.proofs.Common.{◌++◌, ℕ, List, subst}
 use Rattle.std.specs.Option.{option_to_list}
-use Rattle.trace.specs.Reading.{Reading, HasRead}
+use Rattle.trace.specs.Reading.{HasRead}
 use Rattle.trace.proofs.Texts.{take_rest}
 use Rattle.trace.proofs.reading.Reader.any_step.Goals as goal
 

@@ -1,7 +1,7 @@
-use Rattle.std.proofs.Common.{◌≡◌, ◌++◌, ℕ, List, take, Bool, false, subst, sym, ap, ◌∙◌, ◌-◌, length, arith, IsTrue}
+use Rattle.std.proofs.Common.{◌≡◌, ◌++◌, ℕ, take, subst, sym, ap, ◌∙◌, ◌-◌, length, arith, IsTrue}
 use Rattle.std.proofs.lemmas.Bool.{false≢true}
 use Rattle.trace.specs.Text.{IsUnended}
-use Rattle.trace.specs.Reading.{Reading, HasRead}
+use Rattle.trace.specs.Reading.{Reading}
 use Rattle.trace.proofs.Readings.{header_at_end, header_long}
 use Rattle.trace.proofs.reading.Reader.open.Goals as goal
 
