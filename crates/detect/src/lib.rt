@@ -4,5 +4,7 @@
 mod detector;
 pub mod laws;
 pub mod plain;
+#[cfg(test)]
+mod tests;
 
 pub use plain::detect_plain;

@@ -1,0 +1,268 @@
+//! The report of a short trace, and the first fault of a list of records that is none, by their definitions: the
+//! edges of the dag are built, and walked from each place. Nothing here knows of bags.
+//!
+//! Places are counted from 0 here, and told from 1.
+
+use trace::{Access, Kind, NestFault, NestKind, Record};
+
+/// How many records a list has at most.
+pub const MOST: usize = 7;
+
+/// For each two places, whether something leads from the first to the second.
+pub type Between = [[bool; MOST]; MOST];
+
+/// The race that is told of a location.
+#[derive(Clone, Copy, Debug, PartialEq, Eq)]
+pub struct Told {
+    pub location: u64,
+    pub first: Access,
+    pub second: Access,
+}
+
+/// Whether the last record is the root's return, no earlier one is, and no place is deeper than the limit.
+pub fn is_well_nested(records: &[Record], depth_limit: usize) -> bool {
+    let Some(last) = records.len().checked_sub(1) else {
+        return false;
+    };
+    for i in 0..last {
+        if is_root_return(records, i) || depth(records, i) > depth_limit {
+            return false;
+        }
+    }
+    is_root_return(records, last) && depth(records, last) <= depth_limit
+}
+
+/// The first record that follows the root's return or opens a procedure too deep; else, where the root hasn't
+/// returned, the place behind the records.
+pub fn first_fault(records: &[Record], depth_limit: usize) -> Option<NestFault> {
+    for i in 0..records.len() {
+        if let Some(kind) = fault_at(records, i, depth_limit) {
+            let place = told_place(i);
+            return Some(NestFault { place, kind });
+        }
+    }
+    if has_returned(records, records.len()) {
+        return None;
+    }
+    Some(NestFault {
+        place: told_place(records.len()),
+        kind: NestKind::Unfinished,
+    })
+}
+
+fn fault_at(records: &[Record], i: usize, depth_limit: usize) -> Option<NestKind> {
+    if has_returned(records, i) {
+        return Some(NestKind::AfterEnd);
+    }
+    if at(records, i) == Some(Record::Spawn) && depth(records, i) >= depth_limit {
+        return Some(NestKind::TooDeep);
+    }
+    None
+}
+
+/// Whether the root has returned at a place before this one.
+fn has_returned(records: &[Record], i: usize) -> bool {
+    for k in 0..i {
+        if is_root_return(records, k) {
+            return true;
+        }
+    }
+    false
+}
+
+fn is_root_return(records: &[Record], i: usize) -> bool {
+    at(records, i) == Some(Record::Return) && depth(records, i) == 0
+}
+
+/// The spawns before the place, less the returns before it.
+fn depth(records: &[Record], i: usize) -> usize {
+    let mut spawns: usize = 0;
+    let mut returns: usize = 0;
+    for record in records.iter().take(i) {
+        match record {
+            Record::Spawn => spawns = spawns.saturating_add(1),
+            Record::Return => returns = returns.saturating_add(1),
+            _ => {}
+        }
+    }
+    spawns.saturating_sub(returns)
+}
+
+fn at(records: &[Record], i: usize) -> Option<Record> {
+    records.get(i).copied()
+}
+
+fn told_place(i: usize) -> u64 {
+    (i as u64).saturating_add(1)
+}
+
+/// How the location is accessed at the place, if it is.
+fn access_at(records: &[Record], location: u64, i: usize) -> Option<Kind> {
+    match at(records, i) {
+        Some(Record::Read(accessed)) if accessed == location => Some(Kind::Read),
+        Some(Record::Write(accessed)) if accessed == location => Some(Kind::Write),
+        _ => None,
+    }
+}
+
+/// A place that waits for the procedure's children.
+fn joins(records: &[Record], i: usize) -> bool {
+    let record = at(records, i);
+    record == Some(Record::Sync) || record == Some(Record::Return)
+}
+
+fn is_edge(records: &[Record], i: usize, j: usize) -> bool {
+    i < j
+        && j < records.len()
+        && (is_continuation(records, i, j) || is_spawn(records, i, j) || is_join(records, i, j))
+}
+
+/// From a record that isn't a return to the next place of the same procedure.
+fn is_continuation(records: &[Record], i: usize, j: usize) -> bool {
+    for k in i..j {
+        if k > i && depth(records, k) <= depth(records, i) {
+            return false;
+        }
+    }
+    at(records, i) != Some(Record::Return) && depth(records, j) == depth(records, i)
+}
+
+/// From a spawn to the child's first place.
+fn is_spawn(records: &[Record], i: usize, j: usize) -> bool {
+    at(records, i) == Some(Record::Spawn) && i.checked_add(1) == Some(j)
+}
+
+/// From a child's return to the first later place of its parent that waits for it.
+fn is_join(records: &[Record], i: usize, j: usize) -> bool {
+    for k in i..j {
+        if k > i && depth(records, k) == depth(records, j) && joins(records, k) {
+            return false;
+        }
+    }
+    at(records, i) == Some(Record::Return)
+        && depth(records, i).checked_sub(1) == Some(depth(records, j))
+        && joins(records, j)
+}
+
+fn edges(records: &[Record]) -> Between {
+    let mut edges = [[false; MOST]; MOST];
+    for i in 0..MOST {
+        for j in 0..MOST {
+            edges[i][j] = is_edge(records, i, j);
+        }
+    }
+    edges
+}
+
+/// The places that paths lead to from a place.
+fn reached_from(edges: &Between, start: usize) -> [bool; MOST] {
+    let mut reached = [false; MOST];
+    for i in 0..MOST {
+        reached[i] = i == start;
+    }
+    for _ in 0..MOST {
+        reached = with_next(edges, reached);
+    }
+    reached
+}
+
+/// These places, and those that one edge leads to from them.
+fn with_next(edges: &Between, reached: [bool; MOST]) -> [bool; MOST] {
+    let mut next = reached;
+    for i in 0..MOST {
+        for j in 0..MOST {
+            if reached[i] && edges[i][j] {
+                next[j] = true;
+            }
+        }
+    }
+    next
+}
+
+/// From which place to which a path leads.
+pub fn paths(records: &[Record]) -> Between {
+    let edges = edges(records);
+    let mut paths = [[false; MOST]; MOST];
+    for i in 0..MOST {
+        paths[i] = reached_from(&edges, i);
+    }
+    paths
+}
+
+fn leads(paths: &Between, i: usize, j: usize) -> bool {
+    i < MOST && j < MOST && paths[i][j]
+}
+
+fn are_parallel(paths: &Between, i: usize, j: usize) -> bool {
+    i != j && !leads(paths, i, j) && !leads(paths, j, i)
+}
+
+fn is_race(records: &[Record], paths: &Between, location: u64, i: usize, j: usize) -> bool {
+    let first = access_at(records, location, i);
+    let second = access_at(records, location, j);
+    let one_writes = first == Some(Kind::Write) || second == Some(Kind::Write);
+    i < j && first.is_some() && second.is_some() && one_writes && are_parallel(paths, i, j)
+}
+
+/// The least place at which a race on the location ends.
+pub fn second_place(records: &[Record], paths: &Between, location: u64) -> Option<usize> {
+    for j in 0..records.len() {
+        for i in 0..j {
+            if is_race(records, paths, location, i, j) {
+                return Some(j);
+            }
+        }
+    }
+    None
+}
+
+fn last_write(records: &[Record], location: u64, j: usize) -> Option<usize> {
+    let mut last = None;
+    for i in 0..j {
+        if access_at(records, location, i) == Some(Kind::Write) {
+            last = Some(i);
+        }
+    }
+    last
+}
+
+/// The first read, and then each later one that a path leads to from the kept one.
+fn kept_reader(records: &[Record], paths: &Between, location: u64, j: usize) -> Option<usize> {
+    let mut kept = None;
+    for i in 0..j {
+        if access_at(records, location, i) == Some(Kind::Read) {
+            kept = match kept {
+                Some(reader) if !leads(paths, reader, i) => Some(reader),
+                _ => Some(i),
+            };
+        }
+    }
+    kept
+}
+
+/// The race whose second place is known: its first place is the last write where that is parallel, otherwise the
+/// kept reader.
+pub fn race_ending_at(
+    records: &[Record],
+    paths: &Between,
+    location: u64,
+    j: usize,
+) -> Option<Told> {
+    let i = match last_write(records, location, j) {
+        Some(writer) if are_parallel(paths, writer, j) => writer,
+        _ => kept_reader(records, paths, location, j)?,
+    };
+    let first = Access {
+        kind: access_at(records, location, i)?,
+        place: told_place(i),
+    };
+    let second = Access {
+        kind: access_at(records, location, j)?,
+        place: told_place(j),
+    };
+    Some(Told {
+        location,
+        first,
+        second,
+    })
+}
