@@ -1,5 +1,5 @@
 //! The answers of the program: what goes to standard output and to standard error, and the exit status.
-ghost use Rattle.std.specs.Prelude.{◌≡◌, ◌<◌, ◌≤◌, ◌^◌, ◌↔◌, ◌⊎◌, [], List, Some, IfSome, IfNone, MatchResult};
+ghost use Rattle.std.specs.Prelude.{◌≡◌, ◌<◌, ◌≤◌, ◌^◌, ◌↔◌, ◌⊎◌, ℕ, [], List, Some, IfSome, IfNone, MatchResult};
 ghost use Rattle.trace.specs.Accesses.{RaceAt};
 ghost use Rattle.trace.specs.Devices.{HasRisen};
 ghost use Rattle.trace.specs.Text.{text, AllFit};
@@ -8,6 +8,7 @@ ghost use Rattle.trace.specs.declared.faults.Fault.{Fault};
 ghost use Rattle.trace.specs.declared.faults.Fault.TheVariants.{NoMemory};
 ghost use Rattle.trace.specs.declared.records.Record.{Record};
 ghost use Rattle.collect.specs.ReportText.{rtext};
+ghost use Rattle.detect.specs.Dag.{HasRace};
 ghost use Rattle.detect.specs.Runs.{Reports, FailsBy};
 ghost use Rattle.spbags.specs.Answers.{IsUntouched, Puts, Took, TookFront, WasGiven};
 ghost use Rattle.spbags.specs.Asked.{depth_of};
@@ -34,11 +35,13 @@ pub fn answer<R: Source, W: Sink, E: Sink>(
 ) -> u8
     ensures status { result ≤ 2 }
 
-    // Status 0 or 1: all bytes of the trace were read, and the report of its races was written.
+    // Status 0 or 1: all bytes of the trace were read, and the report of its races was written. It is 1
+    // exactly where some location has two accesses, one a write, that no path joins.
     ensures told { result < 2 → (races : List RaceAt)
-        × Reports (2 ^ 48) (depth_of asked.now) (R.rest trace.old) (R.rest trace.new) races
+        × (run : Reports (2 ^ 48) (depth_of asked.now) (R.rest trace.old) (R.rest trace.new) races)
         × Took (rtext races) (W.held out.old) (W.held out.new) (W.failures out.old) (W.failures out.new)
         × ((result ≡ 0) ↔ (races ≡ []))
+        × ((result ≡ 1) ↔ ((l : ℕ) × HasRace run.trace l))
         × IsUntouched (E.held err.old) (E.held err.new) (E.failures err.old) (E.failures err.new) }
 
     // Status 2: the first fault, and nothing of an answer; or writing the report failed.
