@@ -31,3 +31,7 @@ on_true P (Err v) b e h t = absurd (cc)
 pub on_false : (P : Placed → Type 0) (Q : Type 0) (r : Result (Unit {0}) Placed) (b : Bool) → b ≡ is_ok r → IfErr r P → ((x : Placed) → P x → Q) → IsFalse b → Q
 on_false P Q (Ok v) b e h f t = absurd (cc)
 on_false P Q (Err v) b e h f t = f v h
+
+-- a choice whose test is known
+pub chosen : {X : Type 0} (x y z : X) (b : Bool) → b ≡ true → x ≡ cond b y z → x ≡ y
+chosen x y z b h e = e ∙ ap (λ (t : Bool). cond t y z) h

@@ -9,7 +9,7 @@ use Rattle.lane.proofs.Marks.{has_mark-snoc}
 use Rattle.trace.specs.declared.records.Placed.{Placed}
 use Rattle.trace.specs.Shares.{goes_placed, share}
 use Rattle.trace.proofs.ShareLemmas.{share-push}
-use Rattle.route.specs.Sending.{put_on, with_put, part, mark_of, AllSent, HaveMarks}
+use Rattle.route.specs.Sending.{put_on, with_put, part, mark_of, AllSent, sent_whole, HaveMarks}
 
 abbrev pub Items : Type 0
 Items = List (Item Placed)
@@ -113,3 +113,29 @@ marks-finish puts m h all =
     let P : ℕ → Items → Type 0 = λ k l. has_mark l ≡ nat_lt k (m + 1) in
     each_after P puts m Finish h (has_mark-snoc (put_on puts m) Finish (all m h ∙ le-ltb m m (omega arith)) ∙ sym (lt-ltb m (m + 1) (omega arith)))
         (λ k e l. all k l ∙ ⊎_elim (λ (x : k < m). lt-ltb k m x ∙ sym (lt-ltb k (m + 1) (omega arith))) (λ (x : m < k). le-ltb k m (omega arith) ∙ sym (le-ltb k (m + 1) (omega arith))) (apart k m e))
+
+pub unmarked_at : (puts : List Items) (m k : ℕ) → m ≤ k → k < length puts → HaveMarks m puts → has_mark (put_on puts k) ≡ false
+unmarked_at puts m k le h all = all k h ∙ le-ltb k m le
+
+-- the same two, as a step finds them
+pub step-next : (old new : List Items) (w : List Placed) (pending : Option Placed) (p : Placed) (n i j m : ℕ) → pending ≡ Some p → new ≡ with_put old i (One p) → n ≡ length old → j ≡ i + 1 → m ≡ 0 → i < n → goes_placed i n p ≡ true
+    → AllSent w i pending m old → AllSent (sent_whole w pending pending) j pending m new
+step-next old new w pending p n i j m some put count after none h goes all =
+    let N : ℕ → Type 0 = λ x. goes_placed i x p ≡ true in
+    let P : Option Placed → Type 0 = λ o. AllSent w i o m old → AllSent (sent_whole w o o) j o m new in
+    let Q : ℕ → Type 0 = λ x. AllSent w x (Some p) m new in
+    let R : List Items → Type 0 = λ ps. AllSent w (i + 1) (Some p) m ps in
+    subst P (sym some) (λ a. subst Q (sym after) (subst R (sym put) (sent-next old w i p m none (omega arith) (subst N count goes) a))) all
+
+pub step-last : (old new : List Items) (w : List Placed) (pending : Option Placed) (p : Placed) (n i m : ℕ) → pending ≡ Some p → new ≡ with_put old i (One p) → n ≡ length old → m ≡ 0 → i < n → goes_placed i n p ≡ true
+    → ((k : ℕ) → i < k → k < n → goes_placed k n p ≡ false) → AllSent w i pending m old → AllSent (sent_whole w pending None) i None m new
+step-last old new w pending p n i m some put count none h goes last all =
+    let N : ℕ → Type 0 = λ x. goes_placed i x p ≡ true in
+    let L : ℕ → Type 0 = λ x. (k : ℕ) → i < k → k < x → goes_placed k x p ≡ false in
+    let P : Option Placed → Type 0 = λ o. AllSent w i o m old → AllSent (sent_whole w o None) i None m new in
+    let R : List Items → Type 0 = λ ps. AllSent (w ++ p ∷ []) i None m ps in
+    subst P (sym some) (λ a. subst R (sym put) (sent-last old w i p m none (omega arith) (subst N count goes) (subst L count last) a)) all
+
+-- nothing was put
+pub all_empty : (puts : List Items) → ((k : ℕ) → k < length puts → put_on puts k ≡ []) → HaveMarks 0 puts × AllSent [] 0 None 0 puts
+all_empty puts none = (λ k h. ap has_mark (none k h) ∙ sym (le-ltb k 0 (omega arith)), λ k h. none k h ∙ sym (mark_of-from k 0 (omega arith)))
