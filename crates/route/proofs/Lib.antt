@@ -1,2 +1,4 @@
 pub mod Lists
 pub mod Sent
+pub mod Rising
+pub mod LaneShares

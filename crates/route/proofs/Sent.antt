@@ -14,9 +14,9 @@ use Rattle.route.specs.Sending.{put_on, with_put, part, mark_of, AllSent, sent_w
 abbrev pub Items : Type 0
 Items = List (Item Placed)
 
--- the lanes of a list of put lists, with their number beside it
-abbrev OnLanes : ℕ → List Placed → ℕ → Option Placed → ℕ → List Items → Type 0
-OnLanes n w turn pending marked puts = (k : ℕ) → k < n → put_on puts k ≡ map One (share k n w ++ part k n turn pending) ++ mark_of k marked
+-- the same of a list of put lists, a lane each
+abbrev pub OnPuts : List Placed → ℕ → Option Placed → ℕ → List Items → Type 0
+OnPuts w turn pending marked puts = AllSent (length puts) w turn pending marked (put_on puts)
 
 -- one of two different numbers is the lesser
 apart : (k i : ℕ) → (k ≡ i → ⊥) → (k < i) ⊎ (i < k)
@@ -55,7 +55,7 @@ same_records : (xs ys : List Placed) (marks : Items) (l : Items) → l ≡ map O
 same_records xs ys marks l h e = h ∙ ap (λ (zs : List Placed). map One zs ++ marks) e
 
 -- the pending record was put on the lane whose turn it was, and the turn goes on
-pub sent-next : (puts : List Items) (w : List Placed) (i : ℕ) (p : Placed) (m : ℕ) → m ≡ 0 → i < length puts → goes_placed i (length puts) p ≡ true → AllSent w i (Some p) m puts → AllSent w (i + 1) (Some p) m (with_put puts i (One p))
+pub sent-next : (puts : List Items) (w : List Placed) (i : ℕ) (p : Placed) (m : ℕ) → m ≡ 0 → i < length puts → goes_placed i (length puts) p ≡ true → OnPuts w i (Some p) m puts → OnPuts w (i + 1) (Some p) m (with_put puts i (One p))
 sent-next puts w i p m none h goes all =
     let n : ℕ = length puts in
     let P : ℕ → Items → Type 0 = λ k l. l ≡ map One (share k n w ++ part k n (i + 1) (Some p)) ++ mark_of k m in
@@ -72,7 +72,7 @@ sent-next puts w i p m none h goes all =
 
 -- it was put on the last lane that it goes to
 pub sent-last : (puts : List Items) (w : List Placed) (i : ℕ) (p : Placed) (m : ℕ) → m ≡ 0 → i < length puts → goes_placed i (length puts) p ≡ true → ((k : ℕ) → i < k → k < length puts → goes_placed k (length puts) p ≡ false)
-    → AllSent w i (Some p) m puts → AllSent (w ++ p ∷ []) i None m (with_put puts i (One p))
+    → OnPuts w i (Some p) m puts → OnPuts (w ++ p ∷ []) i None m (with_put puts i (One p))
 sent-last puts w i p m none h goes last all =
     let n : ℕ = length puts in
     let P : ℕ → Items → Type 0 = λ k l. l ≡ map One (share k n (w ++ p ∷ []) ++ []) ++ mark_of k m in
@@ -89,7 +89,7 @@ sent-last puts w i p m none h goes last all =
     subst Q (sym (length-set puts i (put_on puts i ++ One p ∷ []))) (each_after P puts i (One p) h here others)
 
 -- one lane more has its mark
-pub sent-mark : (puts : List Items) (w : List Placed) (i : ℕ) (m : ℕ) → m < length puts → AllSent w i None m puts → AllSent w i None (m + 1) (with_put puts m Finish)
+pub sent-mark : (puts : List Items) (w : List Placed) (i : ℕ) (m : ℕ) → m < length puts → OnPuts w i None m puts → OnPuts w i None (m + 1) (with_put puts m Finish)
 sent-mark puts w i m h all =
     let n : ℕ = length puts in
     let P : ℕ → Items → Type 0 = λ k l. l ≡ map One (share k n w ++ []) ++ mark_of k (m + 1) in
@@ -119,23 +119,23 @@ unmarked_at puts m k le h all = all k h ∙ le-ltb k m le
 
 -- the same two, as a step finds them
 pub step-next : (old new : List Items) (w : List Placed) (pending : Option Placed) (p : Placed) (n i j m : ℕ) → pending ≡ Some p → new ≡ with_put old i (One p) → n ≡ length old → j ≡ i + 1 → m ≡ 0 → i < n → goes_placed i n p ≡ true
-    → AllSent w i pending m old → AllSent (sent_whole w pending pending) j pending m new
+    → OnPuts w i pending m old → OnPuts (sent_whole w pending pending) j pending m new
 step-next old new w pending p n i j m some put count after none h goes all =
     let N : ℕ → Type 0 = λ x. goes_placed i x p ≡ true in
-    let P : Option Placed → Type 0 = λ o. AllSent w i o m old → AllSent (sent_whole w o o) j o m new in
-    let Q : ℕ → Type 0 = λ x. AllSent w x (Some p) m new in
-    let R : List Items → Type 0 = λ ps. AllSent w (i + 1) (Some p) m ps in
+    let P : Option Placed → Type 0 = λ o. OnPuts w i o m old → OnPuts (sent_whole w o o) j o m new in
+    let Q : ℕ → Type 0 = λ x. OnPuts w x (Some p) m new in
+    let R : List Items → Type 0 = λ ps. OnPuts w (i + 1) (Some p) m ps in
     subst P (sym some) (λ a. subst Q (sym after) (subst R (sym put) (sent-next old w i p m none (omega arith) (subst N count goes) a))) all
 
 pub step-last : (old new : List Items) (w : List Placed) (pending : Option Placed) (p : Placed) (n i m : ℕ) → pending ≡ Some p → new ≡ with_put old i (One p) → n ≡ length old → m ≡ 0 → i < n → goes_placed i n p ≡ true
-    → ((k : ℕ) → i < k → k < n → goes_placed k n p ≡ false) → AllSent w i pending m old → AllSent (sent_whole w pending None) i None m new
+    → ((k : ℕ) → i < k → k < n → goes_placed k n p ≡ false) → OnPuts w i pending m old → OnPuts (sent_whole w pending None) i None m new
 step-last old new w pending p n i m some put count none h goes last all =
     let N : ℕ → Type 0 = λ x. goes_placed i x p ≡ true in
     let L : ℕ → Type 0 = λ x. (k : ℕ) → i < k → k < x → goes_placed k x p ≡ false in
-    let P : Option Placed → Type 0 = λ o. AllSent w i o m old → AllSent (sent_whole w o None) i None m new in
-    let R : List Items → Type 0 = λ ps. AllSent (w ++ p ∷ []) i None m ps in
+    let P : Option Placed → Type 0 = λ o. OnPuts w i o m old → OnPuts (sent_whole w o None) i None m new in
+    let R : List Items → Type 0 = λ ps. OnPuts (w ++ p ∷ []) i None m ps in
     subst P (sym some) (λ a. subst R (sym put) (sent-last old w i p m none (omega arith) (subst N count goes) (subst L count last) a)) all
 
 -- nothing was put
-pub all_empty : (puts : List Items) → ((k : ℕ) → k < length puts → put_on puts k ≡ []) → HaveMarks 0 puts × AllSent [] 0 None 0 puts
+pub all_empty : (puts : List Items) → ((k : ℕ) → k < length puts → put_on puts k ≡ []) → HaveMarks 0 puts × OnPuts [] 0 None 0 puts
 all_empty puts none = (λ k h. ap has_mark (none k h) ∙ sym (le-ltb k 0 (omega arith)), λ k h. none k h ∙ sym (mark_of-from k 0 (omega arith)))

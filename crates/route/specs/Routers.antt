@@ -35,7 +35,7 @@ marked_of r = r.marked
 
 -- w was sent whole, and the pending record to the lanes before the turn
 abbrev pub HasSent : List Placed → Router → Type 0
-HasSent w r = AllSent w (turn_of r) (pending_of r) (marked_of r) (puts_of r)
+HasSent w r = AllSent (lane_count r) w (turn_of r) (pending_of r) (marked_of r) (put_on (puts_of r))
 
 -- the same lanes, in the same order
 pub record IsOnLanes (old new : Router) : Type 0 where
