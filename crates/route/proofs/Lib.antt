@@ -2,3 +2,4 @@ pub mod Lists
 pub mod Sent
 pub mod Rising
 pub mod LaneShares
+pub mod RunFronts
