@@ -211,3 +211,6 @@ has_routed n on w v pending o (more, e) = record {
   only = λ u iu. only_one n on o.list u o.routes.routed iu;
   front = (o.front.0 ++ more, e ∙ ap (λ (l : List Placed). l ++ more) o.front.1 ∙ append_assoc o.list o.front.0 more);
 }
+
+pub only_list : (n : ℕ) (on : ℕ → List (Item Placed)) (w u : List Placed) (pending : Option Placed) → (o : Outcome n on w pending) → IsRouted n on u → u ≡ o.list
+only_list n on w u pending o iu = only_one n on o.list u o.routes.routed iu

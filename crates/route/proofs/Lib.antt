@@ -3,3 +3,4 @@ pub mod Sent
 pub mod Rising
 pub mod LaneShares
 pub mod RunFronts
+pub mod RunLists

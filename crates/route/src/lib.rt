@@ -2,6 +2,7 @@
 //! stops it and loses nothing.
 #![tactic(auto)]
 
+pub mod laws;
 mod progress;
 mod puts;
 mod routing;
