@@ -50,6 +50,10 @@ pub record IsUnchanged (old new : Router) : Type 0 where
   pub turn : turn_of new ≡ turn_of old
   pub marked : marked_of new ≡ marked_of old
 
+-- no lane after k gets the record
+abbrev pub IsLastLane : ℕ → ℕ → Placed → Type 0
+IsLastLane n k p = (j : ℕ) → k < j → j < n → goes_placed j n p ≡ false
+
 -- lane k holds as many items as it can, for all that the sender knows
 abbrev pub IsFull : Router → ℕ → Type 0
 IsFull r k = slice_index_or (capacities_of r) k 0 ≤ length (put_on (puts_of r) k)
