@@ -1,8 +1,8 @@
 -- What was routed, from what stands on the lanes.
-use Rattle.std.proofs.Common.{◌≡◌, ◌↔◌, ℕ, zero, suc, ◌<◌, ◌≤◌, ◌%◌, ◌==◌, ◌⊎◌, inl, inr, ⊎_elim, Bool, true, false, true≢false, cond, ◌&&◌, nat_lt, List, [], ◌∷◌, ◌++◌, map, filter, Contains, Option, Some, None, option_to_list, refl, sym, ap, ap₂, subst, ◌∙◌, append_assoc, append-nil, arith}
-use Rattle.std.proofs.lemmas.Bool.{lt-ltb, le-ltb, ltb-true, cond-true, cond-false, and_left, and_from, cases_lt}
+use Rattle.std.proofs.Common.{◌≡◌, ℕ, zero, suc, ◌<◌, ◌≤◌, ◌%◌, ◌==◌, ◌⊎◌, inl, inr, ⊎_elim, Bool, true, false, true≢false, cond, ◌&&◌, nat_lt, List, [], ◌∷◌, ◌++◌, map, filter, Contains, Option, Some, None, refl, sym, ap, ap₂, subst, ◌∙◌, append_assoc, append-nil, arith}
+use Rattle.std.proofs.lemmas.Bool.{lt-ltb, le-ltb, cond-true, cond-false, and_left, and_from, cases_lt}
 use Rattle.std.proofs.lemmas.Bool.Decides.{nat_tests}
-use Rattle.std.proofs.lemmas.List.Elements.{All-filter, All-contains, All-contains_itself, Contains-append_left, Contains-append_right, Contains-append_cases, Contains-push}
+use Rattle.std.proofs.lemmas.List.Elements.{All-filter, All-contains, All-contains_itself, Contains-append_left, Contains-append_cases, Contains-push}
 use Rattle.lane.specs.declared.item.Item.{Item}
 use Rattle.lane.specs.declared.item.Item.TheVariants.{One, Finish}
 use Rattle.lane.specs.Items.{has_mark, records, IsBeginning}
@@ -11,9 +11,9 @@ use Rattle.trace.specs.declared.records.Record.TheVariants.{Spawn, Return, Sync,
 use Rattle.trace.specs.declared.records.Placed.{Placed}
 use Rattle.trace.specs.Shares.{goes, goes_placed, share}
 use Rattle.trace.proofs.ShareLemmas.{share-push, goes_somewhere}
-use Rattle.route.specs.Sending.{part, mark_of, AllSent}
+use Rattle.route.specs.Sending.{part, AllSent}
 use Rattle.route.specs.Routed.{IsRising, in_hand, IsOnSome, IsRouted, IsBeingSent, HasShare, HasWholeShare, HasRouted}
-use Rattle.route.proofs.Rising.{Contains-here, Contains-later, Contains-cases, Contains-nil, Ordered, Ordered-from_rising, rising_front, last_above, same_records}
+use Rattle.route.proofs.Rising.{Contains-here, Contains-later, Contains-cases, Contains-nil, Ordered-from_rising, rising_front, last_above, same_records}
 
 -- the records and the mark of a lane
 records-ones : (xs : List Placed) (b : Bool) → records (map One xs ++ cond b (Finish ∷ []) []) ≡ xs
@@ -42,9 +42,9 @@ Contains-filter : (f : Placed → Bool) (u : List Placed) (q : Placed) → Conta
 Contains-filter f [] q h g = absurd (Contains-nil q h)
 Contains-filter f (p ∷ u) q h g =
     ⊎_elim
-        (λ (e : p ≡ q). let P : List Placed → Type 0 = λ l. Contains l q in
-        subst P (sym (cond-true (f p) (p ∷ filter f u) (filter f u) (ap f e ∙ g))) (let Q : Placed → Type 0 = λ x. Contains (p ∷ filter f u) x in subst Q e (Contains-here p (filter f u))))
-        (λ (m : Contains u q). let rest : Contains (filter f u) q = Contains-filter f u q m g in in_either (f p) p q (filter f u) rest) (Contains-cases p q u h)
+    (λ (e : p ≡ q). let P : List Placed → Type 0 = λ l. Contains l q in
+    subst P (sym (cond-true (f p) (p ∷ filter f u) (filter f u) (ap f e ∙ g))) (let Q : Placed → Type 0 = λ x. Contains (p ∷ filter f u) x in subst Q e (Contains-here p (filter f u))))
+    (λ (m : Contains u q). let rest : Contains (filter f u) q = Contains-filter f u q m g in in_either (f p) p q (filter f u) rest) (Contains-cases p q u h)
 
 Contains-unfilter : (f : Placed → Bool) (u : List Placed) (q : Placed) → Contains (filter f u) q → Contains u q
 Contains-unfilter f u q h = All-contains (Contains u) (filter f u) q (All-filter f (Contains u) u (All-contains_itself u)) h
@@ -85,7 +85,7 @@ module _ (n : ℕ) (on : ℕ → List (Item Placed)) (w : List Placed) (some : 0
 
 -- a record that goes to all lanes stands on those before the turn
 module _ (n : ℕ) (on : ℕ → List (Item Placed)) (w : List Placed) (turn : ℕ) (p : Placed) (rising : IsRising (w ++ p ∷ [])) (all : (k : ℕ) → goes_placed k n p ≡ true) (begun : 0 < turn) (within : turn < n)
-  (has : (k : ℕ) → k < turn → records (on k) ≡ share k n w ++ p ∷ []) (lacks : (k : ℕ) → turn ≤ k → k < n → records (on k) ≡ share k n w) where
+    (has : (k : ℕ) → k < turn → records (on k) ≡ share k n w ++ p ∷ []) (lacks : (k : ℕ) → turn ≤ k → k < n → records (on k) ≡ share k n w) where
   share-all : (k : ℕ) → share k n w ++ p ∷ [] ≡ share k n (w ++ p ∷ [])
   share-all k = sym (share-push k n w p ∙ ap (λ (l : List Placed). share k n w ++ l) (cond-true (goes_placed k n p) (p ∷ []) [] (all k)))
 
@@ -105,15 +105,15 @@ module _ (n : ℕ) (on : ℕ → List (Item Placed)) (w : List Placed) (turn : �
   to_lane q m =
       let P : List Placed → Type 0 = λ l. Contains l q in
       ⊎_elim
-          (λ (m : Contains w q). let g = on_its_lane n w q (omega arith) m in
-          (g.0, g.1, ⊎_elim (λ (x : g.0 < turn). subst P (sym (has g.0 x)) (Contains-append_left (share g.0 n w) (p ∷ []) q g.2)) (λ (x : turn ≤ g.0). subst P (sym (lacks g.0 x g.1)) g.2) (cases_lt g.0 turn)))
-          (λ (m : Contains (p ∷ []) q). ⊎_elim (λ (e : p ≡ q). subst (IsOnSome n on) e is_begun) (λ (m : Contains [] q). absurd (Contains-nil q m)) (Contains-cases p q [] m)) (Contains-append_cases w (p ∷ []) q m)
+      (λ (m : Contains w q). let g = on_its_lane n w q (omega arith) m in
+      (g.0, g.1, ⊎_elim (λ (x : g.0 < turn). subst P (sym (has g.0 x)) (Contains-append_left (share g.0 n w) (p ∷ []) q g.2)) (λ (x : turn ≤ g.0). subst P (sym (lacks g.0 x g.1)) g.2) (cases_lt g.0 turn)))
+      (λ (m : Contains (p ∷ []) q). ⊎_elim (λ (e : p ≡ q). subst (IsOnSome n on) e is_begun) (λ (m : Contains [] q). absurd (Contains-nil q m)) (Contains-cases p q [] m)) (Contains-append_cases w (p ∷ []) q m)
 
   from_lane : (q : Placed) → IsOnSome n on q → Contains (w ++ p ∷ []) q
   from_lane q (k, l, m) =
       let P : List Placed → Type 0 = λ l. Contains l q in
       ⊎_elim (λ (x : k < turn). Contains-unfilter (goes_placed k n) (w ++ p ∷ []) q (subst P (has k x ∙ share-all k) m))
-          (λ (x : turn ≤ k). Contains-append_left w (p ∷ []) q (Contains-unfilter (goes_placed k n) w q (subst P (lacks k x l) m))) (cases_lt k turn)
+      (λ (x : turn ≤ k). Contains-append_left w (p ∷ []) q (Contains-unfilter (goes_placed k n) w q (subst P (lacks k x l) m))) (cases_lt k turn)
 
   routes_begun : ((k : ℕ) → k < n → has_mark (on k) ≡ false) → Routes n on (w ++ p ∷ [])
   routes_begun unmarked = record {
@@ -137,7 +137,6 @@ early n (suc t) Sync h = inr (λ k. refl, omega arith)
 early n turn (Read l) h = inl (λ k. only_turn k turn (l % n) h)
 early n turn (Write l) h = inl (λ k. only_turn k turn (l % n) h)
 
-
 -- the records of w were sent whole, and the pending one to the lanes before the turn
 pub record IsUnderWay (n : ℕ) (on : ℕ → List (Item Placed)) (w : List Placed) (turn : ℕ) (pending : Option Placed) (marked : ℕ) : Type 0 where
   pub some : 0 < n
@@ -159,7 +158,7 @@ module _ (n : ℕ) (on : ℕ → List (Item Placed)) (w : List Placed) (turn mar
   whole_marked all k l h =
       all k l
       ∙ ap₂ (λ (xs : List Placed) (ms : List (Item Placed)). map One xs ++ ms) (append-nil (share k n w))
-          (cond-true (nat_lt k marked) (Finish ∷ []) [] (sym (has_mark-sent n on w turn None marked all k l) ∙ h))
+      (cond-true (nat_lt k marked) (Finish ∷ []) [] (sym (has_mark-sent n on w turn None marked all k l) ∙ h))
 
   outcome-none : IsUnderWay n on w turn None marked → Outcome n on w None
   outcome-none s = record {
@@ -176,25 +175,25 @@ module _ (n : ℕ) (on : ℕ → List (Item Placed)) (w : List Placed) (turn mar
   outcome-some p s =
       let sent : (k : ℕ) → k < n → records (on k) ≡ share k n w ++ part k n turn (Some p) = records-sent n on w turn (Some p) marked s.sent in
       ⊎_elim
-          (λ (none : (k : ℕ) → (nat_lt k turn && goes k n p.what) ≡ false). record {
-            list = w;
-            routes =
-                routes_whole n on w s.some
-                    (λ k l. sent k l ∙ ap (λ (x : List Placed). share k n w ++ x) (cond-false (nat_lt k turn && goes_placed k n p) (p ∷ []) [] (none k)) ∙ append-nil (share k n w))
-                    (rising_front w (p ∷ []) s.rising) (λ k l h. absurd (true≢false (sym h ∙ no_mark p s k l)));
-            front = (p ∷ [], refl);
-            whole = λ e. absurd (cc);
-          })
-          (λ (all : ((k : ℕ) → goes k n p.what ≡ true) × (0 < turn)). record {
-            list = w ++ p ∷ [];
-            routes =
-                routes_begun n on w turn p s.rising all.0 all.1 (s.within p refl)
-                    (λ k x. sent k (omega (arith, s.within p refl)) ∙ ap (λ (x : List Placed). share k n w ++ x) (cond-true (nat_lt k turn && goes_placed k n p) (p ∷ []) [] (and_from (nat_lt k turn) (goes_placed k n p) (lt-ltb k turn x) (all.0 k))))
-                    (λ k x l. sent k l ∙ ap (λ (x : List Placed). share k n w ++ x) (cond-false (nat_lt k turn && goes_placed k n p) (p ∷ []) [] (and_left (nat_lt k turn) (goes_placed k n p) (le-ltb k turn x))) ∙ append-nil (share k n w))
-                    (no_mark p s);
-            front = ([], sym (append-nil (w ++ p ∷ [])));
-            whole = λ e. absurd (cc);
-          }) (early n turn p.what (s.aimed p refl))
+      (λ (none : (k : ℕ) → (nat_lt k turn && goes k n p.what) ≡ false). record {
+        list = w;
+        routes =
+            routes_whole n on w s.some
+            (λ k l. sent k l ∙ ap (λ (x : List Placed). share k n w ++ x) (cond-false (nat_lt k turn && goes_placed k n p) (p ∷ []) [] (none k)) ∙ append-nil (share k n w))
+            (rising_front w (p ∷ []) s.rising) (λ k l h. absurd (true≢false (sym h ∙ no_mark p s k l)));
+        front = (p ∷ [], refl);
+        whole = λ e. absurd (cc);
+      })
+      (λ (all : ((k : ℕ) → goes k n p.what ≡ true) × (0 < turn)). record {
+        list = w ++ p ∷ [];
+        routes =
+            routes_begun n on w turn p s.rising all.0 all.1 (s.within p refl)
+            (λ k x. sent k (omega (arith, s.within p refl)) ∙ ap (λ (x : List Placed). share k n w ++ x) (cond-true (nat_lt k turn && goes_placed k n p) (p ∷ []) [] (and_from (nat_lt k turn) (goes_placed k n p) (lt-ltb k turn x) (all.0 k))))
+            (λ k x l. sent k l ∙ ap (λ (x : List Placed). share k n w ++ x) (cond-false (nat_lt k turn && goes_placed k n p) (p ∷ []) [] (and_left (nat_lt k turn) (goes_placed k n p) (le-ltb k turn x))) ∙ append-nil (share k n w))
+            (no_mark p s);
+        front = ([], sym (append-nil (w ++ p ∷ [])));
+        whole = λ e. absurd (cc);
+      }) (early n turn p.what (s.aimed p refl))
 
 pub outcome : (n : ℕ) (on : ℕ → List (Item Placed)) (w : List Placed) (turn : ℕ) (pending : Option Placed) (marked : ℕ) → IsUnderWay n on w turn pending marked → Outcome n on w pending
 outcome n on w turn None marked s = outcome-none n on w turn marked s

@@ -1,5 +1,5 @@
 -- Lists of records whose places rise.
-use Rattle.std.proofs.Common.{◌≡◌, ℕ, zero, suc, ◌+◌, ◌<◌, ◌⊎◌, inl, inr, ⊎_elim, List, [], ◌∷◌, ◌++◌, length, get_or, map, Contains, refl, sym, ap, ap₂, subst, ◌∙◌, arith}
+use Rattle.std.proofs.Common.{◌≡◌, ℕ, zero, suc, ◌+◌, ◌<◌, ◌⊎◌, inl, inr, ⊎_elim, List, [], ◌∷◌, ◌++◌, get_or, map, Contains, refl, sym, ap, ap₂, subst, ◌∙◌, arith}
 use Rattle.std.specs.List.{AllPairs}
 use Rattle.std.specs.List.Sorted.{IsStrictlyIncreasing}
 use Rattle.std.proofs.lemmas.List.{get_or-map, get_or_append_left, map-append, length-append, length-map}
@@ -33,7 +33,7 @@ Ordered-from_pairs : (u : List Placed) → AllPairs (λ i j. i < j) (map place_o
 Ordered-from_pairs [] h = tt
 Ordered-from_pairs (p ∷ u) h = (
   λ q (k, l, e). let below : p.place < get_or (map place_of u) k q.place = h 0 (suc k) q.place (omega arith) (omega (arith, length-map u place_of)) in
-  let same : get_or (map place_of u) k q.place ≡ q.place = get_or-map place_of u k q q.place l ∙ ap place_of e in omega arith,
+      let same : get_or (map place_of u) k q.place ≡ q.place = get_or-map place_of u k q q.place l ∙ ap place_of e in omega arith,
   Ordered-from_pairs u (λ i j d l m. h (suc i) (suc j) d (omega arith) (omega arith)),
 )
 
@@ -61,9 +61,9 @@ same_records [] (y ∷ v) ou ov f g = absurd (Contains-nil y (g y (Contains-here
 same_records (x ∷ u) [] ou ov f g = absurd (Contains-nil x (f x (Contains-here x u)))
 same_records (x ∷ u) (y ∷ v) ou ov f g =
     let same : x ≡ y = ⊎_elim (λ (e : y ≡ x). sym e)
-        (λ (m : Contains v x). ⊎_elim (λ (e : x ≡ y). e) (λ (m' : Contains u y). let a : y.place < x.place = ov.0 x m in let b : x.place < y.place = ou.0 y m' in absurd (omega arith)) (Contains-cases x y u (g y (Contains-here y v))))
-        (Contains-cases y x v (f x (Contains-here x u))) in
+    (λ (m : Contains v x). ⊎_elim (λ (e : x ≡ y). e) (λ (m' : Contains u y). let a : y.place < x.place = ov.0 x m in let b : x.place < y.place = ou.0 y m' in absurd (omega arith)) (Contains-cases x y u (g y (Contains-here y v))))
+    (Contains-cases y x v (f x (Contains-here x u))) in
     ap₂ (λ (p : Placed) (l : List Placed). p ∷ l) same
-        (same_records u v ou.1 ov.1
-        (λ q m. ⊎_elim (λ (e : y ≡ q). let a : x.place < q.place = ou.0 q m in let b : x.place ≡ q.place = ap place_of (same ∙ e) in absurd (omega arith)) (λ (m' : Contains v q). m') (Contains-cases y q v (f q (Contains-later x q u m))))
-        (λ q m. ⊎_elim (λ (e : x ≡ q). let a : y.place < q.place = ov.0 q m in let b : y.place ≡ q.place = ap place_of (sym same ∙ e) in absurd (omega arith)) (λ (m' : Contains u q). m') (Contains-cases x q u (g q (Contains-later y q v m)))))
+    (same_records u v ou.1 ov.1
+    (λ q m. ⊎_elim (λ (e : y ≡ q). let a : x.place < q.place = ou.0 q m in let b : x.place ≡ q.place = ap place_of (same ∙ e) in absurd (omega arith)) (λ (m' : Contains v q). m') (Contains-cases y q v (f q (Contains-later x q u m))))
+    (λ q m. ⊎_elim (λ (e : x ≡ q). let a : y.place < q.place = ov.0 q m in let b : y.place ≡ q.place = ap place_of (sym same ∙ e) in absurd (omega arith)) (λ (m' : Contains u q). m') (Contains-cases x q u (g q (Contains-later y q v m)))))

@@ -1,7 +1,7 @@
 -- Each point of a run stands between two records, or inside one, or among the marks.
 use Rattle.std.proofs.Common.{◌≡◌, ℕ, zero, suc, ◌+◌, ◌<◌, ◌≤◌, ◌%◌, ◌==◌, ◌⊎◌, inl, inr, ⊎_elim, Bool, true, false, cond, ◌&&◌, nat_lt, nat_le, List, [], ◌∷◌, ◌++◌, length, take, map, Option, Some, None, refl, sym, ap, ap₂, subst, ◌∙◌, append_assoc, append-nil, arith}
 use Rattle.std.specs.List.{range_with_len, flat_map}
-use Rattle.std.proofs.lemmas.Bool.{lt-ltb, le-ltb, cond-true, cond-false, eq-eqb, and_left}
+use Rattle.std.proofs.lemmas.Bool.{lt-ltb, le-ltb, cond-true, cond-false, eq-eqb}
 use Rattle.std.proofs.lemmas.Bool.Decides.{nat_tests}
 use Rattle.std.proofs.lemmas.List.{nil_from_length, take_at, length-append}
 use Rattle.std.proofs.lemmas.List.FromFn.{take-map-range_with_len, length-map-range_with_len}
@@ -13,7 +13,7 @@ use Rattle.trace.specs.declared.records.Placed.{Placed}
 use Rattle.trace.specs.Shares.{goes, goes_placed, share}
 use Rattle.route.specs.Sending.{part, mark_of, AllSent}
 use Rattle.route.specs.Routed.{in_hand}
-use Rattle.route.specs.Runs.{of_lane, lanes_for, sending_of, sending}
+use Rattle.route.specs.Runs.{of_lane, sending_of, sending}
 
 abbrev Sends : Type 0
 Sends = List (ℕ × Item Placed)
@@ -181,5 +181,5 @@ pub front : (n : ℕ) (w : List Placed) (s r : Sends) → 0 < n → s ++ r ≡ s
 front n [] s r some e = front_marks n s r e
 front n (p ∷ w) s r some e =
     ⊎_elim (λ (h : (s ≡ take (length s) (sending_of n p)) × (length s < length (sending_of n p))). front_part n p w s (part_sent n p.place p.what s some h.0 h.1))
-        (λ (h : (t : Sends) × (s ≡ sending_of n p ++ t) × (t ++ r ≡ sending n w)). subst (Front n (p ∷ w)) (sym h.1) (front_more n p w h.0 (front n w h.0 r some h.2)))
-        (split_front s r (sending_of n p) (sending n w) (e ∙ append_assoc (sending_of n p) (flat_map (sending_of n) w) (map (λ k. (k, Finish)) (range_with_len 0 n))))
+    (λ (h : (t : Sends) × (s ≡ sending_of n p ++ t) × (t ++ r ≡ sending n w)). subst (Front n (p ∷ w)) (sym h.1) (front_more n p w h.0 (front n w h.0 r some h.2)))
+    (split_front s r (sending_of n p) (sending n w) (e ∙ append_assoc (sending_of n p) (flat_map (sending_of n) w) (map (λ k. (k, Finish)) (range_with_len 0 n))))

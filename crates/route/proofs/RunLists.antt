@@ -5,9 +5,9 @@ use Rattle.std.proofs.lemmas.Bool.{eqb-true}
 use Rattle.lane.specs.declared.item.Item.{Item}
 use Rattle.lane.specs.Items.{IsBeginning}
 use Rattle.trace.specs.declared.records.Placed.{Placed}
-use Rattle.route.specs.Routed.{IsRouted, HasRouted, HasShare, IsRising}
+use Rattle.route.specs.Routed.{IsRising}
 use Rattle.route.specs.Runs.{Event, put, take, puts, takes, of_lane, put_list, taken_list, held_after, held, IsAllowed, IsRun}
-use Rattle.route.proofs.LaneShares.{IsUnderWay, Outcome, outcome}
+use Rattle.route.proofs.LaneShares.{Outcome, outcome}
 use Rattle.route.proofs.Rising.{rising_front}
 use Rattle.route.proofs.RunFronts.{of_lane-append, Front, front}
 
@@ -74,4 +74,4 @@ front_of n w es run = front n w (puts es) run.in_order.0 run.some (sym run.in_or
 pub outcome_of : (n : ℕ) (w : List Placed) (es : List Event) → IsRun n w es → (f : Front n w (puts es)) → Outcome n (put_list es) f.v f.pending
 outcome_of n w es run f =
     outcome n (put_list es) f.v f.turn f.pending f.marked
-        (record { some = run.some; rising = rising_front _ f.rest (subst IsRising f.whole run.rising); within = f.within; aimed = f.aimed; unmarked = f.unmarked; sent = f.sent })
+    (record { some = run.some; rising = rising_front _ f.rest (subst IsRising f.whole run.rising); within = f.within; aimed = f.aimed; unmarked = f.unmarked; sent = f.sent })

@@ -1,13 +1,12 @@
 -- What a router says: its lanes, what was put on them, the pending record, and the marks.
-use Rattle.std.specs.Prelude.{◌≡◌, ℕ, ◌<◌, ◌≤◌, false, List, length, slice_index_or, Option, Some}
+use Rattle.std.specs.Prelude.{◌≡◌, ℕ, ◌<◌, ◌≤◌, false, List, length, slice_index_or, Option}
 use Rattle.lane.specs.declared.item.Item.{Item}
-use Rattle.lane.specs.declared.item.Item.TheVariants.{One, Finish}
 use Rattle.lane.specs.Lanes.{LaneId}
 use Rattle.trace.specs.declared.records.Placed.{Placed}
 use Rattle.trace.specs.Shares.{goes_placed}
 use Rattle.route.specs.declared.routing.Router.{Router}
 use Rattle.route.specs.Senders.{lanes, puts, capacities}
-use Rattle.route.specs.Sending.{put_on, with_put, AllSent}
+use Rattle.route.specs.Sending.{put_on, AllSent}
 
 abbrev pub lanes_of : Router → List LaneId
 lanes_of r = lanes r.senders.items

@@ -6,6 +6,8 @@ pub mod laws;
 mod progress;
 mod puts;
 mod routing;
+#[cfg(test)]
+mod tests;
 mod turns;
 
 pub use progress::Progress;

@@ -1,4 +1,4 @@
-use Rattle.std.proofs.Common.{◌≡◌, ℕ, [], List, ◌++◌, None, sym, ap, subst, ◌∙◌, append-nil, vec_len, true, arith}
+use Rattle.std.proofs.Common.{◌≡◌, ℕ, [], List, sym, ap, subst, ◌∙◌, append-nil, vec_len, true, arith}
 use Rattle.std.proofs.lemmas.List.{length-map}
 use Rattle.lane.specs.Lanes.{put_of}
 use Rattle.trace.specs.declared.records.Placed.{Placed}
