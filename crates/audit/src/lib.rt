@@ -1,0 +1,12 @@
+//! Questions about one trace, answered over its dag.
+#![tactic(auto)]
+
+pub mod answers;
+pub mod measures;
+mod measuring;
+#[cfg(test)]
+mod tests;
+mod watching;
+
+pub use answers::Measure;
+pub use measures::measure;
