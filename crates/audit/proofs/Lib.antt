@@ -1,2 +1,4 @@
+pub mod ListLemmas
 pub mod PathLemmas
 pub mod Measured
+pub mod MeetingLemmas

@@ -17,24 +17,8 @@ use Rattle.audit.specs.declared.measuring.Measuring.{Measuring}
 use Rattle.audit.specs.Measures.{is_spawn, IsMeasure, IsSpan, IsGreatestDepth}
 use Rattle.audit.specs.Watching.{ComesAfter}
 use Rattle.audit.specs.LongestPaths.{PathTo, IsLongestTo, LastOn, LeadsOn, at_start, own, opened, IsLongestUnjoined, AreActive, IsSpanTo, IsDepthTo, HasMeasuredTo, IsWithin, HasMeasured, through, Advances}
+use Rattle.audit.proofs.ListLemmas.{slice_get-push, slice_get-front, slice_get-last, place_there, record_there}
 use Rattle.audit.proofs.PathLemmas.{path_to, path_list, path_place, longest_on, longest_joined, last_kept, last_here, unjoined_kept, unjoined_synced, unjoined_opened, unjoined_returned}
-
--- lists that are longer by one
-
-pub slice_get-push : {A : Type 0} (xs : List A) (x : A) (k : ℕ) (f : A) → slice_get (xs ++ x ∷ []) k ≡ Some f → (slice_get xs k ≡ Some f) ⊎ ((k ≡ length xs) × (x ≡ f))
-slice_get-push [] x zero f e = inr (refl, cc)
-slice_get-push [] x (suc k) f e = absurd (cc)
-slice_get-push (y ∷ xs) x zero f e = inl e
-slice_get-push (y ∷ xs) x (suc k) f e = elim (slice_get-push xs x k f e) [ inl q ↦ inl q | inr q ↦ inr (ap suc q.0, q.1) ]
-
-pub slice_get-front : {A : Type 0} (xs ys : List A) (k : ℕ) (f : A) → slice_get xs k ≡ Some f → slice_get (xs ++ ys) k ≡ Some f
-slice_get-front [] ys k f e = absurd (cc)
-slice_get-front (x ∷ xs) ys zero f e = e
-slice_get-front (x ∷ xs) ys (suc k) f e = slice_get-front xs ys k f e
-
-pub slice_get-last : {A : Type 0} (xs : List A) (x : A) → slice_get (xs ++ x ∷ []) (length xs) ≡ Some x
-slice_get-last [] x = refl
-slice_get-last (y ∷ xs) x = slice_get-last xs x
 
 -- the active procedures, where the next place is at depth d
 active_at : (w : List Record) (t d : ℕ) (e : Longest) (xs : List Longest) → depth w (suc t) ≡ d → length xs ≡ d → LeadsOn w t d e.own → IsLongestUnjoined w t d e.unjoined
@@ -353,10 +337,10 @@ measured_next m m' u p x h c e a wk sp dp ss = record {
         before = h.measured w (p.what ∷ rest) (is ∙ append_assoc u (p.what ∷ []) rest) _ _ i
 
         here : suc (length u) ≤ length w
-        here = omega (arith, ap length is, length-append (u ++ p.what ∷ []) rest, length-append u (p.what ∷ []))
+        here = place_there w u rest p.what is
 
         there : at w (suc (length u)) ≡ Some p.what
-        there = ap (λ (z : List Record). at z (suc (length u))) is ∙ at-front (u ++ p.what ∷ []) rest (suc (length u)) (omega (arith, length-append u (p.what ∷ []))) ∙ at-seam u p.what
+        there = record_there w u rest p.what is
 
         active : AreActive w (length u) m.executing m.waiting.items
         active = before.active here

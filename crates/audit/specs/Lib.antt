@@ -1,3 +1,4 @@
 pub mod Measures
 pub mod Watching
 pub mod LongestPaths
+pub mod Meetings

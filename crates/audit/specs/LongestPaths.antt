@@ -2,11 +2,12 @@
 use Rattle.std.specs.Prelude.{◌≡◌, ◌≢◌, ℕ, suc, ◌+◌, ◌<◌, ◌≤◌, max, List, [], ◌∷◌, ◌++◌, length, count_by, slice_get, Some, ◌⊎◌}
 use Rattle.trace.specs.declared.records.Record.{Record}
 use Rattle.trace.specs.declared.records.Record.TheVariants.{Spawn, Return, Sync, Read, Write}
-use Rattle.trace.specs.Traces.{at, depth, IsPlace, IsWellNested}
+use Rattle.trace.specs.Traces.{at, depth, IsPlace}
 use Rattle.trace.specs.Dag.{Edge, JoinsAt}
 use Rattle.audit.specs.declared.measuring.Longest.{Longest}
 use Rattle.audit.specs.declared.measuring.Measuring.{Measuring}
 use Rattle.audit.specs.Measures.{is_spawn}
+use Rattle.audit.specs.Watching.{WhateverFollows}
 
 -- a path of so many places ends at a place
 pub data PathTo (w : List Record) : ℕ → ℕ → Type 0 where
@@ -81,7 +82,7 @@ pub record HasMeasured (m : Measuring) (u : List Record) : Type 0 where
   pub spawns : m.spawns ≡ count_by is_spawn u
   pub executing : IsWithin (length u) m.executing
   pub waiting : (k : ℕ) (f : Longest) → slice_get m.waiting.items k ≡ Some f → IsWithin (length u) f
-  pub measured : (w rest : List Record) → w ≡ u ++ rest → (records depths : ℕ) → IsWellNested w records depths → HasMeasuredTo w (length u) m
+  pub measured : WhateverFollows u (λ w. HasMeasuredTo w (length u) m)
 
 -- the longest path to the next record of a procedure: a record that waits for children comes after their returns too
 abbrev pub through : Longest → Record → ℕ

@@ -4,6 +4,7 @@
 pub mod answers;
 pub mod measures;
 mod measuring;
+mod meetings;
 #[cfg(test)]
 mod tests;
 mod watching;
