@@ -2,3 +2,4 @@ pub mod ListLemmas
 pub mod PathLemmas
 pub mod Measured
 pub mod MeetingLemmas
+pub mod PairLemmas

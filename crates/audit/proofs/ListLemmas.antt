@@ -1,5 +1,5 @@
 -- Lists that are longer by one, and the records behind others.
-use Rattle.std.proofs.Common.{◌≡◌, ℕ, zero, suc, ◌+◌, ◌<◌, ◌≤◌, List, [], ◌∷◌, ◌++◌, length, slice_get, get_or, Some, ◌⊎◌, inl, inr, refl, sym, ◌∙◌, ap, arith, length-append}
+use Rattle.std.proofs.Common.{◌≡◌, ℕ, Bool, true, false, cond, zero, suc, ◌+◌, ◌<◌, ◌≤◌, List, [], ◌∷◌, ◌++◌, length, slice_get, get_or, Some, ◌⊎◌, inl, inr, refl, sym, ◌∙◌, ap, arith, length-append}
 use Rattle.std.proofs.lemmas.Option.{slice_get-get_or}
 use Rattle.trace.specs.declared.records.Record.{Record}
 use Rattle.trace.specs.Traces.{at}
@@ -32,3 +32,8 @@ pub element_at : {A : Type 0} (xs : List A) (k : ℕ) → k < length xs → (x :
 element_at [] k l = absurd (omega arith)
 element_at (x ∷ xs) zero l = (x, refl)
 element_at (x ∷ xs) (suc k) l = element_at xs k (omega arith)
+
+-- what a push that succeeded leaves
+pub pushed : {A : Type 0} (b : Bool) (xs ys zs : List A) → xs ≡ cond b ys zs → true ≡ b → xs ≡ ys
+pushed true xs ys zs e f = e
+pushed false xs ys zs e f = absurd (cc)

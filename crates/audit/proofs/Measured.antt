@@ -352,8 +352,8 @@ measured_next m m' u p x h c e a wk sp dp ss = record {
 pub measured_if : {T E : Type 0} (m m' : Measuring) (p : Placed) (x : ℕ) (e : Longest) (xs : List Longest) (o : Result T E) → e ≡ m.executing → xs ≡ m.waiting.items → x ≡ through m.executing p.what
     → OnOk o (Advances x p.what e xs m'.executing m'.waiting.items) → m'.work ≡ p.place → m'.span ≡ max m.span x → m'.depth ≡ max m.depth (length m.waiting.items)
     → ((u : List Record) → m.spawns ≡ count_by is_spawn u → m'.spawns ≡ count_by is_spawn (u ++ p.what ∷ []))
-    → OnOk o ((u : List Record) → HasMeasured m u → ComesAfter u p → HasMeasured m' (u ++ p.what ∷ []))
-measured_if m m' p x e xs (Ok t) f g is a wk sp dp ss = λ u h c. measured_next m m' u p x h c is advances wk sp dp (ss u h.spawns)
+    → OnOk o ((first : Measuring) (u : List Record) → HasMeasured m u → ComesAfter u p → HasMeasured m' (u ++ p.what ∷ []))
+measured_if m m' p x e xs (Ok t) f g is a wk sp dp ss = λ first u h c. measured_next m m' u p x h c is advances wk sp dp (ss u h.spawns)
   where
     advances : Advances x p.what m.executing m.waiting.items m'.executing m'.waiting.items
     advances =

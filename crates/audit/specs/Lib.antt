@@ -2,3 +2,5 @@ pub mod Measures
 pub mod Watching
 pub mod LongestPaths
 pub mod Meetings
+pub mod Pairs
+pub mod Pairing

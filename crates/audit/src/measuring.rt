@@ -106,7 +106,7 @@ impl Measuring {
 impl Watch for Measuring {
     ghost use Rattle.audit.specs.LongestPaths.{HasMeasured};
 
-    ghost has_seen = { HasMeasured };
+    ghost has_seen = { λ _ u now. HasMeasured now u };
 
     fn take(&mut self, placed: Placed) -> Result<(), NoMemory> {
         let length = self.executing.through(placed.what);

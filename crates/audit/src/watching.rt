@@ -11,13 +11,13 @@ use trace::{Fault, Intake, Limits, NoMemory, Placed, Source};
 
 /// What an audit keeps of the records that it was shown.
 pub(crate) trait Watch {
-    /// It was shown these records.
-    ghost has_seen: { Self → List Record → Type 0 };
+    /// From its first state on it was shown these records, and this is its state now.
+    ghost has_seen: { Self → List Record → Self → Type 0 };
 
     /// Takes the next record. After a refused growth it is of no more use.
     fn take(&mut self, placed: Placed) -> Result<(), NoMemory>
-        requires { (u : List Record) × has_seen self.old u × ComesAfter u placed }
-        ensures { OnOk result ((u : List Record) → has_seen self.old u → ComesAfter u placed → has_seen self.new (u ++ placed.what ∷ [])) };
+        requires { (first : Self) × (u : List Record) × has_seen first u self.old × ComesAfter u placed }
+        ensures { OnOk result ((first : Self) (u : List Record) → has_seen first u self.old → ComesAfter u placed → has_seen first (u ++ placed.what ∷ []) self.new) };
 }
 
 /// Shows all records of a trace, up to its end, or to the first fault or refused growth.
@@ -26,8 +26,8 @@ pub(crate) fn read_to_end<R: Source, W: Watch>(
     reader: &mut R,
     watch: &mut W,
 ) -> Result<(), Fault>
-    requires { W.has_seen watch.old [] }
-    ensures whole { OnOk result (OfTrace limits.records limits.depth (R.rest reader.old) (R.rest reader.new) (W.has_seen watch.new)) }
+    requires { W.has_seen watch.old [] watch.old }
+    ensures whole { OnOk result (OfTrace limits.records limits.depth (R.rest reader.old) (R.rest reader.new) (λ w. W.has_seen watch.old w watch.new)) }
     ensures fault { IfErr result (FailsBy limits.records limits.depth (R.rest reader.old) (R.rest reader.new) (R.failures reader.old) (R.failures reader.new)) }
     ensures honest { (w : List Record) → R.rest reader.old ≡ Some (text w) → AllFit w → IsWellNested w limits.records limits.depth
         → (HasRisen (R.failures reader.old) (R.failures reader.new) → ⊥) → IfErr result (λ f. f ≡ Fault.NoMemory) }

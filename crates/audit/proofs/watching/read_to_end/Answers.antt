@@ -47,7 +47,7 @@ take-requires g c =
     let i = c.records.invariant in
     let next = given_next _ _ _ _ _ _ _ _ _ _ c.in-Ok-Some.field-0-is (c.in-Ok-Some.ensures.fed i.trace i.came i.fed).2 in
     let limit : c.in-Ok-Some.placed.place ≤ 2 ^ 48 = omega (arith, next.0, next.1.has_used.has_read.within, c.next_from.ensures.limits.0, i.records, c.args.limits.within, length-append i.trace (c.in-Ok-Some.placed.what ∷ [])) in
-    (i.trace, i.seen, record { place_is = next.0; to_limit = limit })
+    (_, i.trace, i.seen, record { place_is = next.0; to_limit = limit })
 
 pub records-smaller : goal.records-smaller
 records-smaller g c =
@@ -66,7 +66,7 @@ records-preserved g c =
       came = i.came ++ fed.0;
       consumed = consumes_more _ _ _ i.came fed.0 i.consumed fed.1;
       fed = next.1;
-      seen = c.in-Ok.ensures i.trace i.seen (record { place_is = next.0; to_limit = limit });
+      seen = c.in-Ok.ensures _ i.trace i.seen (record { place_is = next.0; to_limit = limit });
       count = next.2 ∙ i.count;
       records = c.next_from.ensures.limits.0 ∙ i.records;
       depths = c.next_from.ensures.limits.1 ∙ i.depths;

@@ -10,7 +10,7 @@ invariant-records g l = record {
   came : List ℕ;
   consumed : Consumes (g.R.Source.rest l.fn.reader) (g.R.Source.rest l.reader) came;
   fed : HasFed trace came l.intake;
-  seen : g.W.Watch.has_seen l.watch trace;
+  seen : g.W.Watch.has_seen l.fn.watch trace l.watch;
   count : g.R.Source.failures l.reader ≡ g.R.Source.failures l.fn.reader;
   records : l.intake.reading.limit ≡ l.fn.limits.records;
   depths : l.intake.nesting.max_depth ≡ l.fn.limits.depth;
