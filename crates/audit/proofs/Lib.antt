@@ -3,3 +3,4 @@ pub mod PathLemmas
 pub mod Measured
 pub mod MeetingLemmas
 pub mod PairLemmas
+pub mod ConfirmLemmas

@@ -1,6 +1,5 @@
 -- Lists that are longer by one, and the records behind others.
-use Rattle.std.proofs.Common.{◌≡◌, ℕ, Bool, true, false, cond, zero, suc, ◌+◌, ◌<◌, ◌≤◌, List, [], ◌∷◌, ◌++◌, length, slice_get, get_or, Some, ◌⊎◌, inl, inr, refl, sym, ◌∙◌, ap, arith, length-append}
-use Rattle.std.proofs.lemmas.Option.{slice_get-get_or}
+use Rattle.std.proofs.Common.{◌≡◌, ℕ, Bool, true, false, cond, zero, suc, ◌<◌, ◌≤◌, List, [], ◌∷◌, ◌++◌, length, slice_get, Some, ◌⊎◌, inl, inr, refl, ◌∙◌, ap, arith, length-append}
 use Rattle.trace.specs.declared.records.Record.{Record}
 use Rattle.trace.specs.Traces.{at}
 use Rattle.trace.proofs.Places.{at-front, at-seam}

@@ -11,7 +11,6 @@ use Rattle.trace.specs.Traces.{at, depth, IsPlace, IsWellNested}
 use Rattle.trace.specs.Dag.{JoinsAt, IsPath}
 use Rattle.trace.proofs.World.{Step}
 use Rattle.trace.proofs.Traced.{shape_of, step_at}
-use Rattle.trace.proofs.Places.{at-front, at-seam}
 use Rattle.audit.specs.declared.measuring.Longest.{Longest}
 use Rattle.audit.specs.declared.measuring.Measuring.{Measuring}
 use Rattle.audit.specs.Measures.{is_spawn, IsMeasure, IsSpan, IsGreatestDepth}

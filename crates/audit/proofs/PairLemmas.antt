@@ -1,7 +1,6 @@
 -- The races of one location, one access after another.
-use Rattle.std.proofs.Common.{◌≡◌, ◌≢◌, ℕ, zero, suc, ◌+◌, ◌<◌, ◌≤◌, ◌↔◌, Bool, true, false, ◌||◌, List, [], ◌∷◌, ◌++◌, length, slice_get, get_or, Option, Some, ◌⊎◌, inl, inr, refl, sym, ◌∙◌, subst, ap, arith, Contains, append_assoc, length-append, Result, Ok, Err, OnOk}
-use Rattle.std.specs.List.{AllPairs}
-use Rattle.std.proofs.lemmas.Bool.{cases_lt, cases_eq}
+use Rattle.std.proofs.Common.{◌≡◌, ◌≢◌, ℕ, suc, ◌+◌, ◌<◌, ◌≤◌, true, false, ◌||◌, List, [], ◌∷◌, ◌++◌, length, slice_get, get_or, Some, ◌⊎◌, inl, inr, refl, sym, ◌∙◌, subst, ap, arith, Contains, append_assoc, length-append, Result, Ok, Err, OnOk}
+use Rattle.std.proofs.lemmas.Bool.{cases_eq}
 use Rattle.std.proofs.lemmas.List.{append-nil}
 use Rattle.std.proofs.lemmas.List.Elements.{Contains-push, Contains-push_cases}
 use Rattle.std.proofs.lemmas.List.Quantifiers.{all_pairs_push}
@@ -13,14 +12,14 @@ use Rattle.trace.specs.declared.records.Kind.TheVariants.{Read, Write}
 use Rattle.trace.specs.declared.records.Access.{Access}
 use Rattle.trace.specs.declared.records.Placed.{Placed}
 use Rattle.trace.specs.Accesses.{writes}
-use Rattle.trace.specs.Traces.{at, depth, IsPlace, IsWellNested}
+use Rattle.trace.specs.Traces.{at, depth, IsWellNested}
 use Rattle.trace.specs.Dag.{IsParallel}
 use Rattle.trace.specs.Races.{access, IsAccess, IsWrite, IsRead, IsAccessPlace, IsRace}
 use Rattle.trace.proofs.Paths.{access-place}
 use Rattle.audit.specs.declared.meetings.Meetings.{Meetings}
 use Rattle.audit.specs.declared.pairing.Kept.{Kept}
 use Rattle.audit.specs.declared.pairing.Pairing.{Pairing}
-use Rattle.audit.specs.Watching.{ComesAfter, WhateverFollows}
+use Rattle.audit.specs.Watching.{ComesAfter}
 use Rattle.audit.specs.Meetings.{HasMet, TellsParallel, Moves}
 use Rattle.audit.specs.Pairs.{IsPair, IsBefore, ArePairs}
 use Rattle.audit.specs.Pairing.{IsKept, IsAmong, AreKept, ArePairsTo, ArePairsWith, AddsPairs, HasPaired}

@@ -4,3 +4,5 @@ pub mod LongestPaths
 pub mod Meetings
 pub mod Pairs
 pub mod Pairing
+pub mod Confirms
+pub mod Confirming

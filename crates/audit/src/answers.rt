@@ -12,3 +12,12 @@ pub struct Measure {
     /// The depth of the deepest place; the root's own places have depth 0.
     pub depth: u32,
 }
+
+/// Whether the entries of a report are races of the trace.
+#[derive(Clone, Copy, Debug, PartialEq, Eq)]
+pub enum Confirm {
+    /// All of them are.
+    Yes,
+    /// An entry isn't, and those before it are. Entries are counted from 1.
+    No { entry: u64 },
+}

@@ -1,7 +1,10 @@
-//! Questions about one trace, answered over its dag.
+//! Questions about one trace, answered over its dag: its measures, all races of one location, and whether the entries
+//! of a report are races.
 #![tactic(auto)]
 
 pub mod answers;
+mod confirming;
+pub mod confirms;
 pub mod location_races;
 pub mod measures;
 mod measuring;
@@ -11,6 +14,7 @@ mod pairing;
 mod tests;
 mod watching;
 
-pub use answers::Measure;
+pub use answers::{Confirm, Measure};
+pub use confirms::confirm;
 pub use location_races::pairs;
 pub use measures::measure;

@@ -1,4 +1,4 @@
-use Rattle.std.proofs.Common.{◌≡◌, ◌+◌, ◌<◌, ◌≤◌, ℕ, List, ◌++◌, ◌∷◌, [], length, subst, sym, ◌∙◌, ap, arith, true, false, Bool, slice_get, Some, slice_index_or}
+use Rattle.std.proofs.Common.{◌≡◌, ◌+◌, ℕ, List, length, subst, sym, ◌∙◌, ap, arith}
 use Rattle.std.proofs.lemmas.Option.{slice_get-get_or}
 use Rattle.trace.specs.declared.records.Access.{Access}
 use Rattle.audit.specs.Pairing.{AddsPairs}

@@ -1,4 +1,4 @@
-use Rattle.std.proofs.Common.{◌≡◌, ◌<◌, ◌≤◌, ◌+◌, ℕ, suc, arith, refl, sym, ◌∙◌, slice_get, Some, true, false, length, ap}
+use Rattle.std.proofs.Common.{◌≡◌, arith, refl, sym, ◌∙◌, length}
 use Rattle.std.proofs.lemmas.Bool.{lt-ltb, ltb-true}
 use Rattle.std.proofs.lemmas.Option.{slice_get_read}
 use Rattle.audit.proofs.MeetingLemmas.{told_executing, told_waiting, told_none}

@@ -1,4 +1,4 @@
-use Rattle.std.proofs.Common.{◌≡◌, ◌+◌, ◌<◌, ℕ, List, ◌++◌, ◌∷◌, [], length, subst, sym, ◌∙◌, ap, arith, true, false, Bool, slice_get, Some, slice_index_or, OnOk}
+use Rattle.std.proofs.Common.{List, length, subst, ◌∙◌, ap, OnOk}
 use Rattle.audit.specs.declared.pairing.Kept.{Kept}
 use Rattle.audit.specs.declared.pairing.Pairing.{Pairing}
 use Rattle.audit.specs.declared.meetings.Meetings.{Meetings}
