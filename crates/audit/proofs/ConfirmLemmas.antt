@@ -3,12 +3,13 @@ use Rattle.std.proofs.Common.{◌≡◌, ◌≢◌, ℕ, zero, suc, ◌<◌, ◌
 use Rattle.std.specs.List.{AllByRecursion}
 use Rattle.std.specs.List.Sorted.{IsPartitionedBy, IsPartitionPoint}
 use denote.Enum.Bare.{sameb}
-use Rattle.std.proofs.lemmas.Bool.{cases_lt, cases_eq, lt-ltb, ltb-true, and_parts, eqb-true, eq-eqb}
+use Rattle.std.proofs.lemmas.Bool.{cases_lt, cases_eq, and_parts, eqb-true, eq-eqb}
 use Rattle.trace.specs.contracts.records.Kind.{the_type}
 use Rattle.std.proofs.lemmas.List.{append-nil}
 use Rattle.std.proofs.lemmas.List.Sorted.{IsPartitionedBy-ltb}
 use Rattle.std.proofs.lemmas.List.Kept.{AllPairs-from_increasing}
-use Rattle.std.proofs.lemmas.Option.{slice_get_within, slice_get-get_or, get_or_from_slice_get}
+use Rattle.std.specs.Option.{option_map}
+use Rattle.std.proofs.lemmas.Option.{slice_get_within, slice_get-get_or, get_or_from_slice_get, slice_get-map}
 use Rattle.trace.specs.declared.records.Record.{Record}
 use Rattle.trace.specs.declared.records.Record.TheVariants as records
 use Rattle.trace.specs.declared.records.Kind.{Kind}
@@ -20,6 +21,8 @@ use Rattle.trace.specs.Traces.{at, depth, IsPlace, IsWellNested}
 use Rattle.trace.specs.Dag.{IsParallel}
 use Rattle.trace.specs.Races.{access, IsAccess, IsAccessPlace}
 use Rattle.trace.proofs.Paths.{access-place}
+use Rattle.trace.proofs.Readers.{IsAccessPlace-at}
+use Rattle.trace.proofs.Once.{kind_once}
 use Rattle.collect.specs.Reports.{IsReportList, IsEntry, locations}
 use Rattle.audit.specs.declared.answers.Confirm.{Confirm}
 use Rattle.audit.specs.declared.answers.Confirm.TheVariants.{Yes, No}
@@ -32,16 +35,16 @@ use Rattle.audit.specs.Watching.{ComesAfter, WhateverFollows}
 use Rattle.audit.specs.Meetings.{HasMet, TellsParallel, Moves}
 use Rattle.audit.specs.Confirms.{TellsRace, Confirms}
 use Rattle.audit.specs.Confirming.{race_of, races_of, entry_of, AreAscending, HasBegun, Stands, AllStand, Touches, AnswersBy, HasConfirmed}
-use Rattle.audit.proofs.ListLemmas.{record_there}
+use Rattle.audit.proofs.ListLemmas.{record_there, below-true, not-below}
 use Rattle.audit.proofs.MeetingLemmas.{met_next}
-use Rattle.audit.proofs.PairLemmas.{one_kind, access_here, race_by}
+use Rattle.audit.proofs.PairLemmas.{race_by}
 
 -- the entries of a report ascend, and have the shape of races
 
 location-at : (es : List Entry) (k : ℕ) (e : Entry) → slice_get es k ≡ Some e → slice_get (locations (races_of es)) k ≡ Some e.location
-location-at [] k e s = absurd (cc)
-location-at (x ∷ es) zero e s = let f : x ≡ e = cc in ap (λ (z : Entry). Some z.location) f
-location-at (x ∷ es) (suc k) e s = location-at es k e s
+location-at es k e s =
+    slice_get-map (λ (r : RaceAt). r.location) (races_of es) k
+    ∙ ap (option_map (λ (r : RaceAt). r.location)) (slice_get-map race_of es k ∙ ap (option_map race_of) s)
 
 length-locations : (es : List Entry) → length (locations (races_of es)) ≡ length es
 length-locations [] = refl
@@ -97,7 +100,7 @@ stays_elsewhere w t e s never h = stays w t e s (λ q a. never e.first.kind (sub
 
 same_access : (w : List Record) (l t : ℕ) (a b : Access) → a.place ≡ suc t → IsAccess w l a.place a.kind → b.place ≡ suc t → IsAccess w l b.place b.kind → a ≡ b
 same_access w l t a b e p f q =
-    let k : a.kind ≡ b.kind = one_kind w l a.place a.kind b.kind p (subst (λ (z : ℕ). IsAccess w l z b.kind) (f ∙ sym e) q) in
+    let k : a.kind ≡ b.kind = kind_once w l a.place a.kind b.kind p (subst (λ (z : ℕ). IsAccess w l z b.kind) (f ∙ sym e) q) in
     let s : a.place ≡ b.place = e ∙ sym f in
     λ i. record { kind = k i; place = s i }
 
@@ -164,7 +167,7 @@ begins m u e a deep met shape same level is w rest begins-with n d h p = record 
     place = ap (λ (z : Access). z.place) (sym same) ∙ is
 
     there : IsPlace w (suc (length u))
-    there = access-place w (suc (length u)) (subst (IsAccessPlace w) is (access_here w e.location a.place a.kind p))
+    there = access-place w (suc (length u)) (subst (IsAccessPlace w) is (IsAccessPlace-at w e.location a.place a.kind p))
 
 module _ (m : Meetings) (u : List Record) (e : RaceAt) (a : Access) (deep : ℕ) (met : HasMet m u) (shape : IsRaceShape e.first e.second) (same : a ≡ e.second) (is : a.place ≡ suc (length u)) where
   second_place : e.second.place ≡ suc (length u)
@@ -174,14 +177,14 @@ module _ (m : Meetings) (u : List Record) (e : RaceAt) (a : Access) (deep : ℕ)
   second w p = subst (λ (z : Access). IsAccess w e.location z.place z.kind) same p
 
   next_place : (w : List Record) → IsAccess w e.location a.place a.kind → IsAccessPlace w (suc (length u))
-  next_place w p = subst (IsAccessPlace w) is (access_here w e.location a.place a.kind p)
+  next_place w p = subst (IsAccessPlace w) is (IsAccessPlace-at w e.location a.place a.kind p)
 
   -- its second access is there, and parallel
   pub confirmed : TellsParallel u e.first.place deep true → WhateverFollows u (λ w. IsAccess w e.location a.place a.kind → HasBegun w (length u) e deep → TellsRace w e)
   confirmed tells w rest begins-with n d h p b = record {
     race = race_by w e.location e.first.place e.second.place e.first.kind e.second.kind shape.in_order b.first (second w p) shape.one_writes
         (subst (λ (z : ℕ). IsParallel w e.first.place z) (sym second_place)
-        ((tells w rest begins-with n d h (access_here w e.location e.first.place e.first.kind b.first) b.upto b.at_depth (next_place w p)).0 refl));
+        ((tells w rest begins-with n d h (IsAccessPlace-at w e.location e.first.place e.first.kind b.first) b.upto b.at_depth (next_place w p)).0 refl));
     first_kind = b.first;
     second_kind = second w p;
   }
@@ -193,7 +196,7 @@ module _ (m : Meetings) (u : List Record) (e : RaceAt) (a : Access) (deep : ℕ)
     upto = omega (arith, b.upto);
     at_depth = b.at_depth;
     not_yet = λ l r.
-        (let z : false ≡ true = (tells w rest begins-with n d h (access_here w e.location e.first.place e.first.kind b.first) b.upto b.at_depth (next_place w p)).1
+        (let z : false ≡ true = (tells w rest begins-with n d h (IsAccessPlace-at w e.location e.first.place e.first.kind b.first) b.upto b.at_depth (next_place w p)).1
         (subst (λ (v : ℕ). IsParallel w e.first.place v) second_place r.race.parallel) in
         cc);
   }
@@ -270,7 +273,7 @@ confirming_none races s report is met = record {
 }
   where
     none_there : (w : List Record) (e : Entry) → e.first.place ≤ 0 → IsAccess w e.location e.first.place e.first.kind → ⊥
-    none_there w e l a = omega (arith, (access-place w e.first.place (access_here w e.location e.first.place e.first.kind a)).0)
+    none_there w e l a = omega (arith, (access-place w e.first.place (IsAccessPlace-at w e.location e.first.place e.first.kind a)).0)
 
 module _ (s s' : Confirming) (races : List RaceAt) (u : List Record) (p : Placed) (h : HasConfirmed races u s) (c : ComesAfter u p) (same : races_of s'.entries.items ≡ races_of s.entries.items)
     (moves : Moves p.place p.what s.meetings.executing s.meetings.waiting.items s'.meetings.executing s'.meetings.waiting.items) where
@@ -335,9 +338,9 @@ stands-race w t e s q h = subst (λ (z : Standing). Stands w t e z) q h
 
 stands-not_race : (w : List Record) (t : ℕ) (e : RaceAt) (s : Standing) → length w ≡ t → s ≢ Confirmed → Stands w t e s → TellsRace w e → ⊥
 stands-not_race w t e Missing l q h r =
-    h (omega (arith, (access-place w e.first.place (access_here w e.location e.first.place e.first.kind r.first_kind)).1)) r.first_kind
+    h (omega (arith, (access-place w e.first.place (IsAccessPlace-at w e.location e.first.place e.first.kind r.first_kind)).1)) r.first_kind
 stands-not_race w t e (Begun deep) l q h r =
-    h.not_yet (omega (arith, (access-place w e.second.place (access_here w e.location e.second.place e.second.kind r.second_kind)).1)) r
+    h.not_yet (omega (arith, (access-place w e.second.place (IsAccessPlace-at w e.location e.second.place e.second.kind r.second_kind)).1)) r
 stands-not_race w t e Confirmed l q h r = q refl
 
 race-at : (es : List Entry) (k : ℕ) (r : RaceAt) → slice_get (races_of es) k ≡ Some r → (e : Entry) × (slice_get es k ≡ Some e) × (race_of e ≡ r)
@@ -346,9 +349,7 @@ race-at (x ∷ es) zero r s = (x, refl, cc)
 race-at (x ∷ es) (suc k) r s = race-at es k r s
 
 race-of-at : (es : List Entry) (k : ℕ) (e : Entry) → slice_get es k ≡ Some e → slice_get (races_of es) k ≡ Some (race_of e)
-race-of-at [] k e s = absurd (cc)
-race-of-at (x ∷ es) zero e s = let f : x ≡ e = cc in ap (λ (z : Entry). Some (race_of z)) f
-race-of-at (x ∷ es) (suc k) e s = race-of-at es k e s
+race-of-at es k e s = slice_get-map race_of es k ∙ ap (option_map race_of) s
 
 answer : (w : List Record) (es : List Entry) (a : Confirm) → AllStand w (length w) es → AnswersBy es a → Confirms w (races_of es) a
 answer w es Yes all by = λ k d l.
@@ -368,15 +369,6 @@ pub answer_of : (s : Confirming) (races : List RaceAt) (a : Confirm) (w : List R
 answer_of s races a w h c by = subst (λ (rs : List RaceAt). Confirms w rs a) c.same_races (answer w s.entries.items a (c.stands w [] (sym (append-nil w)) _ _ h) by)
 
 -- no entry is on a location
-
-below-true : (a b : ℕ) → nat_lt a b ≡ true → a < b
-below-true a b e = ltb-true a b e
-
-not-below : (a b : ℕ) → nat_lt a b ≡ false → b ≤ a
-not-below a b e = elim (cases_lt a b) [
-  | inl q ↦ absurd (let z : nat_lt a b ≡ true = lt-ltb a b q in cc)
-  | inr q ↦ q
-]
 
 pub partitioned : (es : List Entry) (l : ℕ) → AreAscending es → IsPartitionedBy (λ (e : Entry). nat_lt e.location l) es
 partitioned es l h = IsPartitionedBy-ltb (λ (e : Entry). e.location) es l (λ i j d a b. elim (cases_eq i j) [

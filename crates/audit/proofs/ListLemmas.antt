@@ -1,5 +1,6 @@
 -- Lists that are longer by one, and the records behind others.
-use Rattle.std.proofs.Common.{◌≡◌, ℕ, Bool, true, false, cond, zero, suc, ◌<◌, ◌≤◌, List, [], ◌∷◌, ◌++◌, length, slice_get, Some, ◌⊎◌, inl, inr, refl, ◌∙◌, ap, arith, length-append}
+use Rattle.std.proofs.Common.{◌≡◌, ℕ, Bool, true, false, cond, zero, suc, ◌<◌, ◌≤◌, List, [], ◌∷◌, ◌++◌, length, slice_get, Some, ◌⊎◌, inl, inr, refl, ◌∙◌, ap, arith, length-append, nat_lt}
+use Rattle.std.proofs.lemmas.Bool.{cases_lt, lt-ltb, ltb-true}
 use Rattle.trace.specs.declared.records.Record.{Record}
 use Rattle.trace.specs.Traces.{at}
 use Rattle.trace.proofs.Places.{at-front, at-seam}
@@ -36,3 +37,14 @@ element_at (x ∷ xs) (suc k) l = element_at xs k (omega arith)
 pub pushed : {A : Type 0} (b : Bool) (xs ys zs : List A) → xs ≡ cond b ys zs → true ≡ b → xs ≡ ys
 pushed true xs ys zs e f = e
 pushed false xs ys zs e f = absurd (cc)
+
+-- what a test of numbers tells
+
+pub below-true : (a b : ℕ) → nat_lt a b ≡ true → a < b
+below-true a b e = ltb-true a b e
+
+pub not-below : (a b : ℕ) → nat_lt a b ≡ false → b ≤ a
+not-below a b e = elim (cases_lt a b) [
+  | inl q ↦ absurd (let z : nat_lt a b ≡ true = lt-ltb a b q in cc)
+  | inr q ↦ q
+]

@@ -1,5 +1,5 @@
 -- One more record is measured: its longest path, the active procedures after it, and the numbers at the end.
-use Rattle.std.proofs.Common.{◌≡◌, ◌≢◌, ℕ, zero, suc, ◌+◌, ◌<◌, ◌≤◌, max, List, [], ◌∷◌, ◌++◌, length, count_by, slice_get, Option, Some, ◌⊎◌, inl, inr, refl, sym, ◌∙◌, subst, ap, arith, cond, append_assoc, length-append, Result, Ok, Err, OnOk}
+use Rattle.std.proofs.Common.{◌≡◌, ◌≢◌, ℕ, zero, suc, ◌+◌, ◌<◌, ◌≤◌, max, List, [], ◌∷◌, ◌++◌, length, count_by, slice_get, Some, ◌⊎◌, inl, inr, refl, sym, ◌∙◌, subst, ap, arith, cond, append_assoc, length-append, Result, Ok, Err, OnOk}
 use Rattle.std.proofs.lemmas.List.{append-nil}
 use Rattle.std.proofs.lemmas.List.Sums.{sum_by-append}
 use Rattle.std.proofs.lemmas.Bool.{cases_lt, cases_eq}
@@ -9,8 +9,7 @@ use Rattle.trace.specs.declared.records.Record.TheVariants.{Spawn, Return, Sync,
 use Rattle.trace.specs.declared.records.Placed.{Placed}
 use Rattle.trace.specs.Traces.{at, depth, IsPlace, IsWellNested}
 use Rattle.trace.specs.Dag.{JoinsAt, IsPath}
-use Rattle.trace.proofs.World.{Step}
-use Rattle.trace.proofs.Traced.{shape_of, step_at}
+use Rattle.trace.proofs.Walks.{step_by}
 use Rattle.audit.specs.declared.measuring.Longest.{Longest}
 use Rattle.audit.specs.declared.measuring.Measuring.{Measuring}
 use Rattle.audit.specs.Measures.{is_spawn, IsMeasure, IsSpan, IsGreatestDepth}
@@ -31,9 +30,6 @@ active_at w t d e xs q l o u a b = record {
 }
 
 module _ (w : List Record) {n d : ℕ} (h : IsWellNested w n d) (t : ℕ) where
-  step_by : (r : Record) → at w (suc t) ≡ Some r → suc (suc t) ≤ length w → Step (shape_of (Some r)) (depth w (suc t)) (depth w (suc (suc t)))
-  step_by r s b = subst (λ (o : Option Record). Step (shape_of o) (depth w (suc t)) (depth w (suc (suc t)))) s (step_at w h (suc t) (omega arith) b)
-
   not_joined : (r : Record) → at w (suc t) ≡ Some r → (r ≡ Sync → ⊥) → (r ≡ Return → ⊥) → JoinsAt w (suc t) → ⊥
   not_joined r s a b (inl e) = let f : Some r ≡ Some Sync = sym s ∙ e in let g : r ≡ Sync = cc in a g
   not_joined r s a b (inr e) = let f : Some r ≡ Some Return = sym s ∙ e in let g : r ≡ Return = cc in b g
@@ -86,7 +82,7 @@ module _ (w : List Record) {n d : ℕ} (h : IsWellNested w n d) (t : ℕ) where
       let o : x ≡ e'.own = sym (ap (λ (f : Longest). f.own) p) in
       let u : 0 ≡ e'.unjoined = sym (ap (λ (f : Longest). f.unjoined) p) in
       subst (λ (ys : List Longest). AreActive w (suc t) e' ys) (sym q)
-      (active_at w (suc t) (depth w (suc t)) e' xs (step_by Sync s b) a.level
+      (active_at w (suc t) (depth w (suc t)) e' xs (step_by w h t Sync b s) a.level
       (subst (λ (y : ℕ). LeadsOn w (suc t) (depth w (suc t)) y) o (own (last_here w h t x (omega arith) m l)))
       (subst (λ (y : ℕ). IsLongestUnjoined w (suc t) (depth w (suc t)) y) u (unjoined_synced w h t s))
       (kept_own e xs a) (kept_unjoined e xs a m))
@@ -95,7 +91,7 @@ module _ (w : List Record) {n d : ℕ} (h : IsWellNested w n d) (t : ℕ) where
       → e' ≡ record { own = x; unjoined = 0 } → xs' ≡ xs ++ record { own = x; unjoined = e.unjoined } ∷ [] → AreActive w (suc t) e' xs'
   next_spawn e e' xs xs' x b s a l p q =
       subst (λ (ys : List Longest). AreActive w (suc t) e' ys) (sym q)
-      (active_at w (suc t) (suc (depth w (suc t))) e' (xs ++ parent ∷ []) (step_by Spawn s b) (omega (arith, a.level, length-append xs (parent ∷ [])))
+      (active_at w (suc t) (suc (depth w (suc t))) e' (xs ++ parent ∷ []) (step_by w h t Spawn b s) (omega (arith, a.level, length-append xs (parent ∷ [])))
       (subst (λ (y : ℕ). LeadsOn w (suc t) (suc (depth w (suc t))) y) o (opened s refl l))
       (subst (λ (y : ℕ). IsLongestUnjoined w (suc t) (suc (depth w (suc t))) y) u (unjoined_opened w h t (omega arith) s))
       (λ k f g. by_own k f (slice_get-push xs parent k f g)) (λ k f g. by_unjoined k f (slice_get-push xs parent k f g)))
@@ -146,7 +142,7 @@ module _ (w : List Record) {n d : ℕ} (h : IsWellNested w n d) (t : ℕ) where
       deeper = omega (arith, a.level, ap length q, length-append ys (f ∷ []))
 
       level : depth w (suc (suc t)) ≡ length ys
-      level = let z : depth w (suc t) ≡ suc (depth w (suc (suc t))) = step_by Return s b in omega (arith, deeper)
+      level = let z : depth w (suc t) ≡ suc (depth w (suc (suc t))) = step_by w h t Return b s in omega (arith, deeper)
 
       o : f.own ≡ e'.own
       o = sym (ap (λ (z : Longest). z.own) p)
@@ -170,8 +166,8 @@ module _ (w : List Record) {n d : ℕ} (h : IsWellNested w n d) (t : ℕ) where
   active_next Return e e' xs xs' x b s a l (inl z) = absurd (only_root e xs a s z.0 b)
   active_next Return e e' xs xs' x b s a l (inr (f, q, p)) = next_return e e' xs xs' f x b s a l q p
   active_next Sync e e' xs xs' x b s a l (p, q) = next_sync e e' xs xs' x b s a l p q
-  active_next (Read i) e e' xs xs' x b s a l (p, q) = next_plain (Read i) e e' xs xs' x b (not_joined (Read i) s (λ z. cc) (λ z. cc)) (other (Read i) Return s (λ z. cc)) (step_by (Read i) s b) a l p q
-  active_next (Write i) e e' xs xs' x b s a l (p, q) = next_plain (Write i) e e' xs xs' x b (not_joined (Write i) s (λ z. cc) (λ z. cc)) (other (Write i) Return s (λ z. cc)) (step_by (Write i) s b) a l p q
+  active_next (Read i) e e' xs xs' x b s a l (p, q) = next_plain (Read i) e e' xs xs' x b (not_joined (Read i) s (λ z. cc) (λ z. cc)) (other (Read i) Return s (λ z. cc)) (step_by w h t (Read i) b s) a l p q
+  active_next (Write i) e e' xs xs' x b s a l (p, q) = next_plain (Write i) e e' xs xs' x b (not_joined (Write i) s (λ z. cc) (λ z. cc)) (other (Write i) Return s (λ z. cc)) (step_by w h t (Write i) b s) a l p q
 
   -- the span and the depth so far
 
@@ -239,9 +235,6 @@ through-within n f (Write l) i = omega (arith, i.own)
 
 within_of : (n a b : ℕ) (f : Longest) → a ≤ n → b ≤ n → f ≡ record { own = a; unjoined = b } → IsWithin n f
 within_of n a b f x y e = subst (IsWithin n) (sym e) (record { own = x; unjoined = y })
-
-AllWithin : ℕ → List Longest → Type 0
-AllWithin n xs = (k : ℕ) (f : Longest) → slice_get xs k ≡ Some f → IsWithin n f
 
 record StayWithin (n : ℕ) (e : Longest) (xs : List Longest) : Type 0 where
   executing : IsWithin n e

@@ -1,6 +1,6 @@
 -- Where an earlier access and the next place meet, by the active procedures, and that these are kept.
-use Rattle.std.proofs.Common.{◌≡◌, ℕ, suc, ◌<◌, ◌≤◌, ◌↔◌, Bool, true, false, List, [], ◌∷◌, ◌++◌, length, slice_get, get_or, nat_lt, Option, Some, ◌⊎◌, inl, inr, refl, sym, ◌∙◌, subst, ap, arith, append_assoc, length-append}
-use Rattle.std.proofs.lemmas.Bool.{cases_lt, cases_eq, lt-ltb, ltb-true}
+use Rattle.std.proofs.Common.{◌≡◌, ℕ, suc, ◌<◌, ◌≤◌, ◌↔◌, Bool, true, false, List, [], ◌∷◌, ◌++◌, length, slice_get, get_or, nat_lt, Some, ◌⊎◌, inl, inr, refl, sym, ◌∙◌, subst, ap, arith, append_assoc, length-append}
+use Rattle.std.proofs.lemmas.Bool.{cases_lt, cases_eq}
 use Rattle.std.proofs.lemmas.Option.{slice_get_within, slice_get-get_or, get_or_from_slice_get}
 use Rattle.std.specs.List.Sorted.{IsPartitionedBy, IsPartitionPoint}
 use Rattle.std.proofs.lemmas.List.Sorted.{IsPartitionedBy-ltb}
@@ -11,15 +11,14 @@ use Rattle.trace.specs.Traces.{at, depth, IsPlace, IsWellNested}
 use Rattle.trace.specs.Dag.{IsParallel}
 use Rattle.trace.specs.Races.{IsAccessPlace}
 use Rattle.trace.specs.Meeting.{level, Holds, IsMeeting, IsOwn, InOneBlock}
-use Rattle.trace.proofs.World.{Step}
-use Rattle.trace.proofs.Traced.{shape_of, step_at}
+use Rattle.trace.proofs.Walks.{step_by}
 use Rattle.trace.proofs.Paths.{access-place}
 use Rattle.trace.proofs.Meetings.{level-at, holds_from, holds-deeper, holds-shorter, Opened, opened_at, opened-holds, opened_below, opened-child, stand_of, OwnSync, own_sync-is, is_own_sync, block_same, block_less, stand-after, stand-le, before-stand, parallel-block}
 use Rattle.audit.specs.declared.meetings.Active.{Active}
 use Rattle.audit.specs.declared.meetings.Meetings.{Meetings}
 use Rattle.audit.specs.Watching.{ComesAfter}
 use Rattle.audit.specs.Meetings.{IsActive, AreActive, HasMet, TellsParallel, Moves}
-use Rattle.audit.proofs.ListLemmas.{slice_get-push, slice_get-front, slice_get-last, place_there, record_there, element_at}
+use Rattle.audit.proofs.ListLemmas.{slice_get-push, slice_get-front, slice_get-last, place_there, record_there, element_at, below-true, not-below}
 
 -- the active procedure at a depth
 data ActiveAt (e : Active) (xs : List Active) (k : ℕ) (f : Active) : Type 0 where
@@ -177,15 +176,6 @@ told_executing m u place deep b met before s w rest is n d h p l q r =
 abbrev pub IsCountBefore : List Active → ℕ → ℕ → Type 0
 IsCountBefore xs place n = IsPartitionedBy (λ (f : Active). nat_lt f.opened place) xs → IsPartitionPoint (λ (f : Active). nat_lt f.opened place ≡ true) (λ (f : Active). nat_lt f.opened place ≡ false) xs n
 
-below-true : (a b : ℕ) → nat_lt a b ≡ true → a < b
-below-true a b e = ltb-true a b e
-
-not-below : (a b : ℕ) → nat_lt a b ≡ false → b ≤ a
-not-below a b e = elim (cases_lt a b) [
-  | inl q ↦ absurd (let z : nat_lt a b ≡ true = lt-ltb a b q in cc)
-  | inr q ↦ q
-]
-
 -- procedures from the count on were opened later, and so was the executing one
 none_later : (e : Active) (xs : List Active) (place n : ℕ) → place ≤ e.opened → IsPartitionPoint (λ (f : Active). nat_lt f.opened place ≡ true) (λ (f : Active). nat_lt f.opened place ≡ false) xs n
     → (l : ℕ) (g : Active) → n ≤ l → ActiveAt e xs l g → place ≤ g.opened
@@ -228,9 +218,6 @@ told_none m u place deep n b met late count is w rest begins records depths h p 
 -- one record more
 
 module _ (w : List Record) {n d : ℕ} (h : IsWellNested w n d) (t : ℕ) where
-  step_by : (r : Record) → at w (suc t) ≡ Some r → suc (suc t) ≤ length w → Step (shape_of (Some r)) (depth w (suc t)) (depth w (suc (suc t)))
-  step_by r s b = subst (λ (o : Option Record). Step (shape_of o) (depth w (suc t)) (depth w (suc (suc t)))) s (step_at w h (suc t) (omega arith) b)
-
   stays : (k : ℕ) (f : Active) → k ≤ depth w (suc (suc t)) → (depth w (suc t) ≡ k → at w (suc t) ≡ Some Sync → ⊥) → IsActive w t k f → IsActive w (suc t) k f
   stays k f l m x = record {
     on_level = x.on_level;
@@ -320,23 +307,23 @@ module _ (w : List Record) {n d : ℕ} (h : IsWellNested w n d) (t : ℕ) where
       deeper = omega (arith, a.level, ap length q, length-append ys (e' ∷ []))
 
       level : depth w (suc (suc t)) ≡ length ys
-      level = let z : depth w (suc t) ≡ suc (depth w (suc (suc t))) = step_by Return s b in omega (arith, deeper)
+      level = let z : depth w (suc t) ≡ suc (depth w (suc (suc t))) = step_by w h t Return b s in omega (arith, deeper)
 
       later : (k : ℕ) (f : Active) → slice_get xs k ≡ Some f → k ≤ length ys → IsActive w (suc t) k f
       later k f g l = stays k f (omega (arith, level)) (λ z. other Return Sync s (λ v. cc)) (a.waits k f g)
 
   pub active_next : (r : Record) (e e' : Active) (xs xs' : List Active) → suc (suc t) ≤ length w → at w (suc t) ≡ Some r → AreActive w t e xs → Moves (suc t) r e xs e' xs' → AreActive w (suc t) e' xs'
-  active_next Spawn e e' xs xs' b s a (p, q) = next_spawn e e' xs xs' a (step_by Spawn s b) s p q
+  active_next Spawn e e' xs xs' b s a (p, q) = next_spawn e e' xs xs' a (step_by w h t Spawn b s) s p q
   active_next Return e e' xs xs' b s a (inl z) =
       absurd (let y : length xs ≡ 0 = ap length z.0 in h.no_earlier (suc t) b (record { a_return = s; at_zero = omega (arith, a.level) }))
   active_next Return e e' xs xs' b s a (inr q) = next_return e e' xs xs' b a s q
   active_next Sync e e' xs xs' b s a (p, q) =
-      next_same e e' xs xs' a (step_by Sync s b) (subst (λ (f : Active). IsActive w (suc t) (depth w (suc t)) f) (sym p) (synced e (step_by Sync s b) s a.executes)) q
+      next_same e e' xs xs' a (step_by w h t Sync b s) (subst (λ (f : Active). IsActive w (suc t) (depth w (suc t)) f) (sym p) (synced e (step_by w h t Sync b s) s a.executes)) q
   active_next (Read i) e e' xs xs' b s a (p, q) =
-      let z : depth w (suc (suc t)) ≡ depth w (suc t) = step_by (Read i) s b in
+      let z : depth w (suc (suc t)) ≡ depth w (suc t) = step_by w h t (Read i) b s in
       next_same e e' xs xs' a z (subst (λ (f : Active). IsActive w (suc t) (depth w (suc t)) f) (sym p) (stays (depth w (suc t)) e (omega arith) (λ v. other (Read i) Sync s (λ y. cc)) a.executes)) q
   active_next (Write i) e e' xs xs' b s a (p, q) =
-      let z : depth w (suc (suc t)) ≡ depth w (suc t) = step_by (Write i) s b in
+      let z : depth w (suc (suc t)) ≡ depth w (suc t) = step_by w h t (Write i) b s in
       next_same e e' xs xs' a z (subst (λ (f : Active). IsActive w (suc t) (depth w (suc t)) f) (sym p) (stays (depth w (suc t)) e (omega arith) (λ v. other (Write i) Sync s (λ y. cc)) a.executes)) q
 
 -- the next record moves the active procedures

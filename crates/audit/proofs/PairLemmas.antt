@@ -14,8 +14,10 @@ use Rattle.trace.specs.declared.records.Placed.{Placed}
 use Rattle.trace.specs.Accesses.{writes}
 use Rattle.trace.specs.Traces.{at, depth, IsWellNested}
 use Rattle.trace.specs.Dag.{IsParallel}
-use Rattle.trace.specs.Races.{access, IsAccess, IsWrite, IsRead, IsAccessPlace, IsRace}
+use Rattle.trace.specs.Races.{access, IsAccess, IsWrite, IsAccessPlace, IsRace}
 use Rattle.trace.proofs.Paths.{access-place}
+use Rattle.trace.proofs.Readers.{IsAccessPlace-at, read_or_write}
+use Rattle.trace.proofs.Once.{kind_once}
 use Rattle.audit.specs.declared.meetings.Meetings.{Meetings}
 use Rattle.audit.specs.declared.pairing.Kept.{Kept}
 use Rattle.audit.specs.declared.pairing.Pairing.{Pairing}
@@ -27,23 +29,6 @@ use Rattle.audit.proofs.ListLemmas.{slice_get-push, slice_get-front, slice_get-l
 use Rattle.audit.proofs.MeetingLemmas.{met_next}
 
 -- kinds of accesses
-
-pub one_kind : (w : List Record) (l i : ℕ) (k q : Kind) → IsAccess w l i k → IsAccess w l i q → k ≡ q
-one_kind w l i Read Read a b = refl
-one_kind w l i Write Write a b = refl
-one_kind w l i Read Write a b = absurd (let e : Some (records.Read l) ≡ Some (records.Write l) = sym a ∙ b in cc)
-one_kind w l i Write Read a b = absurd (let e : Some (records.Write l) ≡ Some (records.Read l) = sym a ∙ b in cc)
-
-pub some_access : (w : List Record) (l i : ℕ) (k : Kind) → IsAccess w l i k → IsRead w l i ⊎ IsWrite w l i
-some_access w l i Read a = inl a
-some_access w l i Write a = inr a
-
-pub access_here : (w : List Record) (l i : ℕ) (k : Kind) → IsAccess w l i k → IsAccessPlace w i
-access_here w l i k a = (l, some_access w l i k a)
-
-pub kind_there : (w : List Record) (l i : ℕ) → IsRead w l i ⊎ IsWrite w l i → (k : Kind) × IsAccess w l i k
-kind_there w l i (inl a) = (Read, a)
-kind_there w l i (inr a) = (Write, a)
 
 one_writes : (w : List Record) (l i j : ℕ) (k q : Kind) → IsAccess w l i k → IsAccess w l j q → (writes k || writes q) ≡ true → IsWrite w l i ⊎ IsWrite w l j
 one_writes w l i j Write q a b e = inl a
@@ -58,7 +43,7 @@ writes_one w l i j Read Read a b (inr e) = absurd (let f : Some (records.Read l)
 
 -- two accesses race exactly where one writes and they are parallel
 pub race_by : (w : List Record) (l i j : ℕ) (k q : Kind) → i < j → IsAccess w l i k → IsAccess w l j q → (writes k || writes q) ≡ true → IsParallel w i j → IsRace w l i j
-race_by w l i j k q s a b e p = record { in_order = s; first = some_access w l i k a; second = some_access w l j q b; one_writes = one_writes w l i j k q a b e; parallel = p }
+race_by w l i j k q s a b e p = record { in_order = s; first = read_or_write w l i k a; second = read_or_write w l j q b; one_writes = one_writes w l i j k q a b e; parallel = p }
 
 pub race_writes : (w : List Record) (l i j : ℕ) (k q : Kind) → IsAccess w l i k → IsAccess w l j q → IsRace w l i j → (writes k || writes q) ≡ true
 race_writes w l i j k q a b r = writes_one w l i j k q a b r.one_writes
@@ -104,8 +89,8 @@ module _ (w : List Record) (l t n : ℕ) (ks : List Kept) (b : Access) (a : Kept
   -- a race of place t + 1 whose first place is that of a
   the_pair : (p : Access × Access) → IsPair w l p → p.1.place ≡ suc t → a.access.place ≡ p.0.place → (a.access, b) ≡ p
   the_pair p r e f = pair_same p a.access b
-      (access_same a.access p.0 (one_kind w l p.0.place a.access.kind p.0.kind (subst (λ (z : ℕ). IsAccess w l z a.access.kind) f first.access) r.first_kind) f)
-      (access_same b p.1 (one_kind w l p.1.place b.kind p.1.kind (subst (λ (z : ℕ). IsAccess w l z b.kind) (is ∙ sym e) second) r.second_kind) (is ∙ sym e))
+      (access_same a.access p.0 (kind_once w l p.0.place a.access.kind p.0.kind (subst (λ (z : ℕ). IsAccess w l z a.access.kind) f first.access) r.first_kind) f)
+      (access_same b p.1 (kind_once w l p.1.place b.kind p.1.kind (subst (λ (z : ℕ). IsAccess w l z b.kind) (is ∙ sym e) second) r.second_kind) (is ∙ sym e))
 
   pub pair_added : (ps : List (Access × Access)) → IsRace w l a.access.place b.place → ArePairsWith w l t n ks ps → ArePairsWith w l t (n + 1) ks (ps ++ (a.access, b) ∷ [])
   pair_added ps r h = record {
@@ -166,8 +151,8 @@ module _ (m : Meetings) (ks : List Kept) (b : Access) (n : ℕ) (a : Kept) (ther
       kept = keeps.each n a there
 
       parallel : IsParallel w a.access.place (suc (length u))
-      parallel = (tells u met w rest begins c d h (access_here w l a.access.place a.access.kind kept.access) kept.upto kept.at_depth
-          (subst (IsAccessPlace w) is (access_here w l b.place b.kind second))).0 refl
+      parallel = (tells u met w rest begins c d h (IsAccessPlace-at w l a.access.place a.access.kind kept.access) kept.upto kept.at_depth
+          (subst (IsAccessPlace w) is (IsAccessPlace-at w l b.place b.kind second))).0 refl
 
       race : IsRace w l a.access.place b.place
       race = race_by w l a.access.place b.place a.access.kind b.kind (omega (arith, kept.upto)) kept.access second one (subst (λ (z : ℕ). IsParallel w a.access.place z) (sym is) parallel)
@@ -190,8 +175,8 @@ module _ (m : Meetings) (ks : List Kept) (b : Access) (n : ℕ) (a : Kept) (ther
 
       never : IsRace w l a.access.place b.place → ⊥
       never r =
-          let z : false ≡ true = (tells u met w rest begins c d h (access_here w l a.access.place a.access.kind kept.access) kept.upto kept.at_depth
-          (subst (IsAccessPlace w) is (access_here w l b.place b.kind second))).1 (subst (λ (v : ℕ). IsParallel w a.access.place v) is r.parallel) in
+          let z : false ≡ true = (tells u met w rest begins c d h (IsAccessPlace-at w l a.access.place a.access.kind kept.access) kept.upto kept.at_depth
+          (subst (IsAccessPlace w) is (IsAccessPlace-at w l b.place b.kind second))).1 (subst (λ (v : ℕ). IsParallel w a.access.place v) is r.parallel) in
           cc
 
 -- one place further
@@ -322,7 +307,7 @@ pairs_of s l w h a =
     let to : ArePairsTo w l (length w) s.pairs.items = a.pairs w [] (sym (append-nil w)) _ _ h in
     record {
       ascending = to.ascending;
-      exactly = λ p. ((λ c. ((to.exactly p).0 c).0), (λ q. (to.exactly p).1 (q, (access-place w p.1.place (access_here w l p.1.place p.1.kind q.second_kind)).1)));
+      exactly = λ p. ((λ c. ((to.exactly p).0 c).0), (λ q. (to.exactly p).1 (q, (access-place w p.1.place (IsAccessPlace-at w l p.1.place p.1.kind q.second_kind)).1)));
     }
 
 -- the same, where no growth was refused

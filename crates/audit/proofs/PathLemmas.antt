@@ -6,7 +6,7 @@ use Rattle.trace.specs.declared.records.Record.TheVariants.{Spawn, Return, Sync}
 use Rattle.trace.specs.Traces.{at, depth, IsPlace, IsWellNested}
 use Rattle.trace.specs.Dag.{Edge, continuation, spawn, join, IsContinuation, IsJoin, JoinsAt, IsPath, end_of}
 use Rattle.trace.proofs.World.{Step, returns, leaves, leaves_by}
-use Rattle.trace.proofs.Traced.{traced, shape_of, shape-return, step_at}
+use Rattle.trace.proofs.Traced.{traced, shape_of, shape-return, step_at, edge_from, edge_to}
 use Rattle.audit.specs.LongestPaths.{PathTo, alone, longer, IsLongestTo, LastOn, LeadsOn, at_start, own, opened, IsUnjoined, IsLongestUnjoined}
 
 -- paths as lists of places
@@ -17,16 +17,6 @@ path_on w i x (j ∷ p) q a =
     let more : PathTo w (suc (suc x) + length p) (end_of j p) = path_on w j (suc x) p (longer q a.0) a.1 in
     let e : suc (suc x) + length p ≡ suc x + length (j ∷ p) = omega arith in
     subst (λ (z : ℕ). PathTo w z (end_of j p)) e more
-
-edge_from : (w : List Record) (i j : ℕ) → Edge w i j → IsPlace w i
-edge_from w i j (continuation a b l c) = a
-edge_from w i j (spawn a b l c) = a
-edge_from w i j (join a b l c) = a
-
-edge_to : (w : List Record) (i j : ℕ) → Edge w i j → IsPlace w j
-edge_to w i j (continuation a b l c) = b
-edge_to w i j (spawn a b l c) = b
-edge_to w i j (join a b l c) = b
 
 path_start : (w : List Record) (i : ℕ) (p : List ℕ) → IsPath w (i ∷ p) → IsPlace w i
 path_start w i [] a = a
@@ -63,12 +53,6 @@ path_list w x j p = let l = listed w x j p in (l.first ∷ l.rest, l.path, l.cou
 pub path_place : (w : List Record) (x j : ℕ) → PathTo w x j → IsPlace w j
 path_place w x j (alone p) = p
 path_place w x j (longer {i = i} p d) = edge_to w i j d
-
--- records and their places
-
-pub joins_not_return : (w : List Record) (j : ℕ) → at w j ≢ Some Return → at w j ≢ Some Sync → JoinsAt w j → ⊥
-joins_not_return w j n m (inl e) = m e
-joins_not_return w j n m (inr e) = n e
 
 module _ (w : List Record) {n d : ℕ} (h : IsWellNested w n d) where
   stays : (t : ℕ) → 1 ≤ t → t < length w → (o : Option Record) → at w t ≡ o → Step (shape_of o) (depth w t) (depth w (suc t))

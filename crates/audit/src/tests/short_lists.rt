@@ -1,11 +1,11 @@
 //! Every list of at most 6 records over one location: the answers are those of the definitions.
 
-use super::by_definition::{self, MOST, edges, is_well_nested};
-use crate::measure;
+use super::by_definition::{self, MOST, edges, is_well_nested, paths, race};
+use crate::{measure, pairs};
 use std::alloc::Global;
 use std::process::Abort;
 use std::test::Fail;
-use trace::{Counted, Limits, Record, WriteFault, write_header, write_record};
+use trace::{Access, Counted, Limits, Record, WriteFault, write_header, write_record};
 
 const LETTERS: [Record; 5] = [
     Record::Spawn,
@@ -44,15 +44,33 @@ fn write_list(records: &[Record], text: &mut Vec<u8>) -> Result<(), WriteFault> 
     Ok(())
 }
 
-/// Asks about one list.
-fn check_list(rt: &impl Abort, alloc: Global, records: &[Record], text: &[u8]) {
-    let measured = measure(alloc, LIMITS, &mut Counted::new(text));
-    assert_eq!(rt; measured.is_ok(), is_well_nested(records), "{records:?}");
-    if is_well_nested(records) {
-        let edges = edges(records);
-        let wanted = by_definition::measure(records, &edges);
-        assert_eq!(rt; measured, Ok(wanted), "{records:?}");
+/// The races of location 0, by their second places and then by their first.
+fn races(alloc: Global, records: &[Record]) -> Result<Vec<(Access, Access)>, Fail> {
+    let paths = paths(&edges(records));
+    let mut races = Vec::new(alloc);
+    for j in 0..records.len() {
+        for i in 0..j {
+            if let Some(race) = race(records, &paths, i, j) {
+                races.push(race)?;
+            }
+        }
     }
+    Ok(races)
+}
+
+/// Asks about one list.
+fn check_list(rt: &impl Abort, alloc: Global, records: &[Record], text: &[u8]) -> Result<(), Fail> {
+    let measured = measure(alloc, LIMITS, &mut Counted::new(text));
+    let listed = pairs(alloc, LIMITS, &mut Counted::new(text), 0);
+    assert_eq!(rt; measured.is_ok(), is_well_nested(records), "{records:?}");
+    assert_eq!(rt; listed.is_ok(), is_well_nested(records), "{records:?}");
+    if is_well_nested(records) {
+        let wanted = by_definition::measure(records, &edges(records));
+        assert_eq!(rt; measured, Ok(wanted), "{records:?}");
+        let races = races(alloc, records)?;
+        assert_eq!(rt; listed?.as_slice(), races.as_slice(), "{records:?}");
+    }
+    Ok(())
 }
 
 #[test]
@@ -63,7 +81,7 @@ fn all_lists(rt: HostRuntime) -> Result<(), Fail> {
             let list = list_of(number);
             let records = &list[..length];
             write_list(records, &mut text)?;
-            check_list(&rt, rt.alloc(), records, &text);
+            check_list(&rt, rt.alloc(), records, &text)?;
         }
     }
     Ok(())
