@@ -6,7 +6,7 @@ use std::alloc::Global;
 use std::process::Abort;
 use std::test::Fail;
 use trace::{
-    Access, Counted, Fault, Kind, Limits, NestFault, NestKind, Record, WriteFault, write_header,
+    Counted, Fault, Kind, Limits, NestFault, NestKind, Record, WriteFault, write_header,
     write_record,
 };
 
