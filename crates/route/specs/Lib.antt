@@ -1,0 +1,6 @@
+pub mod Senders
+pub mod Sending
+pub mod Progresses
+pub mod Routers
+pub mod Routed
+pub mod Runs
