@@ -1,5 +1,5 @@
 -- What the end of an answer says by its status.
-use Rattle.std.proofs.Common.{◌≡◌, ℕ, ◌+◌, ◌<◌, List, [], ◌++◌, length, take, get_or, subst, Option, Result, Ok, Err, MatchResult, inl, inr, arith, refl, sym, ap, ◌∙◌, append_assoc}
+use Rattle.std.proofs.Common.{◌≡◌, ℕ, ◌+◌, ◌<◌, List, ◌++◌, length, take, get_or, subst, Option, Result, Ok, Err, MatchResult, inl, inr, arith, sym, ap, ◌∙◌, append_assoc}
 use Rattle.trace.specs.Devices.{HasRisen}
 use Rattle.trace.specs.declared.records.Record.{Record}
 use Rattle.trace.specs.Runs.{ReadsWhole, OfTrace}
@@ -7,9 +7,8 @@ use Rattle.trace.proofs.Feedings.{at_limits}
 use Rattle.audit.specs.declared.answers.Confirm.{Confirm}
 use Rattle.audit.specs.declared.answers.Confirm.TheVariants.{Yes, No}
 use Rattle.spbags.specs.Questions.{status_of}
-use Rattle.trace.specs.Writers.{AppendsFront}
 use Rattle.spbags.specs.Messages.{cannot_write}
-use Rattle.spbags.specs.Answers.{IsUntouched, Took, TookFront, WasGiven, Puts, Tells}
+use Rattle.spbags.specs.Answers.{IsUntouched, Took, TookFront, WasGiven, Tells}
 use Rattle.spbags.proofs.Sinks.{took_into}
 use Rattle.std.proofs.KnownBytes.{Appends-trans}
 use Rattle.std.specs.List.{flat_map}

@@ -1,5 +1,3 @@
-use Rattle.std.proofs.Common.{subst}
-use Rattle.spbags.specs.Answers.{Puts}
 use Rattle.spbags.proofs.Sinks.{puts_flushed}
 use Rattle.spbags.proofs.answers.passed_on.Goals as goal
 

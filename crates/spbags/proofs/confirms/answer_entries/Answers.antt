@@ -1,4 +1,4 @@
-use Rattle.std.proofs.Common.{◌<◌, inr, arith, refl, subst, ℕ, sym}
+use Rattle.std.proofs.Common.{◌<◌, inr, arith, refl}
 use Rattle.spbags.specs.Texts.{confirm_text}
 use Rattle.spbags.specs.Questions.{status_of}
 use Rattle.spbags.proofs.Tellings.{tells_front, says_so, status_low}

@@ -1,5 +1,4 @@
 use Rattle.std.proofs.Common.{ℕ, List, inr, refl, sym, subst}
-use Rattle.trace.specs.declared.records.Record.{Record}
 use Rattle.trace.specs.declared.records.Access.{Access}
 use Rattle.trace.specs.Runs.{OfTrace}
 use Rattle.audit.specs.Pairs.{ArePairs}
