@@ -1,3 +1,5 @@
 pub mod Lines
 pub mod Statuses
 pub mod Sinks
+pub mod Tellings
+pub mod Refusals

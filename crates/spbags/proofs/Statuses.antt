@@ -1,10 +1,19 @@
 -- What a status says of the races of a trace.
-use Rattle.std.proofs.Common.{◌≡◌, ◌↔◌, ℕ, ◌<◌, List, [], ◌∷◌, refl, arith, ap, sym, ◌∙◌, subst, ◌≤◌}
+use Rattle.std.proofs.Common.{◌≡◌, ◌↔◌, ℕ, ◌<◌, List, [], ◌∷◌, refl, arith, ap, subst, ◌≤◌, Option, suc, length, ◌⊎◌, inl, inr}
 use native.Mathlib.Decide.{dec_le}
 use Rattle.std.specs.List.{Contains}
 use Rattle.trace.specs.declared.records.Record.{Record}
 use Rattle.trace.specs.Accesses.{RaceAt}
+use Rattle.trace.specs.declared.records.Kind.{Kind}
+use Rattle.trace.specs.declared.records.Kind.TheVariants.{Read, Write}
+use Rattle.trace.specs.declared.records.Access.{Access}
+use Rattle.trace.specs.Races.{IsAccess, IsRead, IsWrite}
+use Rattle.trace.specs.Runs.{OfTrace}
+use Rattle.audit.specs.Pairs.{IsPair, ArePairs}
+use Rattle.collect.specs.ReportText.{rtext}
 use Rattle.detect.specs.Dag.{HasRace, HasLocation}
+use Rattle.detect.specs.Runs.{Reports}
+use Rattle.spbags.specs.Questions.{AnswersCheck}
 
 no_location : (l : ℕ) → HasLocation [] l → ⊥
 no_location l (r, (k, within, is), at) = absurd (omega arith)
@@ -28,4 +37,63 @@ one_exactly status races w low none racy = (to, from)
             let e : races ≡ [] = none.0 (omega arith) in
             let P : List RaceAt → Type 0 = λ rs. HasLocation rs l in
             absurd (no_location l (subst P e ((racy l).0 race)))
+        go (no more) = omega arith
+
+-- a report of a trace that was read whole answers `check`
+pub check_answered : {records depths : ℕ} {before after : Option (List ℕ)} {races : List RaceAt} (status : ℕ) → Reports records depths before after races
+    → status < 2 → (status ≡ 0) ↔ (races ≡ []) → OfTrace records depths before after (λ w. AnswersCheck w (rtext races) status)
+check_answered {records} {depths} {before} {after} {races} status run low zero = record {
+  trace = run.trace;
+  read = record { came = run.came; consumed = run.consumed; whole = run.whole };
+  says = record {
+    races = races;
+    is_verdict = run.is_verdict;
+    is_report = run.is_report;
+    racy = run.racy;
+    is_text = refl;
+    zero = zero;
+    one = one_exactly status races run.trace low zero run.racy;
+  };
+}
+
+-- the status of a list that was found
+abbrev pub found_status : {X : Type 0} → List X → ℕ
+found_status [] = 0
+found_status (x ∷ xs) = 1
+
+pub found_low : {X : Type 0} (xs : List X) → found_status xs < 2
+found_low [] = omega arith
+found_low (x ∷ xs) = omega arith
+
+pub found_zero : {X : Type 0} (xs : List X) → (found_status xs ≡ 0) ↔ (xs ≡ [])
+found_zero [] = (λ e. refl, λ e. refl)
+found_zero (x ∷ xs) = (λ e. absurd (omega (arith, e)), λ e. let bad : suc (length xs) ≡ 0 = ap length e in absurd (omega arith))
+
+kind_at : (w : List Record) (l i : ℕ) → IsRead w l i ⊎ IsWrite w l i → (k : Kind) × IsAccess w l i k
+kind_at w l i (inl r) = (Read, r)
+kind_at w l i (inr r) = (Write, r)
+
+no_pair : (p : Access × Access) → Contains [] p → ⊥
+no_pair p (k, within, is) = absurd (omega arith)
+
+-- where the status is 0 exactly for no pair of the location, it is 1 exactly where it has a race
+pub pairs_one : (status : ℕ) (w : List Record) (l : ℕ) (pairs : List (Access × Access)) → ArePairs w l pairs → status < 2 → (status ≡ 0) ↔ (pairs ≡ []) → (status ≡ 1) ↔ HasRace w l
+pairs_one status w l pairs are low none = (to pairs (λ p. (are.exactly p).0) none.1, from)
+  where
+    to : (ps : List (Access × Access)) → ((p : Access × Access) → Contains ps p → IsPair w l p) → (ps ≡ [] → status ≡ 0) → status ≡ 1 → HasRace w l
+    to [] each empty one = let zero : status ≡ 0 = empty refl in absurd (omega arith)
+    to (p ∷ ps) each empty one = (p.0.place, p.1.place, (each p (0, omega arith, refl)).race)
+
+    from : HasRace w l → status ≡ 1
+    from (i, j, race) = go (dec_le status 0)
+      where
+        go : Dec (status ≤ 0) → status ≡ 1
+        go (yes zero) =
+            let e : pairs ≡ [] = none.0 (omega arith) in
+            let first = kind_at w l i race.first in
+            let second = kind_at w l j race.second in
+            let p : Access × Access = (record { kind = first.0; place = i }, record { kind = second.0; place = j }) in
+            let is : IsPair w l p = record { race = race; first_kind = first.1; second_kind = second.1 } in
+            let P : List (Access × Access) → Type 0 = λ ps. Contains ps p in
+            absurd (no_pair p (subst P e ((are.exactly p).1 is)))
         go (no more) = omega arith

@@ -4,6 +4,7 @@ use Rattle.std.specs.Prelude.{◌≡◌, ℕ, List, Option, ◌⊎◌, Result, M
 use Rattle.std.specs.Io.KnownBytes.{Keeps, Appends}
 use Rattle.trace.specs.Devices.{HasRisen}
 use Rattle.trace.specs.Writers.{AppendsFront}
+use Rattle.spbags.specs.Messages.{cannot_write}
 
 -- it got nothing
 pub record IsUntouched (old new : Option (List ℕ)) (failed fails : ℕ) : Type 0 where
@@ -27,3 +28,10 @@ WasGiven bytes old new failed fails = Took bytes old new failed fails ⊎ TookFr
 -- Ok where it took these bytes, and Err where it failed
 abbrev pub Puts : {T E : Type 0} → Result T E → List ℕ → Option (List ℕ) → Option (List ℕ) → ℕ → ℕ → Type 0
 Puts r bytes old new failed fails = MatchResult r (λ _. Took bytes old new failed fails) (λ _. TookFront bytes old new failed fails)
+
+-- The end of an answer that has this status: it was written whole and this is the status, or writing it failed and
+-- the status is 2, which standard error was told.
+abbrev pub Tells : ℕ → ℕ → List ℕ → Option (List ℕ) → Option (List ℕ) → ℕ → ℕ → Option (List ℕ) → Option (List ℕ) → ℕ → ℕ → Type 0
+Tells result status text out out' failed fails err err' failed' fails' =
+    ((result ≡ status) × Took text out out' failed fails × IsUntouched err err' failed' fails')
+    ⊎ ((result ≡ 2) × TookFront text out out' failed fails × WasGiven cannot_write err err' failed' fails')

@@ -1,12 +1,26 @@
 -- What the words of a command line may ask for.
-use Rattle.std.specs.Prelude.{ℕ, ◌<◌, ◌≤◌, string_len}
+use Rattle.std.specs.Prelude.{◌≡◌, ℕ, ◌<◌, ◌≤◌, Bool, true, false, codes, string_len, string_bytes}
 use Rattle.spbags.specs.declared.words.Asked.{Asked}
-use Rattle.spbags.specs.declared.words.Asked.TheVariants.{Check}
+use Rattle.spbags.specs.declared.words.Asked.TheVariants.{Check, Pairs, Measure, Confirm}
 
--- each number lies in its range, and each file that the command reads has a name
+-- each number lies in its range, each file that the command reads has a name, and standard input is one of them at most
 abbrev pub IsInRange : Asked → Type 0
 IsInRange (Check c) = (c.depth ≤ 1000000) × (0 < string_len c.trace)
+IsInRange (Pairs p) = (p.depth ≤ 1000000) × (0 < string_len p.trace)
+IsInRange (Measure m) = (m.depth ≤ 1000000) × (0 < string_len m.trace)
+IsInRange (Confirm c) = (c.depth ≤ 1000000) × (0 < string_len c.trace) × (0 < string_len c.report)
+    × (string_bytes c.trace ≡ codes "-" → string_bytes c.report ≡ codes "-" → ⊥)
 
 -- how deep procedures may nest
 abbrev pub depth_of : Asked → ℕ
 depth_of (Check c) = c.depth
+depth_of (Pairs p) = p.depth
+depth_of (Measure m) = m.depth
+depth_of (Confirm c) = c.depth
+
+-- whether a report is read too
+abbrev pub asks_report : Asked → Bool
+asks_report (Check c) = false
+asks_report (Pairs p) = false
+asks_report (Measure m) = false
+asks_report (Confirm c) = true

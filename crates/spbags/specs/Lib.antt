@@ -1,3 +1,6 @@
 pub mod Answers
 pub mod Asked
 pub mod Messages
+pub mod Questions
+pub mod ReportBytes
+pub mod Texts

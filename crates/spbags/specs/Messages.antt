@@ -6,6 +6,8 @@ use Rattle.trace.specs.declared.faults.NestKind.{NestKind}
 use Rattle.trace.specs.declared.faults.NestKind.TheVariants as nest
 use Rattle.trace.specs.declared.faults.Fault.{Fault}
 use Rattle.trace.specs.declared.faults.Fault.TheVariants.{Text, Nest, Read, NoMemory, NoThread}
+use Rattle.spbags.specs.declared.reports.ReportRefusal.{ReportRefusal}
+use Rattle.spbags.specs.declared.reports.ReportRefusal.TheVariants as reports
 use Rattle.spbags.specs.declared.words.WordsFault.{WordsFault}
 use Rattle.spbags.specs.declared.words.WordsFault.TheVariants as words
 
@@ -29,6 +31,13 @@ message (Nest f) = codes "spbags: place " ++ decimal f.place ++ nest_ending f.ki
 message Read = codes "spbags: cannot read\n"
 message NoMemory = codes "spbags: out of memory\n"
 message NoThread = codes "spbags: no thread\n"
+
+-- the line for a report that isn't read
+abbrev pub report_message : ReportRefusal → List ℕ
+report_message reports.Read = codes "spbags: cannot read\n"
+report_message reports.TooLarge = codes "spbags: report too large\n"
+report_message (reports.Bad line) = codes "spbags: report line " ++ decimal line ++ codes ": bad\n"
+report_message reports.NoMemory = codes "spbags: out of memory\n"
 
 -- the line where the answer can't be written
 abbrev pub cannot_write : List ℕ

@@ -1,6 +1,5 @@
 //! The answers of the program: what goes to standard output and to standard error, and the exit status.
-ghost use Rattle.std.specs.Prelude.{◌≡◌, ◌<◌, ◌≤◌, ◌^◌, ◌↔◌, ◌⊎◌, ℕ, [], List, Some, IfSome, IfNone, MatchResult};
-ghost use Rattle.trace.specs.Accesses.{RaceAt};
+ghost use Rattle.std.specs.Prelude.{◌≡◌, ◌<◌, ◌≤◌, ◌^◌, ◌↔◌, ◌⊎◌, ℕ, [], List, Option, Some, IfSome, IfNone, MatchResult, false};
 ghost use Rattle.trace.specs.Devices.{HasRisen};
 ghost use Rattle.trace.specs.Text.{text, AllFit};
 ghost use Rattle.trace.specs.Traces.{IsWellNested};
@@ -8,14 +7,14 @@ ghost use Rattle.trace.specs.declared.faults.Fault.{Fault};
 ghost use Rattle.trace.specs.declared.faults.Fault.TheVariants.{NoMemory};
 ghost use Rattle.trace.specs.declared.records.Record.{Record};
 ghost use Rattle.collect.specs.ReportText.{rtext};
-ghost use Rattle.detect.specs.Dag.{HasRace};
-ghost use Rattle.trace.specs.Runs.{FailsBy};
-ghost use Rattle.detect.specs.Runs.{Reports};
-ghost use Rattle.spbags.specs.Answers.{IsUntouched, Puts, Took, TookFront, WasGiven};
-ghost use Rattle.spbags.specs.Asked.{depth_of};
+ghost use Rattle.trace.specs.Runs.{FailsBy, OfTrace};
+ghost use Rattle.spbags.specs.Answers.{IsUntouched, Puts, Took, TookFront, WasGiven, Tells};
+ghost use Rattle.spbags.specs.Asked.{depth_of, asks_report};
+ghost use Rattle.spbags.specs.Questions.{Answers, AnswersCheck};
 ghost use Rattle.spbags.specs.Messages.{message, cannot_write, help_of, refusal};
 
 use crate::messages::{put, say, say_fault};
+use crate::questions::{answer_measure, answer_pairs};
 use crate::words::{Asked, WordsFault};
 use collect::{Report, write_report};
 use detect::detect_plain;
@@ -26,7 +25,8 @@ use trace::{Limits, Sink, Source, WriteFault};
 /// The most records that a trace may have: 2^48.
 pub const MOST_RECORDS: u64 = 1 << 48;
 
-/// Answers what the words ask for, and gives the exit status: 0 for no race, 1 for a race, 2 for a fault.
+/// Answers what the words ask of a trace alone, and gives the exit status: 0 for no race, or for the numbers of a
+/// trace, 1 for a race, 2 for a fault.
 pub fn answer<R: Source, W: Sink, E: Sink>(
     alloc: Global,
     asked: &Asked,
@@ -34,25 +34,23 @@ pub fn answer<R: Source, W: Sink, E: Sink>(
     out: &mut W,
     err: &mut E,
 ) -> u8
+    requires { asks_report asked.now ≡ false }
     ensures status { result ≤ 2 }
 
-    // Status 0 or 1: all bytes of the trace were read, and the report of its races was written. It is 1
-    // exactly where some location has two accesses, one a write, that no path joins.
-    ensures told { result < 2 → (races : List RaceAt)
-        × (run : Reports (2 ^ 48) (depth_of asked.now) (R.rest trace.old) (R.rest trace.new) races)
-        × Took (rtext races) (W.held out.old) (W.held out.new) (W.failures out.old) (W.failures out.new)
-        × ((result ≡ 0) ↔ (races ≡ []))
-        × ((result ≡ 1) ↔ ((l : ℕ) × HasRace run.trace l))
+    // Status 0 or 1: all bytes of the trace were read, and what answers the question was written.
+    ensures told { result < 2 → (text : List ℕ)
+        × OfTrace (2 ^ 48) (depth_of asked.now) (R.rest trace.old) (R.rest trace.new) (λ w. Answers asked.now w text result)
+        × Took text (W.held out.old) (W.held out.new) (W.failures out.old) (W.failures out.new)
         × IsUntouched (E.held err.old) (E.held err.new) (E.failures err.old) (E.failures err.new) }
 
-    // Status 2: the first fault, and nothing of an answer; or writing the report failed.
+    // Status 2: the first fault, and nothing of an answer; or writing the answer failed.
     ensures failed { result ≡ 2 → ((fault : Fault)
         × FailsBy (2 ^ 48) (depth_of asked.now) (R.rest trace.old) (R.rest trace.new) (R.failures trace.old) (R.failures trace.new) fault
         × IsUntouched (W.held out.old) (W.held out.new) (W.failures out.old) (W.failures out.new)
         × WasGiven (message fault) (E.held err.old) (E.held err.new) (E.failures err.old) (E.failures err.new))
-        ⊎ ((races : List RaceAt)
-        × Reports (2 ^ 48) (depth_of asked.now) (R.rest trace.old) (R.rest trace.new) races
-        × TookFront (rtext races) (W.held out.old) (W.held out.new) (W.failures out.old) (W.failures out.new)
+        ⊎ ((text : List ℕ) × (status : ℕ)
+        × OfTrace (2 ^ 48) (depth_of asked.now) (R.rest trace.old) (R.rest trace.new) (λ w. Answers asked.now w text status)
+        × TookFront text (W.held out.old) (W.held out.new) (W.failures out.old) (W.failures out.new)
         × WasGiven cannot_write (E.held err.old) (E.held err.new) (E.failures err.old) (E.failures err.new)) }
 
     // A good trace from a reader that doesn't fail has status 2 only for want of memory, or where writing failed.
@@ -61,18 +59,58 @@ pub fn answer<R: Source, W: Sink, E: Sink>(
         → WasGiven (message NoMemory) (E.held err.old) (E.held err.new) (E.failures err.old) (E.failures err.new)
         ⊎ HasRisen (W.failures out.old) (W.failures out.new) }
 {
-    let Asked::Check(check) = asked;
-    let limits = Limits {
-        records: MOST_RECORDS,
-        depth: check.depth,
-    };
+    match asked {
+        Asked::Check(check) => answer_check(alloc, check.depth, trace, out, err),
+        Asked::Pairs(pairs) => answer_pairs(alloc, pairs.depth, pairs.location, trace, out, err),
+        Asked::Measure(measure) => answer_measure(alloc, measure.depth, trace, out, err),
+        Asked::Confirm(_) => unreachable!(),
+    }
+}
+
+// The races of a trace.
+fn answer_check<R: Source, W: Sink, E: Sink>(
+    alloc: Global,
+    depth: u32,
+    trace: &mut R,
+    out: &mut W,
+    err: &mut E,
+) -> u8
+    ensures status { result ≤ 2 }
+    ensures told { result < 2 → (text : List ℕ)
+        × OfTrace (2 ^ 48) depth (R.rest trace.old) (R.rest trace.new) (λ w. AnswersCheck w text result)
+        × Took text (W.held out.old) (W.held out.new) (W.failures out.old) (W.failures out.new)
+        × IsUntouched (E.held err.old) (E.held err.new) (E.failures err.old) (E.failures err.new) }
+    ensures failed { result ≡ 2 → ((fault : Fault)
+        × FailsBy (2 ^ 48) depth (R.rest trace.old) (R.rest trace.new) (R.failures trace.old) (R.failures trace.new) fault
+        × IsUntouched (W.held out.old) (W.held out.new) (W.failures out.old) (W.failures out.new)
+        × WasGiven (message fault) (E.held err.old) (E.held err.new) (E.failures err.old) (E.failures err.new))
+        ⊎ ((text : List ℕ) × (status : ℕ)
+        × OfTrace (2 ^ 48) depth (R.rest trace.old) (R.rest trace.new) (λ w. AnswersCheck w text status)
+        × TookFront text (W.held out.old) (W.held out.new) (W.failures out.old) (W.failures out.new)
+        × WasGiven cannot_write (E.held err.old) (E.held err.new) (E.failures err.old) (E.failures err.new)) }
+    ensures honest { (w : List Record) → R.rest trace.old ≡ Some (text w) → AllFit w → IsWellNested w (2 ^ 48) depth
+        → (HasRisen (R.failures trace.old) (R.failures trace.new) → ⊥) → result ≡ 2
+        → WasGiven (message NoMemory) (E.held err.old) (E.held err.new) (E.failures err.old) (E.failures err.new)
+        ⊎ HasRisen (W.failures out.old) (W.failures out.new) }
+{
     let hasher = BuildHasherDefault::<FoldHasher>::default();
-    match detect_plain(alloc, limits, trace, hasher) {
+    match detect_plain(alloc, limits_of(depth), trace, hasher) {
         Ok(report) => tell(&report, out, err),
         Err(fault) => {
             say_fault(&fault, err);
             2
         }
+    }
+}
+
+/// The limits of every trace that the program reads.
+pub fn limits_of(depth: u32) -> Limits
+    ensures records { result.records ≡ 2 ^ 48 }
+    ensures depth { result.depth ≡ depth }
+{
+    Limits {
+        records: MOST_RECORDS,
+        depth,
     }
 }
 
@@ -114,6 +152,33 @@ fn put_text<W: Sink>(text: &[u8], out: &mut W) -> Result<(), WriteFault>
     ensures { Puts result text.now (W.held out.old) (W.held out.new) (W.failures out.old) (W.failures out.new) }
 {
     put(text, out)?;
+    flush(out)
+}
+
+// Ends an answer that was put into `out`: passes it on, and gives its status, or 2 where writing it failed.
+pub(crate) fn finish<W: Sink, E: Sink>(
+    put: Result<(), WriteFault>,
+    status: u8,
+    out: &mut W,
+    err: &mut E,
+) -> u8
+    ensures { (text : List ℕ) (before : Option (List ℕ)) (failed : ℕ) → Puts put text before (W.held out.old) failed (W.failures out.old)
+        → Tells result status text before (W.held out.new) failed (W.failures out.new) (E.held err.old) (E.held err.new) (E.failures err.old) (E.failures err.new) }
+{
+    match passed_on(put, out) {
+        Ok(()) => status,
+        Err(WriteFault) => {
+            say(b"spbags: cannot write\n", err);
+            2
+        }
+    }
+}
+
+fn passed_on<W: Sink>(put: Result<(), WriteFault>, out: &mut W) -> Result<(), WriteFault>
+    ensures { (text : List ℕ) (before : Option (List ℕ)) (failed : ℕ) → Puts put text before (W.held out.old) failed (W.failures out.old)
+        → Puts result text before (W.held out.new) failed (W.failures out.new) }
+{
+    put?;
     flush(out)
 }
 

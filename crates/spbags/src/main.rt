@@ -1,19 +1,25 @@
-//! The program `spbags`: the races of a trace.
+//! The program `spbags`: the races of a trace, and questions about it.
 #![tactic(auto)]
 
 mod answers;
+mod commands;
+mod confirms;
 mod input;
 mod messages;
+mod questions;
+mod reports;
 #[cfg(test)]
 mod tests;
+mod texts;
 mod words;
 
 use answers::{answer, refuse};
+use confirms::answer_confirm;
 use input::Input;
 use std::env;
 use std::io::{BufWriter, ErrorKind};
 use std::process::ExitCode;
-use trace::Counted;
+use trace::{Counted, Sink};
 use words::{Asked, WordsFault, read_words};
 
 fn main(rt: HostRuntime) -> ExitCode {
@@ -29,10 +35,7 @@ fn main(rt: HostRuntime) -> ExitCode {
     };
     let mut out = Counted::new(buffered);
     let status = match read_arguments(&rt) {
-        Ok(asked) => {
-            let mut trace = Counted::new(open(&rt, &asked));
-            answer(alloc, &asked, &mut trace, &mut out, &mut err)
-        }
+        Ok(asked) => answer_from_files(&rt, &asked, &mut out, &mut err),
         Err(fault) => refuse(&fault, &mut out, &mut err),
     };
     ExitCode::from(status)
@@ -51,9 +54,25 @@ fn read_arguments(rt: &HostRuntime) -> Result<Asked, WordsFault> {
     }
 }
 
-// Opens the trace that is asked for.
-fn open(rt: &HostRuntime, asked: &Asked) -> Input {
-    match asked {
-        Asked::Check(check) => Input::open(rt, check.trace.as_str()),
+// Opens all files that are asked for, and then answers. Where the trace of a report can't be opened the report isn't
+// read either.
+fn answer_from_files<W: Sink, E: Sink>(
+    rt: &HostRuntime,
+    asked: &Asked,
+    out: &mut W,
+    err: &mut E,
+) -> u8 {
+    let trace = Input::open(rt, asked.trace());
+    if asked.asks_report() {
+        let report = match trace {
+            Input::Missing => Input::Missing,
+            Input::File(_) | Input::Standard(_) => Input::open(rt, asked.report()),
+        };
+        let mut report = Counted::new(report);
+        let mut trace = Counted::new(trace);
+        answer_confirm(rt.alloc(), asked, &mut trace, &mut report, out, err)
+    } else {
+        let mut trace = Counted::new(trace);
+        answer(rt.alloc(), asked, &mut trace, out, err)
     }
 }

@@ -1,8 +1,9 @@
 //! The lines for standard error.
 ghost use Rattle.std.specs.Prelude.{◌≡◌, ◌++◌, ◌≤◌, length, drop, decimal};
 ghost use Rattle.spbags.specs.Answers.{Puts, WasGiven};
-ghost use Rattle.spbags.specs.Messages.{message, text_ending, nest_ending};
+ghost use Rattle.spbags.specs.Messages.{message, report_message, text_ending, nest_ending};
 
+use crate::reports::ReportRefusal;
 use itoa::write_digits;
 use trace::{Fault, NestKind, Sink, TextKind, WriteFault, put_all};
 
@@ -26,25 +27,51 @@ pub fn say<E: Sink>(line: &[u8], err: &mut E)
     let _ = put(line, err);
 }
 
-// No line is longer: it has at most 15 bytes, 20 digits and 19 bytes.
-const LONGEST: usize = 54;
+/// Writes the line for a report that isn't read. Where that fails there is nobody left to tell.
+pub fn say_refusal<E: Sink>(refusal: ReportRefusal, err: &mut E)
+    ensures { WasGiven (report_message refusal) (E.held err.old) (E.held err.new) (E.failures err.old) (E.failures err.new) }
+{
+    match refusal {
+        ReportRefusal::Read => say(b"spbags: cannot read\n", err),
+        ReportRefusal::TooLarge => say(b"spbags: report too large\n", err),
+        ReportRefusal::Bad { line } => say_at(b"spbags: report line ", line, b": bad\n", err),
+        ReportRefusal::NoMemory => say(b"spbags: out of memory\n", err),
+    }
+}
+
+// No line is longer: it has at most 20 bytes, 20 digits and 19 bytes.
+const LONGEST: usize = 59;
 
 // Writes a line with a number in it.
 fn say_at<E: Sink>(head: &[u8], number: u64, ending: &[u8], err: &mut E)
-    requires head { length head.now ≤ 15 }
+    requires head { length head.now ≤ 20 }
     requires ending { length ending.now ≤ 19 }
     ensures { WasGiven (head.now ++ decimal number ++ ending.now) (E.held err.old) (E.held err.new) (E.failures err.old) (E.failures err.new) }
 {
+    let _ = put_at(head, number, ending, err);
+}
+
+/// Puts a number between two texts into a sink.
+pub fn put_at<W: Sink>(
+    head: &[u8],
+    number: u64,
+    ending: &[u8],
+    sink: &mut W,
+) -> Result<(), WriteFault>
+    requires head { length head.now ≤ 20 }
+    requires ending { length ending.now ≤ 19 }
+    ensures { Puts result (head.now ++ decimal number ++ ending.now) (W.held sink.old) (W.held sink.new) (W.failures sink.old) (W.failures sink.new) }
+{
     let mut bytes = [0; LONGEST];
     let start = build_line(&mut bytes, head, number, ending);
-    say(&bytes[start..], err);
+    put(&bytes[start..], sink)
 }
 
 // Builds a line up to the end of the buffer, and answers where it starts.
 fn build_line(bytes: &mut [u8; LONGEST], head: &[u8], number: u64, ending: &[u8]) -> usize
-    requires head { length head.now ≤ 15 }
+    requires head { length head.now ≤ 20 }
     requires ending { length ending.now ≤ 19 }
-    ensures within { result ≤ 54 }
+    ensures within { result ≤ 59 }
     ensures built { drop result bytes.new ≡ head.now ++ decimal number ++ ending.now }
 {
     let end = LONGEST - ending.len();

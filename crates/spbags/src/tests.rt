@@ -1,13 +1,15 @@
 //! The program from its words to its bytes, by worked rows: nothing here is taken from its own output.
 mod devices;
+mod questions;
 mod rows;
 mod words;
 
 use crate::answers::{answer, refuse};
-use crate::words::read_words;
+use crate::confirms::answer_confirm;
+use crate::words::{Asked, read_words};
 use devices::Slow;
 use std::alloc::{AllocError, Global};
-use trace::Counted;
+use trace::{Counted, Sink, Source};
 
 /// What a run of the program left.
 #[derive(Debug, Drop)]
@@ -19,19 +21,54 @@ pub struct Ran {
 
 /// Runs the program on a trace, of which each call of its reader hands at most `step` bytes.
 pub fn run(alloc: Global, line: &str, trace: &[u8], step: usize) -> Result<Ran, AllocError> {
+    run_with_report(alloc, line, trace, b"", step)
+}
+
+/// Runs the program on a trace and a report.
+pub fn run_with_report(
+    alloc: Global,
+    line: &str,
+    trace: &[u8],
+    report: &[u8],
+    step: usize,
+) -> Result<Ran, AllocError> {
     let mut out = Vec::new(alloc);
     let mut err = Vec::new(alloc);
     let words = words_of(alloc, line)?;
     let status = {
-        let mut reader = Counted::new(Slow::new(trace, step));
+        let mut trace = Counted::new(Slow::new(trace, step));
+        let mut report = Counted::new(Slow::new(report, step));
         let mut answers = Counted::new(&mut out);
         let mut faults = Counted::new(&mut err);
         match read_words(alloc, words.as_slice()) {
-            Ok(asked) => answer(alloc, &asked, &mut reader, &mut answers, &mut faults),
+            Ok(asked) => answer_any(
+                alloc,
+                &asked,
+                &mut trace,
+                &mut report,
+                &mut answers,
+                &mut faults,
+            ),
             Err(fault) => refuse(&fault, &mut answers, &mut faults),
         }
     };
     Ok(Ran { status, out, err })
+}
+
+/// Answers what is asked; the report is read only where it is asked for.
+pub fn answer_any<R: Source, Q: Source, W: Sink, E: Sink>(
+    alloc: Global,
+    asked: &Asked,
+    trace: &mut R,
+    report: &mut Q,
+    out: &mut W,
+    err: &mut E,
+) -> u8 {
+    if asked.asks_report() {
+        answer_confirm(alloc, asked, trace, report, out, err)
+    } else {
+        answer(alloc, asked, trace, out, err)
+    }
 }
 
 /// The words of a command line, which stand between spaces.
@@ -49,6 +86,19 @@ pub fn trace_of(alloc: Global, records: &str) -> Result<Vec<u8>, AllocError> {
     for record in records.split(", ") {
         text.extend_from_slice(record.as_bytes())?;
         text.push(b'\n')?;
+    }
+    Ok(text)
+}
+
+/// A child and its parent write the same thousand locations.
+pub fn flood(alloc: Global) -> Result<Vec<u8>, AllocError> {
+    let mut text = Vec::from_slice(alloc, b"trace 1\nspawn\n")?;
+    for _ in 0..2 {
+        for place in 0..1000u64 {
+            let line = format!(in alloc; "write {}\n", place * 2)?;
+            text.extend_from_slice(line.as_bytes())?;
+        }
+        text.extend_from_slice(b"return\n")?;
     }
     Ok(text)
 }

@@ -1,10 +1,11 @@
 //! The command line: what its words ask for.
-ghost use Rattle.std.specs.Prelude.{◌≤◌, IfOk};
-ghost use Rattle.spbags.specs.Asked.{IsInRange};
+ghost use Rattle.std.specs.Prelude.{◌≡◌, ◌<◌, ◌≤◌, string_len, IfOk};
+ghost use Rattle.spbags.specs.Asked.{IsInRange, asks_report};
 
+use crate::commands::program;
 use clap::error::ErrorKind;
-use clap::{Arg, ArgAction, ArgMatches, Command, Error};
-use std::alloc::{AllocError, Global};
+use clap::{ArgMatches, Error};
+use std::alloc::Global;
 use thiserror::Error as ErrorTexts;
 use trace::decimal_of;
 
@@ -13,6 +14,12 @@ use trace::decimal_of;
 pub enum Asked {
     /// The races of a trace.
     Check(Check),
+    /// All races of one location.
+    Pairs(Pairs),
+    /// The numbers of a trace.
+    Measure(Measure),
+    /// Whether the entries of a report are races.
+    Confirm(Confirm),
 }
 
 /// `check`: the races of a trace.
@@ -22,6 +29,67 @@ pub struct Check {
     pub depth: u32,
     /// The name of the trace's file; `-` is standard input.
     pub trace: String,
+}
+
+/// `pairs`: all races of one location.
+#[derive(Debug, Drop, PartialEq, Eq)]
+pub struct Pairs {
+    /// How deep procedures may nest.
+    pub depth: u32,
+    /// The name of the trace's file; `-` is standard input.
+    pub trace: String,
+    /// The location.
+    pub location: u64,
+}
+
+/// `measure`: the numbers of a trace.
+#[derive(Debug, Drop, PartialEq, Eq)]
+pub struct Measure {
+    /// How deep procedures may nest.
+    pub depth: u32,
+    /// The name of the trace's file; `-` is standard input.
+    pub trace: String,
+}
+
+/// `confirm`: whether the entries of a report are races.
+#[derive(Debug, Drop, PartialEq, Eq)]
+pub struct Confirm {
+    /// How deep procedures may nest.
+    pub depth: u32,
+    /// The name of the trace's file; `-` is standard input.
+    pub trace: String,
+    /// The name of the report's file; `-` is standard input, where it isn't the trace's.
+    pub report: String,
+}
+
+impl Asked {
+    /// The name of the trace's file.
+    pub fn trace(&self) -> &str {
+        match self {
+            Asked::Check(check) => check.trace.as_str(),
+            Asked::Pairs(pairs) => pairs.trace.as_str(),
+            Asked::Measure(measure) => measure.trace.as_str(),
+            Asked::Confirm(confirm) => confirm.trace.as_str(),
+        }
+    }
+
+    /// Whether a report is read too.
+    pub fn asks_report(&self) -> bool
+        ensures { result ≡ asks_report self.now }
+    {
+        match self {
+            Asked::Check(_) | Asked::Pairs(_) | Asked::Measure(_) => false,
+            Asked::Confirm(_) => true,
+        }
+    }
+
+    /// The name of the report's file; an empty one where none is read.
+    pub fn report(&self) -> &str {
+        match self {
+            Asked::Check(_) | Asked::Pairs(_) | Asked::Measure(_) => "",
+            Asked::Confirm(confirm) => confirm.report.as_str(),
+        }
+    }
 }
 
 /// Why the words ask for nothing that can be answered.
@@ -44,30 +112,6 @@ pub const GREATEST_DEPTH: u64 = 1_000_000;
 /// The depth where none is asked for.
 pub const USUAL_DEPTH: u32 = 65_536;
 
-const ABOUT: &str = "Finds the determinacy races of a fork-join program in the trace of one run.";
-
-const CHECK_ABOUT: &str = "Tells one race of each location that has any.";
-
-const CHECK_NOTES: &str = "\
-The trace is read from FILE, or from standard input where FILE is `-`.
-
-Example:
-  spbags check --depth 1000 run.trace
-
-Exit status:
-  0  no race
-  1  a race; the report stands on standard output
-  2  no answer; standard error says why";
-
-const NOTES: &str = "\
-Example:
-  spbags check run.trace
-
-Exit status:
-  0  no race
-  1  a race; the report stands on standard output
-  2  no answer; standard error says why";
-
 /// Reads the words of a command line, without the program's name.
 pub fn read_words(alloc: Global, words: &[String]) -> Result<Asked, WordsFault>
     ensures { IfOk result IsInRange }
@@ -80,40 +124,26 @@ pub fn read_words(alloc: Global, words: &[String]) -> Result<Asked, WordsFault>
         Ok(matches) => matches,
         Err(error) => return Err(fault_of(alloc, &error)),
     };
-    match matches.subcommand_matches("check") {
-        Some(found) => check_of(alloc, found),
+    asked_of(alloc, &matches)
+}
+
+// What is asked by the command that was found.
+fn asked_of(alloc: Global, matches: &ArgMatches<'_>) -> Result<Asked, WordsFault>
+    ensures { IfOk result IsInRange }
+{
+    if let Some(found) = matches.subcommand_matches("check") {
+        return check_of(alloc, found);
+    }
+    if let Some(found) = matches.subcommand_matches("pairs") {
+        return pairs_of(alloc, found);
+    }
+    if let Some(found) = matches.subcommand_matches("measure") {
+        return measure_of(alloc, found);
+    }
+    match matches.subcommand_matches("confirm") {
+        Some(found) => confirm_of(alloc, found),
         None => Err(WordsFault::Bad),
     }
-}
-
-// The program's commands, for `clap`.
-fn program<'a>(alloc: Global) -> Result<Command<'a>, AllocError> {
-    let program = Command::new(alloc, "spbags")
-        .no_binary_name(true)
-        .bin_name("spbags")?
-        .version("0.1.0")
-        .about(ABOUT)
-        .after_help(NOTES)
-        .subcommand_required(true)
-        .disable_help_subcommand(true);
-    program.subcommand(check_command(alloc)?)
-}
-
-fn check_command<'a>(alloc: Global) -> Result<Command<'a>, AllocError> {
-    let depth = Arg::new(alloc, "depth")
-        .long("depth")
-        .value_name("N")
-        .action(ArgAction::Set)
-        .help("How deep procedures may nest: 0 to 1000000, 65536 where it is left out");
-    let file = Arg::new(alloc, "FILE")
-        .required(true)
-        .action(ArgAction::Set)
-        .help("The trace; `-` is standard input");
-    Command::new(alloc, "check")
-        .about(CHECK_ABOUT)
-        .after_help(CHECK_NOTES)
-        .arg(depth)?
-        .arg(file)
 }
 
 // What a parse that gave nothing says: a text that was asked for, or that the words are bad.
@@ -128,30 +158,86 @@ fn fault_of(alloc: Global, error: &Error) -> WordsFault {
     }
 }
 
-// What `check` is asked. An empty name is no name.
 fn check_of(alloc: Global, found: &ArgMatches<'_>) -> Result<Asked, WordsFault>
     ensures { IfOk result IsInRange }
 {
-    let depth = match found.get_str("depth") {
-        Some(digits) => depth_of(digits)?,
-        None => USUAL_DEPTH,
-    };
-    let Some(name) = found.get_str("FILE") else {
+    let depth = depth_of(found)?;
+    let trace = name_of(alloc, found, "FILE")?;
+    Ok(Asked::Check(Check { depth, trace }))
+}
+
+fn pairs_of(alloc: Global, found: &ArgMatches<'_>) -> Result<Asked, WordsFault>
+    ensures { IfOk result IsInRange }
+{
+    let depth = depth_of(found)?;
+    let trace = name_of(alloc, found, "FILE")?;
+    let location = location_of(found)?;
+    Ok(Asked::Pairs(Pairs {
+        depth,
+        trace,
+        location,
+    }))
+}
+
+fn measure_of(alloc: Global, found: &ArgMatches<'_>) -> Result<Asked, WordsFault>
+    ensures { IfOk result IsInRange }
+{
+    let depth = depth_of(found)?;
+    let trace = name_of(alloc, found, "FILE")?;
+    Ok(Asked::Measure(Measure { depth, trace }))
+}
+
+// What `confirm` is asked. Standard input can't be both of its files.
+fn confirm_of(alloc: Global, found: &ArgMatches<'_>) -> Result<Asked, WordsFault>
+    ensures { IfOk result IsInRange }
+{
+    let depth = depth_of(found)?;
+    let trace = name_of(alloc, found, "TRACE")?;
+    let report = name_of(alloc, found, "REPORT")?;
+    if trace.as_str() == "-" && report.as_str() == "-" {
+        return Err(WordsFault::Bad);
+    }
+    Ok(Asked::Confirm(Confirm {
+        depth,
+        trace,
+        report,
+    }))
+}
+
+// The name of a file. An empty name is no name.
+fn name_of(alloc: Global, found: &ArgMatches<'_>, argument: &str) -> Result<String, WordsFault>
+    ensures { IfOk result (λ name. 0 < string_len name) }
+{
+    let Some(name) = found.get_str(argument) else {
         return Err(WordsFault::Bad);
     };
     if name.is_empty() {
         return Err(WordsFault::Bad);
     }
     match String::from_str(alloc, name) {
-        Ok(trace) => Ok(Asked::Check(Check { depth, trace })),
+        Ok(name) => Ok(name),
         Err(_) => Err(WordsFault::NoMemory),
     }
 }
 
-// A depth, spelled as a trace spells its numbers.
-fn depth_of(digits: &str) -> Result<u32, WordsFault>
+// A location, spelled as a trace spells it.
+fn location_of(found: &ArgMatches<'_>) -> Result<u64, WordsFault> {
+    let Some(digits) = found.get_str("L") else {
+        return Err(WordsFault::Bad);
+    };
+    match decimal_of(digits.as_bytes()) {
+        Some(location) => Ok(location),
+        None => Err(WordsFault::Bad),
+    }
+}
+
+// How deep procedures may nest: a number, spelled as a trace spells its numbers, or the usual depth.
+fn depth_of(found: &ArgMatches<'_>) -> Result<u32, WordsFault>
     ensures { IfOk result (λ depth. depth ≤ 1000000) }
 {
+    let Some(digits) = found.get_str("depth") else {
+        return Ok(USUAL_DEPTH);
+    };
     match decimal_of(digits.as_bytes()) {
         Some(depth) if depth <= GREATEST_DEPTH => Ok(depth as u32),
         _ => Err(WordsFault::Bad),

@@ -1,7 +1,7 @@
 //! Worked rows: traces, and what `check` says of them.
 use super::devices::{Broken, Full, Slow};
-use super::{run, trace_of, words_of};
-use crate::answers::{answer, refuse};
+use super::{answer_any, flood, run, trace_of, words_of};
+use crate::answers::refuse;
 use crate::words::{WordsFault, read_words};
 use std::alloc::{AllocError, Global};
 use std::io::ErrorKind;
@@ -155,19 +155,6 @@ fn names_faults(rt: HostRuntime) -> Result<(), Fail> {
     Ok(())
 }
 
-// A child and its parent write the same thousand locations.
-fn flood(alloc: Global) -> Result<Vec<u8>, AllocError> {
-    let mut text = Vec::from_slice(alloc, b"trace 1\nspawn\n")?;
-    for _ in 0..2 {
-        for place in 0..1000u64 {
-            let line = format!(in alloc; "write {}\n", place * 2)?;
-            text.extend_from_slice(line.as_bytes())?;
-        }
-        text.extend_from_slice(b"return\n")?;
-    }
-    Ok(text)
-}
-
 #[test]
 fn tells_a_thousand_races(rt: HostRuntime) -> Result<(), Fail> {
     let text = flood(rt.alloc())?;
@@ -264,7 +251,16 @@ fn read_from(alloc: Global, bytes: &[u8], kind: ErrorKind) -> Result<Vec<u8>, Fa
         let mut reader = Counted::new(Broken::new(bytes, kind));
         let mut answers = Counted::new(&mut out);
         let mut faults = Counted::new(&mut err);
-        if answer(alloc, &asked, &mut reader, &mut answers, &mut faults) != 2 {
+        let mut report = Counted::new(Slow::new(b"", 1));
+        if answer_any(
+            alloc,
+            &asked,
+            &mut reader,
+            &mut report,
+            &mut answers,
+            &mut faults,
+        ) != 2
+        {
             return Err(Fail::from("a fault has status 2"));
         }
     }
@@ -289,7 +285,15 @@ fn tells_a_full_output(rt: HostRuntime) -> Result<(), Fail> {
             let mut reader = Counted::new(Slow::new(trace.as_slice(), 4096));
             let mut answers = Counted::new(Full::new(&mut out, room));
             let mut faults = Counted::new(&mut err);
-            answer(rt.alloc(), &asked, &mut reader, &mut answers, &mut faults)
+            let mut report = Counted::new(Slow::new(b"", 1));
+            answer_any(
+                rt.alloc(),
+                &asked,
+                &mut reader,
+                &mut report,
+                &mut answers,
+                &mut faults,
+            )
         };
         assert_eq!(rt; status, 2, "room for {room}");
         let (front, _) = report.split_at(room);

@@ -27,6 +27,66 @@ fn reads_command_lines(rt: HostRuntime) -> Result<(), Fail> {
 }
 
 #[test]
+fn reads_questions(rt: HostRuntime) -> Result<(), Fail> {
+    let table = [
+        ("pairs run.trace 5", 65536, "run.trace", 5),
+        ("pairs - 0", 65536, "-", 0),
+        ("pairs --depth 0 - 7", 0, "-", 7),
+        ("pairs a --depth=1000000 7", 1000000, "a", 7),
+        (
+            "pairs - 18446744073709551615",
+            65536,
+            "-",
+            18446744073709551615,
+        ),
+    ];
+    for (line, depth, trace, location) in table {
+        let words = words_of(rt.alloc(), line)?;
+        let Ok(Asked::Pairs(pairs)) = read_words(rt.alloc(), words.as_slice()) else {
+            return Err(Fail::from(line));
+        };
+        assert_eq!(rt; pairs.depth, depth, "{line}");
+        assert_eq!(rt; pairs.trace.as_str(), trace, "{line}");
+        assert_eq!(rt; pairs.location, location, "{line}");
+    }
+    for (line, depth) in [("measure -", 65536), ("measure - --depth 3", 3)] {
+        let words = words_of(rt.alloc(), line)?;
+        let Ok(Asked::Measure(measure)) = read_words(rt.alloc(), words.as_slice()) else {
+            return Err(Fail::from(line));
+        };
+        assert_eq!(rt; measure.depth, depth, "{line}");
+        assert_eq!(rt; measure.trace.as_str(), "-", "{line}");
+    }
+    Ok(())
+}
+
+#[test]
+fn reads_names_of_reports(rt: HostRuntime) -> Result<(), Fail> {
+    let table = [
+        (
+            "confirm run.trace run.report",
+            65536,
+            "run.trace",
+            "run.report",
+        ),
+        ("confirm - run.report", 65536, "-", "run.report"),
+        ("confirm run.trace -", 65536, "run.trace", "-"),
+        ("confirm same same", 65536, "same", "same"),
+        ("confirm --depth 9 a b", 9, "a", "b"),
+    ];
+    for (line, depth, trace, report) in table {
+        let words = words_of(rt.alloc(), line)?;
+        let Ok(Asked::Confirm(confirm)) = read_words(rt.alloc(), words.as_slice()) else {
+            return Err(Fail::from(line));
+        };
+        assert_eq!(rt; confirm.depth, depth, "{line}");
+        assert_eq!(rt; confirm.trace.as_str(), trace, "{line}");
+        assert_eq!(rt; confirm.report.as_str(), report, "{line}");
+    }
+    Ok(())
+}
+
+#[test]
 fn refuses_command_lines(rt: HostRuntime) -> Result<(), Fail> {
     let table = [
         "",
@@ -45,7 +105,22 @@ fn refuses_command_lines(rt: HostRuntime) -> Result<(), Fail> {
         "check --depths 1 -",
         "check --shards 0 -",
         "check -x -",
+        "pairs",
+        "pairs -",
         "pairs - 03",
+        "pairs - x",
+        "pairs - 5 6",
+        "pairs - +5",
+        "pairs - 18446744073709551616",
+        "pairs --depth 1000001 - 5",
+        "measure",
+        "measure - 5",
+        "measure --depth 007 -",
+        "confirm",
+        "confirm -",
+        "confirm - -",
+        "confirm a b c",
+        "confirm --depth 1000001 a b",
         "--depth 1 check -",
         "chec -",
         "help",
@@ -79,6 +154,9 @@ fn helps(rt: HostRuntime) -> Result<(), Fail> {
         "check --help",
         "check -h",
         "check - --help",
+        "pairs --help",
+        "measure -h",
+        "confirm --help",
         "--version",
         "-V",
     ] {

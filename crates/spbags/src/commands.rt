@@ -1,0 +1,141 @@
+//! The program's commands, for `clap`, and the texts of its help.
+use clap::{Arg, ArgAction, Command};
+use std::alloc::{AllocError, Global};
+
+const ABOUT: &str = "\
+Finds the determinacy races of a fork-join program in the trace of one run, and answers questions about it.";
+
+const NOTES: &str = "\
+Examples:
+  spbags check run.trace
+  spbags pairs run.trace 5
+  spbags measure run.trace
+  spbags confirm run.trace run.report
+
+Exit status:
+  0  no race, or the question was answered, or yes
+  1  a race, or no
+  2  no answer; standard error says why";
+
+const CHECK_ABOUT: &str = "Tells one race of each location that has any.";
+
+const CHECK_NOTES: &str = "\
+The trace is read from FILE, or from standard input where FILE is `-`.
+
+Example:
+  spbags check --depth 1000 run.trace
+
+Exit status:
+  0  no race
+  1  a race; the report stands on standard output
+  2  no answer; standard error says why";
+
+const PAIRS_ABOUT: &str = "Tells all races of one location.";
+
+const PAIRS_NOTES: &str = "\
+The trace is read from FILE, or from standard input where FILE is `-`. The first line of the answer is the number of
+races; a line follows for each: the kinds and places of its two accesses, by the second place, then by the first.
+
+Example:
+  spbags pairs run.trace 5
+
+Exit status:
+  0  no race of the location
+  1  a race; the pairs stand on standard output
+  2  no answer; standard error says why";
+
+const MEASURE_ABOUT: &str = "Tells how long, how parallel and how deep the run was.";
+
+const MEASURE_NOTES: &str = "\
+The trace is read from FILE, or from standard input where FILE is `-`. The answer has four lines: the number of
+records, the greatest number of records that had to come one after another, the number of spawns, and the depth of
+the deepest record.
+
+Example:
+  spbags measure run.trace
+
+Exit status:
+  0  the numbers stand on standard output
+  2  no answer; standard error says why";
+
+const CONFIRM_ABOUT: &str = "Tells whether every entry of a report is a race of a trace.";
+
+const CONFIRM_NOTES: &str = "\
+One of TRACE and REPORT may be `-`, which is standard input. The report is read first; it may have 67108864 bytes at
+most. The answer is `yes`, or `no N`, where the N-th entry is the first that is no race. Whether entries are missing,
+or another race of a location comes earlier, isn't asked.
+
+Example:
+  spbags check run.trace | spbags confirm run.trace -
+
+Exit status:
+  0  yes
+  1  no
+  2  no answer; standard error says why";
+
+/// The program with its commands.
+pub fn program<'a>(alloc: Global) -> Result<Command<'a>, AllocError> {
+    let program = Command::new(alloc, "spbags")
+        .no_binary_name(true)
+        .bin_name("spbags")?
+        .version("0.1.0")
+        .about(ABOUT)
+        .after_help(NOTES)
+        .subcommand_required(true)
+        .disable_help_subcommand(true);
+    program
+        .subcommand(check_command(alloc)?)?
+        .subcommand(pairs_command(alloc)?)?
+        .subcommand(measure_command(alloc)?)?
+        .subcommand(confirm_command(alloc)?)
+}
+
+fn check_command<'a>(alloc: Global) -> Result<Command<'a>, AllocError> {
+    Command::new(alloc, "check")
+        .about(CHECK_ABOUT)
+        .after_help(CHECK_NOTES)
+        .arg(depth(alloc))?
+        .arg(needed(alloc, "FILE", "The trace; `-` is standard input"))
+}
+
+fn pairs_command<'a>(alloc: Global) -> Result<Command<'a>, AllocError> {
+    Command::new(alloc, "pairs")
+        .about(PAIRS_ABOUT)
+        .after_help(PAIRS_NOTES)
+        .arg(depth(alloc))?
+        .arg(needed(alloc, "FILE", "The trace; `-` is standard input"))?
+        .arg(needed(alloc, "L", "The location: 0 to 18446744073709551615"))
+}
+
+fn measure_command<'a>(alloc: Global) -> Result<Command<'a>, AllocError> {
+    Command::new(alloc, "measure")
+        .about(MEASURE_ABOUT)
+        .after_help(MEASURE_NOTES)
+        .arg(depth(alloc))?
+        .arg(needed(alloc, "FILE", "The trace; `-` is standard input"))
+}
+
+fn confirm_command<'a>(alloc: Global) -> Result<Command<'a>, AllocError> {
+    Command::new(alloc, "confirm")
+        .about(CONFIRM_ABOUT)
+        .after_help(CONFIRM_NOTES)
+        .arg(depth(alloc))?
+        .arg(needed(alloc, "TRACE", "The trace; `-` is standard input"))?
+        .arg(needed(alloc, "REPORT", "The report; `-` is standard input"))
+}
+
+fn depth<'a>(alloc: Global) -> Arg<'a> {
+    Arg::new(alloc, "depth")
+        .long("depth")
+        .value_name("N")
+        .action(ArgAction::Set)
+        .help("How deep procedures may nest: 0 to 1000000, 65536 where it is left out")
+}
+
+// A word that has to be there.
+fn needed<'a>(alloc: Global, name: &'a str, help: &'a str) -> Arg<'a> {
+    Arg::new(alloc, name)
+        .required(true)
+        .action(ArgAction::Set)
+        .help(help)
+}

@@ -1,0 +1,348 @@
+//! Worked rows of `pairs`, `measure` and `confirm`.
+use super::devices::{Broken, Full, Large, Slow};
+use super::{Ran, answer_any, flood, run, run_with_report, trace_of, words_of};
+use crate::reports::MOST_BYTES;
+use crate::words::{Asked, read_words};
+use std::alloc::Global;
+use std::io::ErrorKind;
+use std::test::Fail;
+use trace::{Counted, Source};
+
+const WRITE_WRITE: &str = "spawn, write 5, return, write 5, return";
+
+const SYNC_ORDERS: &str = "spawn, write 5, return, sync, write 5, return";
+
+const THREE_WRITES: &str = "spawn, write 3, return, spawn, write 3, return, write 3, return";
+
+const THREE_SHARDS: &str = "spawn, write 8, write 2, return, read 8, read 2, return";
+
+const GRANDCHILD_SYNCED: &str = "spawn, spawn, write 1, return, return, sync, read 1, return";
+
+const READ_THEN_WRITE_IN_CHILD: &str = "spawn, read 7, write 7, return, write 7, return";
+
+const TWO_READERS_THEN_WRITE: &str =
+    "spawn, read 9, return, spawn, read 9, return, write 9, return";
+
+// Traces by their records, a command, its answer and the status.
+const ANSWERS: [(&str, &str, &str, u8); 16] = [
+    (
+        THREE_WRITES,
+        "pairs - 3",
+        "pairs 3\npair write 2 write 5\npair write 2 write 7\npair write 5 write 7\n",
+        1,
+    ),
+    (THREE_WRITES, "pairs - 4", "pairs 0\n", 0),
+    (
+        READ_THEN_WRITE_IN_CHILD,
+        "pairs - 7",
+        "pairs 2\npair read 2 write 5\npair write 3 write 5\n",
+        1,
+    ),
+    (
+        "read 9, spawn, read 9, return, write 9, return",
+        "pairs - 9",
+        "pairs 1\npair read 3 write 5\n",
+        1,
+    ),
+    (GRANDCHILD_SYNCED, "pairs - 1", "pairs 0\n", 0),
+    (
+        TWO_READERS_THEN_WRITE,
+        "pairs - 9",
+        "pairs 2\npair read 2 write 7\npair read 5 write 7\n",
+        1,
+    ),
+    (
+        THREE_SHARDS,
+        "pairs - 8",
+        "pairs 1\npair write 2 read 5\n",
+        1,
+    ),
+    (
+        "return",
+        "measure -",
+        "work 1\nspan 1\nspawns 0\ndepth 0\n",
+        0,
+    ),
+    (
+        WRITE_WRITE,
+        "measure -",
+        "work 5\nspan 4\nspawns 1\ndepth 1\n",
+        0,
+    ),
+    (
+        SYNC_ORDERS,
+        "measure -",
+        "work 6\nspan 6\nspawns 1\ndepth 1\n",
+        0,
+    ),
+    (
+        "spawn, write 1, return, spawn, sync, write 1, return, return",
+        "measure -",
+        "work 8\nspan 6\nspawns 2\ndepth 1\n",
+        0,
+    ),
+    (
+        GRANDCHILD_SYNCED,
+        "measure -",
+        "work 8\nspan 8\nspawns 2\ndepth 2\n",
+        0,
+    ),
+    (
+        TWO_READERS_THEN_WRITE,
+        "measure -",
+        "work 8\nspan 5\nspawns 2\ndepth 1\n",
+        0,
+    ),
+    (
+        "return",
+        "measure --depth 0 -",
+        "work 1\nspan 1\nspawns 0\ndepth 0\n",
+        0,
+    ),
+    (
+        "write 18446744073709551615, return",
+        "pairs - 18446744073709551615",
+        "pairs 0\n",
+        0,
+    ),
+    ("write 0, return", "pairs --depth 0 - 0", "pairs 0\n", 0),
+];
+
+#[test]
+fn answers_questions(rt: HostRuntime) -> Result<(), Fail> {
+    for (records, line, answer, status) in ANSWERS {
+        let trace = trace_of(rt.alloc(), records)?;
+        for step in [1, 4096] {
+            let ran = run(rt.alloc(), line, trace.as_slice(), step)?;
+            assert_eq!(rt; ran.status, status, "{line}: {records}");
+            assert_eq!(rt; ran.out.as_slice(), answer.as_bytes(), "{line}: {records}");
+            assert!(rt; ran.err.is_empty(), "{line}: {records}");
+        }
+    }
+    Ok(())
+}
+
+#[test]
+fn questions_of_a_thousand_races(rt: HostRuntime) -> Result<(), Fail> {
+    let text = flood(rt.alloc())?;
+    let ran = run(rt.alloc(), "measure -", text.as_slice(), 4096)?;
+    assert_eq!(rt;
+        ran.out.as_slice(),
+        b"work 2003\nspan 1003\nspawns 1\ndepth 1\n".as_slice()
+    );
+    let ran = run(rt.alloc(), "pairs - 1998", text.as_slice(), 4096)?;
+    assert_eq!(rt;
+        ran.out.as_slice(),
+        b"pairs 1\npair write 1001 write 2002\n".as_slice()
+    );
+
+    // A fault at the end leaves nothing of an answer.
+    let (text, _) = text.split_at(text.len() - b"return\n".len().min(text.len()));
+    for line in ["measure -", "pairs - 0", "confirm - b"] {
+        let report = b"races 1\nrace 0 write 2 write 1003\n";
+        let ran = run_with_report(rt.alloc(), line, text, report, 4096)?;
+        assert_eq!(rt; ran.status, 2, "{line}");
+        assert!(rt; ran.out.is_empty(), "{line}");
+        assert_eq!(rt;
+            ran.err.as_slice(),
+            b"spbags: place 2003: unfinished\n".as_slice(),
+            "{line}"
+        );
+    }
+    Ok(())
+}
+
+// Traces by their records, the text of a report, and the answer.
+const CONFIRMED: [(&str, &str, &str); 8] = [
+    (WRITE_WRITE, "races 1\nrace 5 write 2 write 4\n", "yes\n"),
+    (WRITE_WRITE, "races 1\nrace 5 write 2 read 4\n", "no 1\n"),
+    (SYNC_ORDERS, "races 1\nrace 5 write 2 write 5\n", "no 1\n"),
+    (THREE_WRITES, "races 1\nrace 3 write 5 write 7\n", "yes\n"),
+    (WRITE_WRITE, "races 0\n", "yes\n"),
+    (WRITE_WRITE, "races 1\nrace 5 write 2 write 9\n", "no 1\n"),
+    (
+        THREE_SHARDS,
+        "races 2\nrace 2 write 3 read 6\nrace 8 write 2 read 6\n",
+        "no 2\n",
+    ),
+    (
+        THREE_SHARDS,
+        "races 2\nrace 2 write 3 read 6\nrace 8 write 2 read 5\n",
+        "yes\n",
+    ),
+];
+
+#[test]
+fn confirms_reports(rt: HostRuntime) -> Result<(), Fail> {
+    for (records, report, answer) in CONFIRMED {
+        let trace = trace_of(rt.alloc(), records)?;
+        for step in [1, 4096] {
+            let ran = run_with_report(
+                rt.alloc(),
+                "confirm - b",
+                trace.as_slice(),
+                report.as_bytes(),
+                step,
+            )?;
+            let status = if answer == "yes\n" { 0 } else { 1 };
+            assert_eq!(rt; ran.status, status, "{records}: {report}");
+            assert_eq!(rt;
+                ran.out.as_slice(),
+                answer.as_bytes(),
+                "{records}: {report}"
+            );
+            assert!(rt; ran.err.is_empty(), "{records}: {report}");
+        }
+    }
+    Ok(())
+}
+
+// Texts that are no reports, and the faulty line.
+const BAD_REPORTS: [(&str, u64); 9] = [
+    ("", 1),
+    ("races 0", 1),
+    ("races 0\n\n", 2),
+    ("races 2\nrace 5 write 2 write 4\n", 3),
+    ("races 1\nrace 5 read 2 read 4\n", 2),
+    ("races 1\nrace 5 write 4 write 4\n", 2),
+    ("races 1\nrace 5 write 0 write 4\n", 2),
+    (
+        "races 2\nrace 5 write 2 write 4\nrace 5 write 2 write 4\n",
+        3,
+    ),
+    ("races 1\nrace 5 write 2 write 4\nx", 3),
+];
+
+#[test]
+fn refuses_bad_reports_first(rt: HostRuntime) -> Result<(), Fail> {
+    for (report, fault) in BAD_REPORTS {
+        let want = format!(in rt.alloc(); "spbags: report line {fault}: bad\n")?;
+        for trace in ["trace 1\nreturn\n", "x\n"] {
+            let ran = run_with_report(
+                rt.alloc(),
+                "confirm - b",
+                trace.as_bytes(),
+                report.as_bytes(),
+                4096,
+            )?;
+            assert_eq!(rt; ran.status, 2, "{report}");
+            assert!(rt; ran.out.is_empty(), "{report}");
+            assert_eq!(rt; ran.err.as_slice(), want.as_bytes(), "{report}");
+        }
+    }
+    let ran = run_with_report(rt.alloc(), "confirm - b", b"x\n", b"races 0\n", 4096)?;
+    assert_eq!(rt; ran.err.as_slice(), b"spbags: line 1: header\n".as_slice());
+    Ok(())
+}
+
+// What `confirm` leaves of a report from this source.
+fn confirm_from<Q: Source>(alloc: Global, report: &mut Q) -> Result<Ran, Fail> {
+    let mut out = Vec::new(alloc);
+    let mut err = Vec::new(alloc);
+    let asked = asked_by(alloc, "confirm a b")?;
+    let status = {
+        let mut trace = Counted::new(Slow::new(b"x\n", 1));
+        let mut answers = Counted::new(&mut out);
+        let mut faults = Counted::new(&mut err);
+        answer_any(alloc, &asked, &mut trace, report, &mut answers, &mut faults)
+    };
+    Ok(Ran { status, out, err })
+}
+
+fn asked_by(alloc: Global, line: &str) -> Result<Asked, Fail> {
+    let words = words_of(alloc, line)?;
+    match read_words(alloc, words.as_slice()) {
+        Ok(asked) => Ok(asked),
+        Err(_) => Err(Fail::from(line)),
+    }
+}
+
+#[test]
+fn limits_the_bytes_of_a_report(rt: HostRuntime) -> Result<(), Fail> {
+    // The reader fails where more is read than tells that the report is too large.
+    let table = [
+        (MOST_BYTES - 1, "spbags: cannot read\n"),
+        (MOST_BYTES, "spbags: cannot read\n"),
+        (MOST_BYTES + 1, "spbags: report too large\n"),
+        (MOST_BYTES + 4096, "spbags: report too large\n"),
+    ];
+    for (size, want) in table {
+        let ran = confirm_from(rt.alloc(), &mut Counted::new(Large::new(size, true)))?;
+        assert_eq!(rt; ran.status, 2, "{size}");
+        assert!(rt; ran.out.is_empty(), "{size}");
+        assert_eq!(rt; ran.err.as_slice(), want.as_bytes(), "{size}");
+    }
+    let most = confirm_from(rt.alloc(), &mut Counted::new(Large::new(MOST_BYTES, false)))?;
+    assert_eq!(rt;
+        most.err.as_slice(),
+        b"spbags: report line 1: bad\n".as_slice()
+    );
+    Ok(())
+}
+
+#[test]
+fn tells_a_failed_report(rt: HostRuntime) -> Result<(), Fail> {
+    let report = b"races 1\nrace 5 write 2 write 4\n";
+    for cut in 0..=report.len() {
+        let (front, _) = report.split_at(cut);
+        let mut source = Counted::new(Broken::new(front, ErrorKind::Other));
+        let ran = confirm_from(rt.alloc(), &mut source)?;
+        assert_eq!(rt; ran.status, 2, "at {cut}");
+        assert!(rt; ran.out.is_empty(), "at {cut}");
+        assert_eq!(rt;
+            ran.err.as_slice(),
+            b"spbags: cannot read\n".as_slice(),
+            "at {cut}"
+        );
+    }
+    Ok(())
+}
+
+#[test]
+fn tells_a_full_output_of_each_question(rt: HostRuntime) -> Result<(), Fail> {
+    let trace = trace_of(rt.alloc(), THREE_WRITES)?;
+    let table = [
+        (
+            "pairs - 3",
+            "pairs 3\npair write 2 write 5\npair write 2 write 7\npair write 5 write 7\n",
+        ),
+        ("measure -", "work 8\nspan 5\nspawns 2\ndepth 1\n"),
+        ("confirm - b", "no 1\n"),
+    ];
+    for (line, answer) in table {
+        for room in 0..=answer.len() {
+            let (front, _) = answer.as_bytes().split_at(room);
+            let ran = answer_into(rt.alloc(), line, trace.as_slice(), room)?;
+            assert_eq!(rt; ran.status, 2, "{line}: room for {room}");
+            assert_eq!(rt; ran.out.as_slice(), front, "{line}: room for {room}");
+            assert_eq!(rt;
+                ran.err.as_slice(),
+                b"spbags: cannot write\n".as_slice(),
+                "{line}: room for {room}"
+            );
+        }
+    }
+    Ok(())
+}
+
+// What an answer leaves in a writer with so much room; `confirm` is asked of a race that isn't there.
+fn answer_into(alloc: Global, line: &str, trace: &[u8], room: usize) -> Result<Ran, Fail> {
+    let mut out = Vec::new(alloc);
+    let mut err = Vec::new(alloc);
+    let asked = asked_by(alloc, line)?;
+    let status = {
+        let mut trace = Counted::new(Slow::new(trace, 4096));
+        let mut report = Counted::new(Slow::new(b"races 1\nrace 4 write 5 write 7\n", 1));
+        let mut answers = Counted::new(Full::new(&mut out, room));
+        let mut faults = Counted::new(&mut err);
+        answer_any(
+            alloc,
+            &asked,
+            &mut trace,
+            &mut report,
+            &mut answers,
+            &mut faults,
+        )
+    };
+    Ok(Ran { status, out, err })
+}
