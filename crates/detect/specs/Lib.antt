@@ -1,2 +1,4 @@
 pub mod Dag
 pub mod Runs
+pub mod Gathered
+pub mod Gatherings

@@ -2,6 +2,7 @@
 #![tactic(auto)]
 
 mod detector;
+mod gathering;
 pub mod laws;
 pub mod plain;
 #[cfg(test)]
