@@ -17,3 +17,4 @@ pub mod Once
 pub mod Parts
 pub mod SpelledLines
 pub mod Cuttings
+pub mod ShareLemmas

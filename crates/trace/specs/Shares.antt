@@ -12,5 +12,8 @@ goes k n Sync = true
 goes k n (Read l) = l % n == k
 goes k n (Write l) = l % n == k
 
+abbrev pub goes_placed : ℕ → ℕ → Placed → Bool
+goes_placed k n p = goes k n p.what
+
 abbrev pub share : ℕ → ℕ → List Placed → List Placed
-share k n u = filter (λ p. goes k n p.what) u
+share k n u = filter (goes_placed k n) u

@@ -1,0 +1,4 @@
+pub mod Senders
+pub mod Sending
+pub mod Progresses
+pub mod Routers

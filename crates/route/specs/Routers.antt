@@ -1,0 +1,55 @@
+-- What a router says: its lanes, what was put on them, the pending record, and the marks.
+use Rattle.std.specs.Prelude.{◌≡◌, ℕ, ◌<◌, ◌≤◌, false, List, length, slice_index_or, Option, Some}
+use Rattle.lane.specs.declared.item.Item.{Item}
+use Rattle.lane.specs.declared.item.Item.TheVariants.{One, Finish}
+use Rattle.lane.specs.Lanes.{LaneId}
+use Rattle.trace.specs.declared.records.Placed.{Placed}
+use Rattle.trace.specs.Shares.{goes_placed}
+use Rattle.route.specs.declared.routing.Router.{Router}
+use Rattle.route.specs.Senders.{lanes, puts, capacities}
+use Rattle.route.specs.Sending.{put_on, with_put, AllSent}
+
+abbrev pub lanes_of : Router → List LaneId
+lanes_of r = lanes r.senders.items
+
+abbrev pub puts_of : Router → List (List (Item Placed))
+puts_of r = puts r.senders.items
+
+abbrev pub capacities_of : Router → List ℕ
+capacities_of r = capacities r.senders.items
+
+-- how many lanes
+abbrev pub lane_count : Router → ℕ
+lane_count r = length (puts_of r)
+
+abbrev pub pending_of : Router → Option Placed
+pending_of r = r.pending
+
+-- the lane whose turn it is
+abbrev pub turn_of : Router → ℕ
+turn_of r = r.next
+
+-- how many lanes have their mark; they are the first ones
+abbrev pub marked_of : Router → ℕ
+marked_of r = r.marked
+
+-- w was sent whole, and the pending record to the lanes before the turn
+abbrev pub HasSent : List Placed → Router → Type 0
+HasSent w r = AllSent w (turn_of r) (pending_of r) (marked_of r) (puts_of r)
+
+-- the same lanes, in the same order
+pub record IsOnLanes (old new : Router) : Type 0 where
+  pub lanes : lanes_of new ≡ lanes_of old
+  pub capacities : capacities_of new ≡ capacities_of old
+  pub count : lane_count new ≡ lane_count old
+
+-- nothing was put, and nothing else changed either
+pub record IsUnchanged (old new : Router) : Type 0 where
+  pub puts : puts_of new ≡ puts_of old
+  pub pending : pending_of new ≡ pending_of old
+  pub turn : turn_of new ≡ turn_of old
+  pub marked : marked_of new ≡ marked_of old
+
+-- lane k holds as many items as it can, for all that the sender knows
+abbrev pub IsFull : Router → ℕ → Type 0
+IsFull r k = slice_index_or (capacities_of r) k 0 ≤ length (put_on (puts_of r) k)

@@ -1,0 +1,15 @@
+-- Of a list of senders: their lanes, what was put on each, and how many items each lane holds at most.
+use Rattle.std.specs.Prelude.{ℕ, List, [], ◌∷◌, ◌++◌, map, slice_index_or, slice_set}
+use Rattle.lane.specs.declared.item.Item.{Item}
+use Rattle.lane.specs.declared.ends.Sender.{Sender}
+use Rattle.lane.specs.Lanes.{LaneId, lane_of, put_of, capacity_of}
+use Rattle.trace.specs.declared.records.Placed.{Placed}
+
+abbrev pub lanes : List (Sender Placed) → List LaneId
+lanes senders = map lane_of senders
+
+abbrev pub puts : List (Sender Placed) → List (List (Item Placed))
+puts senders = map put_of senders
+
+abbrev pub capacities : List (Sender Placed) → List ℕ
+capacities senders = map capacity_of senders

@@ -1,0 +1,11 @@
+//! The router: sends each record to the lanes whose share has it, one put a step, so that a full lane
+//! stops it and loses nothing.
+#![tactic(auto)]
+
+mod progress;
+mod puts;
+mod routing;
+mod turns;
+
+pub use progress::Progress;
+pub use routing::Router;

@@ -1,0 +1,41 @@
+//! A put on one of many lanes.
+ghost use Rattle.std.specs.Prelude.{◌≡◌, ◌<◌, ◌≤◌, false, length, slice_index_or, vec_len, if◌then◌else◌, IsFalse};
+ghost use Rattle.lane.specs.declared.item.Item.TheVariants.{One, Finish};
+ghost use Rattle.lane.specs.Items.{has_mark};
+ghost use Rattle.route.specs.Senders.{lanes, puts, capacities};
+ghost use Rattle.route.specs.Sending.{put_on, with_put};
+
+use lane::Sender;
+use std::sync::Wait;
+use trace::Placed;
+
+/// Puts the record on the lane; false where the lane was full.
+pub fn put_on<R: Wait>(
+    rt: &R,
+    senders: &mut Vec<Sender<Placed>>,
+    lane: usize,
+    placed: Placed,
+) -> bool
+    requires within { lane < vec_len senders.old }
+    requires unmarked { has_mark (put_on (puts senders.old.items) lane) ≡ false }
+    ensures puts { puts senders.new.items ≡ (if result then with_put (puts senders.old.items) lane (One placed) else puts senders.old.items) }
+    ensures lanes { lanes senders.new.items ≡ lanes senders.old.items }
+    ensures capacities { capacities senders.new.items ≡ capacities senders.old.items }
+    ensures len { vec_len senders.new ≡ vec_len senders.old }
+    ensures full { IsFalse result → slice_index_or (capacities senders.old.items) lane 0 ≤ length (put_on (puts senders.old.items) lane) }
+{
+    senders[lane].put(rt, placed).is_ok()
+}
+
+/// Puts the mark on the lane; false where the lane was full.
+pub fn mark_on<R: Wait>(rt: &R, senders: &mut Vec<Sender<Placed>>, lane: usize) -> bool
+    requires within { lane < vec_len senders.old }
+    requires unmarked { has_mark (put_on (puts senders.old.items) lane) ≡ false }
+    ensures puts { puts senders.new.items ≡ (if result then with_put (puts senders.old.items) lane Finish else puts senders.old.items) }
+    ensures lanes { lanes senders.new.items ≡ lanes senders.old.items }
+    ensures capacities { capacities senders.new.items ≡ capacities senders.old.items }
+    ensures len { vec_len senders.new ≡ vec_len senders.old }
+    ensures full { IsFalse result → slice_index_or (capacities senders.old.items) lane 0 ≤ length (put_on (puts senders.old.items) lane) }
+{
+    senders[lane].mark(rt)
+}

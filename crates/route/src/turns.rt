@@ -1,0 +1,34 @@
+//! The lanes that a record goes to, in their order.
+ghost use Rattle.std.specs.Prelude.{◌≡◌, ℕ, ◌<◌, ◌≤◌, ◌+◌, true, false, IfSome, IfNone};
+ghost use Rattle.trace.specs.Shares.{goes};
+ghost use Rattle.route.specs.Sending.{first_lane};
+
+use trace::Record;
+
+/// The first of `count` lanes that the record goes to.
+pub fn first_lane(what: Record, count: usize) -> usize
+    requires { 1 ≤ count }
+    ensures value { result ≡ first_lane count what }
+    ensures within { result < count }
+    ensures goes { goes result count what ≡ true }
+    ensures first { (k : ℕ) → k < result → goes k count what ≡ false }
+{
+    match what {
+        Record::Spawn | Record::Return | Record::Sync => 0,
+        Record::Read(location) | Record::Write(location) => (location % count as u64) as usize,
+    }
+}
+
+/// The next lane after this one that the record goes to.
+pub fn lane_after(what: Record, lane: usize, count: usize) -> Option<usize>
+    requires within { lane < count }
+    requires most { count ≤ 64 }
+    requires goes { goes lane count what ≡ true }
+    ensures some { IfSome result (λ j. (j ≡ lane + 1) × (j < count) × (goes j count what ≡ true)) }
+    ensures none { IfNone result ((k : ℕ) → lane < k → k < count → goes k count what ≡ false) }
+{
+    match what {
+        Record::Spawn | Record::Return | Record::Sync if lane + 1 < count => Some(lane + 1),
+        _ => None,
+    }
+}

@@ -1,0 +1,22 @@
+-- Laws of shares.
+use Rattle.std.proofs.Common.{◌≡◌, ℕ, ◌<◌, ◌%◌, Bool, true, false, cond, filter, List, [], ◌∷◌, ◌++◌, refl, arith}
+use Rattle.std.proofs.lemmas.Bool.{eq-eqb}
+use Rattle.std.proofs.lemmas.List.Elements.{filter-append}
+use Rattle.trace.specs.declared.records.Record.{Record}
+use Rattle.trace.specs.declared.records.Record.TheVariants.{Spawn, Return, Sync, Read, Write}
+use Rattle.trace.specs.declared.records.Placed.{Placed}
+use Rattle.trace.specs.Shares.{goes, goes_placed, share}
+
+pub share-append : (k n : ℕ) (u v : List Placed) → share k n (u ++ v) ≡ share k n u ++ share k n v
+share-append k n u v = filter-append (goes_placed k n) u v
+
+pub share-push : (k n : ℕ) (u : List Placed) (p : Placed) → share k n (u ++ p ∷ []) ≡ share k n u ++ cond (goes_placed k n p) (p ∷ []) []
+share-push k n u p = share-append k n u (p ∷ [])
+
+-- each record goes to some shard
+pub goes_somewhere : (n : ℕ) (r : Record) → 0 < n → (k : ℕ) × (k < n) × (goes k n r ≡ true)
+goes_somewhere n Spawn h = (0, h, refl)
+goes_somewhere n Return h = (0, h, refl)
+goes_somewhere n Sync h = (0, h, refl)
+goes_somewhere n (Read l) h = (l % n, omega arith, eq-eqb (l % n) (l % n) refl)
+goes_somewhere n (Write l) h = (l % n, omega arith, eq-eqb (l % n) (l % n) refl)
