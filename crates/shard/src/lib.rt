@@ -1,6 +1,11 @@
-//! A shard of the detector: what it hands back.
+//! A shard of the detector: its state, the worker that runs it on a lane, and what it hands back.
 #![tactic(auto)]
 
+mod gate;
+mod state;
+
+pub use gate::{Gate, Open};
+pub use state::Shard;
 use trace::Race;
 
 /// What a shard hands back.

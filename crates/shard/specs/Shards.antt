@@ -1,0 +1,55 @@
+-- A shard: its bags and its shadow memory, and how far it has come.
+use Rattle.std.specs.Prelude.{◌≡◌, ℕ, ◌-◌, ◌<◌, ◌≤◌, ◌^◌, Bool, false, List, [], length, min, ◌==◌}
+use Rattle.trace.specs.declared.records.Record.{Record}
+use Rattle.trace.specs.declared.records.Record.TheVariants.{Spawn, Return, Sync, Read, Write}
+use Rattle.trace.specs.declared.records.Placed.{Placed}
+use Rattle.bags.specs.Procedures.{Procedures}
+use Rattle.shadow.specs.Memory.{Memory, HaveSeen, IsSameMemory}
+
+-- its number, the bags, the shadow memory, the place of the last record, whether the root has returned, and how
+-- many records were taken
+pub record ShardState : Type 0 where
+  pub index : ℕ
+  pub bags : Procedures
+  pub memory : Memory
+  pub last_place : ℕ
+  pub ended : Bool
+  pub taken : ℕ
+
+-- a record may come at this place
+pub record Accepts (s : ShardState) (place : ℕ) : Type 0 where
+  pub later : s.last_place < place
+  pub to_limit : place ≤ 2 ^ 48
+  pub running : s.ended ≡ false
+
+-- the bags and the shadow memory are those after the records u
+abbrev pub HasApplied : List Placed → ShardState → Type 0
+HasApplied u s = HaveSeen u s.bags s.memory
+
+-- no record was taken
+pub record IsNew (s : ShardState) : Type 0 where
+  pub applied : HasApplied [] s
+  pub at_first : s.last_place ≡ 0
+  pub running : s.ended ≡ false
+  pub none_taken : s.taken ≡ 0
+
+-- the root's return is the one where the root alone is active
+abbrev pub is_root_return : Procedures → Record → Bool
+is_root_return s Return = length s.active == 1
+is_root_return s Spawn = false
+is_root_return s Sync = false
+is_root_return s (Read l) = false
+is_root_return s (Write l) = false
+
+-- a count that stays at 2^64 - 1
+abbrev pub capped_count : ℕ → ℕ
+capped_count n = min n (2 ^ 64 - 1)
+
+-- nothing changed
+pub record IsSameShard (old new : ShardState) : Type 0 where
+  pub index : new.index ≡ old.index
+  pub bags : new.bags ≡ old.bags
+  pub memory : IsSameMemory old.memory new.memory
+  pub last_place : new.last_place ≡ old.last_place
+  pub ended : new.ended ≡ old.ended
+  pub taken : new.taken ≡ old.taken

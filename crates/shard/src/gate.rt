@@ -1,0 +1,15 @@
+//! What a worker passes before it takes up a record.
+
+/// A gate that a worker passes at each record. It may look on, or hold the worker up.
+pub trait Gate {
+    /// The shard of this number is about to take up the record at this place.
+    fn pass(&self, shard: u32, place: u64);
+}
+
+/// The gate that does nothing.
+#[derive(Clone, Copy, Debug, PartialEq, Eq)]
+pub struct Open;
+
+impl Gate for Open {
+    fn pass(&self, _shard: u32, _place: u64) {}
+}

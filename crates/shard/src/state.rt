@@ -1,0 +1,117 @@
+//! The state of a shard: the records that it has taken, as bags and shadow memory.
+ghost use Rattle.std.specs.Prelude.{◌≡◌, ◌↔◌, ◌+◌, ◌<◌, List, [], ◌∷◌, ◌++◌, IsTrue, IfOk, IfSome, OnOk, OnErr};
+ghost use Rattle.std.specs.Option.{option_to_list};
+ghost use Rattle.trace.specs.declared.records.Placed.{Placed};
+ghost use Rattle.shadow.specs.Found.{found};
+ghost use Rattle.shadow.specs.Memory.{MayGrow};
+ghost use Rattle.shard.specs.Shards.{Accepts, HasApplied, IsNew, IsSameShard, is_root_return, capped_count};
+
+use bags::Bags;
+use shadow::Shadow;
+use std::alloc::Global;
+use std::hash::BuildHasher;
+use std::marker::Model;
+use trace::{NoMemory, Placed, Race, Record};
+
+/// A shard: the bags of the run, and the shadow memory of the shard's locations.
+#[derive(Drop)]
+pub struct Shard<S: BuildHasher + Drop> {
+    index: u32,
+    bags: Bags,
+    shadow: Shadow<S>,
+    last_place: u64,
+    ended: bool,
+    taken: u64,
+}
+
+impl<S: BuildHasher + Drop> Model for Shard<S> {
+    ghost use Rattle.std.specs.Prelude.{◌+◌};
+    ghost use Rattle.std.specs.Coded.{codes};
+    ghost use Rattle.bags.specs.Procedures.{coded_procedures};
+    ghost use Rattle.shadow.specs.Memory.{AreReadyFor};
+    ghost use Rattle.shard.specs.Shards.{ShardState};
+
+    ghost Value = { ShardState };
+
+    ghost coded = { Prim.hlevel (codes, coded_procedures) };
+
+    ghost view = { λ s. record { index = s.index; bags = s.bags; memory = s.shadow; last_place = s.last_place; ended = s.ended; taken = s.taken } };
+
+    ghost invariant = { λ s. AreReadyFor s.bags s.shadow (s.last_place + 1) };
+}
+
+impl<S: BuildHasher + Drop> Shard<S> {
+    /// The shard of this number, before its first record.
+    pub fn new(alloc: Global, index: u32, hasher: S) -> Result<Shard<S>, NoMemory>
+        ensures new { IfOk result IsNew }
+        ensures index { IfOk result (λ shard. shard.index ≡ index) }
+    {
+        Ok(Shard {
+            index,
+            bags: Bags::new(alloc)?,
+            shadow: Shadow::with_hasher(alloc, hasher),
+            last_place: 0,
+            ended: false,
+            taken: 0,
+        })
+    }
+
+    /// Whether a record may come at this place: it lies above the last record's and is at most 2^48,
+    /// and the root hasn't returned.
+    pub fn accepts(&self, place: u64) -> bool
+        ensures { IsTrue result ↔ Accepts self.now place }
+    {
+        !self.ended && self.last_place < place && place <= 1 << 48
+    }
+
+    /// Takes a record of the shard's share: the race that it tells, if any. The root's return changes no
+    /// bags.
+    ///
+    /// On an error the same call may be made again.
+    pub fn apply(&mut self, placed: Placed) -> Result<Option<Race>, NoMemory>
+        requires { Accepts self.old placed.place }
+
+        // The answers are the races found, each at its second place.
+        ensures applied { OnOk result ((u : List Placed) → HasApplied u self.old → HasApplied (u ++ placed ∷ []) self.new) }
+        ensures found { IfOk result (λ race. (u : List Placed) → HasApplied u self.old → found (u ++ placed ∷ []) ≡ found u ++ option_to_list race) }
+        ensures at_second { IfOk result (λ race. (u : List Placed) → HasApplied u self.old → IfSome race (λ r. r.second.place ≡ placed.place)) }
+
+        ensures index { OnOk result (self.new.index ≡ self.old.index) }
+        ensures last_place { OnOk result (self.new.last_place ≡ placed.place) }
+        ensures ended { OnOk result (self.new.ended ≡ is_root_return self.old.bags placed.what) }
+        ensures taken { OnOk result (self.new.taken ≡ capped_count (self.old.taken + 1)) }
+
+        // A refusal changes nothing, and comes only at a spawn or at the first access of a location.
+        ensures refused { OnErr result (IsSameShard self.old self.new) }
+        ensures may_grow { OnErr result (MayGrow self.old.memory placed.what) }
+    {
+        let ended = matches!(placed.what, Record::Return) && self.bags.active() == 1;
+        let race = shadow::apply(&mut self.bags, &mut self.shadow, placed)?;
+        self.last_place = placed.place;
+        self.ended = ended;
+        self.taken = self.taken.saturating_add(1);
+        Ok(race)
+    }
+
+    /// Counts a record that is taken and not applied.
+    pub(crate) fn skip(&mut self)
+        ensures { self.new ≡ record self.old { taken = capped_count (self.old.taken + 1) } }
+    {
+        self.taken = self.taken.saturating_add(1);
+    }
+
+    /// The shard's number.
+    pub(crate) fn index(&self) -> u32
+        ensures { result ≡ self.now.index }
+    {
+        self.index
+    }
+
+    /// How many records were taken: those applied, and those that `work` took and didn't apply. At
+    /// 2^64 - 1 the count stays.
+    pub fn taken(&self) -> u64
+        ensures { result ≡ self.now.taken }
+    {
+        self.taken
+    }
+}
