@@ -9,6 +9,7 @@ use Rattle.shard.specs.declared.Back.TheVariants.{Race, NoMemory}
 use Rattle.lane.specs.declared.item.Item.{Item}
 use Rattle.lane.specs.declared.item.Item.TheVariants.{One, Finish}
 use Rattle.lane.specs.Items.{records}
+use Rattle.lane.proofs.Marks.{records-one, records-finish}
 use Rattle.trace.specs.Accesses.{RaceAt}
 use Rattle.collect.specs.Collected.{Kept, Holds, races_of, fails, kept_after, best}
 use Rattle.collect.proofs.Best.{races_of-append, fails-push_race, best-push}
@@ -16,16 +17,9 @@ use Rattle.detect.specs.Gathered.{on_lane, all_given, AreAtHomeFrom, AreAtHome, 
 
 -- ---- an item more
 
-records-append : {T : Type 0} (xs ys : List (Item T)) → records (xs ++ ys) ≡ records xs ++ records ys
-records-append [] ys = refl
-records-append (One x ∷ xs) ys = ap (λ l. x ∷ l) (records-append xs ys)
-records-append (Finish ∷ xs) ys = records-append xs ys
-
-records-finish : {T : Type 0} (xs : List (Item T)) → records (xs ++ Finish ∷ []) ≡ records xs
-records-finish xs = records-append xs (Finish ∷ []) ∙ append-nil (records xs)
-
-races-push : (items : List (Item Back)) (r : RaceAt) → races_of (records (items ++ One (Race r) ∷ [])) ≡ races_of (records items) ++ r ∷ []
-races-push items r = ap races_of (records-append items (One (Race r) ∷ [])) ∙ races_of-append (records items) (Race r ∷ [])
+races-more : (items : List (Item Back)) (x : Item Back) → races_of (records (items ++ x ∷ [])) ≡ races_of (records items) ++ races_of (records (x ∷ []))
+races-more items (One back) = ap races_of (records-one items back) ∙ races_of-append (records items) (back ∷ [])
+races-more items Finish = ap races_of (records-finish items) ∙ sym (append-nil (races_of (records items)))
 
 -- the mark is nothing that was given
 pub all_given-finish : (lists : List (List (Item Back))) (k : ℕ) → all_given (set lists k (get_or lists k [] ++ Finish ∷ [])) ≡ all_given lists
@@ -53,7 +47,7 @@ pub fails-race : (lists : List (List (Item Back))) (k : ℕ) (r : RaceAt) → fa
 fails-race [] k r e = e
 fails-race (items ∷ lists) 0 r e =
     fails-both (records (items ++ One (Race r) ∷ [])) (all_given lists)
-    (ap fails (records-append items (One (Race r) ∷ [])) ∙ fails-push_race (records items) r ∙ fails-front (records items) (all_given lists) e)
+    (ap fails (records-one items (Race r)) ∙ fails-push_race (records items) r ∙ fails-front (records items) (all_given lists) e)
     (fails-back (records items) (all_given lists) e)
 fails-race (items ∷ lists) (suc k) r e =
     fails-both (records items) (all_given (set lists k (get_or lists k [] ++ One (Race r) ∷ [])))
@@ -80,14 +74,14 @@ home-before : (n j : ℕ) (lists : List (List (Item Back))) (k : ℕ) (x : Item 
 home-before n j [] k x h = h
 home-before n j (items ∷ lists) 0 x h =
     let P : List RaceAt → Type 0 = AllByRecursion (λ r. r.location % n ≡ j) in
-    (all-front _ (races_of (records items)) (races_of (records (x ∷ []))) (subst P (ap races_of (records-append items (x ∷ [])) ∙ races_of-append (records items) (records (x ∷ []))) h.0), h.1)
+    (all-front _ (races_of (records items)) (races_of (records (x ∷ []))) (subst P (races-more items x) h.0), h.1)
 home-before n j (items ∷ lists) (suc k) x h = (h.0, home-before n (j + 1) lists k x h.1)
 
 home-last : (n j : ℕ) (lists : List (List (Item Back))) (k : ℕ) (r : RaceAt) → k < length lists → AreAtHomeFrom n j (set lists k (get_or lists k [] ++ One (Race r) ∷ [])) → r.location % n ≡ j + k
 home-last n j [] k r lt h = absurd (omega (arith, lt))
 home-last n j (items ∷ lists) 0 r lt h =
     let P : List RaceAt → Type 0 = AllByRecursion (λ s. s.location % n ≡ j) in
-    let e : r.location % n ≡ j = all-last (λ (s : RaceAt). s.location % n ≡ j) (races_of (records items)) r (subst P (races-push items r) h.0) in
+    let e : r.location % n ≡ j = all-last (λ (s : RaceAt). s.location % n ≡ j) (races_of (records items)) r (subst P (races-more items (One (Race r))) h.0) in
     omega (arith, e)
 home-last n j (items ∷ lists) (suc k) r lt h = let e = home-last n (j + 1) lists k r (omega (arith, lt)) h.1 in omega (arith, e)
 
@@ -135,7 +129,7 @@ length-set (y ∷ xs) (suc k) x = ap suc (length-set xs k x)
 -- what a lane gave, after an item more of lane k
 on-same : (lists : List (List (Item Back))) (k : ℕ) (r : RaceAt) → k < length lists → races_of (on_lane (set lists k (get_or lists k [] ++ One (Race r) ∷ [])) k) ≡ races_of (on_lane lists k) ++ r ∷ []
 on-same [] k r lt = absurd (omega (arith, lt))
-on-same (items ∷ lists) 0 r lt = races-push items r
+on-same (items ∷ lists) 0 r lt = races-more items (One (Race r))
 on-same (items ∷ lists) (suc k) r lt = on-same lists k r (omega (arith, lt))
 
 on-other : (lists : List (List (Item Back))) (k m : ℕ) (x : List (Item Back)) → (m ≡ k → ⊥) → on_lane (set lists k x) m ≡ on_lane lists m

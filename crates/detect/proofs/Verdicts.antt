@@ -2,7 +2,7 @@
 use Rattle.std.proofs.Common.{◌≡◌, ℕ, suc, ◌+◌, ◌%◌, ◌<◌, Bool, true, false, cond, eqb, fold, filter, List, [], ◌∷◌, ◌++◌, length, Option, None, ◌⊎◌, ⊎_elim, refl, sym, ap, subst, ◌∙◌, arith}
 use Rattle.std.specs.List.{AllByRecursion}
 use Rattle.std.proofs.lemmas.Bool.{cases_Bool, cond-true, cond-false, eqb-true}
-use Rattle.std.proofs.lemmas.Nat.{mod_lt}
+use Rattle.std.proofs.Math.Nat.{mod-lt}
 use Rattle.shard.specs.declared.Back.{Back}
 use Rattle.lane.specs.declared.item.Item.{Item}
 use Rattle.trace.specs.declared.records.Placed.{Placed}
@@ -61,4 +61,4 @@ verdict_of_shares n lists w c rs some len each gathers collected =
     collected_is_sorted put_in by_location (λ r. refl) (λ r s ss. refl) refl (λ r ss. refl) (all_given lists) rs (found w) (collected (all_given lists) holds)
     (apart (found w) (found_from-apart start w))
     (λ l. best_of_lane l lists home ∙ ap (λ m. best l (races_of (on_lane lists (l % m)))) len
-        ∙ ap (best l) (parts (l % n) (mod_lt l n some)) ∙ best_filtered l n None (found w))
+        ∙ ap (best l) (parts (l % n) (mod-lt l some)) ∙ best_filtered l n None (found w))

@@ -2,3 +2,4 @@ pub mod Dag
 pub mod Runs
 pub mod Gathered
 pub mod Gatherings
+pub mod Sent

@@ -5,6 +5,7 @@ mod detector;
 mod gathering;
 pub mod laws;
 pub mod plain;
+mod sending;
 #[cfg(test)]
 mod tests;
 
