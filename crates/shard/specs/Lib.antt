@@ -1,1 +1,3 @@
 pub mod Shards
+pub mod Worked
+pub mod Working

@@ -3,10 +3,14 @@
 
 mod gate;
 mod state;
+mod telling;
+mod worker;
+mod working;
 
 pub use gate::{Gate, Open};
 pub use state::Shard;
 use trace::Race;
+pub use working::{Worked, work};
 
 /// What a shard hands back.
 #[derive(Clone, Copy, Debug, PartialEq, Eq)]

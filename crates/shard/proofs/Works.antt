@@ -1,0 +1,111 @@
+-- What a worker has done after one more record, and when it answers.
+use Rattle.std.proofs.Common.{◌≡◌, ℕ, ◌+◌, ◌-◌, ◌^◌, min, Bool, true, false, List, [], ◌∷◌, ◌++◌, length, map, Option, inl, inr, ⊎_elim, refl, sym, ap, subst, ◌∙◌, arith, append_assoc, append-nil, length-append}
+use Rattle.std.proofs.lemmas.List.{map-append}
+use Rattle.std.specs.Option.{option_to_list}
+use Rattle.std.proofs.lemmas.Bool.{cases_Bool}
+use Rattle.trace.specs.declared.records.Placed.{Placed}
+use Rattle.trace.specs.Accesses.{RaceAt}
+use Rattle.shadow.specs.Found.{start, state_from, found_from, found}
+use Rattle.shadow.proofs.FoundLaws.{found_from-append}
+use Rattle.lane.specs.declared.item.Item.{Item}
+use Rattle.lane.specs.declared.item.Item.TheVariants.{One, Finish}
+use Rattle.lane.specs.Items.{has_mark, records, IsBeginning}
+use Rattle.shard.specs.declared.Back.{Back}
+use Rattle.shard.specs.declared.Back.TheVariants.{Race, NoMemory}
+use Rattle.shard.specs.Shards.{ShardState, Accepts, HasApplied, IsNew, is_root_return, capped_count}
+use Rattle.shard.specs.Working.{AreInOrder, told, HasStopped, out_of_order, no_memory, Answers, IsGoing, HasWorked, IsOfShare, TellsFound}
+use Rattle.shard.proofs.Orders.{Follow-front, length-follow, takes_new, takes_none, takes_next, takes_after}
+use Rattle.shard.proofs.Shares.{in_order}
+
+capped_more : (a b m : ℕ) → b ≡ min a m → min (b + 1) m ≡ min (a + 1) m
+capped_more a b m e = omega (arith, e)
+
+-- one more record is counted
+count_more : (u : List Placed) (p : Placed) (n : ℕ) → n ≡ capped_count (length u) → capped_count (n + 1) ≡ capped_count (length (u ++ p ∷ []))
+count_more u p n e = capped_more (length u) n (2 ^ 64 - 1) e ∙ ap capped_count (sym (length-append u (p ∷ [])))
+
+-- the records so far are in order
+so_far : (u : List Placed) (s : ShardState) (put : List (Item Back)) → IsGoing u s put → AreInOrder u
+so_far u s put g = let P : List Placed → Type 0 = AreInOrder in subst P (append-nil u) ((g.goes_on []).1 (takes_none s))
+
+told-append : (xs ys : List RaceAt) → told (xs ++ ys) ≡ told xs ++ told ys
+told-append xs ys = map-append (λ (r : RaceAt). One (Race r)) xs ys
+
+pub worked_new : (s : ShardState) → IsNew s → HasWorked [] s [] false
+worked_new s new = record {
+  taken = new.none_taken;
+  going = λ e. record { applied = new.applied; goes_on = takes_new s new; races = refl };
+  at_end = λ e. absurd (cc);
+}
+
+-- a record was applied, and its race was told
+pub worked_applied : (u : List Placed) (p : Placed) (s z : ShardState) (put more : List (Item Back)) (o : Option RaceAt) (stopped : Bool) → more ≡ put ++ told (option_to_list o) → stopped ≡ false → Accepts s p.place → z.last_place ≡ p.place → z.ended ≡ is_root_return s.bags p.what → z.taken ≡ capped_count (s.taken + 1)
+    → ((u : List Placed) → HasApplied u s → HasApplied (u ++ p ∷ []) z) → ((u : List Placed) → HasApplied u s → found (u ++ p ∷ []) ≡ found u ++ option_to_list o)
+    → HasWorked u s put stopped → HasWorked (u ++ p ∷ []) z more stopped
+worked_applied u p s z put more o stopped adds is a place ended taken applied finds h =
+    let g = h.going is in
+    let k = applied u g.applied in
+    record {
+      taken = taken ∙ count_more u p s.taken h.taken;
+      going = λ e. record {
+        applied = k;
+        goes_on = λ rest. takes_after u p s z a g.applied k place ended rest (g.goes_on (p ∷ rest));
+        races = adds ∙ ap (λ (x : List (Item Back)). x ++ told (option_to_list o)) g.races ∙ sym (told-append (found u) (option_to_list o)) ∙ ap told (sym (finds u g.applied));
+      };
+      at_end = λ e. absurd (cc);
+    }
+
+-- a growth was refused
+pub worked_refused : (u : List Placed) (p : Placed) (s z : ShardState) (put more : List (Item Back)) (stopped : Bool) → more ≡ put ++ One NoMemory ∷ [] → stopped ≡ false → z.taken ≡ capped_count (s.taken + 1)
+    → HasWorked u s put stopped → HasWorked (u ++ p ∷ []) z more true
+worked_refused u p s z put more stopped adds is taken h =
+    let g = h.going is in
+    record {
+      taken = taken ∙ count_more u p s.taken h.taken;
+      going = λ e. absurd (cc);
+      at_end = λ e. no_memory u (p ∷ [], refl) (so_far u s put g) (adds ∙ ap (λ (x : List (Item Back)). x ++ One NoMemory ∷ []) g.races);
+    }
+
+stopped_more : (u : List Placed) (p : Placed) (put : List (Item Back)) → HasStopped u put → HasStopped (u ++ p ∷ []) put
+stopped_more u p put (out_of_order v rest q is fine out e) = out_of_order v (rest ++ p ∷ []) q (ap (λ (x : List Placed). x ++ p ∷ []) is ∙ append_assoc v (q ∷ rest) (p ∷ [])) fine out e
+stopped_more u p put (no_memory v (rest, is) fine e) = no_memory v (rest ++ p ∷ [], ap (λ (x : List Placed). x ++ p ∷ []) is ∙ append_assoc v rest (p ∷ [])) fine e
+
+-- a record was not applied, since the worker has stopped, or stops here
+pub worked_skipped : (u : List Placed) (p : Placed) (s z : ShardState) (put : List (Item Back)) (stopped : Bool) → (stopped ≡ false → Accepts s p.place → ⊥) → z.taken ≡ capped_count (s.taken + 1)
+    → HasWorked u s put stopped → HasWorked (u ++ p ∷ []) z put true
+worked_skipped u p s z put stopped refuses taken h = record {
+  taken = taken ∙ count_more u p s.taken h.taken;
+  going = λ e. absurd (cc);
+  at_end = λ e. ⊎_elim
+      (λ t. stopped_more u p put (h.at_end t))
+      (λ f. let g = h.going f in out_of_order u [] p refl (so_far u s put g) (λ o. refuses f (takes_next s p ((g.goes_on (p ∷ [])).0 o))) g.races)
+      (cases_Bool stopped);
+}
+
+pub answers : (u : List Placed) (s : ShardState) (put : List (Item Back)) (stopped : Bool) → HasWorked u s put stopped → Answers u put
+answers u s put stopped h = ⊎_elim (λ t. inr (h.at_end t)) (λ f. let g = h.going f in inl (so_far u s put g, g.races)) (cases_Bool stopped)
+
+-- the races found in a beginning
+found_front : (v u : List Placed) → IsBeginning v u → IsBeginning (found v) (found u)
+found_front v u (rest, is) = (found_from (state_from start v) rest, ap found is ∙ found_from-append start v rest)
+
+tells : (u : List Placed) (put : List (Item Back)) → AreInOrder u → Answers u put → TellsFound u (put ++ Finish ∷ [])
+tells u put fine (inl (o, e)) = inl (ap (λ (x : List (Item Back)). x ++ Finish ∷ []) e)
+tells u put fine (inr (out_of_order v rest p is o out e)) =
+    let P : List Placed → Type 0 = AreInOrder in
+    absurd (out (Follow-front 0 1 (v ++ p ∷ []) rest (subst P (is ∙ sym (append_assoc v (p ∷ []) rest)) fine)))
+tells u put fine (inr (no_memory v begins o e)) =
+    inr (found v, found_front v u begins, ap (λ (x : List (Item Back)). x ++ Finish ∷ []) e ∙ append_assoc (told (found v)) (One NoMemory ∷ []) (Finish ∷ []))
+
+pub tells_share : (u : List Placed) (s : ShardState) (put : List (Item Back)) (stopped : Bool) → HasWorked u s put stopped → IsOfShare u → (s.taken ≡ length u) × TellsFound u (put ++ Finish ∷ [])
+tells_share u s put stopped h of =
+    let few = length-follow 0 1 u (omega arith) (in_order u of) in (
+      h.taken ∙ omega arith,
+      tells u put (in_order u of) (answers u s put stopped h),
+    )
+
+-- a list without the mark is its records
+pub all_records : {T : Type 0} (xs : List (Item T)) → has_mark xs ≡ false → xs ≡ map One (records xs)
+all_records [] e = refl
+all_records (One x ∷ xs) e = ap (λ (l : List (Item _)). One x ∷ l) (all_records xs e)
+all_records (Finish ∷ xs) e = absurd (cc)

@@ -1,0 +1,71 @@
+-- What a worker is given, and what it hands back.
+use Rattle.std.specs.Prelude.{◌≡◌, ℕ, ◌+◌, ◌-◌, ◌<◌, ◌≤◌, ◌^◌, ◌↔◌, ◌⊎◌, Bool, true, false, List, [], ◌∷◌, ◌++◌, length, map}
+use Rattle.trace.specs.declared.records.Record.{Record}
+use Rattle.trace.specs.declared.records.Record.TheVariants.{Return}
+use Rattle.trace.specs.declared.records.Placed.{Placed}
+use Rattle.trace.specs.Traces.{opens, closes, placed, IsWellNested}
+use Rattle.trace.specs.Shares.{share}
+use Rattle.trace.specs.Accesses.{RaceAt}
+use Rattle.shadow.specs.Found.{found}
+use Rattle.lane.specs.declared.item.Item.{Item}
+use Rattle.lane.specs.declared.item.Item.TheVariants.{One, Finish}
+use Rattle.lane.specs.Items.{IsBeginning}
+use Rattle.shard.specs.declared.Back.{Back}
+use Rattle.shard.specs.declared.Back.TheVariants.{Race, NoMemory}
+use Rattle.shard.specs.Shards.{ShardState, HasApplied, capped_count}
+
+-- after a place, and where so many procedures are active: the places rise to 2^48 at most, and nothing follows
+-- the root's return
+abbrev pub Follow : ℕ → ℕ → List Placed → Type 0
+Follow place active [] = Unit {0}
+Follow place active (p ∷ u) = (place < p.place) × (p.place ≤ 2 ^ 48) × (p.what ≡ Return → active ≡ 1 → u ≡ []) × Follow p.place ((active + opens p.what) - closes p.what) u
+
+-- the records of a trace, or of a share, or of a beginning of either
+abbrev pub AreInOrder : List Placed → Type 0
+AreInOrder u = Follow 0 1 u
+
+-- races as they are handed back
+abbrev pub told : List RaceAt → List (Item Back)
+told rs = map (λ r. One (Race r)) rs
+
+-- A worker applies no more: the next record was out of order, or a growth was refused. What it has put are the
+-- races of the records before, and after a refused growth one NoMemory.
+pub data HasStopped (u : List Placed) (put : List (Item Back)) : Type 0 where
+  out_of_order : (v rest : List Placed) (p : Placed) → u ≡ v ++ p ∷ rest → AreInOrder v → (AreInOrder (v ++ p ∷ []) → ⊥) → put ≡ told (found v) → HasStopped u put
+  no_memory : (v : List Placed) → IsBeginning v u → AreInOrder v → put ≡ told (found v) ++ One NoMemory ∷ [] → HasStopped u put
+
+-- what a worker has put that was given the records u: the races found in them where they are in order, or less
+abbrev pub Answers : List Placed → List (Item Back) → Type 0
+Answers u put = (AreInOrder u × (put ≡ told (found u))) ⊎ HasStopped u put
+
+-- the records that a shard may take from here on
+pub record MayTake (s : ShardState) (rest : List Placed) : Type 0 where
+  pub after_end : s.ended ≡ true → rest ≡ []
+  pub before_end : s.ended ≡ false → Follow s.last_place (length s.bags.active) rest
+
+-- a worker applies what comes: it has applied the records u and put their races
+pub record IsGoing (u : List Placed) (s : ShardState) (put : List (Item Back)) : Type 0 where
+  pub applied : HasApplied u s
+  pub goes_on : (rest : List Placed) → AreInOrder (u ++ rest) ↔ MayTake s rest
+  pub races : put ≡ told (found u)
+
+-- a worker was given the records u
+pub record HasWorked (u : List Placed) (s : ShardState) (put : List (Item Back)) (stopped : Bool) : Type 0 where
+  pub taken : s.taken ≡ capped_count (length u)
+  pub going : stopped ≡ false → IsGoing u s put
+  pub at_end : stopped ≡ true → HasStopped u put
+
+-- a beginning of a share of a well nested trace
+pub record IsOfShare (u : List Placed) : Type 0 where
+  pub trace : List Record
+  pub shard : ℕ
+  pub shards : ℕ
+  pub limit : ℕ
+  pub depths : ℕ
+  pub nested : IsWellNested trace limit depths
+  pub to_limit : limit ≤ 2 ^ 48
+  pub begins : IsBeginning u (share shard shards (placed trace))
+
+-- the races found in u and the mark, or where memory was refused a beginning of them, one NoMemory and the mark
+abbrev pub TellsFound : List Placed → List (Item Back) → Type 0
+TellsFound u put = (put ≡ told (found u) ++ Finish ∷ []) ⊎ ((rs : List RaceAt) × IsBeginning rs (found u) × (put ≡ told rs ++ One NoMemory ∷ Finish ∷ []))
