@@ -1,5 +1,5 @@
 -- What a collector was given, lane by lane: an item more of one lane, and the best race of a location.
-use Rattle.std.proofs.Common.{◌≡◌, ◌≢◌, ℕ, suc, ◌+◌, ◌%◌, ◌<◌, ◌≤◌, Bool, true, false, cond, eqb, fold, List, [], ◌∷◌, ◌++◌, length, set, get_or, filter, Option, Some, None, ◌⊎◌, inl, inr, ⊎_elim, refl, sym, ap, ap₂, subst, ◌∙◌, arith, append_assoc}
+use Rattle.std.proofs.Common.{◌≡◌, ℕ, zero, suc, ◌+◌, ◌%◌, ◌<◌, ◌≤◌, Bool, true, false, cond, eqb, fold, List, [], ◌∷◌, ◌++◌, length, set, get_or, filter, Option, Some, None, ◌⊎◌, inl, inr, ⊎_elim, length-set, refl, sym, ap, ap₂, subst, ◌∙◌, arith, append_assoc}
 use Rattle.std.specs.List.{AllByRecursion}
 use Rattle.std.proofs.lemmas.Bool.{cases_eq, cases_Bool, cond-true, cond-false, eqb-true}
 use Rattle.std.proofs.lemmas.List.Sums.{fold-append}
@@ -24,7 +24,7 @@ races-more items Finish = ap races_of (records-finish items) ∙ sym (append-nil
 -- the mark is nothing that was given
 pub all_given-finish : (lists : List (List (Item Back))) (k : ℕ) → all_given (set lists k (get_or lists k [] ++ Finish ∷ [])) ≡ all_given lists
 all_given-finish [] k = refl
-all_given-finish (items ∷ lists) 0 = ap (λ g. g ++ all_given lists) (records-finish items)
+all_given-finish (items ∷ lists) zero = ap (λ g. g ++ all_given lists) (records-finish items)
 all_given-finish (items ∷ lists) (suc k) = ap (λ g. records items ++ g) (all_given-finish lists k)
 
 fails-append : (g h : List Back) → fails g ≡ false → fails (g ++ h) ≡ fails h
@@ -45,7 +45,7 @@ fails-back g h e = sym (fails-append g h (fails-front g h e)) ∙ e
 
 pub fails-race : (lists : List (List (Item Back))) (k : ℕ) (r : RaceAt) → fails (all_given lists) ≡ false → fails (all_given (set lists k (get_or lists k [] ++ One (Race r) ∷ []))) ≡ false
 fails-race [] k r e = e
-fails-race (items ∷ lists) 0 r e =
+fails-race (items ∷ lists) zero r e =
     fails-both (records (items ++ One (Race r) ∷ [])) (all_given lists)
     (ap fails (records-one items (Race r)) ∙ fails-push_race (records items) r ∙ fails-front (records items) (all_given lists) e)
     (fails-back (records items) (all_given lists) e)
@@ -56,7 +56,7 @@ fails-race (items ∷ lists) (suc k) r e =
 
 pub fails_on : (lists : List (List (Item Back))) (k : ℕ) → fails (all_given lists) ≡ false → fails (on_lane lists k) ≡ false
 fails_on [] k e = refl
-fails_on (items ∷ lists) 0 e = fails-front (records items) (all_given lists) e
+fails_on (items ∷ lists) zero e = fails-front (records items) (all_given lists) e
 fails_on (items ∷ lists) (suc k) e = fails_on lists k (fails-back (records items) (all_given lists) e)
 
 -- ---- at home
@@ -72,14 +72,14 @@ all-last P (x ∷ xs) y h = all-last P xs y h.1
 -- a lane that gave one item less was at home
 home-before : (n j : ℕ) (lists : List (List (Item Back))) (k : ℕ) (x : Item Back) → AreAtHomeFrom n j (set lists k (get_or lists k [] ++ x ∷ [])) → AreAtHomeFrom n j lists
 home-before n j [] k x h = h
-home-before n j (items ∷ lists) 0 x h =
+home-before n j (items ∷ lists) zero x h =
     let P : List RaceAt → Type 0 = AllByRecursion (λ r. r.location % n ≡ j) in
     (all-front _ (races_of (records items)) (races_of (records (x ∷ []))) (subst P (races-more items x) h.0), h.1)
 home-before n j (items ∷ lists) (suc k) x h = (h.0, home-before n (j + 1) lists k x h.1)
 
 home-last : (n j : ℕ) (lists : List (List (Item Back))) (k : ℕ) (r : RaceAt) → k < length lists → AreAtHomeFrom n j (set lists k (get_or lists k [] ++ One (Race r) ∷ [])) → r.location % n ≡ j + k
 home-last n j [] k r lt h = absurd (omega (arith, lt))
-home-last n j (items ∷ lists) 0 r lt h =
+home-last n j (items ∷ lists) zero r lt h =
     let P : List RaceAt → Type 0 = AllByRecursion (λ s. s.location % n ≡ j) in
     let e : r.location % n ≡ j = all-last (λ (s : RaceAt). s.location % n ≡ j) (races_of (records items)) r (subst P (races-more items (One (Race r))) h.0) in
     omega (arith, e)
@@ -110,33 +110,28 @@ skip_lanes n l j o (items ∷ lists) lt h =
 
 best_from : (n l j m : ℕ) (o : Option RaceAt) (lists : List (List (Item Back))) → l % n ≡ j + m → AreAtHomeFrom n j lists → fold (kept_after l) o (races_of (all_given lists)) ≡ fold (kept_after l) o (races_of (on_lane lists m))
 best_from n l j m o [] e h = refl
-best_from n l j 0 o (items ∷ lists) e h = over_lane l o items lists ∙ skip_lanes n l (j + 1) (fold (kept_after l) o (races_of (records items))) lists (omega (arith, e)) h.1
+best_from n l j zero o (items ∷ lists) e h = over_lane l o items lists ∙ skip_lanes n l (j + 1) (fold (kept_after l) o (races_of (records items))) lists (omega (arith, e)) h.1
 best_from n l j (suc m) o (items ∷ lists) e h =
     over_lane l o items lists
     ∙ ap (λ x. fold (kept_after l) x (races_of (all_given lists))) (skip_lane n l j o (races_of (records items)) (λ f. omega (arith, e, f)) h.0)
     ∙ best_from n l (j + 1) m o lists (omega (arith, e)) h.1
 
 pub best_of_lane : (l : ℕ) (lists : List (List (Item Back))) → AreAtHome lists → best l (races_of (all_given lists)) ≡ best l (races_of (on_lane lists (l % length lists)))
-best_of_lane l lists h = best_from (length lists) l 0 (l % length lists) None lists refl h
+best_of_lane l lists h = best_from (length lists) l 0 (l % length lists) None lists (omega arith) h
 
 -- ---- one more race
-
-length-set : {X : Type 0} (xs : List X) (k : ℕ) (x : X) → length (set xs k x) ≡ length xs
-length-set [] k x = refl
-length-set (y ∷ xs) 0 x = refl
-length-set (y ∷ xs) (suc k) x = ap suc (length-set xs k x)
 
 -- what a lane gave, after an item more of lane k
 on-same : (lists : List (List (Item Back))) (k : ℕ) (r : RaceAt) → k < length lists → races_of (on_lane (set lists k (get_or lists k [] ++ One (Race r) ∷ [])) k) ≡ races_of (on_lane lists k) ++ r ∷ []
 on-same [] k r lt = absurd (omega (arith, lt))
-on-same (items ∷ lists) 0 r lt = races-more items (One (Race r))
+on-same (items ∷ lists) zero r lt = races-more items (One (Race r))
 on-same (items ∷ lists) (suc k) r lt = on-same lists k r (omega (arith, lt))
 
 on-other : (lists : List (List (Item Back))) (k m : ℕ) (x : List (Item Back)) → (m ≡ k → ⊥) → on_lane (set lists k x) m ≡ on_lane lists m
 on-other [] k m x ne = refl
-on-other (items ∷ lists) 0 0 x ne = absurd (ne refl)
-on-other (items ∷ lists) 0 (suc m) x ne = refl
-on-other (items ∷ lists) (suc k) 0 x ne = refl
+on-other (items ∷ lists) zero zero x ne = absurd (ne refl)
+on-other (items ∷ lists) zero (suc m) x ne = refl
+on-other (items ∷ lists) (suc k) zero x ne = refl
 on-other (items ∷ lists) (suc k) (suc m) x ne = on-other lists k m x (λ e. ne (ap suc e))
 
 home-set : (lists : List (List (Item Back))) (k : ℕ) (x : Item Back) → AreAtHome (set lists k (get_or lists k [] ++ x ∷ [])) → AreAtHome lists
@@ -153,7 +148,8 @@ best_more l lists k r lt h =
     let same : length later ≡ n = length-set lists k (get_or lists k [] ++ One (Race r) ∷ []) in
     let home = home-set lists k (One (Race r)) h in
     let P : ℕ → Type 0 = λ m. AreAtHomeFrom m 0 later in
-    let at = home-last n 0 lists k r lt (subst P same h) in
+    let from_first = home-last n 0 lists k r lt (subst P same h) in
+    let at : r.location % n ≡ k = omega (arith, from_first) in
     let now : best l (races_of (all_given later)) ≡ best l (races_of (on_lane later (l % n))) = best_of_lane l later h ∙ ap (λ m. best l (races_of (on_lane later (l % m)))) same in
     now ∙ ⊎_elim
       (λ e. let Q : ℕ → Type 0 = λ m. best l (races_of (on_lane later m)) ≡ kept_after l (best l (races_of (on_lane lists m))) r in

@@ -1,5 +1,5 @@
 -- How what came over the lanes back may go on.
-use Rattle.std.specs.Prelude.{◌≡◌, ℕ, true, List, [], map, slice_index_or}
+use Rattle.std.specs.Prelude.{◌≡◌, ℕ, true, List, [], map, slice_index_or, vec_len}
 use Rattle.lane.specs.Items.{has_mark}
 use Rattle.lane.specs.Lanes.{LaneId, taker_lane}
 use Rattle.detect.specs.declared.gathering.Gathering.{Gathering}
@@ -18,6 +18,7 @@ IsGathered g = Gathers (given_by g.backs.items) g.refused g.collector
 
 -- more was taken, of the same lanes
 pub record IsFurther (old new : Gathering) : Type 0 where
+  pub count : vec_len new.backs ≡ vec_len old.backs
   pub lanes : back_lanes new ≡ back_lanes old
   pub gathers : IsGathered old → IsGathered new
   pub marks : (k : ℕ) → HasEnded old k → HasEnded new k

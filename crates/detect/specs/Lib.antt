@@ -3,3 +3,5 @@ pub mod Runs
 pub mod Gathered
 pub mod Gatherings
 pub mod Sent
+pub mod Working
+pub mod Closing

@@ -3,9 +3,12 @@
 
 mod detector;
 mod gathering;
+mod jobs;
 pub mod laws;
 pub mod plain;
 mod sending;
+mod settling;
+mod workers;
 #[cfg(test)]
 mod tests;
 
