@@ -1,2 +1,6 @@
 pub mod Lists
 pub mod Sent
+pub mod Rising
+pub mod LaneShares
+pub mod RunFronts
+pub mod RunLists

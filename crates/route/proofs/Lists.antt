@@ -7,7 +7,7 @@ use Rattle.lane.specs.declared.ends.Sender.{Sender}
 use Rattle.lane.specs.Lanes.{put_of}
 use Rattle.trace.specs.declared.records.Placed.{Placed}
 use Rattle.route.specs.Senders.{puts}
-use Rattle.route.specs.Sending.{put_on, with_put}
+use Rattle.route.specs.Sending.{with_put}
 
 -- the place holds s, and t comes there, which f can't tell from s
 pub map-set_like : {L : Type 0} (f : Sender Placed → L) (ss : List (Sender Placed)) (k : ℕ) (s t : Sender Placed) → s ≡ get_or ss k s → f t ≡ f s → map f (set ss k t) ≡ map f ss

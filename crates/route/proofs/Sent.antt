@@ -1,10 +1,10 @@
 -- What stands on the lanes after a put.
-use Rattle.std.proofs.Common.{◌≡◌, ℕ, ◌+◌, ◌<◌, ◌≤◌, zero, Bool, true, false, cond, ◌&&◌, nat_lt, List, [], ◌∷◌, ◌++◌, length, get_or, set, map, sym, refl, ap, subst, ◌∙◌, Option, Some, None, append_assoc, append-nil, ◌⊎◌, ⊎_elim, arith}
-use Rattle.std.proofs.lemmas.Bool.{cases_eq, cases_order, lt-ltb, le-ltb, cond-true, cond-false, and_left, and_right, and_from}
+use Rattle.std.proofs.Common.{◌≡◌, ℕ, ◌+◌, ◌<◌, ◌≤◌, Bool, true, false, cond, ◌&&◌, nat_lt, List, [], ◌∷◌, ◌++◌, length, map, sym, ap, subst, ◌∙◌, Option, Some, None, append-nil, ◌⊎◌, ⊎_elim, arith}
+use Rattle.std.proofs.lemmas.Bool.{cases_eq, cases_order, lt-ltb, le-ltb, cond-true, cond-false, and_left}
 use Rattle.std.proofs.lemmas.List.{length-set, get_or-set_same, get_or-set_other, map-append}
 use Rattle.lane.specs.declared.item.Item.{Item}
 use Rattle.lane.specs.declared.item.Item.TheVariants.{One, Finish}
-use Rattle.lane.specs.Items.{is_finish, has_mark}
+use Rattle.lane.specs.Items.{has_mark}
 use Rattle.lane.proofs.Marks.{has_mark-snoc}
 use Rattle.trace.specs.declared.records.Placed.{Placed}
 use Rattle.trace.specs.Shares.{goes_placed, share}
@@ -14,9 +14,9 @@ use Rattle.route.specs.Sending.{put_on, with_put, part, mark_of, AllSent, sent_w
 abbrev pub Items : Type 0
 Items = List (Item Placed)
 
--- the lanes of a list of put lists, with their number beside it
-abbrev OnLanes : ℕ → List Placed → ℕ → Option Placed → ℕ → List Items → Type 0
-OnLanes n w turn pending marked puts = (k : ℕ) → k < n → put_on puts k ≡ map One (share k n w ++ part k n turn pending) ++ mark_of k marked
+-- the same of a list of put lists, a lane each
+abbrev pub OnPuts : List Placed → ℕ → Option Placed → ℕ → List Items → Type 0
+OnPuts w turn pending marked puts = AllSent (length puts) w turn pending marked (put_on puts)
 
 -- one of two different numbers is the lesser
 apart : (k i : ℕ) → (k ≡ i → ⊥) → (k < i) ⊎ (i < k)
@@ -28,9 +28,9 @@ each_after : (P : ℕ → Items → Type 0) (puts : List Items) (i : ℕ) (x : I
 each_after P puts i x h here others k l =
     let within : k < length puts = omega (arith, length-set puts i (put_on puts i ++ x ∷ [])) in
     ⊎_elim
-        (λ (e : k ≡ i). let Q : ℕ → Type 0 = λ j. P j (put_on (with_put puts i x) j) in
-        subst Q (sym e) (subst (P i) (sym (get_or-set_same puts i (put_on puts i ++ x ∷ []) [] h)) here))
-        (λ (e : k ≡ i → ⊥). subst (P k) (sym (get_or-set_other puts i k (put_on puts i ++ x ∷ []) [] e)) (others k e within)) (cases_eq k i)
+    (λ (e : k ≡ i). let Q : ℕ → Type 0 = λ j. P j (put_on (with_put puts i x) j) in
+    subst Q (sym e) (subst (P i) (sym (get_or-set_same puts i (put_on puts i ++ x ∷ []) [] h)) here))
+    (λ (e : k ≡ i → ⊥). subst (P k) (sym (get_or-set_other puts i k (put_on puts i ++ x ∷ []) [] e)) (others k e within)) (cases_eq k i)
 
 -- what a lane has of the pending record
 part-before : (k n i : ℕ) (p : Placed) → k < i → part k n i (Some p) ≡ cond (goes_placed k n p) (p ∷ []) []
@@ -55,50 +55,50 @@ same_records : (xs ys : List Placed) (marks : Items) (l : Items) → l ≡ map O
 same_records xs ys marks l h e = h ∙ ap (λ (zs : List Placed). map One zs ++ marks) e
 
 -- the pending record was put on the lane whose turn it was, and the turn goes on
-pub sent-next : (puts : List Items) (w : List Placed) (i : ℕ) (p : Placed) (m : ℕ) → m ≡ 0 → i < length puts → goes_placed i (length puts) p ≡ true → AllSent w i (Some p) m puts → AllSent w (i + 1) (Some p) m (with_put puts i (One p))
+pub sent-next : (puts : List Items) (w : List Placed) (i : ℕ) (p : Placed) (m : ℕ) → m ≡ 0 → i < length puts → goes_placed i (length puts) p ≡ true → OnPuts w i (Some p) m puts → OnPuts w (i + 1) (Some p) m (with_put puts i (One p))
 sent-next puts w i p m none h goes all =
     let n : ℕ = length puts in
     let P : ℕ → Items → Type 0 = λ k l. l ≡ map One (share k n w ++ part k n (i + 1) (Some p)) ++ mark_of k m in
     let here : P i (put_on puts i ++ One p ∷ []) =
-        ap (λ (l : Items). l ++ One p ∷ []) (all i h)
-        ∙ add_one (share i n w ++ part i n i (Some p)) (share i n w ++ part i n (i + 1) (Some p)) (mark_of i m) p (mark_of-from i m (omega arith))
-        (ap (λ (l : List Placed). (share i n w ++ l) ++ p ∷ []) (part-from i n i p (omega arith)) ∙ ap (λ (l : List Placed). l ++ p ∷ []) (append-nil (share i n w))
-        ∙ ap (λ (l : List Placed). share i n w ++ l) (sym (part-before i n (i + 1) p (omega arith) ∙ cond-true (goes_placed i n p) (p ∷ []) [] goes))) in
+    ap (λ (l : Items). l ++ One p ∷ []) (all i h)
+    ∙ add_one (share i n w ++ part i n i (Some p)) (share i n w ++ part i n (i + 1) (Some p)) (mark_of i m) p (mark_of-from i m (omega arith))
+    (ap (λ (l : List Placed). (share i n w ++ l) ++ p ∷ []) (part-from i n i p (omega arith)) ∙ ap (λ (l : List Placed). l ++ p ∷ []) (append-nil (share i n w))
+    ∙ ap (λ (l : List Placed). share i n w ++ l) (sym (part-before i n (i + 1) p (omega arith) ∙ cond-true (goes_placed i n p) (p ∷ []) [] goes))) in
     let others : (k : ℕ) → (k ≡ i → ⊥) → k < n → P k (put_on puts k) =
-        λ k e l. same_records _ _ _ _ (all k l) (ap (λ (x : List Placed). share k n w ++ x) (⊎_elim (λ (x : k < i). part-before k n i p x ∙ sym (part-before k n (i + 1) p (omega arith)))
-        (λ (x : i < k). part-from k n i p (omega arith) ∙ sym (part-from k n (i + 1) p (omega arith))) (apart k i e))) in
+    λ k e l. same_records _ _ _ _ (all k l) (ap (λ (x : List Placed). share k n w ++ x) (⊎_elim (λ (x : k < i). part-before k n i p x ∙ sym (part-before k n (i + 1) p (omega arith)))
+    (λ (x : i < k). part-from k n i p (omega arith) ∙ sym (part-from k n (i + 1) p (omega arith))) (apart k i e))) in
     let Q : ℕ → Type 0 = λ j. (k : ℕ) → k < length (with_put puts i (One p)) → put_on (with_put puts i (One p)) k ≡ map One (share k j w ++ part k j (i + 1) (Some p)) ++ mark_of k m in
     subst Q (sym (length-set puts i (put_on puts i ++ One p ∷ []))) (each_after P puts i (One p) h here others)
 
 -- it was put on the last lane that it goes to
 pub sent-last : (puts : List Items) (w : List Placed) (i : ℕ) (p : Placed) (m : ℕ) → m ≡ 0 → i < length puts → goes_placed i (length puts) p ≡ true → ((k : ℕ) → i < k → k < length puts → goes_placed k (length puts) p ≡ false)
-    → AllSent w i (Some p) m puts → AllSent (w ++ p ∷ []) i None m (with_put puts i (One p))
+    → OnPuts w i (Some p) m puts → OnPuts (w ++ p ∷ []) i None m (with_put puts i (One p))
 sent-last puts w i p m none h goes last all =
     let n : ℕ = length puts in
     let P : ℕ → Items → Type 0 = λ k l. l ≡ map One (share k n (w ++ p ∷ []) ++ []) ++ mark_of k m in
     let whole : (k : ℕ) → share k n w ++ cond (goes_placed k n p) (p ∷ []) [] ≡ share k n (w ++ p ∷ []) ++ [] = λ k. sym (append-nil (share k n (w ++ p ∷ [])) ∙ share-push k n w p) in
     let here : P i (put_on puts i ++ One p ∷ []) =
-        ap (λ (l : Items). l ++ One p ∷ []) (all i h)
-        ∙ add_one (share i n w ++ part i n i (Some p)) (share i n (w ++ p ∷ []) ++ []) (mark_of i m) p (mark_of-from i m (omega arith))
-        (ap (λ (l : List Placed). (share i n w ++ l) ++ p ∷ []) (part-from i n i p (omega arith)) ∙ ap (λ (l : List Placed). l ++ p ∷ []) (append-nil (share i n w))
-        ∙ ap (λ (l : List Placed). share i n w ++ l) (sym (cond-true (goes_placed i n p) (p ∷ []) [] goes)) ∙ whole i) in
+    ap (λ (l : Items). l ++ One p ∷ []) (all i h)
+    ∙ add_one (share i n w ++ part i n i (Some p)) (share i n (w ++ p ∷ []) ++ []) (mark_of i m) p (mark_of-from i m (omega arith))
+    (ap (λ (l : List Placed). (share i n w ++ l) ++ p ∷ []) (part-from i n i p (omega arith)) ∙ ap (λ (l : List Placed). l ++ p ∷ []) (append-nil (share i n w))
+    ∙ ap (λ (l : List Placed). share i n w ++ l) (sym (cond-true (goes_placed i n p) (p ∷ []) [] goes)) ∙ whole i) in
     let others : (k : ℕ) → (k ≡ i → ⊥) → k < n → P k (put_on puts k) =
-        λ k e l. same_records _ _ _ _ (all k l) (ap (λ (x : List Placed). share k n w ++ x) (⊎_elim (λ (x : k < i). part-before k n i p x)
-        (λ (x : i < k). part-from k n i p (omega arith) ∙ sym (cond-false (goes_placed k n p) (p ∷ []) [] (last k x l))) (apart k i e)) ∙ whole k) in
+    λ k e l. same_records _ _ _ _ (all k l) (ap (λ (x : List Placed). share k n w ++ x) (⊎_elim (λ (x : k < i). part-before k n i p x)
+    (λ (x : i < k). part-from k n i p (omega arith) ∙ sym (cond-false (goes_placed k n p) (p ∷ []) [] (last k x l))) (apart k i e)) ∙ whole k) in
     let Q : ℕ → Type 0 = λ j. (k : ℕ) → k < length (with_put puts i (One p)) → put_on (with_put puts i (One p)) k ≡ map One (share k j (w ++ p ∷ []) ++ []) ++ mark_of k m in
     subst Q (sym (length-set puts i (put_on puts i ++ One p ∷ []))) (each_after P puts i (One p) h here others)
 
 -- one lane more has its mark
-pub sent-mark : (puts : List Items) (w : List Placed) (i : ℕ) (m : ℕ) → m < length puts → AllSent w i None m puts → AllSent w i None (m + 1) (with_put puts m Finish)
+pub sent-mark : (puts : List Items) (w : List Placed) (i : ℕ) (m : ℕ) → m < length puts → OnPuts w i None m puts → OnPuts w i None (m + 1) (with_put puts m Finish)
 sent-mark puts w i m h all =
     let n : ℕ = length puts in
     let P : ℕ → Items → Type 0 = λ k l. l ≡ map One (share k n w ++ []) ++ mark_of k (m + 1) in
     let here : P m (put_on puts m ++ Finish ∷ []) =
-        ap (λ (l : Items). l ++ Finish ∷ []) (all m h ∙ ap (λ (l : Items). map One (share m n w ++ []) ++ l) (mark_of-from m m (omega arith)) ∙ append-nil (map One (share m n w ++ [])))
-        ∙ ap (λ (l : Items). map One (share m n w ++ []) ++ l) (sym (mark_of-before m (m + 1) (omega arith))) in
+    ap (λ (l : Items). l ++ Finish ∷ []) (all m h ∙ ap (λ (l : Items). map One (share m n w ++ []) ++ l) (mark_of-from m m (omega arith)) ∙ append-nil (map One (share m n w ++ [])))
+    ∙ ap (λ (l : Items). map One (share m n w ++ []) ++ l) (sym (mark_of-before m (m + 1) (omega arith))) in
     let others : (k : ℕ) → (k ≡ m → ⊥) → k < n → P k (put_on puts k) =
-        λ k e l. all k l ∙ ap (λ (x : Items). map One (share k n w ++ []) ++ x) (⊎_elim (λ (x : k < m). mark_of-before k m x ∙ sym (mark_of-before k (m + 1) (omega arith)))
-        (λ (x : m < k). mark_of-from k m (omega arith) ∙ sym (mark_of-from k (m + 1) (omega arith))) (apart k m e)) in
+    λ k e l. all k l ∙ ap (λ (x : Items). map One (share k n w ++ []) ++ x) (⊎_elim (λ (x : k < m). mark_of-before k m x ∙ sym (mark_of-before k (m + 1) (omega arith)))
+    (λ (x : m < k). mark_of-from k m (omega arith) ∙ sym (mark_of-from k (m + 1) (omega arith))) (apart k m e)) in
     let Q : ℕ → Type 0 = λ j. (k : ℕ) → k < length (with_put puts m Finish) → put_on (with_put puts m Finish) k ≡ map One (share k j w ++ []) ++ mark_of k (m + 1) in
     subst Q (sym (length-set puts m (put_on puts m ++ Finish ∷ []))) (each_after P puts m Finish h here others)
 
@@ -112,30 +112,30 @@ pub marks-finish : (puts : List Items) (m : ℕ) → m < length puts → HaveMar
 marks-finish puts m h all =
     let P : ℕ → Items → Type 0 = λ k l. has_mark l ≡ nat_lt k (m + 1) in
     each_after P puts m Finish h (has_mark-snoc (put_on puts m) Finish (all m h ∙ le-ltb m m (omega arith)) ∙ sym (lt-ltb m (m + 1) (omega arith)))
-        (λ k e l. all k l ∙ ⊎_elim (λ (x : k < m). lt-ltb k m x ∙ sym (lt-ltb k (m + 1) (omega arith))) (λ (x : m < k). le-ltb k m (omega arith) ∙ sym (le-ltb k (m + 1) (omega arith))) (apart k m e))
+    (λ k e l. all k l ∙ ⊎_elim (λ (x : k < m). lt-ltb k m x ∙ sym (lt-ltb k (m + 1) (omega arith))) (λ (x : m < k). le-ltb k m (omega arith) ∙ sym (le-ltb k (m + 1) (omega arith))) (apart k m e))
 
 pub unmarked_at : (puts : List Items) (m k : ℕ) → m ≤ k → k < length puts → HaveMarks m puts → has_mark (put_on puts k) ≡ false
 unmarked_at puts m k le h all = all k h ∙ le-ltb k m le
 
 -- the same two, as a step finds them
 pub step-next : (old new : List Items) (w : List Placed) (pending : Option Placed) (p : Placed) (n i j m : ℕ) → pending ≡ Some p → new ≡ with_put old i (One p) → n ≡ length old → j ≡ i + 1 → m ≡ 0 → i < n → goes_placed i n p ≡ true
-    → AllSent w i pending m old → AllSent (sent_whole w pending pending) j pending m new
+    → OnPuts w i pending m old → OnPuts (sent_whole w pending pending) j pending m new
 step-next old new w pending p n i j m some put count after none h goes all =
     let N : ℕ → Type 0 = λ x. goes_placed i x p ≡ true in
-    let P : Option Placed → Type 0 = λ o. AllSent w i o m old → AllSent (sent_whole w o o) j o m new in
-    let Q : ℕ → Type 0 = λ x. AllSent w x (Some p) m new in
-    let R : List Items → Type 0 = λ ps. AllSent w (i + 1) (Some p) m ps in
+    let P : Option Placed → Type 0 = λ o. OnPuts w i o m old → OnPuts (sent_whole w o o) j o m new in
+    let Q : ℕ → Type 0 = λ x. OnPuts w x (Some p) m new in
+    let R : List Items → Type 0 = λ ps. OnPuts w (i + 1) (Some p) m ps in
     subst P (sym some) (λ a. subst Q (sym after) (subst R (sym put) (sent-next old w i p m none (omega arith) (subst N count goes) a))) all
 
 pub step-last : (old new : List Items) (w : List Placed) (pending : Option Placed) (p : Placed) (n i m : ℕ) → pending ≡ Some p → new ≡ with_put old i (One p) → n ≡ length old → m ≡ 0 → i < n → goes_placed i n p ≡ true
-    → ((k : ℕ) → i < k → k < n → goes_placed k n p ≡ false) → AllSent w i pending m old → AllSent (sent_whole w pending None) i None m new
+    → ((k : ℕ) → i < k → k < n → goes_placed k n p ≡ false) → OnPuts w i pending m old → OnPuts (sent_whole w pending None) i None m new
 step-last old new w pending p n i m some put count none h goes last all =
     let N : ℕ → Type 0 = λ x. goes_placed i x p ≡ true in
     let L : ℕ → Type 0 = λ x. (k : ℕ) → i < k → k < x → goes_placed k x p ≡ false in
-    let P : Option Placed → Type 0 = λ o. AllSent w i o m old → AllSent (sent_whole w o None) i None m new in
-    let R : List Items → Type 0 = λ ps. AllSent (w ++ p ∷ []) i None m ps in
+    let P : Option Placed → Type 0 = λ o. OnPuts w i o m old → OnPuts (sent_whole w o None) i None m new in
+    let R : List Items → Type 0 = λ ps. OnPuts (w ++ p ∷ []) i None m ps in
     subst P (sym some) (λ a. subst R (sym put) (sent-last old w i p m none (omega arith) (subst N count goes) (subst L count last) a)) all
 
 -- nothing was put
-pub all_empty : (puts : List Items) → ((k : ℕ) → k < length puts → put_on puts k ≡ []) → HaveMarks 0 puts × AllSent [] 0 None 0 puts
+pub all_empty : (puts : List Items) → ((k : ℕ) → k < length puts → put_on puts k ≡ []) → HaveMarks 0 puts × OnPuts [] 0 None 0 puts
 all_empty puts none = (λ k h. ap has_mark (none k h) ∙ sym (le-ltb k 0 (omega arith)), λ k h. none k h ∙ sym (mark_of-from k 0 (omega arith)))

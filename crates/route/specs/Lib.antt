@@ -2,3 +2,5 @@ pub mod Senders
 pub mod Sending
 pub mod Progresses
 pub mod Routers
+pub mod Routed
+pub mod Runs

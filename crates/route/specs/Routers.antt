@@ -1,13 +1,12 @@
 -- What a router says: its lanes, what was put on them, the pending record, and the marks.
-use Rattle.std.specs.Prelude.{◌≡◌, ℕ, ◌<◌, ◌≤◌, false, List, length, slice_index_or, Option, Some}
+use Rattle.std.specs.Prelude.{◌≡◌, ℕ, ◌<◌, ◌≤◌, false, List, length, slice_index_or, Option}
 use Rattle.lane.specs.declared.item.Item.{Item}
-use Rattle.lane.specs.declared.item.Item.TheVariants.{One, Finish}
 use Rattle.lane.specs.Lanes.{LaneId}
 use Rattle.trace.specs.declared.records.Placed.{Placed}
 use Rattle.trace.specs.Shares.{goes_placed}
 use Rattle.route.specs.declared.routing.Router.{Router}
 use Rattle.route.specs.Senders.{lanes, puts, capacities}
-use Rattle.route.specs.Sending.{put_on, with_put, AllSent}
+use Rattle.route.specs.Sending.{put_on, AllSent}
 
 abbrev pub lanes_of : Router → List LaneId
 lanes_of r = lanes r.senders.items
@@ -35,7 +34,7 @@ marked_of r = r.marked
 
 -- w was sent whole, and the pending record to the lanes before the turn
 abbrev pub HasSent : List Placed → Router → Type 0
-HasSent w r = AllSent w (turn_of r) (pending_of r) (marked_of r) (puts_of r)
+HasSent w r = AllSent (lane_count r) w (turn_of r) (pending_of r) (marked_of r) (put_on (puts_of r))
 
 -- the same lanes, in the same order
 pub record IsOnLanes (old new : Router) : Type 0 where
@@ -49,6 +48,10 @@ pub record IsUnchanged (old new : Router) : Type 0 where
   pub pending : pending_of new ≡ pending_of old
   pub turn : turn_of new ≡ turn_of old
   pub marked : marked_of new ≡ marked_of old
+
+-- no lane after k gets the record
+abbrev pub IsLastLane : ℕ → ℕ → Placed → Type 0
+IsLastLane n k p = (j : ℕ) → k < j → j < n → goes_placed j n p ≡ false
 
 -- lane k holds as many items as it can, for all that the sender knows
 abbrev pub IsFull : Router → ℕ → Type 0

@@ -1,5 +1,5 @@
 -- Of a list of senders: their lanes, what was put on each, and how many items each lane holds at most.
-use Rattle.std.specs.Prelude.{ℕ, List, [], ◌∷◌, ◌++◌, map, slice_index_or, slice_set}
+use Rattle.std.specs.Prelude.{ℕ, List, map}
 use Rattle.lane.specs.declared.item.Item.{Item}
 use Rattle.lane.specs.declared.ends.Sender.{Sender}
 use Rattle.lane.specs.Lanes.{LaneId, lane_of, put_of, capacity_of}

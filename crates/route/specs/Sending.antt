@@ -1,5 +1,5 @@
 -- What stands on each lane while records are sent, and the lanes that a record goes to.
-use Rattle.std.specs.Prelude.{◌≡◌, ℕ, ◌<◌, ◌%◌, Bool, ◌&&◌, nat_lt, if◌then◌else◌, List, [], ◌∷◌, ◌++◌, length, map, slice_index_or, slice_set, Option, Some, None}
+use Rattle.std.specs.Prelude.{◌≡◌, ℕ, ◌<◌, ◌%◌, ◌&&◌, nat_lt, if◌then◌else◌, List, [], ◌∷◌, ◌++◌, length, map, slice_index_or, slice_set, Option, Some, None}
 use Rattle.lane.specs.declared.item.Item.{Item}
 use Rattle.lane.specs.declared.item.Item.TheVariants.{One, Finish}
 use Rattle.lane.specs.Items.{has_mark}
@@ -33,10 +33,10 @@ part k n turn (Some p) = if nat_lt k turn && goes_placed k n p then p ∷ [] els
 abbrev pub mark_of : ℕ → ℕ → List (Item Placed)
 mark_of k marked = if nat_lt k marked then Finish ∷ [] else []
 
--- lane k has its share of w, what it has of the pending record, and its mark
-abbrev pub AllSent : List Placed → ℕ → Option Placed → ℕ → List (List (Item Placed)) → Type 0
-AllSent w turn pending marked puts = (k : ℕ) → k < length puts
-    → put_on puts k ≡ map One (share k (length puts) w ++ part k (length puts) turn pending) ++ mark_of k marked
+-- of n lanes, with `on k` put on lane k: each has its share of w, what it has of the pending record,
+-- and its mark
+abbrev pub AllSent : ℕ → List Placed → ℕ → Option Placed → ℕ → (ℕ → List (Item Placed)) → Type 0
+AllSent n w turn pending marked on = (k : ℕ) → k < n → on k ≡ map One (share k n w ++ part k n turn pending) ++ mark_of k marked
 
 -- the records that were sent whole, after a step that may have sent the pending one
 abbrev pub sent_whole : List Placed → Option Placed → Option Placed → List Placed

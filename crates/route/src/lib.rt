@@ -2,9 +2,12 @@
 //! stops it and loses nothing.
 #![tactic(auto)]
 
+pub mod laws;
 mod progress;
 mod puts;
 mod routing;
+#[cfg(test)]
+mod tests;
 mod turns;
 
 pub use progress::Progress;

@@ -4,7 +4,7 @@ ghost use Rattle.lane.specs.declared.item.Item.TheVariants.{One, Finish};
 ghost use Rattle.trace.specs.declared.records.Placed.{Placed};
 ghost use Rattle.route.specs.Sending.{first_lane, with_put, sent_whole, HaveMarks};
 ghost use Rattle.route.specs.Progresses.{OnIdle, OnMoved, IfBlocked};
-ghost use Rattle.route.specs.Routers.{puts_of, lane_count, pending_of, turn_of, marked_of, HasSent, IsOnLanes, IsUnchanged, IsFull};
+ghost use Rattle.route.specs.Routers.{puts_of, lane_count, pending_of, turn_of, marked_of, HasSent, IsOnLanes, IsUnchanged, IsLastLane, IsFull};
 
 use super::Router;
 use crate::progress::Progress;
@@ -46,6 +46,7 @@ impl Router {
         ensures idle_keeps { OnIdle result (IsUnchanged self.old self.new) }
         ensures put { OnMoved result ((p : Placed) → pending_of self.old ≡ Some p → puts_of self.new ≡ with_put (puts_of self.old) (turn_of self.old) (One p)) }
         ensures turn { OnMoved result ((p : Placed) → pending_of self.new ≡ Some p → (pending_of self.old ≡ Some p) × (turn_of self.new ≡ turn_of self.old + 1)) }
+        ensures last { OnMoved result ((p : Placed) → pending_of self.old ≡ Some p → (pending_of self.new ≡ None) ↔ IsLastLane (lane_count self.old) (turn_of self.old) p) }
         ensures blocked { IfBlocked result (λ k. (k ≡ turn_of self.old) × IsFull self.old k × IsUnchanged self.old self.new) }
     {
         match self.pending {
@@ -62,6 +63,7 @@ impl Router {
         ensures some { result ≢ Progress.Idle }
         ensures put { OnMoved result (puts_of self.new ≡ with_put (puts_of self.old) (turn_of self.old) (One placed)) }
         ensures turn { OnMoved result ((p : Placed) → pending_of self.new ≡ Some p → (placed ≡ p) × (turn_of self.new ≡ turn_of self.old + 1)) }
+        ensures last { OnMoved result ((pending_of self.new ≡ None) ↔ IsLastLane (lane_count self.old) (turn_of self.old) placed) }
         ensures blocked { IfBlocked result (λ k. (k ≡ turn_of self.old) × IsFull self.old k × IsUnchanged self.old self.new) }
     {
         if !put_on(rt, &mut self.senders, self.next, placed) {

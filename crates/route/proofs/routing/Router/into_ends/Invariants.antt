@@ -1,4 +1,4 @@
-use Rattle.std.proofs.Common.{◌≡◌, ◌+◌, ◌≤◌, length, map, vec_len, vec_capacity}
+use Rattle.std.proofs.Common.{◌≡◌, length, map, vec_len, vec_capacity}
 use Rattle.lane.specs.Lanes.{lane_of, end_lane, put_of, all_put}
 use Rattle.route.proofs.routing.Router.into_ends.Given as goal
 

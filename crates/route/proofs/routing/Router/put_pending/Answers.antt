@@ -32,7 +32,7 @@ returns-in-Some-clause-sent g c =
     let e : puts c.put_on.new.senders.items ≡ with_put (puts s.senders.items) s.next (One c.args.placed) = chosen _ _ _ c.put_on.result c.if-not-put_on.false c.put_on.ensures.puts in
     let count : vec_len s.senders ≡ length (puts s.senders.items) = omega (arith, length-map s.senders.items put_of, s.senders.ok.0) in
     λ w h. step-next (puts s.senders.items) (puts c.put_on.new.senders.items) w s.pending c.args.placed (vec_len s.senders) s.next c.in-Some.lane s.marked
-        c.requires e count c.in-Some.ensures.some.0 (s.unmarked c.args.placed c.requires) s.turn (s.aimed c.args.placed c.requires) h
+    c.requires e count c.in-Some.ensures.some.0 (s.unmarked c.args.placed c.requires) s.turn (s.aimed c.args.placed c.requires) h
 
 pub returns-in-None-clause-sent : goal.returns-in-None-clause-sent
 returns-in-None-clause-sent g c =
@@ -42,4 +42,4 @@ returns-in-None-clause-sent g c =
     let same : c.len.result ≡ vec_len s.senders = omega (arith, c.len.ensures, c.put_on.ensures.len) in
     let NoneLater : ℕ → Type 0 = λ x. (k : ℕ) → s.next < k → k < x → goes_placed k x c.args.placed ≡ false in
     λ w h. step-last (puts s.senders.items) (puts c.put_on.new.senders.items) w s.pending c.args.placed (vec_len s.senders) s.next s.marked
-        c.requires e count (s.unmarked c.args.placed c.requires) s.turn (s.aimed c.args.placed c.requires) (subst NoneLater same c.in-None.ensures.none) h
+    c.requires e count (s.unmarked c.args.placed c.requires) s.turn (s.aimed c.args.placed c.requires) (subst NoneLater same c.in-None.ensures.none) h

@@ -1,0 +1,77 @@
+-- Along a run: what was taken from a lane and what it holds is what was put on it.
+use Rattle.std.proofs.Common.{◌≡◌, ℕ, ◌==◌, Bool, true, false, cond, List, [], ◌∷◌, ◌++◌, drop, refl, sym, ap, ap₂, subst, ◌∙◌, append_assoc, append-nil}
+use Rattle.std.proofs.lemmas.List.Sums.{fold-append}
+use Rattle.std.proofs.lemmas.Bool.{eqb-true}
+use Rattle.lane.specs.declared.item.Item.{Item}
+use Rattle.lane.specs.Items.{IsBeginning}
+use Rattle.trace.specs.declared.records.Placed.{Placed}
+use Rattle.route.specs.Routed.{IsRising}
+use Rattle.route.specs.Runs.{Event, put, take, puts, takes, of_lane, put_list, taken_list, held_after, held, IsAllowed, IsRun}
+use Rattle.route.proofs.LaneShares.{Outcome, outcome}
+use Rattle.route.proofs.Rising.{rising_front}
+use Rattle.route.proofs.RunFronts.{of_lane-append, Front, front}
+
+puts-append : (es fs : List Event) → puts (es ++ fs) ≡ puts es ++ puts fs
+puts-append [] fs = refl
+puts-append (put k x ∷ es) fs = ap (λ (l : List (ℕ × Item Placed)). (k, x) ∷ l) (puts-append es fs)
+puts-append (take k x ∷ es) fs = puts-append es fs
+
+takes-append : (es fs : List Event) → takes (es ++ fs) ≡ takes es ++ takes fs
+takes-append [] fs = refl
+takes-append (put k x ∷ es) fs = takes-append es fs
+takes-append (take k x ∷ es) fs = ap (λ (l : List (ℕ × Item Placed)). (k, x) ∷ l) (takes-append es fs)
+
+put_list-push : (es : List Event) (e : Event) (k : ℕ) → put_list (es ++ e ∷ []) k ≡ put_list es k ++ of_lane k (puts (e ∷ []))
+put_list-push es e k = ap (of_lane k) (puts-append es (e ∷ [])) ∙ of_lane-append k (puts es) (puts (e ∷ []))
+
+taken_list-push : (es : List Event) (e : Event) (k : ℕ) → taken_list (es ++ e ∷ []) k ≡ taken_list es k ++ of_lane k (takes (e ∷ []))
+taken_list-push es e k = ap (of_lane k) (takes-append es (e ∷ [])) ∙ of_lane-append k (takes es) (takes (e ∷ []))
+
+held-push : (es : List Event) (e : Event) (k : ℕ) → held (es ++ e ∷ []) k ≡ held_after k (held es k) e
+held-push es e k = fold-append (held_after k) [] es (e ∷ [])
+
+-- what was put is what was taken and what is held
+abbrev Kept : ℕ → List Event → Type 0
+Kept k es = put_list es k ≡ taken_list es k ++ held es k
+
+after_put : (b : Bool) (p t h : List (Item Placed)) (x : Item Placed) → p ≡ t ++ h → p ++ cond b (x ∷ []) [] ≡ (t ++ []) ++ cond b (h ++ x ∷ []) h
+after_put true p t h x e = ap (λ (l : List (Item Placed)). l ++ x ∷ []) e ∙ append_assoc t h (x ∷ []) ∙ ap (λ (l : List (Item Placed)). l ++ (h ++ x ∷ [])) (sym (append-nil t))
+after_put false p t h x e = append-nil p ∙ e ∙ ap (λ (l : List (Item Placed)). l ++ h) (sym (append-nil t))
+
+after_take : (b : Bool) (p t h rest : List (Item Placed)) (x : Item Placed) → (b ≡ true → h ≡ x ∷ rest) → p ≡ t ++ h → p ++ [] ≡ (t ++ cond b (x ∷ []) []) ++ cond b (drop 1 h) h
+after_take true p t h rest x oldest e =
+    append-nil p ∙ e ∙ ap (λ (l : List (Item Placed)). t ++ l) (oldest refl) ∙ sym (append_assoc t (x ∷ []) rest) ∙ ap (λ (l : List (Item Placed)). (t ++ x ∷ []) ++ drop 1 l) (sym (oldest refl))
+after_take false p t h rest x oldest e = append-nil p ∙ e ∙ ap (λ (l : List (Item Placed)). l ++ h) (sym (append-nil t))
+
+kept-push : (k : ℕ) (es : List Event) (e : Event) → IsAllowed es e → Kept k es → Kept k (es ++ e ∷ [])
+kept-push k es (put j x) allowed h =
+    put_list-push es (put j x) k ∙ after_put (j == k) (put_list es k) (taken_list es k) (held es k) x h ∙ sym (ap₂ (λ (a b : List (Item Placed)). a ++ b) (taken_list-push es (put j x) k) (held-push es (put j x) k))
+kept-push k es (take j x) (rest, oldest) h =
+    put_list-push es (take j x) k
+    ∙ after_take (j == k) (put_list es k) (taken_list es k) (held es k) rest x (λ b. let P : ℕ → Type 0 = λ i. held es i ≡ x ∷ rest in subst P (eqb-true j k b) oldest) h
+    ∙ sym (ap₂ (λ (a b : List (Item Placed)). a ++ b) (taken_list-push es (take j x) k) (held-push es (take j x) k))
+
+kept_along : (k : ℕ) (es before after : List Event) → ((b a : List Event) (e : Event) → es ≡ b ++ e ∷ a → IsAllowed b e) → es ≡ before ++ after → Kept k before → Kept k es
+kept_along k es before [] allowed split h = subst (Kept k) (sym (split ∙ append-nil before)) h
+kept_along k es before (e ∷ after) allowed split h = kept_along k es (before ++ e ∷ []) after allowed (split ∙ sym (append_assoc before (e ∷ []) after)) (kept-push k before e (allowed before after e split) h)
+
+pub taken_front : (n k : ℕ) (w : List Placed) (es : List Event) → IsRun n w es → IsBeginning (taken_list es k) (put_list es k)
+taken_front n k w es run = (held es k, kept_along k es [] es run.allowed refl refl)
+
+-- a beginning of a run is a run
+pub earlier : (n : ℕ) (w : List Placed) (before after : List Event) → IsRun n w (before ++ after) → IsRun n w before
+earlier n w before after run = record {
+  some = run.some;
+  rising = run.rising;
+  allowed = λ b a e split. run.allowed b (a ++ after) e (ap (λ (l : List Event). l ++ after) split ∙ append_assoc b (e ∷ a) after);
+  in_order = (puts after ++ run.in_order.0, run.in_order.1 ∙ ap (λ (l : List (ℕ × Item Placed)). l ++ run.in_order.0) (puts-append before after) ∙ append_assoc (puts before) (puts after) run.in_order.0);
+}
+
+-- where a run stands
+pub front_of : (n : ℕ) (w : List Placed) (es : List Event) → IsRun n w es → Front n w (puts es)
+front_of n w es run = front n w (puts es) run.in_order.0 run.some (sym run.in_order.1)
+
+pub outcome_of : (n : ℕ) (w : List Placed) (es : List Event) → IsRun n w es → (f : Front n w (puts es)) → Outcome n (put_list es) f.v f.pending
+outcome_of n w es run f =
+    outcome n (put_list es) f.v f.turn f.pending f.marked
+    (record { some = run.some; rising = rising_front _ f.rest (subst IsRising f.whole run.rising); within = f.within; aimed = f.aimed; unmarked = f.unmarked; sent = f.sent })

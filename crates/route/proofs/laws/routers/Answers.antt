@@ -1,0 +1,41 @@
+use Rattle.std.proofs.Common.{◌≡◌, ℕ, [], List, sym, ap, subst, ◌∙◌, append-nil, vec_len, true, arith}
+use Rattle.std.proofs.lemmas.List.{length-map}
+use Rattle.lane.specs.Lanes.{put_of}
+use Rattle.trace.specs.declared.records.Placed.{Placed}
+use Rattle.trace.specs.Shares.{goes_placed}
+use Rattle.route.specs.declared.routing.Router.{Router}
+use Rattle.route.specs.Sending.{put_on}
+use Rattle.route.specs.Routed.{IsRising, in_hand}
+use Rattle.route.specs.Routers.{puts_of, lane_count, pending_of, turn_of, marked_of, HasSent}
+use Rattle.route.proofs.LaneShares.{IsUnderWay, Outcome, outcome, routes_of, has_routed, only_list}
+use Rattle.route.proofs.laws.routers.Goals as goal
+
+counted : (r : Router) → vec_len r.senders ≡ lane_count r
+counted r = omega (arith, length-map r.senders.items put_of, r.senders.ok.0)
+
+under_way : (r : Router) (w : List Placed) → HasSent w r → IsRising (in_hand w (pending_of r)) → IsUnderWay (lane_count r) (put_on (puts_of r)) w (turn_of r) (pending_of r) (marked_of r)
+under_way r w sent rising = record {
+  some = omega (arith, counted r, r.some);
+  rising = rising;
+  within = λ p e. omega (arith, counted r, r.turn);
+  aimed = λ p e. let P : ℕ → Type 0 = λ n. goes_placed r.next n p ≡ true in subst P (counted r) (r.aimed p e);
+  unmarked = r.unmarked;
+  sent = sent;
+}
+
+of_router : (r : Router) (w : List Placed) → HasSent w r → IsRising (in_hand w (pending_of r)) → Outcome (lane_count r) (put_on (puts_of r)) w (pending_of r)
+of_router r w sent rising = outcome (lane_count r) (put_on (puts_of r)) w (turn_of r) (pending_of r) (marked_of r) (under_way r w sent rising)
+
+pub returns-clause-routed : goal.returns-clause-routed
+returns-clause-routed c = λ r w sent rising. has_routed (lane_count r) (put_on (puts_of r)) w (in_hand w (pending_of r)) (pending_of r) (of_router r w sent rising) ([], sym (append-nil (in_hand w (pending_of r))))
+
+pub returns-clause-whole : goal.returns-clause-whole
+returns-clause-whole c = λ r w u sent rising none routed.
+    let at_rest : IsRising (in_hand w (pending_of r)) = subst IsRising (sym (ap (in_hand w) none ∙ append-nil w)) rising in
+    let o = of_router r w sent at_rest in only_list (lane_count r) (put_on (puts_of r)) w u (pending_of r) o routed ∙ o.whole none
+
+pub returns-clause-shares : goal.returns-clause-shares
+returns-clause-shares c = λ r k w u sent rising routed l. (routes_of (lane_count r) (put_on (puts_of r)) w u (pending_of r) (of_router r w sent rising) routed).shares k l
+
+pub returns-clause-marks : goal.returns-clause-marks
+returns-clause-marks c = λ r k w u sent rising routed l h. (routes_of (lane_count r) (put_on (puts_of r)) w u (pending_of r) (of_router r w sent rising) routed).marks k l h

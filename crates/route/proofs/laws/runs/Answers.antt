@@ -1,0 +1,22 @@
+use Rattle.route.proofs.LaneShares.{routes_of, has_routed}
+use Rattle.route.proofs.RunLists.{taken_front, earlier, front_of, outcome_of}
+use Rattle.route.specs.Runs.{put_list}
+use Rattle.route.proofs.laws.runs.Goals as goal
+
+pub returns-clause-points : goal.returns-clause-points
+returns-clause-points c = earlier
+
+pub returns-clause-routed : goal.returns-clause-routed
+returns-clause-routed c = λ n w es run.
+    let f = front_of n w es run in has_routed n (put_list es) f.v w f.pending (outcome_of n w es run f) (f.rest, f.whole)
+
+pub returns-clause-shares : goal.returns-clause-shares
+returns-clause-shares c = λ n k w u es run routed l.
+    let f = front_of n w es run in (routes_of n (put_list es) f.v u f.pending (outcome_of n w es run f) routed).shares k l
+
+pub returns-clause-marks : goal.returns-clause-marks
+returns-clause-marks c = λ n k w u es run routed l h.
+    let f = front_of n w es run in (routes_of n (put_list es) f.v u f.pending (outcome_of n w es run f) routed).marks k l h
+
+pub returns-clause-taken : goal.returns-clause-taken
+returns-clause-taken c = λ n k w es run. taken_front n k w es run

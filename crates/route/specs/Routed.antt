@@ -1,0 +1,46 @@
+-- What was routed, read off what was put on each of n lanes: `on k` is what was put on lane k.
+use Rattle.std.specs.Prelude.{◌≡◌, ℕ, ◌<◌, ◌↔◌, ◌⊎◌, true, List, [], ◌∷◌, ◌++◌, map, Contains, Option, option_to_list}
+use Rattle.std.specs.List.Sorted.{IsStrictlyIncreasing}
+use Rattle.lane.specs.declared.item.Item.{Item}
+use Rattle.lane.specs.declared.item.Item.TheVariants.{One, Finish}
+use Rattle.lane.specs.Items.{records, IsBeginning}
+use Rattle.trace.specs.declared.records.Placed.{Placed}
+use Rattle.trace.specs.Shares.{goes_placed, share}
+
+-- the places rise
+abbrev pub IsRising : List Placed → Type 0
+IsRising u = IsStrictlyIncreasing (map (λ p. p.place) u)
+
+-- w, and then the pending record
+abbrev pub in_hand : List Placed → Option Placed → List Placed
+in_hand w pending = w ++ option_to_list pending
+
+-- some lane has the record
+abbrev pub IsOnSome : ℕ → (ℕ → List (Item Placed)) → Placed → Type 0
+IsOnSome n on p = (k : ℕ) × (k < n) × Contains (records (on k)) p
+
+-- u is the list of the records that stand on any lane, each once, by rising place
+pub record IsRouted (n : ℕ) (on : ℕ → List (Item Placed)) (u : List Placed) : Type 0 where
+  pub rising : IsRising u
+  pub exact : (p : Placed) → Contains u p ↔ IsOnSome n on p
+
+-- the record that is being sent: a lane has it, and a lane that it goes to lacks it
+pub record IsBeingSent (n : ℕ) (on : ℕ → List (Item Placed)) (p : Placed) : Type 0 where
+  pub begun : IsOnSome n on p
+  pub unfinished : (k : ℕ) × (k < n) × (goes_placed k n p ≡ true) × (Contains (records (on k)) p → ⊥)
+
+-- lane k has its share of u, or lacks the last record of it, which is then the one being sent
+abbrev pub HasShare : ℕ → (ℕ → List (Item Placed)) → List Placed → ℕ → Type 0
+HasShare n on u k = (records (on k) ≡ share k n u) ⊎ ((p : Placed) × (records (on k) ++ p ∷ [] ≡ share k n u) × IsBeingSent n on p)
+
+-- a lane with the mark has its whole share, and then the mark, and no record is being sent
+pub record HasWholeShare (n : ℕ) (on : ℕ → List (Item Placed)) (u : List Placed) (k : ℕ) : Type 0 where
+  pub whole : on k ≡ map One (share k n u) ++ Finish ∷ []
+  pub none_sent : (p : Placed) → IsBeingSent n on p → ⊥
+
+-- exactly one list was routed, and it is a beginning of w
+pub record HasRouted (n : ℕ) (on : ℕ → List (Item Placed)) (w : List Placed) : Type 0 where
+  pub list : List Placed
+  pub routed : IsRouted n on list
+  pub only : (v : List Placed) → IsRouted n on v → v ≡ list
+  pub front : IsBeginning list w

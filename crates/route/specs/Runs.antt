@@ -1,0 +1,72 @@
+-- Runs of n lanes: what is put on them and taken from them, event by event.
+use Rattle.std.specs.Prelude.{◌≡◌, ℕ, ◌<◌, ◌%◌, ◌==◌, false, if◌then◌else◌, List, [], ◌∷◌, ◌++◌, map, fold, drop}
+use Rattle.std.specs.List.{range_with_len, flat_map}
+use Rattle.lane.specs.declared.item.Item.{Item}
+use Rattle.lane.specs.declared.item.Item.TheVariants.{One, Finish}
+use Rattle.lane.specs.Items.{has_mark, IsBeginning}
+use Rattle.trace.specs.declared.records.Record.{Record}
+use Rattle.trace.specs.declared.records.Record.TheVariants.{Spawn, Return, Sync, Read, Write}
+use Rattle.trace.specs.declared.records.Placed.{Placed}
+use Rattle.route.specs.Routed.{IsRising}
+
+-- an item is put on a lane or taken from it: a record, or the mark
+pub data Event : Type 0 where
+  put : ℕ → Item Placed → Event
+  take : ℕ → Item Placed → Event
+
+-- the items put, each with its lane, and the items taken
+abbrev pub puts : List Event → List (ℕ × Item Placed)
+puts [] = []
+puts (put k x ∷ es) = (k, x) ∷ puts es
+puts (take k x ∷ es) = puts es
+
+abbrev pub takes : List Event → List (ℕ × Item Placed)
+takes [] = []
+takes (put k x ∷ es) = takes es
+takes (take k x ∷ es) = (k, x) ∷ takes es
+
+-- those of lane k
+abbrev pub of_lane : {X : Type 0} → ℕ → List (ℕ × X) → List X
+of_lane k [] = []
+of_lane k (e ∷ es) = if e.0 == k then e.1 ∷ of_lane k es else of_lane k es
+
+abbrev pub put_list : List Event → ℕ → List (Item Placed)
+put_list es k = of_lane k (puts es)
+
+abbrev pub taken_list : List Event → ℕ → List (Item Placed)
+taken_list es k = of_lane k (takes es)
+
+-- what lane k holds: a put adds at the end, and a take takes the oldest item
+abbrev pub held_after : ℕ → List (Item Placed) → Event → List (Item Placed)
+held_after k held (put j x) = if j == k then held ++ x ∷ [] else held
+held_after k held (take j x) = if j == k then drop 1 held else held
+
+abbrev pub held : List Event → ℕ → List (Item Placed)
+held es k = fold (held_after k) [] es
+
+-- after these events a put is allowed where the lane isn't marked, and a take where it gives the oldest item
+abbrev pub IsAllowed : List Event → Event → Type 0
+IsAllowed es (put k x) = has_mark (put_list es k) ≡ false
+IsAllowed es (take k x) = (rest : List (Item Placed)) × (held es k ≡ x ∷ rest)
+
+-- the lanes that a record is sent to, in their order
+abbrev pub lanes_for : ℕ → Record → List ℕ
+lanes_for n Spawn = range_with_len 0 n
+lanes_for n Return = range_with_len 0 n
+lanes_for n Sync = range_with_len 0 n
+lanes_for n (Read l) = l % n ∷ []
+lanes_for n (Write l) = l % n ∷ []
+
+abbrev pub sending_of : ℕ → Placed → List (ℕ × Item Placed)
+sending_of n p = map (λ k. (k, One p)) (lanes_for n p.what)
+
+-- all that is sent of w, put by put: record after record, and then a mark on each lane
+abbrev pub sending : ℕ → List Placed → List (ℕ × Item Placed)
+sending n w = flat_map (sending_of n) w ++ map (λ k. (k, Finish)) (range_with_len 0 n)
+
+-- a run of n lanes, on which the records w are sent
+pub record IsRun (n : ℕ) (w : List Placed) (es : List Event) : Type 0 where
+  pub some : 0 < n
+  pub rising : IsRising w
+  pub allowed : (before after : List Event) (e : Event) → es ≡ before ++ e ∷ after → IsAllowed before e
+  pub in_order : IsBeginning (puts es) (sending n w)

@@ -1,0 +1,42 @@
+//! What stands on the lanes at every point of every run, and on the lanes of every router.
+
+ghost use Rattle.std.specs.Prelude.{◌≡◌, ℕ, ◌<◌, true, List, ◌++◌};
+ghost use Rattle.lane.specs.Items.{has_mark, IsBeginning};
+ghost use Rattle.trace.specs.declared.records.Placed.{Placed};
+ghost use Rattle.route.specs.declared.routing.Router.{Router};
+ghost use Rattle.route.specs.Sending.{put_on};
+ghost use Rattle.route.specs.Routed.{IsRising, in_hand, IsRouted, HasRouted, HasShare, HasWholeShare};
+ghost use Rattle.route.specs.Routers.{puts_of, lane_count, pending_of, HasSent};
+ghost use Rattle.route.specs.Runs.{Event, IsRun, put_list, taken_list};
+
+/// Of every run of lanes. Since each beginning of a run is a run, all this holds at every point. One list
+/// was routed, and a lane has its share of it, or lacks the record that is being sent. A lane with the mark has
+/// its whole share. What was taken from a lane is a beginning of what was put.
+pub fn runs()
+    ensures points { (n : ℕ) (w : List Placed) (before after : List Event) → IsRun n w (before ++ after)
+        → IsRun n w before }
+    ensures routed { (n : ℕ) (w : List Placed) (es : List Event) → IsRun n w es → HasRouted n (put_list es) w }
+    ensures shares { (n k : ℕ) (w u : List Placed) (es : List Event) → IsRun n w es
+        → IsRouted n (put_list es) u → k < n → HasShare n (put_list es) u k }
+    ensures marks { (n k : ℕ) (w u : List Placed) (es : List Event) → IsRun n w es
+        → IsRouted n (put_list es) u → k < n → has_mark (put_list es k) ≡ true
+        → HasWholeShare n (put_list es) u k }
+    ensures taken { (n k : ℕ) (w : List Placed) (es : List Event) → IsRun n w es
+        → IsBeginning (taken_list es k) (put_list es k) }
+{}
+
+/// Of every router that was offered records whose places rise: the same, and with nothing pending the list that was
+/// routed is what was sent whole.
+pub fn routers()
+    ensures routed { (r : Router) (w : List Placed) → HasSent w r → IsRising (in_hand w (pending_of r))
+        → HasRouted (lane_count r) (put_on (puts_of r)) (in_hand w (pending_of r)) }
+    ensures whole { (r : Router) (w u : List Placed) → HasSent w r → IsRising w
+        → pending_of r ≡ None → IsRouted (lane_count r) (put_on (puts_of r)) u → u ≡ w }
+    ensures shares { (r : Router) (k : ℕ) (w u : List Placed) → HasSent w r
+        → IsRising (in_hand w (pending_of r)) → IsRouted (lane_count r) (put_on (puts_of r)) u
+        → k < lane_count r → HasShare (lane_count r) (put_on (puts_of r)) u k }
+    ensures marks { (r : Router) (k : ℕ) (w u : List Placed) → HasSent w r
+        → IsRising (in_hand w (pending_of r)) → IsRouted (lane_count r) (put_on (puts_of r)) u
+        → k < lane_count r → has_mark (put_on (puts_of r) k) ≡ true
+        → HasWholeShare (lane_count r) (put_on (puts_of r)) u k }
+{}
