@@ -1,22 +1,11 @@
 -- What a collector keeps of the races that it was given.
-use Rattle.std.specs.Prelude.{◌≡◌, ℕ, Bool, true, false, List, [], ◌∷◌, Option, Some, None, find, fold, ◌==◌, nat_lt, nat_le, if◌then◌else◌}
+use Rattle.std.specs.Prelude.{◌≡◌, ℕ, Bool, false, List, Option, Some, None, find, fold, ◌==◌, nat_lt, nat_le, if◌then◌else◌}
 use Rattle.std.specs.Option.{option_map_or}
 use Rattle.shard.specs.declared.Back.{Back}
 use Rattle.shard.specs.declared.Back.TheVariants.{Race, NoMemory}
 use Rattle.trace.specs.Accesses.{RaceAt}
+pub use Rattle.shard.specs.Backs.{races_of, fails}
 use Rattle.collect.specs.Reports.{IsReportList}
-
--- the races among what shards handed back, in order
-abbrev pub races_of : List Back → List RaceAt
-races_of [] = []
-races_of (Race r ∷ g) = r ∷ races_of g
-races_of (NoMemory ∷ g) = races_of g
-
--- whether a shard told that it ran out of memory
-abbrev pub fails : List Back → Bool
-fails [] = false
-fails (Race r ∷ g) = fails g
-fails (NoMemory ∷ g) = true
 
 -- the first race on a location
 abbrev pub race_on : ℕ → List RaceAt → Option RaceAt

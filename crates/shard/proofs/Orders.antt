@@ -93,6 +93,9 @@ takes_next s p m = ⊎_elim
     (λ e. let h = m.before_end e in record { later = h.0; to_limit = h.1; running = e })
     (cases_Bool s.ended)
 
+pub takes_one : (s : ShardState) (p : Placed) → Accepts s p.place → MayTake s (p ∷ [])
+takes_one s p a = record { after_end = λ e. absurd (let z = a.running in cc); before_end = λ e. (a.later, a.to_limit, (λ is one. refl), tt) }
+
 -- what may be taken after one more record
 module _ (u : List Placed) (p : Placed) (s z : ShardState) (a : Accepts s p.place) (h : HasApplied u s) (k : HasApplied (u ++ p ∷ []) z) (place : z.last_place ≡ p.place) (ended : z.ended ≡ is_root_return s.bags p.what) (rest : List Placed) where
   active : z.ended ≡ false → length z.bags.active ≡ (length s.bags.active + opens p.what) - closes p.what

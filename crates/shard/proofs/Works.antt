@@ -14,7 +14,7 @@ use Rattle.shard.specs.declared.Back.{Back}
 use Rattle.shard.specs.declared.Back.TheVariants.{Race, NoMemory}
 use Rattle.shard.specs.Shards.{ShardState, Accepts, HasApplied, IsNew, is_root_return, capped_count}
 use Rattle.shard.specs.Working.{AreInOrder, told, HasStopped, out_of_order, no_memory, Answers, IsGoing, HasWorked, IsOfShare, TellsFound}
-use Rattle.shard.proofs.Orders.{Follow-front, length-follow, takes_new, takes_none, takes_next, takes_after}
+use Rattle.shard.proofs.Orders.{Follow-front, length-follow, takes_new, takes_none, takes_next, takes_one, takes_after}
 use Rattle.shard.proofs.Shares.{in_order}
 
 capped_more : (a b m : ℕ) → b ≡ min a m → min (b + 1) m ≡ min (a + 1) m
@@ -56,19 +56,19 @@ worked_applied u p s z put more o stopped adds is a place ended taken applied fi
     }
 
 -- a growth was refused
-pub worked_refused : (u : List Placed) (p : Placed) (s z : ShardState) (put more : List (Item Back)) (stopped : Bool) → more ≡ put ++ One NoMemory ∷ [] → stopped ≡ false → z.taken ≡ capped_count (s.taken + 1)
+pub worked_refused : (u : List Placed) (p : Placed) (s z : ShardState) (put more : List (Item Back)) (stopped : Bool) → more ≡ put ++ One NoMemory ∷ [] → stopped ≡ false → Accepts s p.place → z.taken ≡ capped_count (s.taken + 1)
     → HasWorked u s put stopped → HasWorked (u ++ p ∷ []) z more true
-worked_refused u p s z put more stopped adds is taken h =
+worked_refused u p s z put more stopped adds is a taken h =
     let g = h.going is in
     record {
       taken = taken ∙ count_more u p s.taken h.taken;
       going = λ e. absurd (cc);
-      at_end = λ e. no_memory u (p ∷ [], refl) (so_far u s put g) (adds ∙ ap (λ (x : List (Item Back)). x ++ One NoMemory ∷ []) g.races);
+      at_end = λ e. no_memory u [] p refl ((g.goes_on (p ∷ [])).1 (takes_one s p a)) (adds ∙ ap (λ (x : List (Item Back)). x ++ One NoMemory ∷ []) g.races);
     }
 
 stopped_more : (u : List Placed) (p : Placed) (put : List (Item Back)) → HasStopped u put → HasStopped (u ++ p ∷ []) put
 stopped_more u p put (out_of_order v rest q is fine out e) = out_of_order v (rest ++ p ∷ []) q (ap (λ (x : List Placed). x ++ p ∷ []) is ∙ append_assoc v (q ∷ rest) (p ∷ [])) fine out e
-stopped_more u p put (no_memory v (rest, is) fine e) = no_memory v (rest ++ p ∷ [], ap (λ (x : List Placed). x ++ p ∷ []) is ∙ append_assoc v rest (p ∷ [])) fine e
+stopped_more u p put (no_memory v rest q is fine e) = no_memory v (rest ++ p ∷ []) q (ap (λ (x : List Placed). x ++ p ∷ []) is ∙ append_assoc v (q ∷ rest) (p ∷ [])) fine e
 
 -- a record was not applied, since the worker has stopped, or stops here
 pub worked_skipped : (u : List Placed) (p : Placed) (s z : ShardState) (put : List (Item Back)) (stopped : Bool) → (stopped ≡ false → Accepts s p.place → ⊥) → z.taken ≡ capped_count (s.taken + 1)
@@ -94,8 +94,8 @@ tells u put fine (inl (o, e)) = inl (ap (λ (x : List (Item Back)). x ++ Finish 
 tells u put fine (inr (out_of_order v rest p is o out e)) =
     let P : List Placed → Type 0 = AreInOrder in
     absurd (out (Follow-front 0 1 (v ++ p ∷ []) rest (subst P (is ∙ sym (append_assoc v (p ∷ []) rest)) fine)))
-tells u put fine (inr (no_memory v begins o e)) =
-    inr (found v, found_front v u begins, ap (λ (x : List (Item Back)). x ++ Finish ∷ []) e ∙ append_assoc (told (found v)) (One NoMemory ∷ []) (Finish ∷ []))
+tells u put fine (inr (no_memory v rest p is o e)) =
+    inr (found v, found_front v u (p ∷ rest, is), ap (λ (x : List (Item Back)). x ++ Finish ∷ []) e ∙ append_assoc (told (found v)) (One NoMemory ∷ []) (Finish ∷ []))
 
 pub tells_share : (u : List Placed) (s : ShardState) (put : List (Item Back)) (stopped : Bool) → HasWorked u s put stopped → IsOfShare u → (s.taken ≡ length u) × TellsFound u (put ++ Finish ∷ [])
 tells_share u s put stopped h of =

@@ -1,3 +1,4 @@
+pub mod Backs
 pub mod Shards
 pub mod Worked
 pub mod Working

@@ -28,11 +28,11 @@ AreInOrder u = Follow 0 1 u
 abbrev pub told : List RaceAt → List (Item Back)
 told rs = map (λ r. One (Race r)) rs
 
--- A worker applies no more: the next record was out of order, or a growth was refused. What it has put are the
--- races of the records before, and after a refused growth one NoMemory.
+-- A worker applies no more from record p on: the record was out of order, or it was in order and a growth was
+-- refused. What the worker has put are the races of the records before, and after a refused growth one NoMemory.
 pub data HasStopped (u : List Placed) (put : List (Item Back)) : Type 0 where
   out_of_order : (v rest : List Placed) (p : Placed) → u ≡ v ++ p ∷ rest → AreInOrder v → (AreInOrder (v ++ p ∷ []) → ⊥) → put ≡ told (found v) → HasStopped u put
-  no_memory : (v : List Placed) → IsBeginning v u → AreInOrder v → put ≡ told (found v) ++ One NoMemory ∷ [] → HasStopped u put
+  no_memory : (v rest : List Placed) (p : Placed) → u ≡ v ++ p ∷ rest → AreInOrder (v ++ p ∷ []) → put ≡ told (found v) ++ One NoMemory ∷ [] → HasStopped u put
 
 -- what a worker has put that was given the records u: the races found in them where they are in order, or less
 abbrev pub Answers : List Placed → List (Item Back) → Type 0

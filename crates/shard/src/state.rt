@@ -89,12 +89,12 @@ impl<S: BuildHasher + Drop> Shard<S> {
         let race = shadow::apply(&mut self.bags, &mut self.shadow, placed)?;
         self.last_place = placed.place;
         self.ended = ended;
-        self.taken = self.taken.saturating_add(1);
+        self.count_one();
         Ok(race)
     }
 
-    /// Counts a record that is taken and not applied.
-    pub(crate) fn skip(&mut self)
+    /// Counts a record.
+    pub(crate) fn count_one(&mut self)
         ensures { self.new ≡ record self.old { taken = capped_count (self.old.taken + 1) } }
     {
         self.taken = self.taken.saturating_add(1);

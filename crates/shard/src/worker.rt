@@ -34,7 +34,7 @@ impl<S: BuildHasher + Drop> Worker<S> {
     {
         if self.stopped || !self.shard.accepts(placed.place) {
             self.stopped = true;
-            self.shard.skip();
+            self.shard.count_one();
             return;
         }
         match self.shard.apply(placed) {
@@ -42,7 +42,7 @@ impl<S: BuildHasher + Drop> Worker<S> {
             Ok(Some(race)) => tell(rt, &mut self.back, Back::Race(race)),
             Err(_) => {
                 self.stopped = true;
-                self.shard.skip();
+                self.shard.count_one();
                 tell(rt, &mut self.back, Back::NoMemory);
             }
         }

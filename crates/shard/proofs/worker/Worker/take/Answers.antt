@@ -14,7 +14,7 @@ returns-then-self-clause-worked g c u h =
       | then-self-via-then-self w ↦ λ e a. absurd (let t = w.if-self.true in cc)
       | then-self-via-else-self+then-not-accepts w ↦ λ e a. absurd (let t = w.accepts.ensures.1 a in let f = w.if-not-accepts.true in cc)
     ] in
-    worked_skipped u c.args.placed c.args.self.now.shard c.skip.new.self _ c.args.self.now.stopped refuses (ap (λ (s : ShardState). s.taken) c.skip.ensures) h
+    worked_skipped u c.args.placed c.args.self.now.shard c.count_one.new.self _ c.args.self.now.stopped refuses (ap (λ (s : ShardState). s.taken) c.count_one.ensures) h
 
 pub returns-in-Ok-None-clause-worked : goal.returns-in-Ok-None-clause-worked
 returns-in-Ok-None-clause-worked g c u h =
@@ -30,5 +30,5 @@ returns-in-Ok-Some-clause-worked g c u h =
 
 pub returns-in-Err-clause-worked : goal.returns-in-Err-clause-worked
 returns-in-Err-clause-worked g c u h =
-    worked_refused u c.args.placed c.args.self.now.shard c.skip-in-Err.new.self _ _ c.args.self.now.stopped c.tell-in-Err.ensures.put c.if-self.false
-    (ap (λ (s : ShardState). s.taken) c.skip-in-Err.ensures ∙ ap (λ n. capped_count (n + 1)) c.in-Err.ensures.refused.taken) h
+    worked_refused u c.args.placed c.args.self.now.shard c.count_one-in-Err.new.self _ _ c.args.self.now.stopped c.tell-in-Err.ensures.put c.if-self.false (c.accepts.ensures.0 c.if-not-accepts.false)
+    (ap (λ (s : ShardState). s.taken) c.count_one-in-Err.ensures ∙ ap (λ n. capped_count (n + 1)) c.in-Err.ensures.refused.taken) h

@@ -1,0 +1,17 @@
+-- What shards hand back.
+use Rattle.std.specs.Prelude.{Bool, true, false, List, [], ◌∷◌}
+use Rattle.trace.specs.Accesses.{RaceAt}
+use Rattle.shard.specs.declared.Back.{Back}
+use Rattle.shard.specs.declared.Back.TheVariants.{Race, NoMemory}
+
+-- the races among what shards handed back, in order
+abbrev pub races_of : List Back → List RaceAt
+races_of [] = []
+races_of (Race r ∷ g) = r ∷ races_of g
+races_of (NoMemory ∷ g) = races_of g
+
+-- whether a shard told that it ran out of memory
+abbrev pub fails : List Back → Bool
+fails [] = false
+fails (Race r ∷ g) = fails g
+fails (NoMemory ∷ g) = true
