@@ -6,7 +6,8 @@ use Rattle.lane.specs.declared.item.Item.{Item}
 use Rattle.lane.specs.declared.ends.Taker.{Taker}
 use Rattle.lane.specs.Items.{records}
 use Rattle.lane.specs.Lanes.{taken_of}
-use Rattle.collect.specs.Collected.{Kept, Holds, races_of, fails}
+use Rattle.shard.specs.Backs.{races_of, fails}
+use Rattle.collect.specs.Collected.{Kept, Holds}
 
 -- the items that each lane gave, lane after lane
 abbrev pub given_by : List (Taker Back) → List (List (Item Back))

@@ -5,3 +5,7 @@ pub mod Gatherings
 pub mod Sent
 pub mod Working
 pub mod Closing
+pub mod Readiness
+pub mod Finished
+pub mod Rooms
+pub mod Ran

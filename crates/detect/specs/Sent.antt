@@ -1,10 +1,12 @@
 -- That a trace was read and sent whole, or how reading it failed.
-use Rattle.std.specs.Prelude.{ℕ, List, Option}
+use Rattle.std.specs.Prelude.{◌≡◌, ◌⊎◌, ℕ, List, Option}
 use Rattle.std.specs.Io.KnownBytes.{Consumes}
 use Rattle.trace.specs.declared.records.Record.{Record}
 use Rattle.trace.specs.declared.faults.Fault.{Fault}
 use Rattle.trace.specs.Traces.{placed}
-use Rattle.trace.specs.Feeding.{IsWhole, IsFaultFed}
+use Rattle.trace.specs.declared.faults.Fault.TheVariants.{NoThread}
+use Rattle.trace.specs.Feeding.{IsWhole}
+use Rattle.detect.specs.Runs.{FailsBy}
 use Rattle.route.specs.declared.routing.Router.{Router}
 use Rattle.route.specs.Routers.{HasSent}
 
@@ -17,6 +19,6 @@ pub record HasSentAll (records depths : ℕ) (before after : Option (List ℕ)) 
   pub whole : IsWhole records depths trace came after
   pub sent : HasSent (placed trace) router
 
--- the fault is the first of the bytes that came; or the source failed before any fault
-abbrev pub IsReadFault : ℕ → ℕ → Option (List ℕ) → Option (List ℕ) → ℕ → ℕ → Fault → Type 0
-IsReadFault records depths before after count count' f = (came : List ℕ) × Consumes before after came × IsFaultFed records depths came after count count' f
+-- no thread could be started, no memory was left, or the fault is the first; or the source failed before any fault
+abbrev pub FailsInRun : ℕ → ℕ → Option (List ℕ) → Option (List ℕ) → ℕ → ℕ → Fault → Type 0
+FailsInRun records depths before after count count' f = (f ≡ NoThread) ⊎ FailsBy records depths before after count count' f

@@ -1,5 +1,5 @@
 -- What the workers are given, and what they have done.
-use Rattle.std.specs.Prelude.{◌≡◌, ℕ, List, [], ◌∷◌, ⊤}
+use Rattle.std.specs.Prelude.{◌≡◌, List, [], ◌∷◌, map, ⊤}
 use Rattle.std.specs.List.{AllByRecursion}
 use Rattle.trace.specs.declared.records.Placed.{Placed}
 use Rattle.lane.specs.declared.ends.Sender.{Sender}
@@ -23,9 +23,19 @@ module _ {S H : Type 0} where
   abbrev pub AllNew : List (Job S H) → Type 0
   AllNew jobs = AllByRecursion IsNewJob jobs
 
-  -- the lane to the shard, and the lane back
+  -- the lanes to the shards, and the lanes back
+  abbrev pub to_shards : List (Job S H) → List LaneId
+  to_shards jobs = map (λ j. taker_lane j.taker) jobs
+
+  abbrev pub from_shards : List (Job S H) → List LaneId
+  from_shards jobs = map (λ j. lane_of j.back) jobs
+
+  -- both lanes of a shard
   abbrev pub job_lanes : Job S H → LaneId × LaneId
   job_lanes job = (taker_lane job.taker, lane_of job.back)
+
+  abbrev pub handle_lanes : PromisedHandle (Worked S H) WorkOf → LaneId × LaneId
+  handle_lanes handle = (taker_lane handle.promise.taker.value, lane_of handle.promise.back.value)
 
   -- a worker that was given these lanes has done its work
   pub record DidOn (lanes : LaneId × LaneId) (worked : Worked S H) : Type 0 where

@@ -3,7 +3,8 @@ ghost use Rattle.std.specs.Prelude.{◌≡◌, ◌++◌, ◌∷◌, [], List, If
 ghost use Rattle.trace.specs.declared.records.Placed.{Placed};
 ghost use Rattle.route.specs.Routers.{lane_count, pending_of, marked_of, HasSent, IsOnLanes};
 ghost use Rattle.detect.specs.Gatherings.{IsFurther};
-ghost use Rattle.detect.specs.Sent.{HasSentAll, IsReadFault};
+ghost use Rattle.detect.specs.Runs.{FailsBy};
+ghost use Rattle.detect.specs.Sent.{HasSentAll};
 
 use crate::gathering::Gathering;
 use route::{Progress, Router};
@@ -23,7 +24,7 @@ pub(crate) fn send_all<T: Wait, R: Source>(
     requires unmarked { marked_of router.old ≡ 0 }
     requires none_sent { HasSent [] router.old }
     ensures sent { OnOk result (HasSentAll limits.records limits.depth (R.rest reader.old) (R.rest reader.new) router.new) }
-    ensures fault { IfErr result (IsReadFault limits.records limits.depth (R.rest reader.old) (R.rest reader.new) (R.failures reader.old) (R.failures reader.new)) }
+    ensures fault { IfErr result (FailsBy limits.records limits.depth (R.rest reader.old) (R.rest reader.new) (R.failures reader.old) (R.failures reader.new)) }
     ensures idle { pending_of router.new ≡ None }
     ensures unmarked { marked_of router.new ≡ 0 }
     ensures lanes { IsOnLanes router.old router.new }
