@@ -29,6 +29,7 @@ module _ {S H : Type 0} where
 
   -- the same was taken, told and counted, on the same lanes
   pub record IsSameWork (old new : List (Worked S H)) : Type 0 where
+    pub count : length new ≡ length old
     pub taken : taken_by new ≡ taken_by old
     pub told : told_by new ≡ told_by old
     pub counts : counts_of new ≡ counts_of old

@@ -5,7 +5,7 @@ use Rattle.trace.specs.declared.records.Placed.{Placed}
 use Rattle.lane.specs.declared.ends.Sender.{Sender}
 use Rattle.lane.specs.declared.ends.Taker.{Taker}
 use Rattle.lane.specs.Lanes.{LaneId, taker_lane, taken_of, lane_of, put_of}
-use Rattle.core.specs.declared.thread.PromisedHandle.{PromisedHandle}
+use Rattle.std.specs.declared.thread.PromisedHandle.{PromisedHandle}
 use Rattle.shard.specs.declared.Back.{Back}
 use Rattle.shard.specs.declared.working.Worked.{Worked}
 use Rattle.shard.specs.Shards.{IsNew}

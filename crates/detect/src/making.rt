@@ -58,10 +58,8 @@ fn make_ends<S: BuildHasher + Drop>(
         jobs: Vec::new(alloc),
         backs: Vec::new(alloc),
     };
-    let mut index = 0;
     for hasher in hashers {
-        add_shard(alloc, capacity, index, hasher, &mut ends)?;
-        index += 1;
+        add_shard(alloc, capacity, hasher, &mut ends)?;
     }
     Ok(ends)
 }
@@ -69,14 +67,13 @@ fn make_ends<S: BuildHasher + Drop>(
 fn add_shard<S: BuildHasher + Drop>(
     alloc: Global,
     capacity: usize,
-    index: u32,
     hasher: S,
     ends: &mut Ends<S>,
 ) -> Result<(), NoMemory>
     requires { (1 ≤ capacity) × (capacity ≤ 65536) }
     ensures { OnOk result ((n : ℕ) → IsTied n ends.old → IsTied (n + 1) ends.new) }
 {
-    let shard = Shard::new(alloc, index, hasher)?;
+    let shard = Shard::new(alloc, ends.jobs.len() as u32, hasher)?;
     let (sender, taker) = lane(alloc, capacity)?;
     let (back, gatherer) = lane(alloc, capacity)?;
     ends.senders.push(sender).map_err(|_| NoMemory)?;

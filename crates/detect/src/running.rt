@@ -22,6 +22,8 @@ pub(crate) fn run<'s, E, T: Threads + Wait + Sync, R: Source, G: Gate + Sync, S:
     gate: &'s G,
     made: Made<S>,
 ) -> Done<S>
+where
+    S::Hasher: Send,
     requires { IsReady (vec_len made.jobs) made }
     ensures { IsDone (vec_len made.jobs) limits.records limits.depth (R.rest reader.old) (R.rest reader.new) (R.failures reader.old) (R.failures reader.new) result }
 {

@@ -48,6 +48,8 @@ pub fn detect<T: Threads + Wait + Sync, R: Source, G: Gate + Sync, S: BuildHashe
     gate: &G,
     hashers: Vec<S>,
 ) -> Result<Run, Fault>
+where
+    S::Hasher: Send,
     requires { vec_len hashers ≡ plan.shards }
     // All bytes of the reader are the text of a trace that is well nested within the limits. The report is
     // the verdict on it, which is its report by the dag, and each shard took its share of it.

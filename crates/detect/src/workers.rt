@@ -21,6 +21,8 @@ pub(crate) fn start_all<'s, E, T: Wait + Sync, G: Gate + Sync, S: BuildHasher + 
     jobs: Vec<Job<S>>,
     handles: &mut Vec<PromisedHandle<Worked<S>, WorkOf>>,
 ) -> Result<(), NoThread>
+where
+    S::Hasher: Send,
     requires new { AllNew jobs.items }
     requires none { vec_len handles.old ≡ 0 }
     requires room { vec_len jobs ≤ vec_capacity handles.old }
@@ -42,6 +44,8 @@ fn start<'s, E, T: Wait + Sync, G: Gate + Sync, S: BuildHasher + Send + Drop + '
     gate: &'s G,
     job: Job<S>,
 ) -> Result<PromisedHandle<Worked<S>, WorkOf>, NoThread>
+where
+    S::Hasher: Send,
     requires { IsNewJob job }
     ensures { IfOk result (λ handle. handle_lanes handle ≡ job_lanes job) }
 {
