@@ -8,6 +8,7 @@ use Rattle.trace.specs.Traces.{opens, closes}
 use Rattle.bags.specs.Procedures.{Procedures, Active, event, after_sync, after_return, bags_from}
 use Rattle.shadow.proofs.FoundLaws.{bags-state_after}
 use Rattle.shard.specs.Shards.{ShardState, Accepts, HasApplied, IsNew, is_root_return}
+use Rattle.shard.proofs.Follows.{following}
 use Rattle.shard.specs.Working.{Follow, AreInOrder, MayTake}
 
 front_empty : (u rest : List Placed) → u ++ rest ≡ [] → u ≡ []
@@ -19,18 +20,24 @@ pub Follow-front : (m n : ℕ) (u rest : List Placed) → Follow m n (u ++ rest)
 Follow-front m n [] rest h = tt
 Follow-front m n (p ∷ u) rest h = (h.0, h.1, (λ is one. front_empty u rest (h.2 is one)), Follow-front p.place _ u rest h.3)
 
+pub in_order-front : (u rest : List Placed) → AreInOrder (u ++ rest) → AreInOrder u
+in_order-front u rest h = (following u).1 (Follow-front 0 1 u rest ((following (u ++ rest)).0 h))
+
 -- from an earlier place on
 pub Follow-earlier : (m l n : ℕ) (u : List Placed) → l ≤ m → Follow m n u → Follow l n u
 Follow-earlier m l n [] le h = tt
 Follow-earlier m l n (p ∷ u) le h = let lt = h.0 in (omega arith, h.1, h.2, h.3)
 
 -- there are no more of them than places
-pub length-follow : (m n : ℕ) (u : List Placed) → m ≤ 2 ^ 48 → Follow m n u → m + length u ≤ 2 ^ 48
+length-follow : (m n : ℕ) (u : List Placed) → m ≤ 2 ^ 48 → Follow m n u → m + length u ≤ 2 ^ 48
 length-follow m n [] le h = omega arith
 length-follow m n (p ∷ u) le h =
     let lt = h.0 in
     let more = length-follow p.place _ u h.1 h.3 in
     omega arith
+
+pub length-in_order : (u : List Placed) → AreInOrder u → length u ≤ 2 ^ 48
+length-in_order u h = let few = length-follow 0 1 u (omega arith) ((following u).0 h) in omega arith
 
 -- the root's return
 root_is : (b : Procedures) (r : Record) → is_root_return b r ≡ true → (r ≡ Return) × (length b.active ≡ 1)
@@ -79,8 +86,8 @@ takes_new s new rest =
     let one : length s.bags.active ≡ 1 = ap (λ (b : Procedures). length b.active) new.applied.bags_are in
     let P : ℕ → Type 0 = λ m. Follow m 1 rest in
     let Q : ℕ → Type 0 = λ n. Follow s.last_place n rest in (
-      (λ h. record { after_end = λ e. absurd (let z = new.running in cc); before_end = λ e. subst Q (sym one) (subst P (sym new.at_first) h) }),
-      (λ m. subst P new.at_first (subst Q one (m.before_end new.running))),
+      (λ h. record { after_end = λ e. absurd (let z = new.running in cc); before_end = λ e. subst Q (sym one) (subst P (sym new.at_first) ((following rest).0 h)) }),
+      (λ m. (following rest).1 (subst P new.at_first (subst Q one (m.before_end new.running)))),
     )
 
 pub takes_none : (s : ShardState) → MayTake s []

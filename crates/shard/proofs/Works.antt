@@ -14,7 +14,7 @@ use Rattle.shard.specs.declared.Back.{Back}
 use Rattle.shard.specs.declared.Back.TheVariants.{Race, NoMemory}
 use Rattle.shard.specs.Shards.{ShardState, Accepts, HasApplied, IsNew, is_root_return, capped_count}
 use Rattle.shard.specs.Working.{AreInOrder, told, HasStopped, out_of_order, no_memory, Answers, IsGoing, HasWorked, IsOfShare, TellsFound}
-use Rattle.shard.proofs.Orders.{Follow-front, length-follow, takes_new, takes_none, takes_next, takes_one, takes_after}
+use Rattle.shard.proofs.Orders.{in_order-front, length-in_order, takes_new, takes_none, takes_next, takes_one, takes_after}
 use Rattle.shard.proofs.Shares.{in_order}
 
 capped_more : (a b m : ℕ) → b ≡ min a m → min (b + 1) m ≡ min (a + 1) m
@@ -93,13 +93,13 @@ tells : (u : List Placed) (put : List (Item Back)) → AreInOrder u → Answers 
 tells u put fine (inl (o, e)) = inl (ap (λ (x : List (Item Back)). x ++ Finish ∷ []) e)
 tells u put fine (inr (out_of_order v rest p is o out e)) =
     let P : List Placed → Type 0 = AreInOrder in
-    absurd (out (Follow-front 0 1 (v ++ p ∷ []) rest (subst P (is ∙ sym (append_assoc v (p ∷ []) rest)) fine)))
+    absurd (out (in_order-front (v ++ p ∷ []) rest (subst P (is ∙ sym (append_assoc v (p ∷ []) rest)) fine)))
 tells u put fine (inr (no_memory v rest p is o e)) =
     inr (found v, found_front v u (p ∷ rest, is), ap (λ (x : List (Item Back)). x ++ Finish ∷ []) e ∙ append_assoc (told (found v)) (One NoMemory ∷ []) (Finish ∷ []))
 
 pub tells_share : (u : List Placed) (s : ShardState) (put : List (Item Back)) (stopped : Bool) → HasWorked u s put stopped → IsOfShare u → (s.taken ≡ length u) × TellsFound u (put ++ Finish ∷ [])
 tells_share u s put stopped h of =
-    let few = length-follow 0 1 u (omega arith) (in_order u of) in (
+    let few = length-in_order u (in_order u of) in (
       h.taken ∙ omega arith,
       tells u put (in_order u of) (answers u s put stopped h),
     )

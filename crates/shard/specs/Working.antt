@@ -3,7 +3,7 @@ use Rattle.std.specs.Prelude.{◌≡◌, ℕ, ◌+◌, ◌-◌, ◌<◌, ◌≤�
 use Rattle.trace.specs.declared.records.Record.{Record}
 use Rattle.trace.specs.declared.records.Record.TheVariants.{Return}
 use Rattle.trace.specs.declared.records.Placed.{Placed}
-use Rattle.trace.specs.Traces.{opens, closes, placed, IsWellNested}
+use Rattle.trace.specs.Traces.{opens, closes, placed, IsRootReturn, IsWellNested}
 use Rattle.trace.specs.Shares.{share}
 use Rattle.trace.specs.Accesses.{RaceAt}
 use Rattle.shadow.specs.Found.{found}
@@ -14,15 +14,19 @@ use Rattle.shard.specs.declared.Back.{Back}
 use Rattle.shard.specs.declared.Back.TheVariants.{Race, NoMemory}
 use Rattle.shard.specs.Shards.{ShardState, HasApplied, capped_count}
 
--- after a place, and where so many procedures are active: the places rise to 2^48 at most, and nothing follows
--- the root's return
-abbrev pub Follow : ℕ → ℕ → List Placed → Type 0
-Follow place active [] = Unit {0}
-Follow place active (p ∷ u) = (place < p.place) × (p.place ≤ 2 ^ 48) × (p.what ≡ Return → active ≡ 1 → u ≡ []) × Follow p.place ((active + opens p.what) - closes p.what) u
+-- the records, without their places
+abbrev pub whats : List Placed → List Record
+whats u = map (λ p. p.what) u
 
--- the records of a trace, or of a share, or of a beginning of either
-abbrev pub AreInOrder : List Placed → Type 0
-AreInOrder u = Follow 0 1 u
+-- the places rise from above this one, to 2^48 at most
+abbrev pub RiseFrom : ℕ → List Placed → Type 0
+RiseFrom place [] = Unit {0}
+RiseFrom place (p ∷ u) = (place < p.place) × (p.place ≤ 2 ^ 48) × RiseFrom p.place u
+
+-- as a trace, a share, and a beginning of either are: the places rise, and the root's return is nowhere but last
+pub record AreInOrder (u : List Placed) : Type 0 where
+  pub rising : RiseFrom 0 u
+  pub ended_last : (i : ℕ) → i < length u → IsRootReturn (whats u) i → ⊥
 
 -- races as they are handed back
 abbrev pub told : List RaceAt → List (Item Back)
@@ -37,6 +41,11 @@ pub data HasStopped (u : List Placed) (put : List (Item Back)) : Type 0 where
 -- what a worker has put that was given the records u: the races found in them where they are in order, or less
 abbrev pub Answers : List Placed → List (Item Back) → Type 0
 Answers u put = (AreInOrder u × (put ≡ told (found u))) ⊎ HasStopped u put
+
+-- after a place, and where so many procedures are active: the places rise, and nothing follows the root's return
+abbrev pub Follow : ℕ → ℕ → List Placed → Type 0
+Follow place active [] = Unit {0}
+Follow place active (p ∷ u) = (place < p.place) × (p.place ≤ 2 ^ 48) × (p.what ≡ Return → active ≡ 1 → u ≡ []) × Follow p.place ((active + opens p.what) - closes p.what) u
 
 -- the records that a shard may take from here on
 pub record MayTake (s : ShardState) (rest : List Placed) : Type 0 where

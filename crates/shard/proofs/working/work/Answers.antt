@@ -1,4 +1,4 @@
-use Rattle.std.proofs.Common.{◌≡◌, List, [], ◌∷◌, ◌++◌, length, map, sym, ap, subst, ◌∙◌}
+use Rattle.std.proofs.Common.{◌≡◌, List, [], ◌∷◌, ◌++◌, length, map, false, refl, sym, ap, subst, ◌∙◌}
 use Rattle.trace.specs.declared.records.Placed.{Placed}
 use Rattle.lane.specs.declared.item.Item.{Item}
 use Rattle.lane.specs.declared.item.Item.TheVariants.{One, Finish}
@@ -8,8 +8,20 @@ use Rattle.lane.proofs.Marks.{has_mark-snoc, records-one, records-finish}
 use Rattle.shard.specs.declared.Back.{Back}
 use Rattle.shard.specs.Shards.{capped_count}
 use Rattle.shard.specs.Working.{Answers, HasWorked, IsOfShare, TellsFound}
-use Rattle.shard.proofs.Works.{answers, tells_share, all_records}
+use Rattle.shard.proofs.Works.{worked_new, answers, tells_share, all_records}
 use Rattle.shard.proofs.working.work.Goals as goal
+
+pub loop-init : goal.loop-init
+loop-init g c =
+    let P : List (Item Placed) → Type 0 = λ x. HasWorked (records x) c.args.shard (put_of c.args.back) false in
+    let Q : List (Item Back) → Type 0 = λ y. HasWorked [] c.args.shard y false in
+    record {
+      same_taker = refl;
+      same_back = refl;
+      before_mark = ap has_mark c.requires.none_taken;
+      unmarked = ap has_mark c.requires.none_put;
+      worked = subst P (sym c.requires.none_taken) (subst Q (sym c.requires.none_put) (worked_new c.args.shard c.requires.new));
+    }
 
 pub loop-preserved-in-Some-One : goal.loop-preserved-in-Some-One
 loop-preserved-in-Some-One g c =
