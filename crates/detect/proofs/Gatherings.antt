@@ -1,5 +1,5 @@
 -- One item more of one lane back.
-use Rattle.std.proofs.Common.{◌≡◌, ℕ, zero, suc, ◌<◌, Bool, true, false, IsFalse, List, [], ◌∷◌, ◌++◌, length, set, get_or, map, ⊎_elim, arith, refl, sym, ap, subst, ◌∙◌}
+use Rattle.std.proofs.Common.{◌≡◌, ℕ, zero, suc, ◌+◌, ◌<◌, Bool, true, false, IsFalse, List, [], ◌∷◌, ◌++◌, length, set, get_or, map, ⊎_elim, arith, refl, sym, ap, subst, ◌∙◌}
 use Rattle.std.proofs.lemmas.Bool.{cases_eq}
 use Rattle.std.specs.Prelude.{Vec}
 use Rattle.std.specs.Vec.{with_item}
@@ -97,7 +97,7 @@ further_kept old new k s t x is lt at lane more gathers =
     subst P (sym is) (further_some old k s t x new.refused new.collector lt at lane more gathers)
 
 -- one lane more
-pub ended_to : (P : ℕ → Type 0) (n : ℕ) → P n → ((j : ℕ) → j < n → P j) → (k : ℕ) → k < suc n → P k
+pub ended_to : (P : ℕ → Type 0) (n : ℕ) → P n → ((j : ℕ) → j < n → P j) → (k : ℕ) → k < n + 1 → P k
 ended_to P n at before k h = ⊎_elim (λ e. subst P (sym e) at) (λ ne. before k (omega (arith, h, ne))) (cases_eq k n)
 
 pub within_given : (backs : List (Taker Back)) (k : ℕ) → k < length backs → k < length (given_by backs)

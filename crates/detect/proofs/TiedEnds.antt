@@ -26,16 +26,17 @@ module _ {S H : Type 0} where
   pub tied_more : (n : ℕ) (old new : Ends S H) (sender : Sender Placed) (job : Job S H) (back : Taker Back)
       → new.senders.items ≡ old.senders.items ++ sender ∷ [] → vec_len new.senders ≡ vec_len old.senders + 1
       → new.jobs.items ≡ old.jobs.items ++ job ∷ [] → vec_len new.jobs ≡ vec_len old.jobs + 1
-      → new.backs.items ≡ old.backs.items ++ back ∷ []
+      → new.backs.items ≡ old.backs.items ++ back ∷ [] → vec_len new.backs ≡ vec_len old.backs + 1
       → taker_lane job.taker ≡ lane_of sender → lane_of job.back ≡ taker_lane back → IsNewJob job → put_of sender ≡ [] → taken_of back ≡ []
       → IsTied n old → IsTied (n + 1) new
-  tied_more n old new sender job back senders sender_count jobs job_count backs to from fresh none_put none_taken h =
+  tied_more n old new sender job back senders sender_count jobs job_count backs back_count to from fresh none_put none_taken h =
       let P : List (Job S H) → Type 0 = AllNew in
       let Q : List (Sender Placed) → Type 0 = All (λ s. put_of s ≡ []) in
       let R : List (Taker Back) → Type 0 = All (λ t. taken_of t ≡ []) in
       record {
         senders = omega (arith, sender_count, h.senders);
         jobs = omega (arith, job_count, h.jobs);
+        backs = omega (arith, back_count, h.backs);
         to_shards_are = same_more (λ (j : Job S H). taker_lane j.taker) lane_of old.jobs.items new.jobs.items job old.senders.items new.senders.items sender jobs senders to h.to_shards_are;
         from_shards_are = same_more (λ (j : Job S H). lane_of j.back) taker_lane old.jobs.items new.jobs.items job old.backs.items new.backs.items back jobs backs from h.from_shards_are;
         new = subst P (sym jobs) (all-push IsNewJob old.jobs.items job h.new fresh);

@@ -14,6 +14,7 @@ module _ {S H : Type 0} where
   pub record IsTied (n : ℕ) (ends : Ends S H) : Type 0 where
     pub senders : vec_len ends.senders ≡ n
     pub jobs : vec_len ends.jobs ≡ n
+    pub backs : vec_len ends.backs ≡ n
     pub to_shards_are : to_shards ends.jobs.items ≡ map lane_of ends.senders.items
     pub from_shards_are : from_shards ends.jobs.items ≡ map taker_lane ends.backs.items
     pub new : AllNew ends.jobs.items
@@ -24,6 +25,7 @@ module _ {S H : Type 0} where
   pub record IsReady (n : ℕ) (made : Made S H) : Type 0 where
     pub count : lane_count made.router ≡ n
     pub jobs : vec_len made.jobs ≡ n
+    pub backs : vec_len made.gathering.backs ≡ n
     pub idle : pending_of made.router ≡ None
     pub unmarked : marked_of made.router ≡ 0
     pub none_sent : HasSent [] made.router

@@ -1,9 +1,9 @@
 //! The answer of a run.
-ghost use Rattle.std.specs.Prelude.{◌≡◌, ℕ, List, Option, Err, IsTrue, IsFalse, map, vec_len};
+ghost use Rattle.std.specs.Prelude.{◌≡◌, ◌≤◌, ◌^◌, ℕ, List, Option, Err, OnOk, IsTrue, IsFalse, map, vec_len};
 ghost use Rattle.trace.specs.declared.faults.Fault.TheVariants.{NoMemory};
 ghost use Rattle.lane.specs.Lanes.{taken_of};
 ghost use Rattle.detect.specs.Closing.{taken_by, counts_of};
-ghost use Rattle.detect.specs.Finished.{IsDone};
+ghost use Rattle.detect.specs.Finished.{IsClosed, IsDone};
 ghost use Rattle.detect.specs.Ran.{IsAnswer};
 ghost use Rattle.detect.specs.Rooms.{HasRoom};
 
@@ -18,7 +18,8 @@ use trace::Fault;
 /// Compares the receipts of a run, and reports.
 pub(crate) fn close<S: BuildHasher + Drop>(done: Done<S>, lists: Lists) -> Result<Run, Fault>
     requires room { HasRoom (vec_len done.workers) lists }
-    ensures { (n records depths : ℕ) (before after : Option (List ℕ)) (count count' : ℕ) → IsDone n records depths before after count count' done → IsAnswer n records depths before after count count' result }
+    requires closed { OnOk done.outcome (IsClosed done) }
+    ensures { (n records depths : ℕ) (before after : Option (List ℕ)) (count count' : ℕ) → 1 ≤ n → records ≤ 2 ^ 48 → IsDone n records depths before after count count' done → IsAnswer n records depths before after count count' result }
 {
     let Done {
         outcome,

@@ -50,7 +50,8 @@ fn make_ends<S: BuildHasher + Drop>(
     capacity: usize,
     hashers: Vec<S>,
 ) -> Result<Ends<S>, NoMemory>
-    requires { (1 ≤ capacity) × (capacity ≤ 65536) }
+    requires capacity { (1 ≤ capacity) × (capacity ≤ 65536) }
+    requires shards { vec_len hashers ≤ 64 }
     ensures { IfOk result (IsTied (vec_len hashers)) }
 {
     let mut ends = Ends {
@@ -58,8 +59,10 @@ fn make_ends<S: BuildHasher + Drop>(
         jobs: Vec::new(alloc),
         backs: Vec::new(alloc),
     };
+    let mut index = 0;
     for hasher in hashers {
-        add_shard(alloc, capacity, hasher, &mut ends)?;
+        add_shard(alloc, capacity, index, hasher, &mut ends)?;
+        index += 1;
     }
     Ok(ends)
 }
@@ -67,13 +70,14 @@ fn make_ends<S: BuildHasher + Drop>(
 fn add_shard<S: BuildHasher + Drop>(
     alloc: Global,
     capacity: usize,
+    index: u32,
     hasher: S,
     ends: &mut Ends<S>,
 ) -> Result<(), NoMemory>
     requires { (1 ≤ capacity) × (capacity ≤ 65536) }
     ensures { OnOk result ((n : ℕ) → IsTied n ends.old → IsTied (n + 1) ends.new) }
 {
-    let shard = Shard::new(alloc, ends.jobs.len() as u32, hasher)?;
+    let shard = Shard::new(alloc, index, hasher)?;
     let (sender, taker) = lane(alloc, capacity)?;
     let (back, gatherer) = lane(alloc, capacity)?;
     ends.senders.push(sender).map_err(|_| NoMemory)?;

@@ -1,5 +1,5 @@
 //! Detection with a thread a shard.
-ghost use Rattle.std.specs.Prelude.{◌≡◌, ◌≤◌, ℕ, List, Some, IfErr, vec_len, ◌⊎◌};
+ghost use Rattle.std.specs.Prelude.{◌≡◌, List, Some, IfOk, IfErr, vec_len, ◌⊎◌};
 ghost use Rattle.trace.specs.declared.records.Record.{Record};
 ghost use Rattle.trace.specs.declared.faults.Fault.TheVariants.{NoMemory, NoThread};
 ghost use Rattle.trace.specs.Traces.{IsWellNested};

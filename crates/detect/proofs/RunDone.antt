@@ -1,0 +1,65 @@
+-- What a run among its workers comes to.
+use Rattle.std.proofs.Common.{◌≡◌, ℕ, ◌<◌, List, length, map, Option, None, Result, Ok, Err, OnOk, IfErr, MatchResult, inl, inr, refl, sym, ap, subst, ◌∙◌, arith}
+use Rattle.std.proofs.lemmas.List.{length-map, map-map}
+use Rattle.std.specs.declared.thread.PromisedHandle.{PromisedHandle}
+use Rattle.trace.specs.declared.records.Placed.{Placed}
+use Rattle.trace.specs.declared.faults.Fault.{Fault}
+use Rattle.lane.specs.Lanes.{LaneId, taken_of}
+use Rattle.route.specs.declared.routing.Router.{Router}
+use Rattle.route.specs.Routers.{lane_count, pending_of, marked_of, HasSent, IsOnLanes}
+use Rattle.shard.specs.declared.working.Worked.{Worked}
+use Rattle.detect.specs.declared.jobs.WorkOf.{WorkOf}
+use Rattle.detect.specs.declared.made.Made.{Made}
+use Rattle.detect.specs.declared.made.Done.{Done}
+use Rattle.detect.specs.Runs.{FailsBy}
+use Rattle.detect.specs.Gatherings.{HasEnded, IsFurther}
+use Rattle.detect.specs.Sent.{HasSentAll, FailsInRun}
+use Rattle.detect.specs.Working.{job_lanes, handle_lanes, AllDid}
+use Rattle.detect.specs.Readiness.{IsReady}
+use Rattle.detect.specs.Finished.{IsFinished, IsClosed, IsDone}
+use Rattle.detect.proofs.RunEnds.{did_count, did_taker_lanes, did_told_lanes}
+
+module _ {S H : Type 0} where
+  pub finished : (n records depths : ℕ) (before after : Option (List ℕ)) (made : Made S H) (done : Done S H) (router : Router) (hs : List (PromisedHandle (Worked S H) WorkOf))
+      → IsReady n made → map handle_lanes hs ≡ map job_lanes made.jobs.items → HasSentAll records depths before after router → ((w : List Placed) → HasSent w router → HasSent w done.router)
+      → pending_of done.router ≡ None → marked_of done.router ≡ lane_count done.router → IsOnLanes made.router done.router → IsFurther made.gathering done.gathering
+      → ((k : ℕ) → k < length hs → HasEnded done.gathering k) → AllDid (map handle_lanes hs) done.workers.items → IsFinished n records depths before after done
+  finished n records depths before after made done router hs ready started sent marks idle marked on further ended did =
+      let P : List (LaneId × LaneId) → Type 0 = λ ls. AllDid ls done.workers.items in
+      let all : AllDid (map job_lanes made.jobs.items) done.workers.items = subst P started did in
+      let handles : length hs ≡ n = sym (length-map hs handle_lanes) ∙ ap length started ∙ length-map made.jobs.items job_lanes ∙ ready.jobs in
+      record {
+        sent = record { came = sent.came; consumed = sent.consumed; trace = sent.trace; whole = sent.whole; sent = marks _ sent.sent };
+        count = on.count ∙ ready.count;
+        idle = idle;
+        marked = marked ∙ on.count ∙ ready.count;
+        lanes = map job_lanes made.jobs.items;
+        to_shards = map-map (λ l. l.0) job_lanes made.jobs.items ∙ ready.to_shards_are ∙ sym on.lanes;
+        from_shards = map-map (λ l. l.1) job_lanes made.jobs.items ∙ ready.from_shards_are ∙ sym further.lanes;
+        did = all;
+        workers = did_count (map job_lanes made.jobs.items) done.workers.items all ∙ length-map made.jobs.items job_lanes ∙ ready.jobs;
+        ended = λ k lt. ended k (omega (arith, lt, handles));
+        backs = length-map done.gathering.backs.items taken_of ∙ further.count ∙ ready.backs;
+        gathered = further.gathers ready.gathered;
+      }
+
+  -- reading ended well or at a fault
+  pub done_read : (n records depths : ℕ) (before after : Option (List ℕ)) (count count' : ℕ) (done : Done S H) (router : Router) → OnOk done.outcome (HasSentAll records depths before after router) → IfErr done.outcome (FailsBy records depths before after count count')
+      → (HasSentAll records depths before after router → IsFinished n records depths before after done) → IsDone n records depths before after count count' done
+  done_read n records depths before after count count' done router sent fault good = go done.outcome sent fault
+    where
+      go : (r : Result (Unit {0}) Fault) → OnOk r (HasSentAll records depths before after router) → IfErr r (FailsBy records depths before after count count') → MatchResult r (λ _. IsFinished n records depths before after done) (FailsInRun records depths before after count count')
+      go (Ok v) s f = good s
+      go (Err e) s f = inr f
+
+  -- the receipts may be compared
+  pub closed_if : (n records depths : ℕ) (before after : Option (List ℕ)) (count count' : ℕ) (done : Done S H) → IsDone n records depths before after count count' done → OnOk done.outcome (IsClosed done)
+  closed_if n records depths before after count count' done h = go done.outcome h
+    where
+      go : (r : Result (Unit {0}) Fault) → MatchResult r (λ _. IsFinished n records depths before after done) (FailsInRun records depths before after count count') → OnOk r (IsClosed done)
+      go (Ok v) f = record {
+        marked = f.marked ∙ sym f.count;
+        to_shards = did_taker_lanes f.lanes done.workers.items f.did ∙ f.to_shards;
+        from_shards = did_told_lanes f.lanes done.workers.items f.did ∙ f.from_shards;
+      }
+      go (Err e) f = tt
