@@ -1,5 +1,5 @@
 -- What was routed, from what stands on the lanes.
-use Rattle.std.proofs.Common.{◌≡◌, ℕ, zero, suc, ◌<◌, ◌≤◌, ◌%◌, ◌==◌, ◌⊎◌, inl, inr, ⊎_elim, Bool, true, false, true≢false, cond, ◌&&◌, nat_lt, List, [], ◌∷◌, ◌++◌, map, filter, Contains, Option, Some, None, refl, sym, ap, ap₂, subst, ◌∙◌, append_assoc, append-nil, arith}
+use Rattle.std.proofs.Common.{◌≡◌, ℕ, zero, suc, ◌<◌, ◌≤◌, ◌%◌, ◌==◌, ◌⊎◌, inl, inr, ⊎_elim, Bool, true, false, true≢false, cond, ◌&&◌, nat_lt, List, [], ◌∷◌, ◌++◌, map, filter, Contains, Option, Some, None, option_to_list, refl, sym, ap, ap₂, subst, ◌∙◌, append_assoc, append-nil, arith}
 use Rattle.std.proofs.lemmas.Bool.{lt-ltb, le-ltb, cond-true, cond-false, and_left, and_from, cases_lt}
 use Rattle.std.proofs.lemmas.Bool.Decides.{nat_tests}
 use Rattle.std.proofs.lemmas.List.Elements.{All-filter, All-contains, All-contains_itself, Contains-append_left, Contains-append_cases, Contains-push}
@@ -150,8 +150,7 @@ pub record IsUnderWay (n : ℕ) (on : ℕ → List (Item Placed)) (w : List Plac
 pub record Outcome (n : ℕ) (on : ℕ → List (Item Placed)) (w : List Placed) (pending : Option Placed) : Type 0 where
   pub list : List Placed
   pub routes : Routes n on list
-  pub front : IsBeginning list (in_hand w pending)
-  pub whole : pending ≡ None → list ≡ w
+  pub either : (list ≡ w) ⊎ (list ≡ in_hand w pending)
 
 module _ (n : ℕ) (on : ℕ → List (Item Placed)) (w : List Placed) (turn marked : ℕ) where
   whole_marked : AllSent n w turn None marked on → (k : ℕ) → k < n → has_mark (on k) ≡ true → on k ≡ map One (share k n w) ++ Finish ∷ []
@@ -164,8 +163,7 @@ module _ (n : ℕ) (on : ℕ → List (Item Placed)) (w : List Placed) (turn mar
   outcome-none s = record {
     list = w;
     routes = routes_whole n on w s.some (λ k l. records-sent n on w turn None marked s.sent k l ∙ append-nil (share k n w)) (subst IsRising (append-nil w) s.rising) (whole_marked s.sent);
-    front = ([], refl);
-    whole = λ e. refl;
+    either = inl refl;
   }
 
   no_mark : (p : Placed) → IsUnderWay n on w turn (Some p) marked → (k : ℕ) → k < n → has_mark (on k) ≡ false
@@ -181,8 +179,7 @@ module _ (n : ℕ) (on : ℕ → List (Item Placed)) (w : List Placed) (turn mar
             routes_whole n on w s.some
             (λ k l. sent k l ∙ ap (λ (x : List Placed). share k n w ++ x) (cond-false (nat_lt k turn && goes_placed k n p) (p ∷ []) [] (none k)) ∙ append-nil (share k n w))
             (rising_front w (p ∷ []) s.rising) (λ k l h. absurd (true≢false (sym h ∙ no_mark p s k l)));
-        front = (p ∷ [], refl);
-        whole = λ e. absurd (cc);
+        either = inl refl;
       })
       (λ (all : ((k : ℕ) → goes k n p.what ≡ true) × (0 < turn)). record {
         list = w ++ p ∷ [];
@@ -191,8 +188,7 @@ module _ (n : ℕ) (on : ℕ → List (Item Placed)) (w : List Placed) (turn mar
             (λ k x. sent k (omega (arith, s.within p refl)) ∙ ap (λ (x : List Placed). share k n w ++ x) (cond-true (nat_lt k turn && goes_placed k n p) (p ∷ []) [] (and_from (nat_lt k turn) (goes_placed k n p) (lt-ltb k turn x) (all.0 k))))
             (λ k x l. sent k l ∙ ap (λ (x : List Placed). share k n w ++ x) (cond-false (nat_lt k turn && goes_placed k n p) (p ∷ []) [] (and_left (nat_lt k turn) (goes_placed k n p) (le-ltb k turn x))) ∙ append-nil (share k n w))
             (no_mark p s);
-        front = ([], sym (append-nil (w ++ p ∷ [])));
-        whole = λ e. absurd (cc);
+        either = inr refl;
       }) (early n turn p.what (s.aimed p refl))
 
 pub outcome : (n : ℕ) (on : ℕ → List (Item Placed)) (w : List Placed) (turn : ℕ) (pending : Option Placed) (marked : ℕ) → IsUnderWay n on w turn pending marked → Outcome n on w pending
@@ -208,8 +204,17 @@ has_routed n on w v pending o (more, e) = record {
   list = o.list;
   routed = o.routes.routed;
   only = λ u iu. only_one n on o.list u o.routes.routed iu;
-  front = (o.front.0 ++ more, e ∙ ap (λ (l : List Placed). l ++ more) o.front.1 ∙ append_assoc o.list o.front.0 more);
+  front = let Front : List Placed → Type 0 = λ l. IsBeginning l v in
+      ⊎_elim (λ (h : o.list ≡ w). subst Front (sym h) (option_to_list pending ++ more, e ∙ append_assoc w (option_to_list pending) more))
+      (λ (h : o.list ≡ in_hand w pending). subst Front (sym h) (more, e)) o.either;
 }
 
-pub only_list : (n : ℕ) (on : ℕ → List (Item Placed)) (w u : List Placed) (pending : Option Placed) → (o : Outcome n on w pending) → IsRouted n on u → u ≡ o.list
-only_list n on w u pending o iu = only_one n on o.list u o.routes.routed iu
+-- that list is what was sent whole, or that and the pending record
+pub list_of : (n : ℕ) (on : ℕ → List (Item Placed)) (w u : List Placed) (pending : Option Placed) → Outcome n on w pending → IsRouted n on u → (u ≡ w) ⊎ (u ≡ in_hand w pending)
+list_of n on w u pending o iu =
+    let same : u ≡ o.list = only_one n on o.list u o.routes.routed iu in
+    ⊎_elim (λ (h : o.list ≡ w). inl (same ∙ h)) (λ (h : o.list ≡ in_hand w pending). inr (same ∙ h)) o.either
+
+-- a lane with the mark, where nothing is pending
+pub put_marked : (n : ℕ) (on : ℕ → List (Item Placed)) (w : List Placed) (turn marked k : ℕ) → AllSent n w turn None marked on → k < n → k < marked → on k ≡ map One (share k n w) ++ Finish ∷ []
+put_marked n on w turn marked k all l h = whole_marked n on w turn marked all k l (has_mark-sent n on w turn None marked all k l ∙ lt-ltb k marked h)

@@ -6,26 +6,26 @@ use Rattle.lane.specs.declared.item.Item.{Item}
 use Rattle.lane.specs.Items.{IsBeginning}
 use Rattle.trace.specs.declared.records.Placed.{Placed}
 use Rattle.route.specs.Routed.{IsRising}
-use Rattle.route.specs.Runs.{Event, put, take, puts, takes, of_lane, put_list, taken_list, held_after, held, IsAllowed, IsRun}
+use Rattle.route.specs.Runs.{Event, put, take, puts_in, takes_in, of_lane, put_list, taken_list, held_after, held, IsAllowed, IsRun}
 use Rattle.route.proofs.LaneShares.{Outcome, outcome}
 use Rattle.route.proofs.Rising.{rising_front}
 use Rattle.route.proofs.RunFronts.{of_lane-append, Front, front}
 
-puts-append : (es fs : List Event) → puts (es ++ fs) ≡ puts es ++ puts fs
-puts-append [] fs = refl
-puts-append (put k x ∷ es) fs = ap (λ (l : List (ℕ × Item Placed)). (k, x) ∷ l) (puts-append es fs)
-puts-append (take k x ∷ es) fs = puts-append es fs
+puts_in-append : (es fs : List Event) → puts_in (es ++ fs) ≡ puts_in es ++ puts_in fs
+puts_in-append [] fs = refl
+puts_in-append (put k x ∷ es) fs = ap (λ (l : List (ℕ × Item Placed)). (k, x) ∷ l) (puts_in-append es fs)
+puts_in-append (take k x ∷ es) fs = puts_in-append es fs
 
-takes-append : (es fs : List Event) → takes (es ++ fs) ≡ takes es ++ takes fs
-takes-append [] fs = refl
-takes-append (put k x ∷ es) fs = takes-append es fs
-takes-append (take k x ∷ es) fs = ap (λ (l : List (ℕ × Item Placed)). (k, x) ∷ l) (takes-append es fs)
+takes_in-append : (es fs : List Event) → takes_in (es ++ fs) ≡ takes_in es ++ takes_in fs
+takes_in-append [] fs = refl
+takes_in-append (put k x ∷ es) fs = takes_in-append es fs
+takes_in-append (take k x ∷ es) fs = ap (λ (l : List (ℕ × Item Placed)). (k, x) ∷ l) (takes_in-append es fs)
 
-put_list-push : (es : List Event) (e : Event) (k : ℕ) → put_list (es ++ e ∷ []) k ≡ put_list es k ++ of_lane k (puts (e ∷ []))
-put_list-push es e k = ap (of_lane k) (puts-append es (e ∷ [])) ∙ of_lane-append k (puts es) (puts (e ∷ []))
+put_list-push : (es : List Event) (e : Event) (k : ℕ) → put_list (es ++ e ∷ []) k ≡ put_list es k ++ of_lane k (puts_in (e ∷ []))
+put_list-push es e k = ap (of_lane k) (puts_in-append es (e ∷ [])) ∙ of_lane-append k (puts_in es) (puts_in (e ∷ []))
 
-taken_list-push : (es : List Event) (e : Event) (k : ℕ) → taken_list (es ++ e ∷ []) k ≡ taken_list es k ++ of_lane k (takes (e ∷ []))
-taken_list-push es e k = ap (of_lane k) (takes-append es (e ∷ [])) ∙ of_lane-append k (takes es) (takes (e ∷ []))
+taken_list-push : (es : List Event) (e : Event) (k : ℕ) → taken_list (es ++ e ∷ []) k ≡ taken_list es k ++ of_lane k (takes_in (e ∷ []))
+taken_list-push es e k = ap (of_lane k) (takes_in-append es (e ∷ [])) ∙ of_lane-append k (takes_in es) (takes_in (e ∷ []))
 
 held-push : (es : List Event) (e : Event) (k : ℕ) → held (es ++ e ∷ []) k ≡ held_after k (held es k) e
 held-push es e k = fold-append (held_after k) [] es (e ∷ [])
@@ -64,14 +64,14 @@ earlier n w before after run = record {
   some = run.some;
   rising = run.rising;
   allowed = λ b a e split. run.allowed b (a ++ after) e (ap (λ (l : List Event). l ++ after) split ∙ append_assoc b (e ∷ a) after);
-  in_order = (puts after ++ run.in_order.0, run.in_order.1 ∙ ap (λ (l : List (ℕ × Item Placed)). l ++ run.in_order.0) (puts-append before after) ∙ append_assoc (puts before) (puts after) run.in_order.0);
+  in_order = (puts_in after ++ run.in_order.0, run.in_order.1 ∙ ap (λ (l : List (ℕ × Item Placed)). l ++ run.in_order.0) (puts_in-append before after) ∙ append_assoc (puts_in before) (puts_in after) run.in_order.0);
 }
 
 -- where a run stands
-pub front_of : (n : ℕ) (w : List Placed) (es : List Event) → IsRun n w es → Front n w (puts es)
-front_of n w es run = front n w (puts es) run.in_order.0 run.some (sym run.in_order.1)
+pub front_of : (n : ℕ) (w : List Placed) (es : List Event) → IsRun n w es → Front n w (puts_in es)
+front_of n w es run = front n w (puts_in es) run.in_order.0 run.some (sym run.in_order.1)
 
-pub outcome_of : (n : ℕ) (w : List Placed) (es : List Event) → IsRun n w es → (f : Front n w (puts es)) → Outcome n (put_list es) f.v f.pending
+pub outcome_of : (n : ℕ) (w : List Placed) (es : List Event) → IsRun n w es → (f : Front n w (puts_in es)) → Outcome n (put_list es) f.v f.pending
 outcome_of n w es run f =
     outcome n (put_list es) f.v f.turn f.pending f.marked
     (record { some = run.some; rising = rising_front _ f.rest (subst IsRising f.whole run.rising); within = f.within; aimed = f.aimed; unmarked = f.unmarked; sent = f.sent })

@@ -15,15 +15,15 @@ pub data Event : Type 0 where
   take : ℕ → Item Placed → Event
 
 -- the items put, each with its lane, and the items taken
-abbrev pub puts : List Event → List (ℕ × Item Placed)
-puts [] = []
-puts (put k x ∷ es) = (k, x) ∷ puts es
-puts (take k x ∷ es) = puts es
+abbrev pub puts_in : List Event → List (ℕ × Item Placed)
+puts_in [] = []
+puts_in (put k x ∷ es) = (k, x) ∷ puts_in es
+puts_in (take k x ∷ es) = puts_in es
 
-abbrev pub takes : List Event → List (ℕ × Item Placed)
-takes [] = []
-takes (put k x ∷ es) = takes es
-takes (take k x ∷ es) = (k, x) ∷ takes es
+abbrev pub takes_in : List Event → List (ℕ × Item Placed)
+takes_in [] = []
+takes_in (put k x ∷ es) = takes_in es
+takes_in (take k x ∷ es) = (k, x) ∷ takes_in es
 
 -- those of lane k
 abbrev pub of_lane : {X : Type 0} → ℕ → List (ℕ × X) → List X
@@ -31,10 +31,10 @@ of_lane k [] = []
 of_lane k (e ∷ es) = if e.0 == k then e.1 ∷ of_lane k es else of_lane k es
 
 abbrev pub put_list : List Event → ℕ → List (Item Placed)
-put_list es k = of_lane k (puts es)
+put_list es k = of_lane k (puts_in es)
 
 abbrev pub taken_list : List Event → ℕ → List (Item Placed)
-taken_list es k = of_lane k (takes es)
+taken_list es k = of_lane k (takes_in es)
 
 -- what lane k holds: a put adds at the end, and a take takes the oldest item
 abbrev pub held_after : ℕ → List (Item Placed) → Event → List (Item Placed)
@@ -69,4 +69,4 @@ pub record IsRun (n : ℕ) (w : List Placed) (es : List Event) : Type 0 where
   pub some : 0 < n
   pub rising : IsRising w
   pub allowed : (before after : List Event) (e : Event) → es ≡ before ++ e ∷ after → IsAllowed before e
-  pub in_order : IsBeginning (puts es) (sending n w)
+  pub in_order : IsBeginning (puts_in es) (sending n w)

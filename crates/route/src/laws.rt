@@ -1,6 +1,6 @@
 //! What stands on the lanes at every point of every run, and on the lanes of every router.
 
-ghost use Rattle.std.specs.Prelude.{◌≡◌, ℕ, ◌<◌, true, List, ◌++◌};
+ghost use Rattle.std.specs.Prelude.{◌≡◌, ℕ, ◌<◌, ◌⊎◌, true, List, ◌++◌};
 ghost use Rattle.lane.specs.Items.{has_mark, IsBeginning};
 ghost use Rattle.trace.specs.declared.records.Placed.{Placed};
 ghost use Rattle.route.specs.declared.routing.Router.{Router};
@@ -25,11 +25,13 @@ pub fn runs()
         → IsBeginning (taken_list es k) (put_list es k) }
 {}
 
-/// Of every router that was offered records whose places rise: the same, and with nothing pending the list that was
-/// routed is what was sent whole.
+/// Of every router that was offered records whose places rise: the same, and what was routed is what was sent
+/// whole, or that and the pending record.
 pub fn routers()
     ensures routed { (r : Router) (w : List Placed) → HasSent w r → IsRising (in_hand w (pending_of r))
         → HasRouted (lane_count r) (put_on (puts_of r)) (in_hand w (pending_of r)) }
+    ensures list { (r : Router) (w u : List Placed) → HasSent w r → IsRising (in_hand w (pending_of r))
+        → IsRouted (lane_count r) (put_on (puts_of r)) u → (u ≡ w) ⊎ (u ≡ in_hand w (pending_of r)) }
     ensures whole { (r : Router) (w u : List Placed) → HasSent w r → IsRising w
         → pending_of r ≡ None → IsRouted (lane_count r) (put_on (puts_of r)) u → u ≡ w }
     ensures shares { (r : Router) (k : ℕ) (w u : List Placed) → HasSent w r

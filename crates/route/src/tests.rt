@@ -1,10 +1,10 @@
 //! The router call by call, and what each lane gave at every point of a run.
-ghost use Rattle.std.specs.Prelude.{◌≡◌, ◌≤◌, [], All, IfOk, OnOk, vec_len};
-ghost use Rattle.lane.specs.Lanes.{put_of};
-ghost use Rattle.route.specs.Routers.{pending_of, marked_of};
+ghost use Rattle.std.specs.Prelude.{◌≡◌, ◌≤◌, [], ◌∷◌, All, map, IfOk, OnOk, vec_len};
+ghost use Rattle.lane.specs.Lanes.{put_of, taker_lane, end_lane};
+ghost use Rattle.route.specs.Routers.{lanes_of, pending_of, marked_of};
 
 use super::*;
-use lane::{Item, Sender, Taker, lane};
+use lane::{End, Item, Sender, Taker, lane};
 use std::alloc::Global;
 use std::process::Abort;
 use std::sync::Wait;
@@ -57,7 +57,8 @@ fn mark_two<R: Wait + Abort>(
     mut taker: Taker<Placed>,
     mut other: Taker<Placed>,
 )
-    requires { pending_of router ≡ None }
+    requires idle { pending_of router ≡ None }
+    requires lanes { lanes_of router ≡ taker_lane taker ∷ taker_lane other ∷ [] }
 {
     assert_eq!(rt; router.mark_all_step(rt), Progress::Blocked(0));
     assert_eq!(rt; taker.take(rt), one(3, Record::Return));
@@ -68,7 +69,16 @@ fn mark_two<R: Wait + Abort>(
     assert_eq!(rt; router.mark_all_step(rt), Progress::Idle);
     assert_eq!(rt; taker.take(rt), Some(Item::Finish));
     assert_eq!(rt; other.take(rt), Some(Item::Finish));
-    assert_eq!(rt; router.into_ends().len(), 2);
+    settle_two(router.into_ends(), taker, other);
+}
+
+// The receipts are those of the two lanes, in their order.
+fn settle_two(mut ends: Vec<End<Placed>>, mut taker: Taker<Placed>, mut other: Taker<Placed>)
+    requires count { vec_len ends ≡ 2 }
+    requires lanes { map end_lane ends.items ≡ taker_lane taker ∷ taker_lane other ∷ [] }
+{
+    taker.settle(&mut ends[0]);
+    other.settle(&mut ends[1]);
 }
 
 // A lane's taker, and what it gave.

@@ -1,4 +1,4 @@
-use Rattle.std.proofs.Common.{◌≡◌, ℕ, [], List, sym, ap, subst, ◌∙◌, append-nil, vec_len, true, arith}
+use Rattle.std.proofs.Common.{◌≡◌, ℕ, [], List, ⊎_elim, sym, ap, subst, ◌∙◌, append-nil, vec_len, true, arith}
 use Rattle.std.proofs.lemmas.List.{length-map}
 use Rattle.lane.specs.Lanes.{put_of}
 use Rattle.trace.specs.declared.records.Placed.{Placed}
@@ -7,7 +7,7 @@ use Rattle.route.specs.declared.routing.Router.{Router}
 use Rattle.route.specs.Sending.{put_on}
 use Rattle.route.specs.Routed.{IsRising, in_hand}
 use Rattle.route.specs.Routers.{puts_of, lane_count, pending_of, turn_of, marked_of, HasSent}
-use Rattle.route.proofs.LaneShares.{IsUnderWay, Outcome, outcome, routes_of, has_routed, only_list}
+use Rattle.route.proofs.LaneShares.{IsUnderWay, Outcome, outcome, routes_of, has_routed, list_of}
 use Rattle.route.proofs.laws.routers.Goals as goal
 
 counted : (r : Router) → vec_len r.senders ≡ lane_count r
@@ -29,10 +29,14 @@ of_router r w sent rising = outcome (lane_count r) (put_on (puts_of r)) w (turn_
 pub returns-clause-routed : goal.returns-clause-routed
 returns-clause-routed c = λ r w sent rising. has_routed (lane_count r) (put_on (puts_of r)) w (in_hand w (pending_of r)) (pending_of r) (of_router r w sent rising) ([], sym (append-nil (in_hand w (pending_of r))))
 
+pub returns-clause-list : goal.returns-clause-list
+returns-clause-list c = λ r w u sent rising routed. list_of (lane_count r) (put_on (puts_of r)) w u (pending_of r) (of_router r w sent rising) routed
+
 pub returns-clause-whole : goal.returns-clause-whole
 returns-clause-whole c = λ r w u sent rising none routed.
     let at_rest : IsRising (in_hand w (pending_of r)) = subst IsRising (sym (ap (in_hand w) none ∙ append-nil w)) rising in
-    let o = of_router r w sent at_rest in only_list (lane_count r) (put_on (puts_of r)) w u (pending_of r) o routed ∙ o.whole none
+    let at_once : in_hand w (pending_of r) ≡ w = ap (in_hand w) none ∙ append-nil w in
+    ⊎_elim (λ (h : u ≡ w). h) (λ (h : u ≡ in_hand w (pending_of r)). h ∙ at_once) (list_of (lane_count r) (put_on (puts_of r)) w u (pending_of r) (of_router r w sent at_rest) routed)
 
 pub returns-clause-shares : goal.returns-clause-shares
 returns-clause-shares c = λ r k w u sent rising routed l. (routes_of (lane_count r) (put_on (puts_of r)) w u (pending_of r) (of_router r w sent rising) routed).shares k l
