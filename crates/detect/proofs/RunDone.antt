@@ -1,10 +1,11 @@
 -- What a run among its workers comes to.
 use Rattle.std.proofs.Common.{◌≡◌, ℕ, ◌<◌, List, length, map, Option, None, Result, Ok, Err, OnOk, IfErr, MatchResult, inl, inr, refl, sym, ap, subst, ◌∙◌, arith}
-use Rattle.std.proofs.lemmas.List.{length-map, map-map}
+use Rattle.std.proofs.lemmas.List.{length-map}
+use Rattle.std.proofs.lemmas.Simd.{map-map}
 use Rattle.std.specs.declared.thread.PromisedHandle.{PromisedHandle}
 use Rattle.trace.specs.declared.records.Placed.{Placed}
 use Rattle.trace.specs.declared.faults.Fault.{Fault}
-use Rattle.lane.specs.Lanes.{LaneId, taken_of}
+use Rattle.lane.specs.Lanes.{LaneId, taker_lane, taken_of}
 use Rattle.route.specs.declared.routing.Router.{Router}
 use Rattle.route.specs.Routers.{lane_count, pending_of, marked_of, HasSent, IsOnLanes}
 use Rattle.shard.specs.declared.working.Worked.{Worked}
@@ -39,7 +40,7 @@ module _ {S H : Type 0} where
         did = all;
         workers = did_count (map job_lanes made.jobs.items) done.workers.items all ∙ length-map made.jobs.items job_lanes ∙ ready.jobs;
         ended = λ k lt. ended k (omega (arith, lt, handles));
-        backs = length-map done.gathering.backs.items taken_of ∙ further.count ∙ ready.backs;
+        backs = length-map done.gathering.backs.items taken_of ∙ sym (length-map done.gathering.backs.items taker_lane) ∙ ap length further.lanes ∙ length-map made.gathering.backs.items taker_lane ∙ ready.backs;
         gathered = further.gathers ready.gathered;
       }
 

@@ -1,6 +1,6 @@
 -- What a run begins with.
-use Rattle.std.specs.Prelude.{◌≡◌, ℕ, ◌≤◌, List, [], map, None, vec_len, vec_capacity}
-use Rattle.std.specs.List.{All}
+use Rattle.std.specs.Prelude.{◌≡◌, ℕ, ◌≤◌, List, [], length, map, None, vec_len, vec_capacity}
+use Rattle.std.specs.List.{All, AllByRecursion}
 use Rattle.lane.specs.Lanes.{LaneId, lane_of, put_of, taken_of, taker_lane}
 use Rattle.route.specs.Routers.{lanes_of, lane_count, pending_of, marked_of, HasSent}
 use Rattle.detect.specs.declared.made.Ends.{Ends}
@@ -12,20 +12,20 @@ use Rattle.detect.specs.Working.{AllNew, to_shards, from_shards}
 module _ {S H : Type 0} where
   -- the ends of the lanes of n shards, on which nothing was put
   pub record IsTied (n : ℕ) (ends : Ends S H) : Type 0 where
-    pub senders : vec_len ends.senders ≡ n
-    pub jobs : vec_len ends.jobs ≡ n
-    pub backs : vec_len ends.backs ≡ n
+    pub senders : length ends.senders.items ≡ n
+    pub jobs : length ends.jobs.items ≡ n
+    pub backs : length ends.backs.items ≡ n
     pub to_shards_are : to_shards ends.jobs.items ≡ map lane_of ends.senders.items
     pub from_shards_are : from_shards ends.jobs.items ≡ map taker_lane ends.backs.items
     pub new : AllNew ends.jobs.items
     pub none_put : All (λ s. put_of s ≡ []) ends.senders.items
-    pub none_taken : All (λ t. taken_of t ≡ []) ends.backs.items
+    pub none_taken : AllByRecursion (λ t. taken_of t ≡ []) ends.backs.items
 
   -- a router and n workers on its lanes, before the first record, and room for what comes of the workers
   pub record IsReady (n : ℕ) (made : Made S H) : Type 0 where
     pub count : lane_count made.router ≡ n
-    pub jobs : vec_len made.jobs ≡ n
-    pub backs : vec_len made.gathering.backs ≡ n
+    pub jobs : length made.jobs.items ≡ n
+    pub backs : length made.gathering.backs.items ≡ n
     pub idle : pending_of made.router ≡ None
     pub unmarked : marked_of made.router ≡ 0
     pub none_sent : HasSent [] made.router

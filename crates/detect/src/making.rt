@@ -1,5 +1,5 @@
 //! What a run needs, all of it made before a worker is started or a byte is read.
-ghost use Rattle.std.specs.Prelude.{ℕ, ◌+◌, ◌≤◌, vec_len, IfOk, OnOk};
+ghost use Rattle.std.specs.Prelude.{◌≡◌, ℕ, ◌+◌, ◌≤◌, vec_len, vec_capacity, IfOk, OnOk};
 ghost use Rattle.detect.specs.Readiness.{IsReady, IsTied};
 ghost use Rattle.detect.specs.Rooms.{HasRoom};
 
@@ -39,8 +39,8 @@ pub(crate) fn make<S: BuildHasher + Drop>(
             refused: false,
         },
         jobs,
-        handles: Vec::with_capacity(alloc, count).map_err(|_| NoMemory)?,
-        workers: Vec::with_capacity(alloc, count).map_err(|_| NoMemory)?,
+        handles: with_room(alloc, count)?,
+        workers: with_room(alloc, count)?,
     })
 }
 
@@ -95,7 +95,13 @@ pub(crate) fn make_lists(alloc: Global, count: usize) -> Result<Lists, NoMemory>
     ensures { IfOk result (HasRoom count) }
 {
     Ok(Lists {
-        taken: Vec::with_capacity(alloc, count).map_err(|_| NoMemory)?,
-        lanes: Vec::with_capacity(alloc, count).map_err(|_| NoMemory)?,
+        taken: with_room(alloc, count)?,
+        lanes: with_room(alloc, count)?,
     })
+}
+
+fn with_room<X: Drop>(alloc: Global, count: usize) -> Result<Vec<X>, NoMemory>
+    ensures { IfOk result (λ v. (vec_len v ≡ 0) × (count ≤ vec_capacity v)) }
+{
+    Vec::with_capacity(alloc, count).map_err(|_| NoMemory)
 }
