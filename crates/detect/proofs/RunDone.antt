@@ -5,6 +5,7 @@ use Rattle.std.proofs.lemmas.Simd.{map-map}
 use Rattle.std.specs.declared.thread.PromisedHandle.{PromisedHandle}
 use Rattle.trace.specs.declared.records.Placed.{Placed}
 use Rattle.trace.specs.declared.faults.Fault.{Fault}
+use Rattle.trace.specs.declared.faults.Fault.TheVariants.{NoThread}
 use Rattle.lane.specs.Lanes.{LaneId, taker_lane, taken_of}
 use Rattle.route.specs.declared.routing.Router.{Router}
 use Rattle.route.specs.Routers.{lane_count, pending_of, marked_of, HasSent, IsOnLanes}
@@ -18,6 +19,9 @@ use Rattle.detect.specs.Sent.{HasSentAll, FailsInRun}
 use Rattle.detect.specs.Working.{job_lanes, handle_lanes, AllDid}
 use Rattle.detect.specs.Readiness.{IsReady}
 use Rattle.detect.specs.Finished.{IsFinished, IsClosed, IsDone}
+use Rattle.detect.specs.declared.gathering.Gathering.{Gathering}
+use Rattle.detect.proofs.Sendings.{on_lanes_trans}
+use Rattle.detect.proofs.Gatherings.{further_trans}
 use Rattle.detect.proofs.RunEnds.{did_count, did_taker_lanes, did_told_lanes}
 
 module _ {S H : Type 0} where
@@ -64,3 +68,30 @@ module _ {S H : Type 0} where
         from_shards = did_told_lanes f.lanes done.workers.items f.did ∙ f.from_shards;
       }
       go (Err e) f = tt
+
+  -- no worker could be started
+  pub done_refused : (n records depths : ℕ) (before after : Option (List ℕ)) (count count' : ℕ) (done : Done S H) → done.outcome ≡ Err NoThread → IsDone n records depths before after count count' done
+  done_refused n records depths before after count count' done is =
+      let P : Result (Unit {0}) Fault → Type 0 = λ r. MatchResult r (λ _. IsFinished n records depths before after done) (FailsInRun records depths before after count count') in
+      subst P (sym is) (inl refl)
+
+  -- the workers were started, the trace was read, and all ended
+  pub done_started : {X : Type 0} (rest : X → Option (List ℕ)) (failures : X → ℕ) (n records depths : ℕ) (before : Option (List ℕ)) (count : ℕ) (made : Made S H) (done : Done S H) (hs : List (PromisedHandle (Worked S H) WorkOf))
+      (x x' : X) (r r' : Router) (g g' g2 : Gathering) (o : Result (Unit {0}) Fault) → x' ≡ x → r' ≡ r → g' ≡ g → done.outcome ≡ o
+      → IsReady n made → map handle_lanes hs ≡ map job_lanes made.jobs.items
+      → OnOk o (HasSentAll records depths before (rest x) r) → IfErr o (FailsBy records depths before (rest x) count (failures x)) → IsOnLanes made.router r → IsFurther made.gathering g
+      → ((w : List Placed) → HasSent w r' → HasSent w done.router) → pending_of done.router ≡ None → marked_of done.router ≡ lane_count done.router → IsOnLanes r' done.router
+      → IsFurther g' g2 → IsFurther g2 done.gathering → ((k : ℕ) → k < length hs → HasEnded done.gathering k) → AllDid (map handle_lanes hs) done.workers.items
+      → IsDone n records depths before (rest x') count (failures x') done
+  done_started {X = X} rest failures n records depths before count made done hs x x' r r' g g' g2 o same_x same_r same_g outcome ready started sent fault on further marks idle marked on' further' further'' ended did =
+      let P : X → Type 0 = λ y. IsDone n records depths before (rest y) count (failures y) done in
+      let Q : Router → Type 0 = λ q. (w : List Placed) → HasSent w q → HasSent w done.router in
+      let R : Router → Type 0 = λ q. IsOnLanes q done.router in
+      let G : Gathering → Type 0 = λ q. IsFurther q g2 in
+      let O : Result (Unit {0}) Fault → Type 0 = λ q. OnOk q (HasSentAll records depths before (rest x) r) in
+      let E : Result (Unit {0}) Fault → Type 0 = λ q. IfErr q (FailsBy records depths before (rest x) count (failures x)) in
+      subst P (sym same_x)
+      (done_read n records depths before (rest x) count (failures x) done r (subst O (sym outcome) sent) (subst E (sym outcome) fault)
+        (λ s. finished n records depths before (rest x) made done r hs ready started s (subst Q same_r marks) idle marked
+          (on_lanes_trans made.router r done.router on (subst R same_r on'))
+          (further_trans made.gathering g done.gathering further (further_trans g g2 done.gathering (subst G same_g further') further'')) ended did))
