@@ -1,5 +1,5 @@
 -- What a run among its workers comes to.
-use Rattle.std.proofs.Common.{◌≡◌, ℕ, ◌<◌, List, length, map, Option, None, Result, Ok, Err, OnOk, IfErr, MatchResult, inl, inr, refl, sym, ap, subst, ◌∙◌, arith}
+use Rattle.std.proofs.Common.{◌≡◌, ℕ, ◌<◌, List, length, map, vec_len, Option, None, Result, Ok, Err, OnOk, IfErr, MatchResult, inl, inr, refl, sym, ap, subst, ◌∙◌, arith}
 use Rattle.std.proofs.lemmas.List.{length-map}
 use Rattle.std.proofs.lemmas.Simd.{map-map}
 use Rattle.std.specs.declared.thread.PromisedHandle.{PromisedHandle}
@@ -13,6 +13,8 @@ use Rattle.shard.specs.declared.working.Worked.{Worked}
 use Rattle.detect.specs.declared.jobs.WorkOf.{WorkOf}
 use Rattle.detect.specs.declared.made.Made.{Made}
 use Rattle.detect.specs.declared.made.Done.{Done}
+use Rattle.detect.specs.declared.made.Lists.{Lists}
+use Rattle.detect.specs.Rooms.{HasRoom}
 use Rattle.detect.specs.Runs.{FailsBy}
 use Rattle.detect.specs.Gatherings.{HasEnded, IsFurther}
 use Rattle.detect.specs.Sent.{HasSentAll, FailsInRun}
@@ -95,3 +97,11 @@ module _ {S H : Type 0} where
         (λ s. finished n records depths before (rest x) made done r hs ready started s (subst Q same_r marks) idle marked
           (on_lanes_trans made.router r done.router on (subst R same_r on'))
           (further_trans made.gathering g done.gathering further (further_trans g g2 done.gathering (subst G same_g further') further'')) ended did))
+
+  -- there is room for what the workers answer
+  pub room_if : (n records depths : ℕ) (before after : Option (List ℕ)) (count count' : ℕ) (done : Done S H) (lists : Lists) → HasRoom n lists → IsDone n records depths before after count count' done → OnOk done.outcome (HasRoom (vec_len done.workers) lists)
+  room_if n records depths before after count count' done lists room h = go done.outcome h
+    where
+      go : (r : Result (Unit {0}) Fault) → MatchResult r (λ _. IsFinished n records depths before after done) (FailsInRun records depths before after count count') → OnOk r (HasRoom (vec_len done.workers) lists)
+      go (Ok v) f = let P : ℕ → Type 0 = λ m. HasRoom m lists in subst P (sym (done.workers.ok.0 ∙ f.workers)) room
+      go (Err e) f = tt

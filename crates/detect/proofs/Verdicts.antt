@@ -2,6 +2,7 @@
 use Rattle.std.proofs.Common.{◌≡◌, ℕ, suc, ◌+◌, ◌%◌, ◌<◌, Bool, true, false, cond, eqb, fold, filter, List, [], ◌∷◌, ◌++◌, length, Option, None, ◌⊎◌, ⊎_elim, refl, sym, ap, subst, ◌∙◌, arith}
 use Rattle.std.specs.List.{AllByRecursion}
 use Rattle.std.proofs.lemmas.Bool.{cases_Bool, cond-true, cond-false, eqb-true}
+use Rattle.std.proofs.lemmas.Bool.Decides.{nat_tests}
 use Rattle.std.proofs.Math.Nat.{mod-lt}
 use Rattle.shard.specs.declared.Back.{Back}
 use Rattle.lane.specs.declared.item.Item.{Item}
@@ -34,6 +35,9 @@ home-shares n j (items ∷ lists) rs h =
     (subst P (sym (h 0 (omega arith) ∙ ap (λ m. filter (of_shard m n) rs) zero_more)) (home-filter n j rs),
     home-shares n (j + 1) lists rs (λ k lt. let e : j + suc k ≡ (j + 1) + k = omega arith in h (suc k) (omega (arith, lt)) ∙ ap (λ m. filter (of_shard m n) rs) e))
 
+eqb-itself : (m : ℕ) → eqb m m ≡ false → ⊥
+eqb-itself m e = grind (e, arith, nat_tests)
+
 -- the races of the location's shard are enough for its best
 best_filtered : (l n : ℕ) (o : Option RaceAt) (rs : List RaceAt) → fold (kept_after l) o (filter (of_shard (l % n) n) rs) ≡ fold (kept_after l) o rs
 best_filtered l n o [] = refl
@@ -46,17 +50,13 @@ best_filtered l n o (r ∷ rs) = ⊎_elim
     not_here : of_shard (l % n) n r ≡ false → r.location % n ≡ l % n → ⊥
     not_here e same = let P : ℕ → Type 0 = λ m. eqb m (l % n) ≡ false in absurd (eqb-itself (l % n) (subst P same e))
 
-    eqb-itself : (m : ℕ) → eqb m m ≡ false → ⊥
-    eqb-itself 0 e = absurd cc
-    eqb-itself (suc m) e = eqb-itself m e
-
 -- what the shards handed back, lane by lane, is the verdict by its locations
 pub verdict_of_shares : (n : ℕ) (lists : List (List (Item Back))) (w : List Placed) (c : Kept) (rs : List RaceAt) → 0 < n → length lists ≡ n
     → ((k : ℕ) → k < n → races_of (on_lane lists k) ≡ found (share k n w)) → Gathers lists false c → ((g : List Back) → Holds g c → IsCollected g rs) → rs ≡ by_location (found w)
 verdict_of_shares n lists w c rs some len each gathers collected =
     let parts : (k : ℕ) → k < n → races_of (on_lane lists k) ≡ filter (of_shard k n) (found w) = λ k lt. each k lt ∙ found-share k n w in
     let P : ℕ → Type 0 = λ m. AreAtHomeFrom m 0 lists in
-    let home : AreAtHome lists = subst P (sym len) (home-shares n 0 lists (found w) (λ k lt. parts k (omega (arith, lt, len)))) in
+    let home : AreAtHome lists = subst P (sym len) (home-shares n 0 lists (found w) (λ k lt. let e : k ≡ 0 + k = omega arith in parts k (omega (arith, lt, len)) ∙ ap (λ m. filter (of_shard m n) (found w)) e)) in
     let holds = gathers.holds refl home in
     collected_is_sorted put_in by_location (λ r. refl) (λ r s ss. refl) refl (λ r ss. refl) (all_given lists) rs (found w) (collected (all_given lists) holds)
     (apart (found w) (found_from-apart start w))

@@ -13,6 +13,10 @@ use Rattle.detect.specs.Working.{job_lanes, handle_lanes, DidOn, AllDid}
 pub split_more : {X : Type 0} (done : List X) (x : X) (rest before all : List X) → before ≡ x ∷ rest → done ++ before ≡ all → (done ++ x ∷ []) ++ rest ≡ all
 split_more done x rest before all step split = append_assoc done (x ∷ []) rest ∙ ap (λ l. done ++ l) (sym step) ∙ split
 
+-- and all of it was
+pub gone_through : {X : Type 0} (done rest all : List X) → rest ≡ [] → done ++ rest ≡ all → done ≡ all
+gone_through done rest all none split = sym (append-nil done) ∙ ap (λ l. done ++ l) (sym none) ∙ split
+
 module _ {S H : Type 0} where
   all_did-push : (ls : List (LaneId × LaneId)) (ws : List (Worked S H)) (l : LaneId × LaneId) (w : Worked S H) → AllDid ls ws → DidOn l w → AllDid (ls ++ l ∷ []) (ws ++ w ∷ [])
   all_did-push [] [] l w h d = (d, tt)
@@ -36,4 +40,4 @@ module _ {S H : Type 0} where
 
   -- a worker was started for each job
   pub started_all : (hs : List (PromisedHandle (Worked S H) WorkOf)) (done rest all : List (Job S H)) → rest ≡ [] → done ++ rest ≡ all → map handle_lanes hs ≡ map job_lanes done → map handle_lanes hs ≡ map job_lanes all
-  started_all hs done rest all none split lanes = lanes ∙ ap (map job_lanes) (sym (append-nil done) ∙ ap (λ l. done ++ l) (sym none) ∙ split)
+  started_all hs done rest all none split lanes = lanes ∙ ap (map job_lanes) (gone_through done rest all none split)

@@ -1,5 +1,5 @@
 -- What a run with shards answers.
-use Rattle.std.specs.Prelude.{◌≡◌, ℕ, ◌<◌, List, [], ◌∷◌, ◌++◌, length, map, Option, ◌↔◌, slice_index, slice_index_or, vec_len, Result, MatchResult}
+use Rattle.std.specs.Prelude.{◌≡◌, ℕ, ◌<◌, List, [], ◌∷◌, ◌++◌, length, map, Option, ◌↔◌, slice_index, slice_index_or, Result, MatchResult}
 use Rattle.std.specs.Io.KnownBytes.{Consumes}
 use Rattle.trace.specs.declared.records.Record.{Record}
 use Rattle.trace.specs.declared.faults.Fault.{Fault}
@@ -16,8 +16,8 @@ use Rattle.detect.specs.Sent.{FailsInRun}
 
 -- of n shards each took its share of the trace, each record once and in trace order, and then the mark
 pub record TookShares (n : ℕ) (trace : List Record) (run : Run) : Type 0 where
-  pub lanes : vec_len run.lanes ≡ n
-  pub counts : vec_len run.taken ≡ n
+  pub lanes : length run.lanes.items ≡ n
+  pub counts : length run.taken.items ≡ n
   pub shares : (k : ℕ) → k < n → slice_index_or (map taken_of run.lanes.items) k [] ≡ map One (share k n (placed trace)) ++ Finish ∷ []
   pub taken : (k : ℕ) → k < n → slice_index run.taken.items k ≡ length (share k n (placed trace))
 

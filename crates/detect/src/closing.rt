@@ -17,7 +17,7 @@ use trace::Fault;
 
 /// Compares the receipts of a run, and reports.
 pub(crate) fn close<S: BuildHasher + Drop>(done: Done<S>, lists: Lists) -> Result<Run, Fault>
-    requires room { HasRoom (vec_len done.workers) lists }
+    requires room { OnOk done.outcome (HasRoom (vec_len done.workers) lists) }
     requires closed { OnOk done.outcome (IsClosed done) }
     ensures { (n records depths : ℕ) (before after : Option (List ℕ)) (count count' : ℕ) → 1 ≤ n → records ≤ 2 ^ 48 → IsDone n records depths before after count count' done → IsAnswer n records depths before after count count' result }
 {
@@ -40,7 +40,7 @@ pub(crate) fn close<S: BuildHasher + Drop>(done: Done<S>, lists: Lists) -> Resul
 // Want of memory comes before a refused start and before a fault of the trace.
 fn first_trouble(refused: bool, outcome: Result<(), Fault>) -> Result<(), Fault>
     ensures refused { IsTrue refused → result ≡ Err NoMemory }
-    ensures else_ { IsFalse refused → result ≡ outcome }
+    ensures none_refused { IsFalse refused → result ≡ outcome }
 {
     if refused { Err(Fault::NoMemory) } else { outcome }
 }

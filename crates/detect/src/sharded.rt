@@ -6,9 +6,12 @@ ghost use Rattle.trace.specs.Traces.{IsWellNested};
 ghost use Rattle.trace.specs.Text.{text, AllFit};
 ghost use Rattle.trace.specs.Devices.{HasRisen};
 ghost use Rattle.detect.specs.Sent.{FailsInRun};
+ghost use Rattle.detect.specs.Readiness.{IsReady};
+ghost use Rattle.detect.specs.Finished.{IsDone};
 ghost use Rattle.detect.specs.Ran.{RunReports};
 
 use crate::closing::close;
+use crate::made::Done;
 use crate::making::{make, make_lists};
 use crate::plan::Plan;
 use crate::running::run;
@@ -66,6 +69,17 @@ where
     let Ok(made) = make(alloc, plan.capacity, hashers) else {
         return Err(Fault::NoMemory);
     };
-    let done = thread::scope(thread::scope_env(), rt, |scope| run(rt, scope, plan.limits, reader, gate, made));
+    let (done, _read) = thread::scope(
+        thread::scope_env(),
+        rt,
+        move |scope| -> (Done<S>, &mut R)
+            requires { IsReady (vec_len made.jobs) made }
+            ensures done { IsDone (vec_len made.jobs) plan.limits.records plan.limits.depth (R.rest reader.entry.now) (R.rest result.1.now) (R.failures reader.entry.now) (R.failures result.1.now) result.0 }
+            ensures reader { result.1.ghost_name ≡ reader.entry.ghost_name }
+        {
+            let done = run(rt, scope, plan.limits, &mut *reader, gate, made);
+            (done, reader)
+        },
+    );
     close(done, lists)
 }
