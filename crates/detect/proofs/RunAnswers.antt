@@ -6,7 +6,7 @@ use Rattle.trace.specs.declared.records.Record.{Record}
 use Rattle.trace.specs.Traces.{IsWellNested}
 use Rattle.trace.specs.Text.{text, AllFit}
 use Rattle.trace.specs.Devices.{HasRisen}
-use Rattle.detect.proofs.Runs.{honest_memory}
+use Rattle.trace.proofs.Runs.{honest_memory}
 use Rattle.detect.specs.declared.made.Done.{Done}
 use Rattle.detect.specs.declared.sharded.Run.{Run}
 use Rattle.detect.specs.Sent.{FailsInRun}

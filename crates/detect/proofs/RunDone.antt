@@ -15,7 +15,7 @@ use Rattle.detect.specs.declared.made.Made.{Made}
 use Rattle.detect.specs.declared.made.Done.{Done}
 use Rattle.detect.specs.declared.made.Lists.{Lists}
 use Rattle.detect.specs.Rooms.{HasRoom}
-use Rattle.detect.specs.Runs.{FailsBy}
+use Rattle.trace.specs.Runs.{FailsBy}
 use Rattle.detect.specs.Gatherings.{HasEnded, IsFurther}
 use Rattle.detect.specs.Sent.{HasSentAll, FailsInRun}
 use Rattle.detect.specs.Working.{job_lanes, handle_lanes, AllDid}

@@ -1,13 +1,11 @@
 -- What a run over the records of a trace has found, what it reports, and how it fails.
-use Rattle.std.specs.Prelude.{◌≡◌, ℕ, false, List, Option, ◌⊎◌, ◌↔◌}
+use Rattle.std.specs.Prelude.{◌≡◌, ℕ, false, List, Option, ◌↔◌}
 use Rattle.std.specs.Io.KnownBytes.{Consumes}
 use Rattle.shard.specs.declared.Back.{Back}
 use Rattle.trace.specs.declared.records.Record.{Record}
 use Rattle.trace.specs.declared.records.Placed.{Placed}
-use Rattle.trace.specs.declared.faults.Fault.{Fault}
-use Rattle.trace.specs.declared.faults.Fault.TheVariants.{NoMemory}
 use Rattle.trace.specs.Accesses.{RaceAt}
-use Rattle.trace.specs.Feeding.{IsWhole, IsFaultFed}
+use Rattle.trace.specs.Feeding.{IsWhole}
 use Rattle.trace.specs.Races.{IsReport}
 use Rattle.bags.specs.Procedures.{Procedures}
 use Rattle.shadow.specs.Memory.{Memory, HaveSeen}
@@ -34,7 +32,3 @@ pub record Reports (records depths : ℕ) (before after : Option (List ℕ)) (ra
   pub is_verdict : races ≡ verdict trace
   pub is_report : IsReport trace races
   pub racy : (l : ℕ) → HasRace trace l ↔ HasLocation races l
-
--- no memory was left, or the fault is the first of the bytes that came; or the source failed before any fault
-abbrev pub FailsBy : ℕ → ℕ → Option (List ℕ) → Option (List ℕ) → ℕ → ℕ → Fault → Type 0
-FailsBy records depths before after count count' f = (f ≡ NoMemory) ⊎ ((came : List ℕ) × Consumes before after came × IsFaultFed records depths came after count count' f)

@@ -6,7 +6,7 @@ use Rattle.trace.specs.declared.faults.Fault.{Fault}
 use Rattle.trace.specs.Traces.{placed}
 use Rattle.trace.specs.declared.faults.Fault.TheVariants.{NoThread}
 use Rattle.trace.specs.Feeding.{IsWhole}
-use Rattle.detect.specs.Runs.{FailsBy}
+use Rattle.trace.specs.Runs.{FailsBy}
 use Rattle.route.specs.declared.routing.Router.{Router}
 use Rattle.route.specs.Routers.{HasSent}
 

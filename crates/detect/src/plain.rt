@@ -5,7 +5,8 @@ ghost use Rattle.trace.specs.declared.faults.Fault.TheVariants.{NoMemory};
 ghost use Rattle.trace.specs.Traces.{IsWellNested};
 ghost use Rattle.trace.specs.Text.{text, AllFit};
 ghost use Rattle.trace.specs.Devices.{HasRisen};
-ghost use Rattle.detect.specs.Runs.{Reports, FailsBy};
+ghost use Rattle.trace.specs.Runs.{FailsBy};
+ghost use Rattle.detect.specs.Runs.{Reports};
 
 use crate::detector::Detector;
 use collect::Report;

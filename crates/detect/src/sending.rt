@@ -3,7 +3,7 @@ ghost use Rattle.std.specs.Prelude.{◌≡◌, ◌++◌, ◌∷◌, [], List, If
 ghost use Rattle.trace.specs.declared.records.Placed.{Placed};
 ghost use Rattle.route.specs.Routers.{lane_count, pending_of, marked_of, HasSent, IsOnLanes};
 ghost use Rattle.detect.specs.Gatherings.{IsFurther};
-ghost use Rattle.detect.specs.Runs.{FailsBy};
+ghost use Rattle.trace.specs.Runs.{FailsBy};
 ghost use Rattle.detect.specs.Sent.{HasSentAll};
 
 use crate::gathering::Gathering;

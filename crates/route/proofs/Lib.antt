@@ -3,4 +3,5 @@ pub mod Sent
 pub mod Rising
 pub mod LaneShares
 pub mod RunFronts
+pub mod MarksLast
 pub mod RunLists

@@ -15,7 +15,7 @@ use Rattle.route.specs.Sending.{part, mark_of, AllSent}
 use Rattle.route.specs.Routed.{in_hand}
 use Rattle.route.specs.Runs.{of_lane, sending_of, sending}
 
-abbrev Sends : Type 0
+abbrev pub Sends : Type 0
 Sends = List (ℕ × Item Placed)
 
 out : {X : Type 0} (b : Bool) (x : X) (l m : List X) → cond b (x ∷ (l ++ m)) (l ++ m) ≡ cond b (x ∷ l) l ++ m
@@ -41,7 +41,7 @@ on_first : (x : Item Placed) (k m : ℕ) → of_lane k (map (λ j. (j, x)) (rang
 on_first x k m = on_range x k 0 m ∙ from_zero x k m
 
 -- where a list is cut: within the first part, or behind it
-split_front : {X : Type 0} (s r a b : List X) → s ++ r ≡ a ++ b → ((s ≡ take (length s) a) × (length s < length a)) ⊎ ((t : List X) × (s ≡ a ++ t) × (t ++ r ≡ b))
+pub split_front : {X : Type 0} (s r a b : List X) → s ++ r ≡ a ++ b → ((s ≡ take (length s) a) × (length s < length a)) ⊎ ((t : List X) × (s ≡ a ++ t) × (t ++ r ≡ b))
 split_front s r [] b e = inr (s, refl, e)
 split_front [] r (x ∷ a) b e = inl (refl, omega arith)
 split_front (y ∷ s) r (x ∷ a) b e =
@@ -50,7 +50,7 @@ split_front (y ∷ s) r (x ∷ a) b e =
     ⊎_elim (λ (h : (s ≡ take (length s) a) × (length s < length a)). inl (ap₂ (λ z l. z ∷ l) head h.0, omega (arith, h.1))) (λ (h : (t : _) × (s ≡ a ++ t) × (t ++ r ≡ b)). inr (h.0, ap₂ (λ z l. z ∷ l) head h.1, h.2)) (split_front s r a b tail)
 
 -- what of a list of items was sent when it was cut within a record, or among the marks
-on_cut : (x : Item Placed) (k n : ℕ) (s : Sends) → s ≡ take (length s) (map (λ j. (j, x)) (range_with_len 0 n)) → length s ≤ n → of_lane k s ≡ cond (nat_lt k (length s)) (x ∷ []) []
+pub on_cut : (x : Item Placed) (k n : ℕ) (s : Sends) → s ≡ take (length s) (map (λ j. (j, x)) (range_with_len 0 n)) → length s ≤ n → of_lane k s ≡ cond (nat_lt k (length s)) (x ∷ []) []
 on_cut x k n s e l = ap (of_lane k) (e ∙ take-map-range_with_len (λ j. (j, x)) 0 n (length s) l) ∙ on_first x k (length s)
 
 -- a whole record on a lane
@@ -122,7 +122,7 @@ pub record Front (n : ℕ) (w : List Placed) (s : Sends) : Type 0 where
 mark_of-none : (k : ℕ) → mark_of k 0 ≡ []
 mark_of-none k = cond-false (nat_lt k 0) (Finish ∷ []) [] (le-ltb k 0 (omega arith))
 
-cut_front : {X : Type 0} (s r a : List X) (n : ℕ) → length a ≡ n → s ++ r ≡ a → (s ≡ take (length s) a) × (length s ≤ n)
+pub cut_front : {X : Type 0} (s r a : List X) (n : ℕ) → length a ≡ n → s ++ r ≡ a → (s ≡ take (length s) a) × (length s ≤ n)
 cut_front s r a n count e = (sym (ap (take (length s)) (sym e) ∙ take_at s r (length s) refl), omega (arith, length-append s r, ap length e))
 
 -- among the marks

@@ -1,15 +1,17 @@
 -- Along a run: what was taken from a lane and what it holds is what was put on it.
-use Rattle.std.proofs.Common.{◌≡◌, ℕ, ◌==◌, Bool, true, false, cond, List, [], ◌∷◌, ◌++◌, drop, refl, sym, ap, ap₂, subst, ◌∙◌, append_assoc, append-nil}
+use Rattle.std.proofs.Common.{◌≡◌, ℕ, ◌==◌, Bool, true, false, cond, List, [], ◌∷◌, ◌++◌, length, map, drop, ◌<◌, arith, refl, sym, ap, ap₂, subst, ◌∙◌, append_assoc, append-nil}
 use Rattle.std.proofs.lemmas.List.Sums.{fold-append}
 use Rattle.std.proofs.lemmas.Bool.{eqb-true}
+use Rattle.std.proofs.lemmas.List.{length-append}
 use Rattle.lane.specs.declared.item.Item.{Item}
 use Rattle.lane.specs.Items.{IsBeginning}
 use Rattle.trace.specs.declared.records.Placed.{Placed}
 use Rattle.route.specs.Routed.{IsRising}
-use Rattle.route.specs.Runs.{Event, put, take, puts_in, takes_in, of_lane, put_list, taken_list, held_after, held, IsAllowed, IsRun}
+use Rattle.route.specs.Runs.{Event, put, take, puts_in, takes_in, of_lane, put_list, taken_list, held_after, held, IsAllowed, IsRun, put_event, sending}
 use Rattle.route.proofs.LaneShares.{Outcome, outcome}
 use Rattle.route.proofs.Rising.{rising_front}
 use Rattle.route.proofs.RunFronts.{of_lane-append, Front, front}
+use Rattle.route.proofs.MarksLast.{never_marked}
 
 puts_in-append : (es fs : List Event) → puts_in (es ++ fs) ≡ puts_in es ++ puts_in fs
 puts_in-append [] fs = refl
@@ -75,3 +77,27 @@ pub outcome_of : (n : ℕ) (w : List Placed) (es : List Event) → IsRun n w es 
 outcome_of n w es run f =
     outcome n (put_list es) f.v f.turn f.pending f.marked
     (record { some = run.some; rising = rising_front _ f.rest (subst IsRising f.whole run.rising); within = f.within; aimed = f.aimed; unmarked = f.unmarked; sent = f.sent })
+
+-- the puts, one event each
+puts_in-events : (s : List (ℕ × Item Placed)) → puts_in (map put_event s) ≡ s
+puts_in-events [] = refl
+puts_in-events (e ∷ s) = ap (λ (l : List (ℕ × Item Placed)). e ∷ l) (puts_in-events s)
+
+takes_in-events : (s : List (ℕ × Item Placed)) → takes_in (map put_event s) ≡ []
+takes_in-events [] = refl
+takes_in-events (e ∷ s) = takes_in-events s
+
+allowed_put : (n : ℕ) (w : List Placed) (before after : List Event) (e : Event) → map put_event (sending n w) ≡ before ++ e ∷ after → IsAllowed before e
+allowed_put n w before after (put k x) split = never_marked n k x w (puts_in before) (puts_in after) (sym (puts_in-append before (put k x ∷ after)) ∙ ap puts_in (sym split) ∙ puts_in-events (sending n w))
+allowed_put n w before after (take k x) split =
+    let none : takes_in before ++ (k, x) ∷ takes_in after ≡ [] = sym (takes_in-append before (take k x ∷ after)) ∙ ap takes_in (sym split) ∙ takes_in-events (sending n w) in
+    let long : length (takes_in before ++ (k, x) ∷ takes_in after) ≡ 0 = ap length none in absurd (omega (arith, length-append (takes_in before) ((k, x) ∷ takes_in after)))
+
+-- all that is sent, put by put, is a run
+pub whole_run : (n : ℕ) (w : List Placed) → 0 < n → IsRising w → IsRun n w (map put_event (sending n w))
+whole_run n w some rising = record {
+  some = some;
+  rising = rising;
+  allowed = λ before after e split. allowed_put n w before after e split;
+  in_order = ([], sym (append-nil (puts_in (map put_event (sending n w))) ∙ puts_in-events (sending n w)));
+}

@@ -64,6 +64,10 @@ sending_of n p = map (λ k. (k, One p)) (lanes_for n p.what)
 abbrev pub sending : ℕ → List Placed → List (ℕ × Item Placed)
 sending n w = flat_map (sending_of n) w ++ map (λ k. (k, Finish)) (range_with_len 0 n)
 
+-- a put as an event
+abbrev pub put_event : ℕ × Item Placed → Event
+put_event e = put e.0 e.1
+
 -- a run of n lanes, on which the records w are sent
 pub record IsRun (n : ℕ) (w : List Placed) (es : List Event) : Type 0 where
   pub some : 0 < n

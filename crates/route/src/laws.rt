@@ -1,18 +1,20 @@
 //! What stands on the lanes at every point of every run, and on the lanes of every router.
 
-ghost use Rattle.std.specs.Prelude.{◌≡◌, ℕ, ◌<◌, ◌⊎◌, true, List, ◌++◌};
+ghost use Rattle.std.specs.Prelude.{◌≡◌, ℕ, ◌<◌, ◌⊎◌, true, List, ◌++◌, map};
 ghost use Rattle.lane.specs.Items.{has_mark, IsBeginning};
 ghost use Rattle.trace.specs.declared.records.Placed.{Placed};
 ghost use Rattle.route.specs.declared.routing.Router.{Router};
 ghost use Rattle.route.specs.Sending.{put_on};
 ghost use Rattle.route.specs.Routed.{IsRising, in_hand, IsRouted, HasRouted, HasShare, HasWholeShare};
 ghost use Rattle.route.specs.Routers.{puts_of, lane_count, pending_of, HasSent};
-ghost use Rattle.route.specs.Runs.{Event, IsRun, put_list, taken_list};
+ghost use Rattle.route.specs.Runs.{Event, IsRun, put_event, sending, put_list, taken_list};
 
 /// Of every run of lanes. Since each beginning of a run is a run, all this holds at every point. One list
 /// was routed, and a lane has its share of it, or lacks the record that is being sent. A lane with the mark has
 /// its whole share. What was taken from a lane is a beginning of what was put.
 pub fn runs()
+    // all that is sent, put by put, is a run, so there are runs of every list of records
+    ensures some { (n : ℕ) (w : List Placed) → 0 < n → IsRising w → IsRun n w (map put_event (sending n w)) }
     ensures points { (n : ℕ) (w : List Placed) (before after : List Event) → IsRun n w (before ++ after)
         → IsRun n w before }
     ensures routed { (n : ℕ) (w : List Placed) (es : List Event) → IsRun n w es → HasRouted n (put_list es) w }

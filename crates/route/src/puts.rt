@@ -18,11 +18,14 @@ pub fn put_on<R: Wait>(
 ) -> bool
     requires within { lane < vec_len senders.old }
     requires unmarked { has_mark (put_on (puts senders.old.items) lane) ≡ false }
-    ensures puts { puts senders.new.items ≡ (if result then with_put (puts senders.old.items) lane (One placed) else puts senders.old.items) }
+    ensures puts { puts senders.new.items
+        ≡ (if result then with_put (puts senders.old.items) lane (One placed)
+        else puts senders.old.items) }
     ensures lanes { lanes senders.new.items ≡ lanes senders.old.items }
     ensures capacities { capacities senders.new.items ≡ capacities senders.old.items }
     ensures len { vec_len senders.new ≡ vec_len senders.old }
-    ensures full { IsFalse result → slice_index_or (capacities senders.old.items) lane 0 ≤ length (put_on (puts senders.old.items) lane) }
+    ensures full { IsFalse result → slice_index_or (capacities senders.old.items) lane 0
+        ≤ length (put_on (puts senders.old.items) lane) }
 {
     senders[lane].put(rt, placed).is_ok()
 }
@@ -31,11 +34,14 @@ pub fn put_on<R: Wait>(
 pub fn mark_on<R: Wait>(rt: &R, senders: &mut Vec<Sender<Placed>>, lane: usize) -> bool
     requires within { lane < vec_len senders.old }
     requires unmarked { has_mark (put_on (puts senders.old.items) lane) ≡ false }
-    ensures puts { puts senders.new.items ≡ (if result then with_put (puts senders.old.items) lane Finish else puts senders.old.items) }
+    ensures puts { puts senders.new.items
+        ≡ (if result then with_put (puts senders.old.items) lane Finish
+        else puts senders.old.items) }
     ensures lanes { lanes senders.new.items ≡ lanes senders.old.items }
     ensures capacities { capacities senders.new.items ≡ capacities senders.old.items }
     ensures len { vec_len senders.new ≡ vec_len senders.old }
-    ensures full { IsFalse result → slice_index_or (capacities senders.old.items) lane 0 ≤ length (put_on (puts senders.old.items) lane) }
+    ensures full { IsFalse result → slice_index_or (capacities senders.old.items) lane 0
+        ≤ length (put_on (puts senders.old.items) lane) }
 {
     senders[lane].mark(rt)
 }

@@ -1,8 +1,7 @@
 //! A shard on worked rows, and its worker in one thread and in a thread of its own.
-ghost use Rattle.std.specs.Prelude.{◌≡◌, ◌≤◌, false, []};
+ghost use Rattle.std.specs.Prelude.{◌≡◌, false};
 ghost use Rattle.lane.specs.Items.{has_mark};
-ghost use Rattle.lane.specs.Lanes.{lane_of, put_of, taken_of, taker_lane};
-ghost use Rattle.shard.specs.Shards.{IsNew};
+ghost use Rattle.lane.specs.Lanes.{lane_of, put_of, taker_lane};
 
 use super::*;
 use lane::{Item, Sender, Taker, lane};
@@ -16,7 +15,7 @@ use std::test::*;
 use std::thread;
 use std::thread::Promise;
 use trace::Kind::{Read, Write};
-use trace::{Kind, NoMemory, Placed, Record};
+use trace::{Kind, Placed, Record};
 
 type Hasher = BuildHasherDefault<FoldHasher>;
 

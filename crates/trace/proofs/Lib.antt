@@ -18,3 +18,4 @@ pub mod Parts
 pub mod SpelledLines
 pub mod Cuttings
 pub mod ShareLemmas
+pub mod Runs

@@ -14,11 +14,11 @@ use Rattle.trace.proofs.Paths.{pending-parallel, parallel-pending, access-place,
 
 -- procedures
 
-level-at : (w : List Record) (f : ℕ) → 1 ≤ f → level w f ≡ suc (depth w f)
+pub level-at : (w : List Record) (f : ℕ) → 1 ≤ f → level w f ≡ suc (depth w f)
 level-at w zero a = absurd (omega arith)
 level-at w (suc f) a = refl
 
-holds_from : (w : List Record) (f i : ℕ) → at w f ≡ Some Spawn → f < i → ((k : ℕ) → f < k → k ≤ i → suc (depth w f) ≤ depth w k) → Holds w f i
+pub holds_from : (w : List Record) (f i : ℕ) → at w f ≡ Some Spawn → f < i → ((k : ℕ) → f < k → k ≤ i → suc (depth w f) ≤ depth w k) → Holds w f i
 holds_from w zero i s a h = absurd (cc)
 holds_from w (suc f) i s a h = record { opener = s; after = a; inside = h }
 
@@ -27,20 +27,20 @@ holds-opener w zero i a h = absurd (omega arith)
 holds-opener w (suc f) i a h = h.opener
 
 -- at a spawn, the places of the child are deeper
-holds-deeper : (w : List Record) (f i : ℕ) → at w f ≡ Some Spawn → Holds w f i → (k : ℕ) → f < k → k ≤ i → suc (depth w f) ≤ depth w k
+pub holds-deeper : (w : List Record) (f i : ℕ) → at w f ≡ Some Spawn → Holds w f i → (k : ℕ) → f < k → k ≤ i → suc (depth w f) ≤ depth w k
 holds-deeper w zero i s h k x y = absurd (cc)
 holds-deeper w (suc f) i s h k x y = h.inside k x y
 
-holds-shorter : (w : List Record) (f i j : ℕ) → f < i → i ≤ j → Holds w f j → Holds w f i
+pub holds-shorter : (w : List Record) (f i j : ℕ) → f < i → i ≤ j → Holds w f j → Holds w f i
 holds-shorter w f i j a b h = record { opener = h.opener; after = a; inside = λ k x y. h.inside k x (omega arith) }
 
 -- the procedure on level d + 1 that holds i
-record Opened (w : List Record) (d i o : ℕ) : Type 0 where
-  from : 1 ≤ o
-  before : o < i
-  a_spawn : at w o ≡ Some Spawn
-  on : depth w o ≡ d
-  inside : (k : ℕ) → o < k → k ≤ i → suc d ≤ depth w k
+pub record Opened (w : List Record) (d i o : ℕ) : Type 0 where
+  pub from : 1 ≤ o
+  pub before : o < i
+  pub a_spawn : at w o ≡ Some Spawn
+  pub on : depth w o ≡ d
+  pub inside : (k : ℕ) → o < k → k ≤ i → suc d ≤ depth w k
 
 opened_by : (w : List Record) {n c : ℕ} (h : IsWellNested w n c) (d i o : ℕ) → IsPlace w i → suc d ≤ depth w i → LastBelow (traced w h) (suc d) 1 i o → Opened w d i o
 opened_by w h d i o p l b =
@@ -59,7 +59,7 @@ opened_by w h d i o p l b =
     apart : (x y : ℕ) → x ≤ y → (x ≡ y → ⊥) → x < y
     apart x y h n = omega arith
 
-opened_at : (w : List Record) {n c : ℕ} → IsWellNested w n c → (d i : ℕ) → IsPlace w i → suc d ≤ depth w i → (o : ℕ) × Opened w d i o
+pub opened_at : (w : List Record) {n c : ℕ} → IsWellNested w n c → (d i : ℕ) → IsPlace w i → suc d ≤ depth w i → (o : ℕ) × Opened w d i o
 opened_at w h d i p l = elim (last_below (traced w h) (suc d) 1 i p.0) [
   | inl all ↦ absurd (not_first (all 1 (omega arith) p.0))
   | inr b ↦ (b.0, opened_by w h d i b.0 p l b.1)
@@ -68,11 +68,11 @@ opened_at w h d i p l = elim (last_below (traced w h) (suc d) 1 i p.0) [
     not_first : suc d ≤ depth w 1 → ⊥
     not_first e = omega arith
 
-opened-holds : (w : List Record) (d i o : ℕ) → Opened w d i o → Holds w o i
+pub opened-holds : (w : List Record) (d i o : ℕ) → Opened w d i o → Holds w o i
 opened-holds w d i o b = holds_from w o i b.a_spawn b.before (λ k x y. omega (arith, b.inside k x y, b.on))
 
 -- what is opened on m's own level lies in m
-opened_below : (w : List Record) (o m i : ℕ) → Opened w (level w m) i o → Holds w m i → m < o
+pub opened_below : (w : List Record) (o m i : ℕ) → Opened w (level w m) i o → Holds w m i → m < o
 opened_below w o zero i b a = omega (arith, b.from)
 opened_below w o (suc m) i b a = elim (cases_lt (suc m) o) [
   | inl l ↦ l
@@ -82,7 +82,7 @@ opened_below w o (suc m) i b a = elim (cases_lt (suc m) o) [
   ]
 ]
 
-opened-child : (w : List Record) (o m i : ℕ) → Opened w (level w m) i o → Holds w m i → IsChild w m o
+pub opened-child : (w : List Record) (o m i : ℕ) → Opened w (level w m) i o → Holds w m i → IsChild w m o
 opened-child w o m i b a = record {
   own = record { held = holds-shorter w m o i (opened_below w o m i b a) (omega (arith, b.before)) a; on_level = b.on };
   a_spawn = b.a_spawn;
@@ -152,7 +152,7 @@ opened_over w d i j o b l h = holds_from w o j b.a_spawn (omega (arith, b.before
   | inr t ↦ omega (arith, b.inside x y t, b.on)
 ])
 
-root-holds : (w : List Record) (i : ℕ) → 1 ≤ i → Holds w 0 i
+pub root-holds : (w : List Record) (i : ℕ) → 1 ≤ i → Holds w 0 i
 root-holds w i a = record { opener = tt; after = a; inside = λ k x y. omega arith }
 
 meeting_at : (w : List Record) {n c : ℕ} → IsWellNested w n c → (i j k q : ℕ) → i < j → IsPlace w i → Least (depth w) i j k → depth w k ≡ q → (m : ℕ) × IsMeeting w i j m
@@ -184,10 +184,10 @@ stand_of w h i j m p a = stand_in w h m j p a.second
 
 -- blocks
 
-own_sync : List Record → ℕ → ℕ → Bool
+pub own_sync : List Record → ℕ → ℕ → Bool
 own_sync w m k = ltb m k && (eqb (depth w k) (level w m) && is_sync (at w k))
 
-sync-is : (o : Option Record) → is_sync o ≡ true → o ≡ Some Sync
+pub sync-is : (o : Option Record) → is_sync o ≡ true → o ≡ Some Sync
 sync-is None e = absurd (cc)
 sync-is (Some Spawn) e = absurd (cc)
 sync-is (Some Return) e = absurd (cc)
@@ -195,16 +195,16 @@ sync-is (Some Sync) e = refl
 sync-is (Some (Read l)) e = absurd (cc)
 sync-is (Some (Write l)) e = absurd (cc)
 
-is_own_sync : (w : List Record) (m k : ℕ) → m < k → depth w k ≡ level w m → at w k ≡ Some Sync → own_sync w m k ≡ true
+pub is_own_sync : (w : List Record) (m k : ℕ) → m < k → depth w k ≡ level w m → at w k ≡ Some Sync → own_sync w m k ≡ true
 unfolding own_sync
 is_own_sync w m k a e s =
     (λ i. lt-ltb m k a i && (eq-eqb (depth w k) (level w m) e i && is_sync (s i)))
 
-record OwnSync (w : List Record) (m k : ℕ) : Type 0 where
-  on_level : depth w k ≡ level w m
-  a_sync : at w k ≡ Some Sync
+pub record OwnSync (w : List Record) (m k : ℕ) : Type 0 where
+  pub on_level : depth w k ≡ level w m
+  pub a_sync : at w k ≡ Some Sync
 
-own_sync-is : (w : List Record) (m k : ℕ) → own_sync w m k ≡ true → OwnSync w m k
+pub own_sync-is : (w : List Record) (m k : ℕ) → own_sync w m k ≡ true → OwnSync w m k
 unfolding own_sync
 own_sync-is w m k e =
     let a = and_parts (ltb m k) (eqb (depth w k) (level w m) && is_sync (at w k)) e in
@@ -219,7 +219,7 @@ one_if-zero : (b : Bool) → (b ≡ true → ⊥) → one_if b ≡ 0
 one_if-zero true n = absurd (n refl)
 one_if-zero false n = refl
 
-block_same : (w : List Record) (m s e : ℕ) → s ≤ e → ((k : ℕ) → s ≤ k → k < e → own_sync w m k ≡ true → ⊥) → block w m s ≡ block w m e
+pub block_same : (w : List Record) (m s e : ℕ) → s ≤ e → ((k : ℕ) → s ≤ k → k < e → own_sync w m k ≡ true → ⊥) → block w m s ≡ block w m e
 block_same w m s zero l n = ap (block w m) (only s l)
   where
     only : (s : ℕ) → s ≤ 0 → s ≡ zero
@@ -254,7 +254,7 @@ block_le w m s (suc e) l = elim (cases_eq s (suc e)) [
     sum_le : (a b c d : ℕ) → a ≤ b → d ≡ b + c → a ≤ d
     sum_le a b c d x z = omega arith
 
-block_less : (w : List Record) (m s k e : ℕ) → s ≤ k → k < e → own_sync w m k ≡ true → block w m s ≡ block w m e → ⊥
+pub block_less : (w : List Record) (m s k e : ℕ) → s ≤ k → k < e → own_sync w m k ≡ true → block w m s ≡ block w m e → ⊥
 block_less w m s k e a b o q = less _ _ _ _ _ (block_le w m s k a) (block_le w m (suc k) e b) (block-more w m k) (ap one_if o) q
   where
     less : (a b c d e : ℕ) → a ≤ b → c ≤ d → c ≡ b + e → e ≡ 1 → a ≡ d → ⊥
@@ -297,14 +297,14 @@ no_sync_between w h i j r m s k b x o y z q = elim (cases_eq s k) [
   ]
 ]
 
-stand-after : (w : List Record) (m j e x : ℕ) → x ≤ j → depth w x ≡ level w m → IsStand w m j e → x ≤ e
+pub stand-after : (w : List Record) (m j e x : ℕ) → x ≤ j → depth w x ≡ level w m → IsStand w m j e → x ≤ e
 stand-after w m j e x a b (itself o) = a
 stand-after w m j e x a b (in_child c t) = elim (cases_lt e x) [
   | inl l ↦ absurd (let f : suc (depth w e) ≤ depth w x = holds-deeper w e j c.a_spawn t x l a in omega (arith, c.own.on_level))
   | inr l ↦ l
 ]
 
-stand-le : (w : List Record) (m j e : ℕ) → IsStand w m j e → e ≤ j
+pub stand-le : (w : List Record) (m j e : ℕ) → IsStand w m j e → e ≤ j
 stand-le w m j e (itself o) = omega arith
 stand-le w m j e (in_child c t) = omega (arith, t.after)
 
@@ -373,7 +373,7 @@ first_below f m i (suc j) a = elim (cases_eq i (suc j)) [
       ])
     ]
 
-before-stand : (w : List Record) (m j e k : ℕ) → k < j → OwnSync w m k → IsStand w m j e → k < e
+pub before-stand : (w : List Record) (m j e k : ℕ) → k < j → OwnSync w m k → IsStand w m j e → k < e
 before-stand w m j e k a o (itself q) = a
 before-stand w m j e k a o (in_child c t) = elim (cases_order k e) [
   | inl q ↦ absurd (let f : at w k ≡ at w e = ap (at w) q in let g : at w e ≡ Some Spawn = c.a_spawn in let u : at w k ≡ Some Sync = o.a_sync in cc)

@@ -129,12 +129,12 @@ world_kind w h i j (dag.spawn a b l c) = world.goes_in (ap (λ (x : Option Recor
 world_kind w h i j (dag.join a b l c) = world.joined (ap shape_of c.a_return) (omega (arith, c.above)) (joins-shape (at w j) c.joins)
     (λ k x y e t. c.first k x y e (shape-joins (at w k) t))
 
-edge_from : (w : List Record) (i j : ℕ) → dag.Edge w i j → IsPlace w i
+pub edge_from : (w : List Record) (i j : ℕ) → dag.Edge w i j → IsPlace w i
 edge_from w i j (dag.continuation a b l c) = a
 edge_from w i j (dag.spawn a b l c) = a
 edge_from w i j (dag.join a b l c) = a
 
-edge_to : (w : List Record) (i j : ℕ) → dag.Edge w i j → IsPlace w j
+pub edge_to : (w : List Record) (i j : ℕ) → dag.Edge w i j → IsPlace w j
 edge_to w i j (dag.continuation a b l c) = b
 edge_to w i j (dag.spawn a b l c) = b
 edge_to w i j (dag.join a b l c) = b

@@ -66,7 +66,7 @@ walk_start w i t e n d h = subst (λ (z : ℕ). Walked (traced w h) z t 0 false)
   serial = λ _. serial_now (traced w h) t (depth w (suc t)) refl;
 })
 
-step_by : (w : List Record) {n d : ℕ} → IsWellNested w n d → (t : ℕ) (r : Record) → suc (suc t) ≤ length w → at w (suc t) ≡ Some r → Step (shape_of (Some r)) (depth w (suc t)) (depth w (suc (suc t)))
+pub step_by : (w : List Record) {n d : ℕ} → IsWellNested w n d → (t : ℕ) (r : Record) → suc (suc t) ≤ length w → at w (suc t) ≡ Some r → Step (shape_of (Some r)) (depth w (suc t)) (depth w (suc (suc t)))
 step_by w h t r b e = subst (λ (o : Option Record). Step (shape_of o) (depth w (suc t)) (depth w (suc (suc t)))) e (step_at w h (suc t) (omega arith) b)
 
 not_joins : (w : List Record) (t : ℕ) (r : Record) → at w (suc t) ≡ Some r → joins (shape_of (Some r)) ≡ false → joins (shape_at w (suc t)) ≡ true → ⊥

@@ -12,3 +12,4 @@ pub mod Nesting
 pub mod Cuts
 pub mod Feeding
 pub mod Writers
+pub mod Runs

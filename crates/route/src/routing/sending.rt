@@ -39,15 +39,26 @@ impl Router {
     /// Puts the pending record on the next lane that it goes to: a structure record on all lanes in their
     /// order, an access of location l on lane l mod n.
     pub fn step<R: Wait>(&mut self, rt: &R) -> Progress
-        ensures sent { (w : List Placed) → HasSent w self.old → HasSent (sent_whole w (pending_of self.old) (pending_of self.new)) self.new }
+        // w is what was sent whole before
+        ensures sent { (w : List Placed) → HasSent w self.old
+            → HasSent (sent_whole w (pending_of self.old) (pending_of self.new)) self.new }
         ensures lanes { IsOnLanes self.old self.new }
         ensures marked { marked_of self.new ≡ marked_of self.old }
+
         ensures idle { (result ≡ Progress.Idle) ↔ (pending_of self.old ≡ None) }
         ensures idle_keeps { OnIdle result (IsUnchanged self.old self.new) }
-        ensures put { OnMoved result ((p : Placed) → pending_of self.old ≡ Some p → puts_of self.new ≡ with_put (puts_of self.old) (turn_of self.old) (One p)) }
-        ensures turn { OnMoved result ((p : Placed) → pending_of self.new ≡ Some p → (pending_of self.old ≡ Some p) × (turn_of self.new ≡ turn_of self.old + 1)) }
-        ensures last { OnMoved result ((p : Placed) → pending_of self.old ≡ Some p → (pending_of self.new ≡ None) ↔ IsLastLane (lane_count self.old) (turn_of self.old) p) }
-        ensures blocked { IfBlocked result (λ k. (k ≡ turn_of self.old) × IsFull self.old k × IsUnchanged self.old self.new) }
+
+        // The record goes on the lane whose turn it is, and the turn to the next lane, if the record goes there.
+        ensures put { OnMoved result ((p : Placed) → pending_of self.old ≡ Some p
+            → puts_of self.new ≡ with_put (puts_of self.old) (turn_of self.old) (One p)) }
+        ensures turn { OnMoved result ((p : Placed) → pending_of self.new ≡ Some p
+            → (pending_of self.old ≡ Some p) × (turn_of self.new ≡ turn_of self.old + 1)) }
+        ensures last { OnMoved result ((p : Placed) → pending_of self.old ≡ Some p
+            → ((pending_of self.new ≡ None)
+            ↔ IsLastLane (lane_count self.old) (turn_of self.old) p)) }
+
+        ensures blocked { IfBlocked result (λ k. (k ≡ turn_of self.old) × IsFull self.old k
+            × IsUnchanged self.old self.new) }
     {
         match self.pending {
             Some(placed) => self.put_pending(rt, placed),
@@ -57,14 +68,19 @@ impl Router {
 
     fn put_pending<R: Wait>(&mut self, rt: &R, placed: Placed) -> Progress
         requires { pending_of self.old ≡ Some placed }
-        ensures sent { (w : List Placed) → HasSent w self.old → HasSent (sent_whole w (pending_of self.old) (pending_of self.new)) self.new }
+        ensures sent { (w : List Placed) → HasSent w self.old
+            → HasSent (sent_whole w (pending_of self.old) (pending_of self.new)) self.new }
         ensures lanes { IsOnLanes self.old self.new }
         ensures marked { marked_of self.new ≡ marked_of self.old }
         ensures some { result ≢ Progress.Idle }
-        ensures put { OnMoved result (puts_of self.new ≡ with_put (puts_of self.old) (turn_of self.old) (One placed)) }
-        ensures turn { OnMoved result ((p : Placed) → pending_of self.new ≡ Some p → (placed ≡ p) × (turn_of self.new ≡ turn_of self.old + 1)) }
-        ensures last { OnMoved result ((pending_of self.new ≡ None) ↔ IsLastLane (lane_count self.old) (turn_of self.old) placed) }
-        ensures blocked { IfBlocked result (λ k. (k ≡ turn_of self.old) × IsFull self.old k × IsUnchanged self.old self.new) }
+        ensures put { OnMoved result (puts_of self.new
+            ≡ with_put (puts_of self.old) (turn_of self.old) (One placed)) }
+        ensures turn { OnMoved result ((p : Placed) → pending_of self.new ≡ Some p
+            → (placed ≡ p) × (turn_of self.new ≡ turn_of self.old + 1)) }
+        ensures last { OnMoved result ((pending_of self.new ≡ None)
+            ↔ IsLastLane (lane_count self.old) (turn_of self.old) placed) }
+        ensures blocked { IfBlocked result (λ k. (k ≡ turn_of self.old) × IsFull self.old k
+            × IsUnchanged self.old self.new) }
     {
         if !put_on(rt, &mut self.senders, self.next, placed) {
             return Progress::Blocked(self.next as u32);
@@ -83,11 +99,14 @@ impl Router {
         ensures lanes { IsOnLanes self.old self.new }
         ensures pending { pending_of self.new ≡ None }
         ensures marks { HaveMarks (marked_of self.new) (puts_of self.new) }
+
         ensures idle { (result ≡ Progress.Idle) ↔ (marked_of self.old ≡ lane_count self.old) }
         ensures idle_keeps { OnIdle result (IsUnchanged self.old self.new) }
-        ensures put { OnMoved result (puts_of self.new ≡ with_put (puts_of self.old) (marked_of self.old) Finish) }
+        ensures put { OnMoved result (puts_of self.new
+            ≡ with_put (puts_of self.old) (marked_of self.old) Finish) }
         ensures marked { OnMoved result (marked_of self.new ≡ marked_of self.old + 1) }
-        ensures blocked { IfBlocked result (λ k. (k ≡ marked_of self.old) × IsFull self.old k × IsUnchanged self.old self.new) }
+        ensures blocked { IfBlocked result (λ k. (k ≡ marked_of self.old) × IsFull self.old k
+            × IsUnchanged self.old self.new) }
     {
         if self.marked == self.senders.len() {
             return Progress::Idle;

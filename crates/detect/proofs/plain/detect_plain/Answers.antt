@@ -1,13 +1,12 @@
-use Rattle.std.proofs.Common.{◌≡◌, ◌≤◌, ◌<◌, ◌+◌, ◌-◌, ◌^◌, ℕ, List, [], ◌∷◌, ◌++◌, length, Option, Some, Ok, refl, sym, ap, subst, ◌∙◌, arith, length-append}
-use Rattle.std.specs.Io.KnownBytes.{Consumes}
-use Rattle.trace.specs.declared.records.Record.{Record}
+use Rattle.std.proofs.Common.{ℕ, List, [], ◌∷◌, ◌++◌, refl, sym, ap, subst, ◌∙◌, arith, length-append}
 use Rattle.trace.specs.declared.records.Placed.{Placed}
 use Rattle.trace.specs.Traces.{placed}
-use Rattle.trace.specs.Feeding.{Feeding, HasFed, IsWhole, IsFed, before_all}
+use Rattle.trace.specs.Feeding.{Feeding, HasFed, IsWhole}
 use Rattle.trace.proofs.Feedings.{consumes_none, consumes_more, fed_none, at_limits}
 use Rattle.shadow.specs.Memory.{AreReadyFor}
 use Rattle.detect.specs.Runs.{HasDetected}
-use Rattle.detect.proofs.Runs.{fails_by, honest_memory, reports, placed-next, given_next, given_end}
+use Rattle.trace.proofs.Runs.{fails_by, honest_memory, given_next, given_end}
+use Rattle.detect.proofs.Runs.{reports, placed-next}
 use Rattle.detect.proofs.plain.detect_plain.Goals as goal
 
 pub records-init : goal.records-init

@@ -5,7 +5,8 @@ use Rattle.trace.specs.Traces.{placed}
 use Rattle.trace.specs.Feeding.{Feeding, HasFed, IsWhole, IsFaultFed}
 use Rattle.trace.proofs.Feedings.{consumes_none, consumes_more, fed_none, at_limits}
 use Rattle.route.specs.Routers.{HasSent}
-use Rattle.detect.proofs.Runs.{fails_by, placed-next, given_next, given_end}
+use Rattle.trace.proofs.Runs.{fails_by, given_next, given_end}
+use Rattle.detect.proofs.Runs.{placed-next}
 use Rattle.detect.proofs.Sendings.{on_lanes_refl, on_lanes_trans}
 use Rattle.detect.proofs.Gatherings.{further_refl, further_trans}
 use Rattle.detect.proofs.sending.send_all.Goals as goal

@@ -1,7 +1,10 @@
 use Rattle.route.proofs.LaneShares.{routes_of, has_routed}
-use Rattle.route.proofs.RunLists.{taken_front, earlier, front_of, outcome_of}
+use Rattle.route.proofs.RunLists.{taken_front, earlier, front_of, outcome_of, whole_run}
 use Rattle.route.specs.Runs.{put_list}
 use Rattle.route.proofs.laws.runs.Goals as goal
+
+pub returns-clause-some : goal.returns-clause-some
+returns-clause-some c = whole_run
 
 pub returns-clause-points : goal.returns-clause-points
 returns-clause-points c = earlier

@@ -1,4 +1,4 @@
-use Rattle.std.proofs.Common.{◌≡◌, List, [], ◌∷◌, ◌++◌, Option, subst, sym}
+use Rattle.std.proofs.Common.{◌≡◌, List, [], ◌∷◌, ◌++◌, Option, subst}
 use Rattle.std.specs.Option.{option_to_list}
 use Rattle.trace.specs.Accesses.{RaceAt}
 use Rattle.trace.specs.declared.records.Placed.{Placed}

@@ -1,0 +1,6 @@
+pub mod ListLemmas
+pub mod PathLemmas
+pub mod Measured
+pub mod MeetingLemmas
+pub mod PairLemmas
+pub mod ConfirmLemmas

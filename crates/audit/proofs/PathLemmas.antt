@@ -1,0 +1,249 @@
+-- The longest paths of a well nested trace, one place after another.
+use Rattle.std.proofs.Common.{◌≡◌, ◌≢◌, ℕ, suc, ◌+◌, ◌<◌, ◌≤◌, max, List, [], ◌∷◌, length, Option, Some, ◌⊎◌, inl, inr, refl, sym, ◌∙◌, subst, ap, arith}
+use Rattle.std.proofs.lemmas.Bool.{cases_lt, cases_eq}
+use Rattle.trace.specs.declared.records.Record.{Record}
+use Rattle.trace.specs.declared.records.Record.TheVariants.{Spawn, Return, Sync}
+use Rattle.trace.specs.Traces.{at, depth, IsPlace, IsWellNested}
+use Rattle.trace.specs.Dag.{Edge, continuation, spawn, join, IsContinuation, IsJoin, JoinsAt, IsPath, end_of}
+use Rattle.trace.proofs.World.{Step, returns, leaves, leaves_by}
+use Rattle.trace.proofs.Traced.{traced, shape_of, shape-return, step_at, edge_from, edge_to}
+use Rattle.audit.specs.LongestPaths.{PathTo, alone, longer, IsLongestTo, LastOn, LeadsOn, at_start, own, opened, IsUnjoined, IsLongestUnjoined}
+
+-- paths as lists of places
+
+path_on : (w : List Record) (i x : ℕ) (p : List ℕ) → PathTo w (suc x) i → IsPath w (i ∷ p) → PathTo w (suc x + length p) (end_of i p)
+path_on w i x [] q a = subst (λ (z : ℕ). PathTo w z i) (omega arith) q
+path_on w i x (j ∷ p) q a =
+    let more : PathTo w (suc (suc x) + length p) (end_of j p) = path_on w j (suc x) p (longer q a.0) a.1 in
+    let e : suc (suc x) + length p ≡ suc x + length (j ∷ p) = omega arith in
+    subst (λ (z : ℕ). PathTo w z (end_of j p)) e more
+
+path_start : (w : List Record) (i : ℕ) (p : List ℕ) → IsPath w (i ∷ p) → IsPlace w i
+path_start w i [] a = a
+path_start w i (j ∷ p) a = edge_from w i j a.0
+
+-- a path of a list leads to its last place
+pub path_to : (w : List Record) (i : ℕ) (p : List ℕ) → IsPath w (i ∷ p) → PathTo w (length (i ∷ p)) (end_of i p)
+path_to w i p a =
+    let e : 1 + length p ≡ length (i ∷ p) = omega arith in
+    subst (λ (z : ℕ). PathTo w z (end_of i p)) e (path_on w i 0 p (alone (path_start w i p a)) a)
+
+-- the path as a list
+record Listed (w : List Record) (x j : ℕ) : Type 0 where
+  first : ℕ
+  rest : List ℕ
+  path : IsPath w (first ∷ rest)
+  ends : end_of first rest ≡ j
+  count : length (first ∷ rest) ≡ x
+
+ends_later : (w : List Record) (i j k : ℕ) (p : List ℕ) → IsPath w (i ∷ p) → end_of i p ≡ j → Edge w j k → (q : List ℕ) × IsPath w (i ∷ q) × (end_of i q ≡ k) × (length q ≡ suc (length p))
+ends_later w i j k [] a e d = (k ∷ [], (subst (λ (z : ℕ). Edge w z k) (sym e) d, edge_to w j k d), refl, refl)
+ends_later w i j k (h ∷ p) a e d = let q = ends_later w h j k p a.1 e d in (h ∷ q.0, (a.0, q.1), q.2, ap suc q.3)
+
+listed : (w : List Record) (x j : ℕ) → PathTo w x j → Listed w x j
+listed w x j (alone p) = record { first = j; rest = []; path = p; ends = refl; count = refl }
+listed w x j (longer {i = i} p d) =
+    let l = listed w _ i p in
+    let q = ends_later w l.first i j l.rest l.path l.ends d in
+    record { first = l.first; rest = q.0; path = q.1; ends = q.2; count = ap suc (q.3 ∙ l.count) }
+
+pub path_list : (w : List Record) (x j : ℕ) → PathTo w x j → (p : List ℕ) × IsPath w p × (length p ≡ x)
+path_list w x j p = let l = listed w x j p in (l.first ∷ l.rest, l.path, l.count)
+
+pub path_place : (w : List Record) (x j : ℕ) → PathTo w x j → IsPlace w j
+path_place w x j (alone p) = p
+path_place w x j (longer {i = i} p d) = edge_to w i j d
+
+module _ (w : List Record) {n d : ℕ} (h : IsWellNested w n d) where
+  stays : (t : ℕ) → 1 ≤ t → t < length w → (o : Option Record) → at w t ≡ o → Step (shape_of o) (depth w t) (depth w (suc t))
+  stays t a b o e = subst (λ (z : Option Record). Step (shape_of z) (depth w t) (depth w (suc t))) e (step_at w h t a b)
+
+  -- edges to the place after t
+
+  into_own : (t x i y : ℕ) → LeadsOn w t (depth w (suc t)) x → 1 ≤ i → i < suc t → IsContinuation w i (suc t) → PathTo w y i → y ≤ x
+  into_own t x i y (at_start e) a b c p = absurd (omega arith)
+  into_own t x i y (own l) a b c p = elim (cases_lt l.last i) [
+    | inl q ↦ absurd (omega (arith, l.deeper i q (omega arith), c.same_depth))
+    | inr q ↦ elim (cases_eq i l.last) [
+      | inl e ↦ l.longest.most y (subst (λ (z : ℕ). PathTo w y z) e p)
+      | inr e ↦ absurd (omega (arith, c.deeper_between l.last (omega arith) (omega (arith, l.upto)), l.level, c.same_depth))
+    ]
+  ]
+  into_own t x i y (opened s e l) a b c p = elim (cases_eq i t) [
+    | inl q ↦ absurd (let f : depth w i ≡ depth w t = ap (depth w) q in omega (arith, c.same_depth))
+    | inr q ↦ absurd (omega (arith, c.deeper_between t (omega arith) (omega arith), c.same_depth))
+  ]
+
+  into_child : (t x y : ℕ) → LeadsOn w t (depth w (suc t)) x → 1 ≤ t → t < length w → at w t ≡ Some Spawn → PathTo w y t → y ≤ x
+  into_child t x y (at_start e) a b s p = absurd (omega arith)
+  into_child t x y (opened o e l) a b s p = l.most y p
+  into_child t x y (own l) a b s p =
+      let r : depth w (suc t) ≡ suc (depth w t) = stays t a b (Some Spawn) s in
+      elim (cases_eq l.last t) [
+        | inl e ↦ absurd (let f : depth w l.last ≡ depth w t = ap (depth w) e in omega (arith, l.level))
+        | inr e ↦ absurd (omega (arith, l.deeper t (apart l.last t l.upto e) (omega arith)))
+      ]
+    where
+      apart : (x y : ℕ) → x ≤ y → (x ≡ y → ⊥) → x < y
+      apart x y l n = omega arith
+
+  into_join : (t y i z : ℕ) → IsLongestUnjoined w t (depth w (suc t)) y → i < suc t → IsJoin w i (suc t) → PathTo w z i → z ≤ y
+  into_join t y i z u b c p = u.most i z
+      (record { upto = omega arith; a_return = c.a_return; level = omega (arith, c.above); not_yet = λ k f g e q. c.first k f (omega arith) e q }) p
+
+  path_own : (t x : ℕ) → suc t ≤ length w → LeadsOn w t (depth w (suc t)) x → PathTo w (suc x) (suc t)
+  path_own t x b (at_start e) = alone (omega arith, b)
+  path_own t x b (own l) = longer l.longest.reached (continuation l.place (omega arith, b) (omega (arith, l.upto))
+      (record { no_return = l.goes_on; same_depth = sym l.level; deeper_between = λ k f g. omega (arith, l.deeper k f (omega arith), l.level) }))
+  path_own t x b (opened s e l) =
+      let p : IsPlace w t = path_place w x t l.reached in
+      longer l.reached (spawn p (omega arith, b) (omega arith) (record { a_spawn = s; next = omega arith }))
+
+  -- the longest path to the place after t, where that doesn't wait for children, and where it does
+  pub longest_on : (t x : ℕ) → suc t ≤ length w → (JoinsAt w (suc t) → ⊥) → LeadsOn w t (depth w (suc t)) x → IsLongestTo w (suc t) (suc x)
+  longest_on t x b n l = record { reached = path_own t x b l; most = most }
+    where
+      by_edge : (y i : ℕ) → PathTo w y i → Edge w i (suc t) → suc y ≤ suc x
+      by_edge y i p (continuation a b' f c) = omega (arith, into_own t x i y l a.0 f c p)
+      by_edge y i p (spawn a b' f c) =
+          let e : i ≡ t = omega (arith, c.next) in
+          omega (arith, into_child t x y l (omega (arith, a.0)) b (subst (λ (z : ℕ). at w z ≡ Some Spawn) e c.a_spawn) (subst (λ (z : ℕ). PathTo w y z) e p))
+      by_edge y i p (join a b' f c) = absurd (n c.joins)
+
+      most : (y : ℕ) → PathTo w y (suc t) → y ≤ suc x
+      most y (alone p) = omega arith
+      most y (longer {x = z} {i = i} p e) = by_edge z i p e
+
+  pub longest_joined : (t x y : ℕ) → suc t ≤ length w → JoinsAt w (suc t) → LeadsOn w t (depth w (suc t)) x → IsLongestUnjoined w t (depth w (suc t)) y → IsLongestTo w (suc t) (suc (max x y))
+  longest_joined t x y b j l u = record { reached = reached; most = most }
+    where
+      by_edge : (z i : ℕ) → PathTo w z i → Edge w i (suc t) → suc z ≤ suc (max x y)
+      by_edge z i p (continuation a b' f c) = omega (arith, into_own t x i z l a.0 f c p)
+      by_edge z i p (spawn a b' f c) =
+          let e : i ≡ t = omega (arith, c.next) in
+          omega (arith, into_child t x z l (omega (arith, a.0)) b (subst (λ (k : ℕ). at w k ≡ Some Spawn) e c.a_spawn) (subst (λ (k : ℕ). PathTo w z k) e p))
+      by_edge z i p (join a b' f c) = omega (arith, into_join t y i z u f c p)
+
+      most : (z : ℕ) → PathTo w z (suc t) → z ≤ suc (max x y)
+      most z (alone p) = omega arith
+      most z (longer {x = k} {i = i} p e) = by_edge k i p e
+
+      joined : (r : ℕ) → IsUnjoined w t (depth w (suc t)) r → PathTo w y r → PathTo w (suc y) (suc t)
+      joined r q p = longer p (join (path_place w y r p) (omega arith, b) (omega (arith, q.upto))
+          (record { a_return = q.a_return; above = omega (arith, q.level); joins = j; first = λ k f g e i. q.not_yet k f (omega arith) e i }))
+
+      by_longer : x < y → (y ≡ 0) ⊎ ((r : ℕ) × IsUnjoined w t (depth w (suc t)) r × PathTo w y r) → PathTo w (suc (max x y)) (suc t)
+      by_longer f (inl e) = absurd (omega arith)
+      by_longer f (inr (r, q, p)) = let e : suc y ≡ suc (max x y) = omega arith in subst (λ (z : ℕ). PathTo w z (suc t)) e (joined r q p)
+
+      reached : PathTo w (suc (max x y)) (suc t)
+      reached = elim (cases_lt x y) [
+        | inl f ↦ by_longer f u.reached
+        | inr f ↦ (let e : suc x ≡ suc (max x y) = omega arith in subst (λ (z : ℕ). PathTo w z (suc t)) e (path_own t x b l))
+      ]
+
+  -- what is kept of a level, one place later
+
+  pub last_kept : (t k x : ℕ) → k < depth w (suc t) → LastOn w t k x → LastOn w (suc t) k x
+  last_kept t k x b l = record {
+    last = l.last;
+    place = l.place;
+    upto = omega (arith, l.upto);
+    level = l.level;
+    goes_on = l.goes_on;
+    deeper = λ q f g. elim (cases_eq q (suc t)) [
+      | inl e ↦ (let i : depth w q ≡ depth w (suc t) = ap (depth w) e in omega arith)
+      | inr e ↦ l.deeper q f (omega arith)
+    ];
+    longest = l.longest;
+  }
+
+  pub last_here : (t x : ℕ) → suc t ≤ length w → at w (suc t) ≢ Some Return → IsLongestTo w (suc t) x → LastOn w (suc t) (depth w (suc t)) x
+  last_here t x b m l = record {
+    last = suc t;
+    place = (omega arith, b);
+    upto = omega arith;
+    level = refl;
+    goes_on = m;
+    deeper = λ q f g. absurd (omega arith);
+    longest = l;
+  }
+
+  earlier : (t k r : ℕ) → (r ≡ suc t → ⊥) → IsUnjoined w (suc t) k r → IsUnjoined w t k r
+  earlier t k r m u = record {
+    upto = omega (arith, u.upto, m);
+    a_return = u.a_return;
+    level = u.level;
+    not_yet = λ q f g. u.not_yet q f (omega arith);
+  }
+
+  later : (t k r : ℕ) → (depth w (suc t) ≡ k → JoinsAt w (suc t) → ⊥) → IsUnjoined w t k r → IsUnjoined w (suc t) k r
+  later t k r m u = record {
+    upto = omega (arith, u.upto);
+    a_return = u.a_return;
+    level = u.level;
+    not_yet = λ q f g e j. elim (cases_eq q (suc t)) [
+      | inl i ↦ m (sym (ap (depth w) i) ∙ e) (subst (λ (z : ℕ). JoinsAt w z) i j)
+      | inr i ↦ u.not_yet q f (omega arith) e j
+    ];
+  }
+
+  later_reached : (t k y : ℕ) → (depth w (suc t) ≡ k → JoinsAt w (suc t) → ⊥) → (y ≡ 0) ⊎ ((r : ℕ) × IsUnjoined w t k r × PathTo w y r) → (y ≡ 0) ⊎ ((r : ℕ) × IsUnjoined w (suc t) k r × PathTo w y r)
+  later_reached t k y m (inl e) = inl e
+  later_reached t k y m (inr (r, u, p)) = inr (r, later t k r m u, p)
+
+  not_the_return : (t k : ℕ) → (at w (suc t) ≡ Some Return → depth w (suc t) ≡ suc k → ⊥) → (r : ℕ) → IsUnjoined w (suc t) k r → r ≡ suc t → ⊥
+  not_the_return t k m r u e = m (sym (ap (at w) e) ∙ u.a_return) (sym (ap (depth w) e) ∙ u.level)
+
+  pub unjoined_kept : (t k y : ℕ) → (depth w (suc t) ≡ k → JoinsAt w (suc t) → ⊥) → (at w (suc t) ≡ Some Return → depth w (suc t) ≡ suc k → ⊥) → IsLongestUnjoined w t k y → IsLongestUnjoined w (suc t) k y
+  unjoined_kept t k y m o u = record {
+    most = λ r x q p. u.most r x (earlier t k r (not_the_return t k o r q) q) p;
+    reached = later_reached t k y m u.reached;
+  }
+
+  -- a sync waits for all
+  pub unjoined_synced : (t : ℕ) → at w (suc t) ≡ Some Sync → IsLongestUnjoined w (suc t) (depth w (suc t)) 0
+  unjoined_synced t s = record { most = λ r x q p. absurd (none r q); reached = inl refl }
+    where
+      none : (r : ℕ) → IsUnjoined w (suc t) (depth w (suc t)) r → ⊥
+      none r q = elim (cases_eq r (suc t)) [
+        | inl e ↦ (let f : at w r ≡ at w (suc t) = ap (at w) e in let g : at w r ≡ Some Return = q.a_return in cc)
+        | inr e ↦ q.not_yet (suc t) (omega (arith, q.upto)) (omega arith) refl (inl s)
+      ]
+
+  -- a child begins with no children
+  pub unjoined_opened : (t : ℕ) → suc t ≤ length w → at w (suc t) ≡ Some Spawn → IsLongestUnjoined w (suc t) (suc (depth w (suc t))) 0
+  unjoined_opened t b s = record { most = λ r x q p. absurd (none r (path_place w x r p) q); reached = inl refl }
+    where
+      left : (r : ℕ) → 1 ≤ r → r ≤ t → IsUnjoined w (suc t) (suc (depth w (suc t))) r → ⊥
+      left r a c q =
+          let f : depth w r ≡ suc (depth w (suc r)) = leaves_by (traced w h) r a (omega arith) (ap (λ (z : Option Record). returns (shape_of z)) q.a_return) in
+          let z = leaves (traced w h) (depth w (suc t)) (suc r) (suc t) (omega arith) (omega arith) b (omega (arith, q.level)) (omega arith) in
+          q.not_yet z.0 (omega (arith, z.1.since)) (omega (arith, z.1.before)) z.1.level (inr (shape-return (at w z.0) z.1.a_return))
+
+      none : (r : ℕ) → IsPlace w r → IsUnjoined w (suc t) (suc (depth w (suc t))) r → ⊥
+      none r a q = elim (cases_eq r (suc t)) [
+        | inl e ↦ (let f : at w r ≡ at w (suc t) = ap (at w) e in let g : at w r ≡ Some Return = q.a_return in cc)
+        | inr e ↦ left r a.0 (omega (arith, q.upto)) q
+      ]
+
+  -- a child returns
+  pub unjoined_returned : (t k y z : ℕ) → at w (suc t) ≡ Some Return → depth w (suc t) ≡ suc k → IsLongestTo w (suc t) z → IsLongestUnjoined w t k y → IsLongestUnjoined w (suc t) k (max y z)
+  unjoined_returned t k y z s e l u = record { most = most; reached = reached (cases_lt y z) }
+    where
+      elsewhere : depth w (suc t) ≡ k → JoinsAt w (suc t) → ⊥
+      elsewhere f j = omega arith
+
+      here : IsUnjoined w (suc t) k (suc t)
+      here = record { upto = omega arith; a_return = s; level = e; not_yet = λ q f g. absurd (omega arith) }
+
+      most : (r x : ℕ) → IsUnjoined w (suc t) k r → PathTo w x r → x ≤ max y z
+      most r x q p = elim (cases_eq r (suc t)) [
+        | inl f ↦ omega (arith, l.most x (subst (λ (i : ℕ). PathTo w x i) f p))
+        | inr f ↦ omega (arith, u.most r x (earlier t k r f q) p)
+      ]
+
+      reached : (y < z) ⊎ (z ≤ y) → (max y z ≡ 0) ⊎ ((r : ℕ) × IsUnjoined w (suc t) k r × PathTo w (max y z) r)
+      reached (inl f) = let i : z ≡ max y z = omega arith in inr (suc t, here, subst (λ (x : ℕ). PathTo w x (suc t)) i l.reached)
+      reached (inr f) = let i : y ≡ max y z = omega arith in
+          subst (λ (x : ℕ). (x ≡ 0) ⊎ ((r : ℕ) × IsUnjoined w (suc t) k r × PathTo w x r)) i (later_reached t k y elsewhere u.reached)

@@ -1,0 +1,8 @@
+use Rattle.std.proofs.Common.{subst, ◌∙◌, ap, map}
+use Rattle.collect.specs.Reports.{IsReportList}
+use Rattle.audit.specs.Confirming.{entry_of}
+use Rattle.audit.proofs.ConfirmLemmas.{confirming_none}
+use Rattle.audit.proofs.confirming.Confirming.new.Goals as goal
+
+pub returns-in-Ok : goal.returns-in-Ok
+returns-in-Ok c = confirming_none c.args.report.now _ (subst IsReportList c.races.ensures.races c.races.ensures.report) (c.in-Ok.ensures ∙ ap (map entry_of) c.races.ensures.races) c.new.ensures

@@ -1,0 +1,9 @@
+use Rattle.std.proofs.Common.{nat_lt, rules}
+use Rattle.std.proofs.lemmas.List.Sorted.{IsPartitionPoint-from_clause}
+use Rattle.audit.specs.declared.meetings.Active.{Active}
+use Rattle.audit.proofs.meetings.Meetings.holders.Goals as goal
+
+pub returns-clause-opened : goal.returns-clause-opened
+returns-clause-opened c h =
+    IsPartitionPoint-from_clause (λ (f : Active). nat_lt f.opened c.args.place) c.args.self.now.waiting.items c.partition_point.result (rw c.deref.ensures.value at c.partition_point.ensures.partitioned) h
+    (λ a r f called. search rules)

@@ -1,0 +1,24 @@
+-- Which entries of a report are races.
+use Rattle.std.specs.Prelude.{◌≡◌, ℕ, suc, ◌<◌, List, slice_get, Some, All}
+use Rattle.trace.specs.declared.records.Record.{Record}
+use Rattle.trace.specs.Accesses.{RaceAt}
+use Rattle.audit.specs.declared.answers.Confirm.{Confirm}
+use Rattle.audit.specs.declared.answers.Confirm.TheVariants.{Yes, No}
+use Rattle.audit.specs.Pairs.{IsPair}
+
+-- the two accesses race on the location that is told, and are of the kinds told
+abbrev pub TellsRace : List Record → RaceAt → Type 0
+TellsRace w r = IsPair w r.location (r.first, r.second)
+
+-- the first entry that tells no race; entries are counted from 1
+pub record IsFirstWrong (w : List Record) (entries : List RaceAt) (entry : ℕ) : Type 0 where
+  pub before : ℕ
+  pub from_one : entry ≡ suc before
+  pub race : RaceAt
+  pub there : slice_get entries before ≡ Some race
+  pub wrong : TellsRace w race → ⊥
+  pub right_before : (k : ℕ) (r : RaceAt) → k < before → slice_get entries k ≡ Some r → TellsRace w r
+
+abbrev pub Confirms : List Record → List RaceAt → Confirm → Type 0
+Confirms w entries Yes = All (TellsRace w) entries
+Confirms w entries (No entry) = IsFirstWrong w entries entry

@@ -1,0 +1,102 @@
+-- What measuring keeps of the first records of a trace: the longest paths in each active procedure.
+use Rattle.std.specs.Prelude.{◌≡◌, ◌≢◌, ℕ, suc, ◌+◌, ◌<◌, ◌≤◌, max, List, [], ◌∷◌, ◌++◌, length, count_by, slice_get, Some, ◌⊎◌}
+use Rattle.trace.specs.declared.records.Record.{Record}
+use Rattle.trace.specs.declared.records.Record.TheVariants.{Spawn, Return, Sync, Read, Write}
+use Rattle.trace.specs.Traces.{at, depth, IsPlace}
+use Rattle.trace.specs.Dag.{Edge, JoinsAt}
+use Rattle.audit.specs.declared.measuring.Longest.{Longest}
+use Rattle.audit.specs.declared.measuring.Measuring.{Measuring}
+use Rattle.audit.specs.Measures.{is_spawn}
+use Rattle.audit.specs.Watching.{WhateverFollows}
+
+-- a path of so many places ends at a place
+pub data PathTo (w : List Record) : ℕ → ℕ → Type 0 where
+  alone : {j : ℕ} → IsPlace w j → PathTo w 1 j
+  longer : {x i j : ℕ} → PathTo w x i → Edge w i j → PathTo w (suc x) j
+
+-- the longest path to a place has so many places
+pub record IsLongestTo (w : List Record) (j x : ℕ) : Type 0 where
+  pub reached : PathTo w x j
+  pub most : (y : ℕ) → PathTo w y j → y ≤ x
+
+-- of the first t places, the last one that the active procedure at depth d executed itself, and the longest path to it
+pub record LastOn (w : List Record) (t d x : ℕ) : Type 0 where
+  pub last : ℕ
+  pub place : IsPlace w last
+  pub upto : last ≤ t
+  pub level : depth w last ≡ d
+  pub goes_on : at w last ≢ Some Return
+  pub deeper : (k : ℕ) → last < k → k ≤ t → d < depth w k
+  pub longest : IsLongestTo w last x
+
+-- the longest path to the place from which an edge leads on at depth d; 0 at the start, where there is none
+pub data LeadsOn (w : List Record) (t d : ℕ) : ℕ → Type 0 where
+  at_start : t ≡ 0 → LeadsOn w t d 0
+  own : {x : ℕ} → LastOn w t d x → LeadsOn w t d x
+  opened : {x : ℕ} → at w t ≡ Some Spawn → suc (depth w t) ≡ d → IsLongestTo w t x → LeadsOn w t d x
+
+-- at r a child of a procedure at depth d returned, and up to place t the procedure hasn't waited for it
+pub record IsUnjoined (w : List Record) (t d r : ℕ) : Type 0 where
+  pub upto : r ≤ t
+  pub a_return : at w r ≡ Some Return
+  pub level : depth w r ≡ suc d
+  pub not_yet : (k : ℕ) → r < k → k ≤ t → depth w k ≡ d → JoinsAt w k → ⊥
+
+-- the longest path to such a return; 0 where there is none
+pub record IsLongestUnjoined (w : List Record) (t d x : ℕ) : Type 0 where
+  pub most : (r y : ℕ) → IsUnjoined w t d r → PathTo w y r → y ≤ x
+  pub reached : (x ≡ 0) ⊎ ((r : ℕ) × IsUnjoined w t d r × PathTo w x r)
+
+-- the active procedures before place t + 1, with their longest paths; those that wait stand by their depths
+pub record AreActive (w : List Record) (t : ℕ) (executing : Longest) (waiting : List Longest) : Type 0 where
+  pub level : length waiting ≡ depth w (suc t)
+  pub own : LeadsOn w t (depth w (suc t)) executing.own
+  pub unjoined : IsLongestUnjoined w t (depth w (suc t)) executing.unjoined
+  pub waiting_own : (k : ℕ) (f : Longest) → slice_get waiting k ≡ Some f → LastOn w t k f.own
+  pub waiting_unjoined : (k : ℕ) (f : Longest) → slice_get waiting k ≡ Some f → IsLongestUnjoined w t k f.unjoined
+
+-- no path to the first t places is longer
+pub record IsSpanTo (w : List Record) (t span : ℕ) : Type 0 where
+  pub most : (j x : ℕ) → j ≤ t → PathTo w x j → x ≤ span
+  pub reached : ((t ≡ 0) × (span ≡ 0)) ⊎ ((j : ℕ) × PathTo w span j)
+
+-- none of the first t places is deeper
+pub record IsDepthTo (w : List Record) (t greatest : ℕ) : Type 0 where
+  pub most : (i : ℕ) → i ≤ t → depth w i ≤ greatest
+  pub reached : ((t ≡ 0) × (greatest ≡ 0)) ⊎ ((i : ℕ) × IsPlace w i × (depth w i ≡ greatest))
+
+-- after the first t records of a well nested trace
+pub record HasMeasuredTo (w : List Record) (t : ℕ) (m : Measuring) : Type 0 where
+  pub span : IsSpanTo w t m.span
+  pub depth : IsDepthTo w t m.depth
+  pub active : suc t ≤ length w → AreActive w t m.executing m.waiting.items
+
+-- paths to the first n places have no more places
+pub record IsWithin (n : ℕ) (f : Longest) : Type 0 where
+  pub own : f.own ≤ n
+  pub unjoined : f.unjoined ≤ n
+
+-- the records u were measured: whatever well nested trace begins with them
+pub record HasMeasured (m : Measuring) (u : List Record) : Type 0 where
+  pub work : m.work ≡ length u
+  pub spawns : m.spawns ≡ count_by is_spawn u
+  pub executing : IsWithin (length u) m.executing
+  pub waiting : (k : ℕ) (f : Longest) → slice_get m.waiting.items k ≡ Some f → IsWithin (length u) f
+  pub measured : WhateverFollows u (λ w. HasMeasuredTo w (length u) m)
+
+-- the longest path to the next record of a procedure: a record that waits for children comes after their returns too
+abbrev pub through : Longest → Record → ℕ
+through f Spawn = f.own + 1
+through f Return = max f.own f.unjoined + 1
+through f Sync = max f.own f.unjoined + 1
+through f (Read l) = f.own + 1
+through f (Write l) = f.own + 1
+
+-- what becomes of the longest paths at a record to which the longest path has x places
+abbrev pub Advances : ℕ → Record → Longest → List Longest → Longest → List Longest → Type 0
+Advances x Spawn e waiting e' waiting' = (e' ≡ record { own = x; unjoined = 0 }) × (waiting' ≡ waiting ++ record { own = x; unjoined = e.unjoined } ∷ [])
+Advances x Return e waiting e' waiting' = ((waiting ≡ []) × (waiting' ≡ []) × (e' ≡ e))
+    ⊎ ((f : Longest) × (waiting ≡ waiting' ++ f ∷ []) × (e' ≡ record { own = f.own; unjoined = max f.unjoined x }))
+Advances x Sync e waiting e' waiting' = (e' ≡ record { own = x; unjoined = 0 }) × (waiting' ≡ waiting)
+Advances x (Read l) e waiting e' waiting' = (e' ≡ record { own = x; unjoined = e.unjoined }) × (waiting' ≡ waiting)
+Advances x (Write l) e waiting e' waiting' = (e' ≡ record { own = x; unjoined = e.unjoined }) × (waiting' ≡ waiting)

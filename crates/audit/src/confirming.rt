@@ -1,0 +1,161 @@
+//! What is kept of a trace for the entries of a report.
+ghost use Rattle.std.specs.Prelude.{◌≡◌, ◌≢◌, ◌<◌, ℕ, suc, List, [], length, map, slice_get, Some, IfSome, IfNone, IfOk, OnOk};
+ghost use Rattle.trace.specs.declared.records.Record.{Record};
+ghost use Rattle.trace.specs.Accesses.{IsRaceShape};
+ghost use Rattle.trace.specs.Races.{IsAccess};
+ghost use Rattle.audit.specs.Watching.{WhateverFollows};
+ghost use Rattle.audit.specs.Meetings.{HasMet};
+ghost use Rattle.audit.specs.Confirming.{AreAscending, Stands, AnswersBy, entry_of, race_of};
+
+use crate::answers::Confirm;
+use crate::meetings::Meetings;
+use crate::watching::Watch;
+use collect::Report;
+use std::alloc::Global;
+use trace::{Access, Kind, NoMemory, Placed, Race, Record};
+
+/// How far an entry was found in the trace.
+#[derive(Clone, Copy)]
+pub(crate) enum Standing {
+    /// Its first access wasn't there yet.
+    Missing,
+    /// Its first access was there, at this depth.
+    Begun(usize),
+    /// It is a race.
+    Confirmed,
+}
+
+/// An entry of a report: the race that it tells, and how far it was found.
+#[derive(Clone, Copy)]
+pub(crate) struct Entry {
+    pub(crate) location: u64,
+    pub(crate) first: Access,
+    pub(crate) second: Access,
+    pub(crate) standing: Standing,
+}
+
+/// The entries of a report, by ascending location, and the active procedures.
+#[derive(Drop)]
+pub(crate) struct Confirming {
+    pub(crate) entries: Vec<Entry>,
+    pub(crate) meetings: Meetings,
+}
+
+impl Confirming {
+    ghost use Rattle.audit.specs.Confirming.{HasConfirmed, Touches, races_of};
+
+    /// No record was seen.
+    pub(crate) fn new(alloc: Global, report: &Report) -> Result<Confirming, NoMemory>
+        ensures { IfOk result (HasConfirmed report.now []) }
+    {
+        match entries_of(alloc, report.races()) {
+            Ok(entries) => Ok(Confirming {
+                entries,
+                meetings: Meetings::new(alloc),
+            }),
+            Err(refused) => Err(refused),
+        }
+    }
+
+    /// Takes an access of a location: there is one entry of it at most.
+    fn touch(&mut self, location: u64, access: Access)
+        ensures entries { Touches self.old.meetings location access self.old.entries.items self.new.entries.items }
+        ensures same_races { races_of self.new.entries.items ≡ races_of self.old.entries.items }
+        ensures meetings { self.new.meetings ≡ self.old.meetings }
+    {
+        if let Some(index) = find_entry(&self.entries, location) {
+            let standing = next_standing(&self.meetings, self.entries[index], access);
+            self.entries[index].standing = standing;
+        }
+    }
+}
+
+impl Watch for Confirming {
+    ghost use Rattle.audit.specs.Confirming.{HasConfirmed, races_of};
+
+    ghost has_seen = { λ first u now. HasConfirmed (races_of first.entries.items) u now };
+
+    fn take(&mut self, placed: Placed) -> Result<(), NoMemory> {
+        let place = placed.place;
+        match placed.what {
+            Record::Read(location) => self.touch(
+                location,
+                Access {
+                    kind: Kind::Read,
+                    place,
+                },
+            ),
+            Record::Write(location) => self.touch(
+                location,
+                Access {
+                    kind: Kind::Write,
+                    place,
+                },
+            ),
+            Record::Spawn | Record::Sync | Record::Return => {}
+        }
+        self.meetings.take(placed)
+    }
+}
+
+/// The entries, of which nothing was found yet.
+fn entries_of(alloc: Global, races: &[Race]) -> Result<Vec<Entry>, NoMemory>
+    ensures { IfOk result (λ entries. entries.items ≡ map entry_of races.now) }
+{
+    let entries = races.iter().map(|race| Entry {
+        location: race.location,
+        first: race.first,
+        second: race.second,
+        standing: Standing::Missing,
+    });
+    match entries.collect(alloc) {
+        Ok(entries) => Ok(entries),
+        Err(_) => Err(NoMemory),
+    }
+}
+
+/// The index of the entry on a location, if there is one.
+fn find_entry(entries: &[Entry], location: u64) -> Option<usize>
+    ensures within { IfSome result (λ k. k < length entries.now) }
+    ensures found { IfSome result (λ k. (e : Entry) → slice_get entries.now k ≡ Some e → e.location ≡ location) }
+    ensures nowhere { AreAscending entries.now → IfNone result ((k : ℕ) (e : Entry) → slice_get entries.now k ≡ Some e → e.location ≢ location) }
+{
+    let index = entries.partition_point(|entry| entry.location < location);
+    if index < entries.len() && entries[index].location == location {
+        Some(index)
+    } else {
+        None
+    }
+}
+
+/// How far an entry was found, where the next record is an access of its location.
+fn next_standing(meetings: &Meetings, entry: Entry, access: Access) -> Standing
+    ensures { (u : List Record) → HasMet meetings.now u → IsRaceShape entry.first entry.second → access.place ≡ suc (length u)
+        → WhateverFollows u (λ w. IsAccess w entry.location access.place access.kind → Stands w (length u) (race_of entry) entry.standing → Stands w (suc (length u)) (race_of entry) result) }
+{
+    match entry.standing {
+        Standing::Missing if access == entry.first => Standing::Begun(meetings.depth()),
+        Standing::Begun(depth)
+            if access == entry.second && meetings.is_parallel(entry.first.place, depth) => {
+            Standing::Confirmed
+        }
+        standing => standing,
+    }
+}
+
+/// Whether all entries are confirmed, else the first that isn't.
+pub(crate) fn answer_of(entries: &[Entry]) -> Confirm
+    ensures { AnswersBy entries.now result }
+{
+    for (index, entry) in entries.iter().enumerate() {
+        match entry.standing {
+            Standing::Confirmed => {}
+            Standing::Missing | Standing::Begun(_) => {
+                return Confirm::No {
+                    entry: index as u64 + 1,
+                };
+            }
+        }
+    }
+    Confirm::Yes
+}

@@ -1,0 +1,108 @@
+//! What is kept of a trace for the races of one location: its accesses, and the races so far.
+ghost use Rattle.std.specs.Prelude.{◌≡◌, ◌≢◌, ℕ, List, [], length, Bool, ◌||◌, OnOk, MatchOption};
+ghost use Rattle.trace.specs.declared.records.Record.{Record};
+ghost use Rattle.trace.specs.declared.records.Kind.{Kind};
+ghost use Rattle.trace.specs.Accesses.{writes};
+ghost use Rattle.trace.specs.Races.{access};
+ghost use Rattle.audit.specs.Pairing.{AddsPairs};
+
+use crate::meetings::Meetings;
+use crate::watching::Watch;
+use std::alloc::Global;
+use trace::{Access, Kind, NoMemory, Placed, Record};
+
+/// An access of the location, and how deep the procedure lies that executed it.
+#[derive(Clone, Copy)]
+pub(crate) struct Kept {
+    pub(crate) access: Access,
+    pub(crate) depth: usize,
+}
+
+/// The accesses of a location so far, and its races.
+#[derive(Drop)]
+pub(crate) struct Pairing {
+    pub(crate) location: u64,
+    pub(crate) meetings: Meetings,
+    pub(crate) kept: Vec<Kept>,
+    pub(crate) pairs: Vec<(Access, Access)>,
+}
+
+impl Pairing {
+    ghost use Rattle.audit.specs.Pairing.{HasPaired};
+
+    /// No record was seen.
+    pub(crate) fn new(alloc: Global, location: u64) -> Pairing
+        ensures { HasPaired location [] result }
+    {
+        Pairing {
+            location,
+            meetings: Meetings::new(alloc),
+            kept: Vec::new(alloc),
+            pairs: Vec::new(alloc),
+        }
+    }
+}
+
+impl Watch for Pairing {
+    ghost use Rattle.audit.specs.Pairing.{HasPaired};
+
+    ghost has_seen = { λ first u now. HasPaired first.location u now };
+
+    fn take(&mut self, placed: Placed) -> Result<(), NoMemory> {
+        if let Some(access) = access_of(placed, self.location) {
+            add_pairs(&self.meetings, &self.kept, access, &mut self.pairs)?;
+            let depth = self.meetings.depth();
+            self.kept
+                .push(Kept { access, depth })
+                .map_err(|_| NoMemory)?;
+        }
+        self.meetings.take(placed)
+    }
+}
+
+/// Adds the races of an access with the earlier ones.
+fn add_pairs(
+    meetings: &Meetings,
+    kept: &[Kept],
+    second: Access,
+    pairs: &mut Vec<(Access, Access)>,
+) -> Result<(), NoMemory>
+    ensures { OnOk result (AddsPairs meetings.now kept.now second (length kept.now) pairs.old.items pairs.new.items) }
+{
+    for first in kept {
+        if one_writes(first.access.kind, second.kind)
+            && meetings.is_parallel(first.access.place, first.depth)
+        {
+            pairs.push((first.access, second)).map_err(|_| NoMemory)?;
+        }
+    }
+    Ok(())
+}
+
+/// The access of a location that a record is, if it is one.
+fn access_of(placed: Placed, location: u64) -> Option<Access>
+    ensures { MatchOption result ((k : Kind) → placed.what ≢ access k location) (λ a. (a.place ≡ placed.place) × (placed.what ≡ access a.kind location)) }
+{
+    let place = placed.place;
+    match placed.what {
+        Record::Read(read) if read == location => Some(Access {
+            kind: Kind::Read,
+            place,
+        }),
+        Record::Write(written) if written == location => Some(Access {
+            kind: Kind::Write,
+            place,
+        }),
+        _ => None,
+    }
+}
+
+/// Whether one of two accesses writes.
+fn one_writes(first: Kind, second: Kind) -> bool
+    ensures { result ≡ (writes first || writes second) }
+{
+    match (first, second) {
+        (Kind::Read, Kind::Read) => false,
+        (Kind::Write, _) | (Kind::Read, Kind::Write) => true,
+    }
+}
