@@ -1,2 +1,11 @@
 pub mod Dag
 pub mod Runs
+pub mod Gathered
+pub mod Gatherings
+pub mod Sent
+pub mod Working
+pub mod Closing
+pub mod Readiness
+pub mod Finished
+pub mod Rooms
+pub mod Ran

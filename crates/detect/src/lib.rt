@@ -1,10 +1,23 @@
 //! Determinacy races of a trace: what the rules of SP-bags find is what the dag has.
 #![tactic(auto)]
 
+mod closing;
 mod detector;
+mod gathering;
+mod jobs;
 pub mod laws;
+mod made;
+mod making;
+mod plan;
 pub mod plain;
+mod running;
+mod sending;
+mod settling;
+pub mod sharded;
 #[cfg(test)]
 mod tests;
+mod workers;
 
 pub use plain::detect_plain;
+pub use plan::Plan;
+pub use sharded::{Run, detect};

@@ -2,4 +2,5 @@
 
 mod by_definition;
 mod rows;
+mod sharded_rows;
 mod short_lists;

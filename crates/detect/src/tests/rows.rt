@@ -14,9 +14,9 @@ use trace::{
 
 /// Hands out the bytes, so many at each call.
 #[derive(Drop)]
-struct Pieces<'a> {
-    bytes: &'a [u8],
-    size: usize,
+pub(super) struct Pieces<'a> {
+    pub(super) bytes: &'a [u8],
+    pub(super) size: usize,
 }
 
 impl<'a> Source for Pieces<'a> {
@@ -248,7 +248,7 @@ fn first_faults(rt: HostRuntime) {
 }
 
 /// A child and its parent write the same 1,000 locations.
-fn write_thousand_races(text: &mut Vec<u8>) -> Result<(), WriteFault> {
+pub(super) fn write_thousand_races(text: &mut Vec<u8>) -> Result<(), WriteFault> {
     let mut sink = Counted::new(text);
     write_header(&mut sink)?;
     write_record(&Record::Spawn, &mut sink)?;

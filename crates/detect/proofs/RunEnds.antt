@@ -1,0 +1,120 @@
+-- The end of a run: what the workers took are the shares, and what they told are the races found in them.
+use Rattle.std.proofs.Common.{◌≡◌, ℕ, zero, suc, ◌<◌, ◌≤◌, ◌^◌, Bool, true, false, cond, ltb, List, [], ◌∷◌, ◌++◌, length, map, get_or, Option, Some, None, refl, sym, ap, ap₂, subst, ◌∙◌, append-nil, arith}
+use Rattle.std.proofs.lemmas.Bool.{cond-true}
+use Rattle.std.proofs.lemmas.Bool.Decides.{nat_tests}
+use Rattle.trace.specs.declared.records.Record.{Record}
+use Rattle.trace.specs.declared.records.Placed.{Placed}
+use Rattle.trace.specs.Traces.{placed, IsWellNested}
+use Rattle.trace.specs.Shares.{share}
+use Rattle.shadow.specs.Found.{found}
+use Rattle.lane.specs.declared.item.Item.{Item}
+use Rattle.lane.specs.declared.item.Item.TheVariants.{One, Finish}
+use Rattle.lane.specs.Items.{has_mark, records}
+use Rattle.lane.specs.Lanes.{LaneId, taker_lane, taken_of, end_lane, all_put}
+use Rattle.lane.proofs.Marks.{records-finish}
+use Rattle.route.specs.Sending.{put_on, AllSent}
+use Rattle.shard.specs.declared.Back.{Back}
+use Rattle.shard.specs.declared.working.Worked.{Worked}
+use Rattle.shard.specs.Backs.{races_of, fails}
+use Rattle.shard.specs.Working.{IsOfShare, TellsFound}
+use Rattle.shard.specs.Worked.{DidWork}
+use Rattle.shard.proofs.Answered.{answered}
+use Rattle.detect.specs.Gathered.{on_lane, all_given}
+use Rattle.detect.specs.Working.{DidOn, AllDid}
+use Rattle.detect.specs.Closing.{taken_by, told_by, counts_of, taker_lanes, told_lanes, IsSettled}
+use Rattle.detect.proofs.Gathered.{fails_on}
+
+-- ---- what the workers have done, shard by shard
+
+-- a worker took these items up to the mark, and told and counted what it had to
+pub record IsWork (taken : List (Item Placed)) (told : List (Item Back)) (count : ℕ) : Type 0 where
+  pub to_mark : taken ≡ map One (records taken) ++ Finish ∷ []
+  pub of_share : IsOfShare (records taken) → (count ≡ length (records taken)) × TellsFound (records taken) told
+
+module _ {S H : Type 0} where
+  pub did_at : (ls : List (LaneId × LaneId)) (ws : List (Worked S H)) (k : ℕ) → AllDid ls ws → k < length ws → IsWork (get_or (taken_by ws) k []) (get_or (told_by ws) k []) (get_or (counts_of ws) k 0)
+  did_at [] [] k h lt = absurd (omega (arith, lt))
+  did_at [] (w ∷ ws) k h lt = absurd h
+  did_at (l ∷ ls) [] k h lt = absurd h
+  did_at (l ∷ ls) (w ∷ ws) zero h lt = record { to_mark = h.0.did.to_mark; of_share = h.0.did.of_share }
+  did_at (l ∷ ls) (w ∷ ws) (suc k) h lt = did_at ls ws k h.1 (omega (arith, lt))
+
+  pub did_taker_lanes : (ls : List (LaneId × LaneId)) (ws : List (Worked S H)) → AllDid ls ws → taker_lanes ws ≡ map (λ l. l.0) ls
+  did_taker_lanes [] [] h = refl
+  did_taker_lanes [] (w ∷ ws) h = absurd h
+  did_taker_lanes (l ∷ ls) [] h = absurd h
+  did_taker_lanes (l ∷ ls) (w ∷ ws) h = ap₂ (λ x xs. x ∷ xs) (h.0.did.same_taker ∙ sym (ap (λ (p : LaneId × LaneId). p.0) h.0.lanes_are)) (did_taker_lanes ls ws h.1)
+
+  pub did_told_lanes : (ls : List (LaneId × LaneId)) (ws : List (Worked S H)) → AllDid ls ws → told_lanes ws ≡ map (λ l. l.1) ls
+  did_told_lanes [] [] h = refl
+  did_told_lanes [] (w ∷ ws) h = absurd h
+  did_told_lanes (l ∷ ls) [] h = absurd h
+  did_told_lanes (l ∷ ls) (w ∷ ws) h = ap₂ (λ x xs. x ∷ xs) (h.0.did.same_back ∙ sym (ap (λ (p : LaneId × LaneId). p.1) h.0.lanes_are)) (did_told_lanes ls ws h.1)
+
+  pub did_count : (ls : List (LaneId × LaneId)) (ws : List (Worked S H)) → AllDid ls ws → length ws ≡ length ls
+  did_count [] [] h = refl
+  did_count [] (w ∷ ws) h = absurd h
+  did_count (l ∷ ls) [] h = absurd h
+  did_count (l ∷ ls) (w ∷ ws) h = ap suc (did_count ls ws h.1)
+
+-- ---- one shard
+
+has_mark-last : {T : Type 0} (xs : List T) → has_mark (map One xs ++ Finish ∷ []) ≡ true
+has_mark-last [] = refl
+has_mark-last (x ∷ xs) = has_mark-last xs
+
+records-one_each : {T : Type 0} (xs : List T) → records (map One xs ++ Finish ∷ []) ≡ xs
+records-one_each [] = refl
+records-one_each (x ∷ xs) = ap (λ l. x ∷ l) (records-one_each xs)
+
+-- what was put on a marked lane, with nothing pending
+pub put_whole : (w : List Placed) (turn n k : ℕ) (puts : List (List (Item Placed))) → k < n → AllSent n w turn None n (put_on puts) → get_or puts k [] ≡ map One (share k n w) ++ Finish ∷ []
+put_whole w turn n k puts lt sent =
+    let put : get_or puts k [] ≡ map One (share k n w ++ []) ++ cond (ltb k n) (Finish ∷ []) [] = sent k lt in
+    let below : ltb k n ≡ true = grind (lt, arith, nat_tests) in
+    put ∙ ap₂ (λ (u : List Placed) (m : List (Item Placed)). map One u ++ m) (append-nil (share k n w)) (cond-true (ltb k n) _ _ below)
+
+-- what is known at the end, of n shards
+pub record IsEnd (n : ℕ) (w : List Record) (taken puts : List (List (Item Placed))) (given told : List (List (Item Back))) (counts : List ℕ) : Type 0 where
+  pub works : (k : ℕ) → k < n → IsWork (get_or taken k []) (get_or told k []) (get_or counts k 0)
+  pub whole : (k : ℕ) → k < n → get_or puts k [] ≡ map One (share k n (placed w)) ++ Finish ∷ []
+  pub settled : (k : ℕ) → k < n → IsSettled taken puts k
+  pub settled_back : (k : ℕ) → k < n → IsSettled given told k
+  pub ended : (k : ℕ) → k < n → has_mark (get_or given k []) ≡ true
+
+pub took_share : (n : ℕ) (w : List Record) (taken puts : List (List (Item Placed))) (given told : List (List (Item Back))) (counts : List ℕ) → IsEnd n w taken puts given told counts
+    → (k : ℕ) → k < n → get_or taken k [] ≡ map One (share k n (placed w)) ++ Finish ∷ []
+took_share n w taken puts given told counts h k lt =
+    let marked : has_mark (get_or taken k []) ≡ true = ap has_mark (h.works k lt).to_mark ∙ has_mark-last (records (get_or taken k [])) in
+    h.settled k lt marked ∙ h.whole k lt
+
+took_records : (n : ℕ) (w : List Record) (taken puts : List (List (Item Placed))) (given told : List (List (Item Back))) (counts : List ℕ) → IsEnd n w taken puts given told counts
+    → (k : ℕ) → k < n → records (get_or taken k []) ≡ share k n (placed w)
+took_records n w taken puts given told counts h k lt = ap records (took_share n w taken puts given told counts h k lt) ∙ records-one_each (share k n (placed w))
+
+of_share : (n k limit depths : ℕ) (w : List Record) (u : List Placed) → limit ≤ 2 ^ 48 → IsWellNested w limit depths → u ≡ share k n (placed w) → IsOfShare u
+of_share n k limit depths w u most nested is = record {
+  trace = w;
+  shard = k;
+  shards = n;
+  limit = limit;
+  depths = depths;
+  nested = nested;
+  to_limit = most;
+  begins = ([], sym (append-nil u ∙ is));
+}
+
+pub counted_share : (n limit depths : ℕ) (w : List Record) (taken puts : List (List (Item Placed))) (given told : List (List (Item Back))) (counts : List ℕ) → limit ≤ 2 ^ 48 → IsWellNested w limit depths → IsEnd n w taken puts given told counts
+    → (k : ℕ) → k < n → get_or counts k 0 ≡ length (share k n (placed w))
+counted_share n limit depths w taken puts given told counts most nested h k lt =
+    let is = took_records n w taken puts given told counts h k lt in
+    ((h.works k lt).of_share (of_share n k limit depths w _ most nested is)).0 ∙ ap length is
+
+pub told_share : (n limit depths : ℕ) (w : List Record) (taken puts : List (List (Item Placed))) (given told : List (List (Item Back))) (counts : List ℕ) → limit ≤ 2 ^ 48 → IsWellNested w limit depths → IsEnd n w taken puts given told counts
+    → fails (all_given given) ≡ false → (k : ℕ) → k < n → races_of (on_lane given k) ≡ found (share k n (placed w))
+told_share n limit depths w taken puts given told counts most nested h none k lt =
+    let is = took_records n w taken puts given told counts h k lt in
+    let all : get_or given k [] ≡ get_or told k [] = h.settled_back k lt (h.ended k lt) in
+    let tells = ((h.works k lt).of_share (of_share n k limit depths w _ most nested is)).1 in
+    let good : fails (records (get_or told k [])) ≡ false = ap (λ (l : List (Item Back)). fails (records l)) (sym all) ∙ fails_on given k none in
+    ap (λ (l : List (Item Back)). races_of (records l)) all ∙ answered (records (get_or taken k [])) (get_or told k []) tells good ∙ ap found is

@@ -1,0 +1,43 @@
+-- The workers that have done their work: one more, and what they say lane by lane.
+use Rattle.std.proofs.Common.{◌≡◌, ℕ, zero, suc, ◌<◌, List, [], ◌∷◌, ◌++◌, length, map, get_or, refl, sym, ap, ap₂, subst, ◌∙◌, append_assoc}
+use Rattle.std.proofs.lemmas.List.{map-append, append-nil}
+use Rattle.std.specs.declared.thread.PromisedHandle.{PromisedHandle}
+use Rattle.lane.specs.Lanes.{LaneId, taker_lane, lane_of}
+use Rattle.shard.specs.declared.working.Worked.{Worked}
+use Rattle.shard.specs.Worked.{DidWork}
+use Rattle.detect.specs.declared.jobs.Job.{Job}
+use Rattle.detect.specs.declared.jobs.WorkOf.{WorkOf}
+use Rattle.detect.specs.Working.{job_lanes, handle_lanes, DidOn, AllDid}
+
+-- one element more of a list that is gone through
+pub split_more : {X : Type 0} (done : List X) (x : X) (rest before all : List X) → before ≡ x ∷ rest → done ++ before ≡ all → (done ++ x ∷ []) ++ rest ≡ all
+split_more done x rest before all step split = append_assoc done (x ∷ []) rest ∙ ap (λ l. done ++ l) (sym step) ∙ split
+
+-- and all of it was
+pub gone_through : {X : Type 0} (done rest all : List X) → rest ≡ [] → done ++ rest ≡ all → done ≡ all
+gone_through done rest all none split = sym (append-nil done) ∙ ap (λ l. done ++ l) (sym none) ∙ split
+
+module _ {S H : Type 0} where
+  all_did-push : (ls : List (LaneId × LaneId)) (ws : List (Worked S H)) (l : LaneId × LaneId) (w : Worked S H) → AllDid ls ws → DidOn l w → AllDid (ls ++ l ∷ []) (ws ++ w ∷ [])
+  all_did-push [] [] l w h d = (d, tt)
+  all_did-push [] (v ∷ ws) l w h d = absurd h
+  all_did-push (k ∷ ls) [] l w h d = absurd h
+  all_did-push (k ∷ ls) (v ∷ ws) l w h d = (h.0, all_did-push ls ws l w h.1 d)
+
+  -- one worker more was joined
+  pub did_more : (hs : List (PromisedHandle (Worked S H) WorkOf)) (h : PromisedHandle (Worked S H) WorkOf) (ws : List (Worked S H)) (w : Worked S H) (later : List (Worked S H)) → later ≡ ws ++ w ∷ []
+      → AllDid (map handle_lanes hs) ws → DidWork h.promise.taker.value h.promise.back.value w → AllDid (map handle_lanes (hs ++ h ∷ [])) later
+  did_more hs h ws w later is all did =
+      let P : List (Worked S H) → Type 0 = λ l. AllDid (map handle_lanes (hs ++ h ∷ [])) l in
+      let Q : List (LaneId × LaneId) → Type 0 = λ l. AllDid l (ws ++ w ∷ []) in
+      subst P (sym is) (subst Q (sym (map-append handle_lanes hs (h ∷ []))) (all_did-push (map handle_lanes hs) ws (handle_lanes h) w all (record { taker = h.promise.taker.value; back = h.promise.back.value; lanes_are = refl; did = did })))
+
+  -- one worker more was started
+  pub started_more : (hs : List (PromisedHandle (Worked S H) WorkOf)) (h : PromisedHandle (Worked S H) WorkOf) (later : List (PromisedHandle (Worked S H) WorkOf)) (jobs : List (Job S H)) (job : Job S H) → later ≡ hs ++ h ∷ []
+      → handle_lanes h ≡ job_lanes job → map handle_lanes hs ≡ map job_lanes jobs → map handle_lanes later ≡ map job_lanes (jobs ++ job ∷ [])
+  started_more hs h later jobs job is one all =
+      ap (map handle_lanes) is ∙ map-append handle_lanes hs (h ∷ []) ∙ ap₂ (λ ls l. ls ++ l ∷ []) all one ∙ sym (map-append job_lanes jobs (job ∷ []))
+
+  -- a worker was started for each job
+  pub started_all : (hs : List (PromisedHandle (Worked S H) WorkOf)) (done rest all : List (Job S H)) → rest ≡ [] → done ++ rest ≡ all → map handle_lanes hs ≡ map job_lanes done → map handle_lanes hs ≡ map job_lanes all
+  started_all hs done rest all none split lanes = lanes ∙ ap (map job_lanes) (gone_through done rest all none split)

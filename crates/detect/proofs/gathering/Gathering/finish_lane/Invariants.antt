@@ -1,0 +1,6 @@
+use Rattle.std.proofs.Common.{◌≡◌}
+use Rattle.detect.specs.Gatherings.{IsFurther}
+use Rattle.detect.proofs.gathering.Gathering.finish_lane.Given as goal
+
+abbrev pub invariant-loop : goal.invariant-loop
+invariant-loop g l = IsFurther l.fn.self l.self × (l.shard ≡ l.fn.shard)

@@ -1,0 +1,27 @@
+use Rattle.std.proofs.Common.{◌≡◌, ◌-◌, ℕ, List, None}
+use Rattle.std.specs.Io.KnownBytes.{Consumes}
+use Rattle.trace.specs.declared.records.Record.{Record}
+use Rattle.trace.specs.Traces.{placed}
+use Rattle.trace.specs.Feeding.{HasFed}
+use Rattle.route.specs.Routers.{pending_of, marked_of, HasSent, IsOnLanes}
+use Rattle.detect.specs.Gatherings.{IsFurther}
+use Rattle.detect.proofs.sending.send_all.Given as goal
+
+abbrev pub invariant-records : goal.invariant-records
+invariant-records g l = record {
+  trace : List Record;
+  came : List ℕ;
+  consumed : Consumes (g.R.Source.rest l.fn.reader) (g.R.Source.rest l.reader) came;
+  fed : HasFed trace came l.intake;
+  sent : HasSent (placed trace) l.router;
+  idle : pending_of l.router ≡ None;
+  unmarked : marked_of l.router ≡ 0;
+  lanes : IsOnLanes l.fn.router l.router;
+  further : IsFurther l.fn.gathering l.gathering;
+  count : g.R.Source.failures l.reader ≡ g.R.Source.failures l.fn.reader;
+  records : l.intake.reading.limit ≡ l.fn.limits.records;
+  depths : l.intake.nesting.max_depth ≡ l.fn.limits.depth;
+}
+
+abbrev pub decreases-records : goal.decreases-records
+decreases-records g l = l.fn.limits.records - l.intake.reading.count

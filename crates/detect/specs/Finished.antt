@@ -1,0 +1,35 @@
+-- What a run among its workers has come to.
+use Rattle.std.specs.Prelude.{◌≡◌, ℕ, ◌<◌, List, length, map, None, Option, MatchResult}
+use Rattle.lane.specs.Lanes.{LaneId}
+use Rattle.route.specs.Routers.{lanes_of, lane_count, pending_of, marked_of}
+use Rattle.detect.specs.declared.made.Done.{Done}
+use Rattle.detect.specs.Gathered.{given_by}
+use Rattle.detect.specs.Gatherings.{back_lanes, HasEnded, IsGathered}
+use Rattle.detect.specs.Sent.{HasSentAll, FailsInRun}
+use Rattle.detect.specs.Working.{AllDid}
+use Rattle.detect.specs.Closing.{taker_lanes, told_lanes}
+
+module _ {S H : Type 0} where
+  -- the trace was sent whole and the marks after it; n workers have done their work, and all they told came
+  pub record IsFinished (n records depths : ℕ) (before after : Option (List ℕ)) (done : Done S H) : Type 0 where
+    pub sent : HasSentAll records depths before after done.router
+    pub count : lane_count done.router ≡ n
+    pub idle : pending_of done.router ≡ None
+    pub marked : marked_of done.router ≡ n
+    pub lanes : List (LaneId × LaneId)
+    pub to_shards : map (λ l. l.0) lanes ≡ lanes_of done.router
+    pub from_shards : map (λ l. l.1) lanes ≡ back_lanes done.gathering
+    pub did : AllDid lanes done.workers.items
+    pub workers : length done.workers.items ≡ n
+    pub ended : (k : ℕ) → k < n → HasEnded done.gathering k
+    pub backs : length (given_by done.gathering.backs.items) ≡ n
+    pub gathered : IsGathered done.gathering
+
+  -- the receipts may be compared: all lanes have their marks, and the workers' ends are those of the lanes
+  pub record IsClosed (done : Done S H) : Type 0 where
+    pub marked : marked_of done.router ≡ lane_count done.router
+    pub to_shards : taker_lanes done.workers.items ≡ lanes_of done.router
+    pub from_shards : told_lanes done.workers.items ≡ back_lanes done.gathering
+
+  abbrev pub IsDone : ℕ → ℕ → ℕ → Option (List ℕ) → Option (List ℕ) → ℕ → ℕ → Done S H → Type 0
+  IsDone n records depths before after count count' done = MatchResult done.outcome (λ _. IsFinished n records depths before after done) (FailsInRun records depths before after count count')

@@ -1,0 +1,35 @@
+-- What the shards have handed back, lane by lane, and what a collector holds of it.
+use Rattle.std.specs.Prelude.{◌≡◌, ℕ, ◌+◌, ◌%◌, Bool, false, List, [], ◌∷◌, ◌++◌, length, map, slice_index_or, ⊤}
+use Rattle.std.specs.List.{AllByRecursion}
+use Rattle.shard.specs.declared.Back.{Back}
+use Rattle.lane.specs.declared.item.Item.{Item}
+use Rattle.lane.specs.declared.ends.Taker.{Taker}
+use Rattle.lane.specs.Items.{records}
+use Rattle.lane.specs.Lanes.{taken_of}
+use Rattle.shard.specs.Backs.{races_of, fails}
+use Rattle.collect.specs.Collected.{Kept, Holds}
+
+-- the items that each lane gave, lane after lane
+abbrev pub given_by : List (Taker Back) → List (List (Item Back))
+given_by backs = map taken_of backs
+
+-- what a lane gave, without the mark
+abbrev pub on_lane : List (List (Item Back)) → ℕ → List Back
+on_lane lists k = records (slice_index_or lists k [])
+
+abbrev pub all_given : List (List (Item Back)) → List Back
+all_given [] = []
+all_given (items ∷ lists) = records items ++ all_given lists
+
+-- of n lanes these stand from lane k on, and each gave races of its own locations alone
+abbrev pub AreAtHomeFrom : ℕ → ℕ → List (List (Item Back)) → Type 0
+AreAtHomeFrom n k [] = ⊤
+AreAtHomeFrom n k (items ∷ lists) = AllByRecursion (λ r. r.location % n ≡ k) (races_of (records items)) × AreAtHomeFrom n (k + 1) lists
+
+abbrev pub AreAtHome : List (List (Item Back)) → Type 0
+AreAtHome lists = AreAtHomeFrom (length lists) 0 lists
+
+-- unless a growth was refused, here or in a shard, the collector was given all that came
+pub record Gathers (lists : List (List (Item Back))) (refused : Bool) (kept : Kept) : Type 0 where
+  pub none_failed : refused ≡ false → fails (all_given lists) ≡ false
+  pub holds : refused ≡ false → AreAtHome lists → Holds (all_given lists) kept

@@ -1,0 +1,39 @@
+-- What a run begins with.
+use Rattle.std.specs.Prelude.{◌≡◌, ℕ, ◌≤◌, List, [], length, map, None, vec_len, vec_capacity}
+use Rattle.std.specs.List.{All, AllByRecursion}
+use Rattle.lane.specs.Lanes.{LaneId, lane_of, put_of, taken_of, taker_lane}
+use Rattle.route.specs.Routers.{lanes_of, lane_count, pending_of, marked_of, HasSent}
+use Rattle.detect.specs.declared.made.Ends.{Ends}
+use Rattle.detect.specs.declared.made.Made.{Made}
+use Rattle.detect.specs.Gathered.{given_by}
+use Rattle.detect.specs.Gatherings.{back_lanes, IsGathered}
+use Rattle.detect.specs.Working.{AllNew, to_shards, from_shards}
+
+module _ {S H : Type 0} where
+  -- the ends of the lanes of n shards, on which nothing was put
+  pub record IsTied (n : ℕ) (ends : Ends S H) : Type 0 where
+    pub senders : length ends.senders.items ≡ n
+    pub jobs : length ends.jobs.items ≡ n
+    pub backs : length ends.backs.items ≡ n
+    pub to_shards_are : to_shards ends.jobs.items ≡ map lane_of ends.senders.items
+    pub from_shards_are : from_shards ends.jobs.items ≡ map taker_lane ends.backs.items
+    pub new : AllNew ends.jobs.items
+    pub none_put : All (λ s. put_of s ≡ []) ends.senders.items
+    pub none_taken : AllByRecursion (λ t. taken_of t ≡ []) ends.backs.items
+
+  -- a router and n workers on its lanes, before the first record, and room for what comes of the workers
+  pub record IsReady (n : ℕ) (made : Made S H) : Type 0 where
+    pub count : lane_count made.router ≡ n
+    pub jobs : length made.jobs.items ≡ n
+    pub backs : length made.gathering.backs.items ≡ n
+    pub idle : pending_of made.router ≡ None
+    pub unmarked : marked_of made.router ≡ 0
+    pub none_sent : HasSent [] made.router
+    pub to_shards_are : to_shards made.jobs.items ≡ lanes_of made.router
+    pub from_shards_are : from_shards made.jobs.items ≡ back_lanes made.gathering
+    pub new : AllNew made.jobs.items
+    pub gathered : IsGathered made.gathering
+    pub no_handles : vec_len made.handles ≡ 0
+    pub handle_room : n ≤ vec_capacity made.handles
+    pub no_workers : vec_len made.workers ≡ 0
+    pub worker_room : n ≤ vec_capacity made.workers

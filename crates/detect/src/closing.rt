@@ -1,0 +1,69 @@
+//! The answer of a run.
+ghost use Rattle.std.specs.Prelude.{◌≡◌, ◌≤◌, ◌^◌, ℕ, List, Option, Err, OnOk, IsTrue, IsFalse, map, vec_len};
+ghost use Rattle.trace.specs.declared.faults.Fault.TheVariants.{NoMemory};
+ghost use Rattle.lane.specs.Lanes.{taken_of};
+ghost use Rattle.detect.specs.Closing.{taken_by, counts_of};
+ghost use Rattle.detect.specs.Finished.{IsClosed, IsDone};
+ghost use Rattle.detect.specs.Ran.{IsAnswer};
+ghost use Rattle.detect.specs.Rooms.{HasRoom};
+
+use crate::made::{Done, Lists};
+use crate::sharded::Run;
+use crate::settling::{settle_backs, settle_shards};
+use collect::Report;
+use shard::Worked;
+use std::hash::BuildHasher;
+use trace::Fault;
+
+/// Compares the receipts of a run, and reports.
+pub(crate) fn close<S: BuildHasher + Drop>(done: Done<S>, lists: Lists) -> Result<Run, Fault>
+    requires room { OnOk done.outcome (HasRoom (vec_len done.workers) lists) }
+    requires closed { OnOk done.outcome (IsClosed done) }
+    ensures { (n records depths : ℕ) (before after : Option (List ℕ)) (count count' : ℕ) → 1 ≤ n → records ≤ 2 ^ 48 → IsDone n records depths before after count count' done → IsAnswer n records depths before after count count' result }
+{
+    let Done {
+        outcome,
+        router,
+        mut gathering,
+        mut workers,
+    } = done;
+    first_trouble(gathering.refused, outcome)?;
+    let mut ends = router.into_ends();
+    settle_shards(&mut workers, &mut ends);
+    settle_backs(&mut workers, &mut gathering.backs);
+    match gathering.collector.finish() {
+        Ok(report) => Ok(told(report, workers, lists)),
+        Err(_) => Err(Fault::NoMemory),
+    }
+}
+
+// Want of memory comes before a refused start and before a fault of the trace.
+fn first_trouble(refused: bool, outcome: Result<(), Fault>) -> Result<(), Fault>
+    ensures refused { IsTrue refused → result ≡ Err NoMemory }
+    ensures none_refused { IsFalse refused → result ≡ outcome }
+{
+    if refused { Err(Fault::NoMemory) } else { outcome }
+}
+
+// The report, and what the workers have of each shard.
+fn told<S: BuildHasher + Drop>(report: Report, workers: Vec<Worked<S>>, lists: Lists) -> Run
+    requires room { HasRoom (vec_len workers) lists }
+    ensures report { result.report ≡ report }
+    ensures taken { result.taken.items ≡ counts_of workers.items }
+    ensures lanes { map taken_of result.lanes.items ≡ taken_by workers.items }
+    ensures lane_count { vec_len result.lanes ≡ vec_len workers }
+{
+    let Lists {
+        mut taken,
+        mut lanes,
+    } = lists;
+    for worked in workers {
+        taken.push_reserved(worked.shard.taken());
+        lanes.push_reserved(worked.taker);
+    }
+    Run {
+        report,
+        taken,
+        lanes,
+    }
+}

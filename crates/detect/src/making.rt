@@ -1,0 +1,107 @@
+//! What a run needs, all of it made before a worker is started or a byte is read.
+ghost use Rattle.std.specs.Prelude.{◌≡◌, ℕ, ◌+◌, ◌≤◌, vec_len, vec_capacity, IfOk, OnOk};
+ghost use Rattle.detect.specs.Readiness.{IsReady, IsTied};
+ghost use Rattle.detect.specs.Rooms.{HasRoom};
+
+use crate::gathering::Gathering;
+use crate::jobs::Job;
+use crate::made::{Ends, Lists, Made};
+use collect::Collector;
+use lane::lane;
+use route::Router;
+use shard::Shard;
+use std::alloc::Global;
+use std::hash::BuildHasher;
+use trace::NoMemory;
+
+/// Makes the lanes, the router, the shards, and room for what comes of the workers.
+pub(crate) fn make<S: BuildHasher + Drop>(
+    alloc: Global,
+    capacity: u32,
+    hashers: Vec<S>,
+) -> Result<Made<S>, NoMemory>
+    requires capacity { (1 ≤ capacity) × (capacity ≤ 65536) }
+    requires shards { (1 ≤ vec_len hashers) × (vec_len hashers ≤ 64) }
+    ensures { IfOk result (IsReady (vec_len hashers)) }
+{
+    let count = hashers.len();
+    let ends = make_ends(alloc, capacity as usize, hashers)?;
+    let Ends {
+        senders,
+        jobs,
+        backs,
+    } = ends;
+    Ok(Made {
+        router: Router::new(alloc, senders)?,
+        gathering: Gathering {
+            backs,
+            collector: Collector::new(alloc),
+            refused: false,
+        },
+        jobs,
+        handles: with_room(alloc, count)?,
+        workers: with_room(alloc, count)?,
+    })
+}
+
+// A shard for each hasher, with a lane to it and a lane back.
+fn make_ends<S: BuildHasher + Drop>(
+    alloc: Global,
+    capacity: usize,
+    hashers: Vec<S>,
+) -> Result<Ends<S>, NoMemory>
+    requires capacity { (1 ≤ capacity) × (capacity ≤ 65536) }
+    requires shards { vec_len hashers ≤ 64 }
+    ensures { IfOk result (IsTied (vec_len hashers)) }
+{
+    let mut ends = Ends {
+        senders: Vec::new(alloc),
+        jobs: Vec::new(alloc),
+        backs: Vec::new(alloc),
+    };
+    let mut index = 0;
+    for hasher in hashers {
+        add_shard(alloc, capacity, index, hasher, &mut ends)?;
+        index += 1;
+    }
+    Ok(ends)
+}
+
+fn add_shard<S: BuildHasher + Drop>(
+    alloc: Global,
+    capacity: usize,
+    index: u32,
+    hasher: S,
+    ends: &mut Ends<S>,
+) -> Result<(), NoMemory>
+    requires { (1 ≤ capacity) × (capacity ≤ 65536) }
+    ensures { OnOk result ((n : ℕ) → IsTied n ends.old → IsTied (n + 1) ends.new) }
+{
+    let shard = Shard::new(alloc, index, hasher)?;
+    let (sender, taker) = lane(alloc, capacity)?;
+    let (back, gatherer) = lane(alloc, capacity)?;
+    ends.senders.push(sender).map_err(|_| NoMemory)?;
+    ends.backs.push(gatherer).map_err(|_| NoMemory)?;
+    let job = Job {
+        shard,
+        taker,
+        back,
+    };
+    ends.jobs.push(job).map_err(|_| NoMemory)
+}
+
+/// Room for what a run answers of so many shards.
+pub(crate) fn make_lists(alloc: Global, count: usize) -> Result<Lists, NoMemory>
+    ensures { IfOk result (HasRoom count) }
+{
+    Ok(Lists {
+        taken: with_room(alloc, count)?,
+        lanes: with_room(alloc, count)?,
+    })
+}
+
+fn with_room<X: Drop>(alloc: Global, count: usize) -> Result<Vec<X>, NoMemory>
+    ensures { IfOk result (λ v. (vec_len v ≡ 0) × (count ≤ vec_capacity v)) }
+{
+    Vec::with_capacity(alloc, count).map_err(|_| NoMemory)
+}

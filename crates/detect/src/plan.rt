@@ -1,0 +1,31 @@
+//! How a run is divided, and its limits.
+ghost use Rattle.std.specs.Prelude.{◌≡◌, ◌≤◌};
+
+use trace::Limits;
+
+/// How many shards there are, how many items each lane holds, and the limits of the trace.
+#[derive(Clone, Copy, Debug, PartialEq, Eq)]
+pub struct Plan {
+    pub(crate) shards: u32,
+    pub(crate) capacity: u32,
+    pub(crate) limits: Limits,
+    ghost shards_within: { (1 ≤ shards) × (shards ≤ 64) },
+    ghost capacity_within: { (1 ≤ capacity) × (capacity ≤ 65536) },
+}
+
+impl Plan {
+    /// A plan for 1 to 64 shards, with lanes that hold 1 to 65536 items, the mark being one.
+    pub fn new(shards: u32, capacity: u32, limits: Limits) -> Plan
+        requires shards { (1 ≤ shards) × (shards ≤ 64) }
+        requires capacity { (1 ≤ capacity) × (capacity ≤ 65536) }
+        ensures shards { result.shards ≡ shards }
+        ensures capacity { result.capacity ≡ capacity }
+        ensures limits { result.limits ≡ limits }
+    {
+        Plan {
+            shards,
+            capacity,
+            limits,
+        }
+    }
+}

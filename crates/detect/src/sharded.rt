@@ -1,0 +1,85 @@
+//! Detection with a thread a shard.
+ghost use Rattle.std.specs.Prelude.{◌≡◌, List, Some, IfOk, IfErr, vec_len, ◌⊎◌};
+ghost use Rattle.trace.specs.declared.records.Record.{Record};
+ghost use Rattle.trace.specs.declared.faults.Fault.TheVariants.{NoMemory, NoThread};
+ghost use Rattle.trace.specs.Traces.{IsWellNested};
+ghost use Rattle.trace.specs.Text.{text, AllFit};
+ghost use Rattle.trace.specs.Devices.{HasRisen};
+ghost use Rattle.detect.specs.Sent.{FailsInRun};
+ghost use Rattle.detect.specs.Readiness.{IsReady};
+ghost use Rattle.detect.specs.Finished.{IsDone};
+ghost use Rattle.detect.specs.Ran.{RunReports};
+
+use crate::closing::close;
+use crate::made::Done;
+use crate::making::{make, make_lists};
+use crate::plan::Plan;
+use crate::running::run;
+use collect::Report;
+use lane::Taker;
+use shard::Gate;
+use std::alloc::Global;
+use std::hash::BuildHasher;
+use std::sync::Wait;
+use std::thread;
+use std::thread::Threads;
+use trace::{Fault, Placed, Source};
+
+/// What a run with shards answers.
+#[derive(Drop)]
+pub struct Run {
+    /// The races, one of each racy location.
+    pub report: Report,
+    /// How many records each shard took, the mark not counted.
+    pub taken: Vec<u64>,
+    /// The lane to each shard, taken to its mark.
+    pub lanes: Vec<Taker<Placed>>,
+}
+
+/// Reads a trace to its end and reports its races, with a thread for each shard of the locations: the
+/// SP-bags algorithm of Feng and Leiserson, "Efficient Detection of Determinacy Races in Cilk Programs"
+/// (SPAA 1997), its shadow memory divided among the threads. There is one hasher for each shard.
+///
+/// Everything but what shards and collector take as they go is made first, then the workers are
+/// started, then the trace is read. A fault is the whole answer: no race is told with it, and every worker
+/// that was started is joined.
+pub fn detect<T: Threads + Wait + Sync, R: Source, G: Gate + Sync, S: BuildHasher + Send + Drop>(
+    rt: &T,
+    alloc: Global,
+    plan: Plan,
+    reader: &mut R,
+    gate: &G,
+    hashers: Vec<S>,
+) -> Result<Run, Fault>
+where
+    S::Hasher: Send,
+    requires { vec_len hashers ≡ plan.shards }
+    // All bytes of the reader are the text of a trace that is well nested within the limits. The report is
+    // the verdict on it, which is its report by the dag, and each shard took its share of it.
+    ensures report { IfOk result (RunReports plan.shards plan.limits.records plan.limits.depth (R.rest reader.old) (R.rest reader.new)) }
+    // Otherwise no memory was left, no thread could be started, or the fault is the first.
+    ensures fault { IfErr result (FailsInRun plan.limits.records plan.limits.depth (R.rest reader.old) (R.rest reader.new) (R.failures reader.old) (R.failures reader.new)) }
+    // Such a trace from a reader that doesn't fail is refused for want of memory or of a thread alone.
+    ensures honest { (w : List Record) → R.rest reader.old ≡ Some (text w) → AllFit w → IsWellNested w plan.limits.records plan.limits.depth
+        → (HasRisen (R.failures reader.old) (R.failures reader.new) → ⊥) → IfErr result (λ f. (f ≡ NoMemory) ⊎ (f ≡ NoThread)) }
+{
+    let Ok(lists) = make_lists(alloc, hashers.len()) else {
+        return Err(Fault::NoMemory);
+    };
+    let Ok(made) = make(alloc, plan.capacity, hashers) else {
+        return Err(Fault::NoMemory);
+    };
+    let (done, _read) = thread::scope(
+        thread::scope_env(),
+        rt,
+        move |scope| -> (Done<S>, &mut R)
+            requires { IsReady (vec_len made.jobs) made }
+            ensures done { IsDone (vec_len made.jobs) plan.limits.records plan.limits.depth (R.rest reader.entry.now) (R.rest result.1.now) (R.failures reader.entry.now) (R.failures result.1.now) result.0 }
+            ensures reader { result.1.ghost_name ≡ reader.entry.ghost_name }
+        {
+            let done = run(rt, scope, plan.limits, &mut *reader, gate, made);
+            (done, reader)
+        },
+    );
+    close(done, lists)
+}

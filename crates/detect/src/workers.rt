@@ -1,0 +1,79 @@
+//! The workers: each is started in the scope of the run, and joined at its end.
+ghost use Rattle.std.specs.Prelude.{◌≡◌, ◌≤◌, ℕ, map, vec_len, vec_capacity, IfOk, OnOk};
+ghost use Rattle.detect.specs.Working.{IsNewJob, AllNew, job_lanes, handle_lanes, DidOn, AllDid};
+
+use crate::jobs::{Job, WorkOf};
+use shard::{Gate, Worked, work};
+use std::hash::BuildHasher;
+use std::snapshot::Snapshot;
+use std::sync::Wait;
+use std::thread::{PromisedHandle, Scope, Threads};
+
+/// That a thread couldn't be started.
+pub(crate) struct NoThread;
+
+/// Starts a worker on each job; the handles stand in the order of the jobs. After a refused start the
+/// jobs that are left are dropped.
+pub(crate) fn start_all<'s, E, T: Wait + Sync, G: Gate + Sync, S: BuildHasher + Send + Drop + 's>(
+    rt: &'s T,
+    scope: &Scope<'s, E>,
+    gate: &'s G,
+    jobs: Vec<Job<S>>,
+    handles: &mut Vec<PromisedHandle<Worked<S>, WorkOf>>,
+) -> Result<(), NoThread>
+where
+    S::Hasher: Send,
+    requires new { AllNew jobs.items }
+    requires none { vec_len handles.old ≡ 0 }
+    requires room { vec_len jobs ≤ vec_capacity handles.old }
+    ensures started { OnOk result (map handle_lanes handles.new.items ≡ map job_lanes jobs.items) }
+    ensures most { vec_len handles.new ≤ vec_len jobs }
+{
+    for job in jobs {
+        match start(rt, scope, gate, job) {
+            Ok(handle) => handles.push_reserved(handle),
+            Err(refused) => return Err(refused),
+        }
+    }
+    Ok(())
+}
+
+fn start<'s, E, T: Wait + Sync, G: Gate + Sync, S: BuildHasher + Send + Drop + 's>(
+    rt: &'s T,
+    scope: &Scope<'s, E>,
+    gate: &'s G,
+    job: Job<S>,
+) -> Result<PromisedHandle<Worked<S>, WorkOf>, NoThread>
+where
+    S::Hasher: Send,
+    requires { IsNewJob job }
+    ensures { IfOk result (λ handle. handle_lanes handle ≡ job_lanes job) }
+{
+    let Job {
+        shard,
+        taker,
+        back,
+    } = job;
+    let promise = WorkOf {
+        taker: Snapshot::of(&taker),
+        back: Snapshot::of(&back),
+    };
+    scope
+        .spawn_with(promise, move || work(rt, shard, taker, back, gate))
+        .map_err(|_| NoThread)
+}
+
+/// Joins the workers; what they answer stands in the order of the handles.
+pub(crate) fn join_all<T: Threads, S: BuildHasher + Drop>(
+    rt: &T,
+    handles: Vec<PromisedHandle<Worked<S>, WorkOf>>,
+    workers: &mut Vec<Worked<S>>,
+)
+    requires none { vec_len workers.old ≡ 0 }
+    requires room { vec_len handles ≤ vec_capacity workers.old }
+    ensures { AllDid (map handle_lanes handles.items) workers.new.items }
+{
+    for handle in handles {
+        workers.push_reserved(handle.join(rt));
+    }
+}
