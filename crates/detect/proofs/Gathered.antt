@@ -1,7 +1,7 @@
 -- What a collector was given, lane by lane: an item more of one lane, and the best race of a location.
-use Rattle.std.proofs.Common.{◌≡◌, ℕ, zero, suc, ◌+◌, ◌%◌, ◌<◌, ◌≤◌, Bool, true, false, cond, eqb, fold, List, [], ◌∷◌, ◌++◌, length, set, get_or, filter, Option, Some, None, ◌⊎◌, inl, inr, ⊎_elim, length-set, refl, sym, ap, ap₂, subst, ◌∙◌, arith, append_assoc}
+use Rattle.std.proofs.Common.{◌≡◌, ℕ, zero, suc, ◌+◌, ◌%◌, ◌<◌, Bool, true, false, eqb, fold, List, [], ◌∷◌, ◌++◌, length, set, get_or, Option, None, ⊎_elim, length-set, refl, sym, ap, subst, ◌∙◌, arith}
 use Rattle.std.specs.List.{AllByRecursion}
-use Rattle.std.proofs.lemmas.Bool.{cases_eq, cases_Bool, cond-true, cond-false, eqb-true}
+use Rattle.std.proofs.lemmas.Bool.{cases_eq, cases_Bool, cond-false, eqb-true}
 use Rattle.std.proofs.lemmas.List.Sums.{fold-append}
 use Rattle.std.proofs.lemmas.List.{append-nil}
 use Rattle.shard.specs.declared.Back.{Back}
@@ -152,11 +152,11 @@ best_more l lists k r lt h =
     let at : r.location % n ≡ k = omega (arith, from_first) in
     let now : best l (races_of (all_given later)) ≡ best l (races_of (on_lane later (l % n))) = best_of_lane l later h ∙ ap (λ m. best l (races_of (on_lane later (l % m)))) same in
     now ∙ ⊎_elim
-      (λ e. let Q : ℕ → Type 0 = λ m. best l (races_of (on_lane later m)) ≡ kept_after l (best l (races_of (on_lane lists m))) r in
-          subst Q (sym e) (ap (best l) (on-same lists k r lt) ∙ best-push l (races_of (on_lane lists k)) r))
-      (λ ne. ap (λ g. best l (races_of g)) (on-other lists k (l % n) _ ne)
-          ∙ sym (other_location l (best l (races_of (on_lane lists (l % n)))) r (λ e. ne (sym (ap (λ m. m % n) e) ∙ at))))
-      (cases_eq (l % n) k)
+    (λ e. let Q : ℕ → Type 0 = λ m. best l (races_of (on_lane later m)) ≡ kept_after l (best l (races_of (on_lane lists m))) r in
+    subst Q (sym e) (ap (best l) (on-same lists k r lt) ∙ best-push l (races_of (on_lane lists k)) r))
+    (λ ne. ap (λ g. best l (races_of g)) (on-other lists k (l % n) _ ne)
+    ∙ sym (other_location l (best l (races_of (on_lane lists (l % n)))) r (λ e. ne (sym (ap (λ m. m % n) e) ∙ at))))
+    (cases_eq (l % n) k)
     ∙ ap (λ o. kept_after l o r) (sym (best_of_lane l lists home))
 
 pub gathers-race : (lists : List (List (Item Back))) (k : ℕ) (r : RaceAt) (c c' : Kept) → k < length lists → ((g : List Back) → Holds g c → Holds (g ++ Race r ∷ []) c')

@@ -1,5 +1,5 @@
 -- One item more of one lane back.
-use Rattle.std.proofs.Common.{◌≡◌, ℕ, zero, suc, ◌+◌, ◌<◌, Bool, true, false, IsFalse, List, [], ◌∷◌, ◌++◌, length, set, get_or, map, ⊎_elim, arith, refl, sym, ap, subst, ◌∙◌}
+use Rattle.std.proofs.Common.{◌≡◌, ℕ, zero, suc, ◌+◌, ◌<◌, Bool, true, false, IsFalse, List, [], ◌∷◌, ◌++◌, length, set, get_or, ⊎_elim, arith, refl, sym, ap, subst, ◌∙◌}
 use Rattle.std.proofs.lemmas.Bool.{cases_eq}
 use Rattle.std.specs.Prelude.{Vec}
 use Rattle.std.specs.Vec.{with_item}
@@ -15,7 +15,7 @@ use Rattle.lane.specs.Lanes.{taker_lane, taken_of}
 use Rattle.collect.specs.Collected.{Kept, Holds}
 use Rattle.detect.specs.declared.gathering.Gathering.{Gathering}
 use Rattle.detect.specs.Gathered.{given_by, Gathers}
-use Rattle.detect.specs.Gatherings.{back_lanes, HasEnded, IsGathered, IsFurther}
+use Rattle.detect.specs.Gatherings.{IsGathered, IsFurther}
 use Rattle.detect.proofs.Gathered.{gathers-race, gathers-finish, gathers-refused}
 
 pub further_refl : (g : Gathering) → IsFurther g g
@@ -56,7 +56,7 @@ further_some old k s t x refused collector lt at lane more gathers =
     let lists : List (List (Item Back)) = given_by old.backs.items in
     let later : List (List (Item Back)) = set lists k (get_or lists k [] ++ x ∷ []) in
     let given : given_by (set old.backs.items k t) ≡ later =
-        map-set taken_of old.backs.items k t ∙ ap (set lists k) (more ∙ ap (λ (l : List (Item Back)). l ++ x ∷ []) (ap taken_of at ∙ sym (get_or-map taken_of old.backs.items k s [] lt))) in
+    map-set taken_of old.backs.items k t ∙ ap (set lists k) (more ∙ ap (λ (l : List (Item Back)). l ++ x ∷ []) (ap taken_of at ∙ sym (get_or-map taken_of old.backs.items k s [] lt))) in
     let P : List (List (Item Back)) → Type 0 = λ ls. Gathers ls refused collector in
     record {
       count = refl;

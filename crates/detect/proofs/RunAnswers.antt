@@ -1,5 +1,5 @@
 -- How a run's end is answered.
-use Rattle.std.proofs.Common.{◌≡◌, ℕ, Bool, true, false, IsTrue, IsFalse, List, Option, Some, Result, Ok, Err, OnOk, IfOk, IfErr, MatchResult, ◌⊎◌, inl, inr, refl, sym, ap, subst, ◌∙◌}
+use Rattle.std.proofs.Common.{◌≡◌, ℕ, Bool, true, false, IsTrue, IsFalse, List, Option, Some, Result, Ok, Err, OnOk, IfOk, IfErr, MatchResult, ◌⊎◌, inl, inr, refl, sym, subst, ◌∙◌}
 use Rattle.trace.specs.declared.faults.Fault.{Fault}
 use Rattle.trace.specs.declared.faults.Fault.TheVariants.{NoMemory, NoThread}
 use Rattle.trace.specs.declared.records.Record.{Record}

@@ -94,9 +94,9 @@ module _ {S H : Type 0} where
       let E : Result (Unit {0}) Fault → Type 0 = λ q. IfErr q (FailsBy records depths before (rest x) count (failures x)) in
       subst P (sym same_x)
       (done_read n records depths before (rest x) count (failures x) done r (subst O (sym outcome) sent) (subst E (sym outcome) fault)
-        (λ s. finished n records depths before (rest x) made done r hs ready started s (subst Q same_r marks) idle marked
-          (on_lanes_trans made.router r done.router on (subst R same_r on'))
-          (further_trans made.gathering g done.gathering further (further_trans g g2 done.gathering (subst G same_g further') further'')) ended did))
+      (λ s. finished n records depths before (rest x) made done r hs ready started s (subst Q same_r marks) idle marked
+      (on_lanes_trans made.router r done.router on (subst R same_r on'))
+      (further_trans made.gathering g done.gathering further (further_trans g g2 done.gathering (subst G same_g further') further'')) ended did))
 
   -- there is room for what the workers answer
   pub room_if : (n records depths : ℕ) (before after : Option (List ℕ)) (count count' : ℕ) (done : Done S H) (lists : Lists) → HasRoom n lists → IsDone n records depths before after count count' done → OnOk done.outcome (HasRoom (vec_len done.workers) lists)

@@ -1,7 +1,5 @@
 -- The end of a run: what the workers took are the shares, and what they told are the races found in them.
-use Rattle.std.proofs.Common.{◌≡◌, ℕ, zero, suc, ◌<◌, ◌≤◌, ◌^◌, Bool, true, false, cond, ltb, List, [], ◌∷◌, ◌++◌, length, map, get_or, Option, Some, None, refl, sym, ap, ap₂, subst, ◌∙◌, append-nil, arith}
-use Rattle.std.proofs.lemmas.Bool.{cond-true}
-use Rattle.std.proofs.lemmas.Bool.Decides.{nat_tests}
+use Rattle.std.proofs.Common.{◌≡◌, ℕ, zero, suc, ◌<◌, ◌≤◌, ◌^◌, true, false, List, [], ◌∷◌, ◌++◌, length, map, get_or, refl, sym, ap, ap₂, ◌∙◌, append-nil, arith}
 use Rattle.trace.specs.declared.records.Record.{Record}
 use Rattle.trace.specs.declared.records.Placed.{Placed}
 use Rattle.trace.specs.Traces.{placed, IsWellNested}
@@ -10,17 +8,14 @@ use Rattle.shadow.specs.Found.{found}
 use Rattle.lane.specs.declared.item.Item.{Item}
 use Rattle.lane.specs.declared.item.Item.TheVariants.{One, Finish}
 use Rattle.lane.specs.Items.{has_mark, records}
-use Rattle.lane.specs.Lanes.{LaneId, taker_lane, taken_of, end_lane, all_put}
-use Rattle.lane.proofs.Marks.{records-finish}
-use Rattle.route.specs.Sending.{put_on, AllSent}
+use Rattle.lane.specs.Lanes.{LaneId}
 use Rattle.shard.specs.declared.Back.{Back}
 use Rattle.shard.specs.declared.working.Worked.{Worked}
 use Rattle.shard.specs.Backs.{races_of, fails}
 use Rattle.shard.specs.Working.{IsOfShare, TellsFound}
-use Rattle.shard.specs.Worked.{DidWork}
 use Rattle.shard.proofs.Answered.{answered}
 use Rattle.detect.specs.Gathered.{on_lane, all_given}
-use Rattle.detect.specs.Working.{DidOn, AllDid}
+use Rattle.detect.specs.Working.{AllDid}
 use Rattle.detect.specs.Closing.{taken_by, told_by, counts_of, taker_lanes, told_lanes, IsSettled}
 use Rattle.detect.proofs.Gathered.{fails_on}
 
@@ -66,13 +61,6 @@ has_mark-last (x ∷ xs) = has_mark-last xs
 records-one_each : {T : Type 0} (xs : List T) → records (map One xs ++ Finish ∷ []) ≡ xs
 records-one_each [] = refl
 records-one_each (x ∷ xs) = ap (λ l. x ∷ l) (records-one_each xs)
-
--- what was put on a marked lane, with nothing pending
-pub put_whole : (w : List Placed) (turn n k : ℕ) (puts : List (List (Item Placed))) → k < n → AllSent n w turn None n (put_on puts) → get_or puts k [] ≡ map One (share k n w) ++ Finish ∷ []
-put_whole w turn n k puts lt sent =
-    let put : get_or puts k [] ≡ map One (share k n w ++ []) ++ cond (ltb k n) (Finish ∷ []) [] = sent k lt in
-    let below : ltb k n ≡ true = grind (lt, arith, nat_tests) in
-    put ∙ ap₂ (λ (u : List Placed) (m : List (Item Placed)). map One u ++ m) (append-nil (share k n w)) (cond-true (ltb k n) _ _ below)
 
 -- what is known at the end, of n shards
 pub record IsEnd (n : ℕ) (w : List Record) (taken puts : List (List (Item Placed))) (given told : List (List (Item Back))) (counts : List ℕ) : Type 0 where

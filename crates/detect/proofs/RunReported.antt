@@ -13,18 +13,19 @@ use Rattle.lane.specs.declared.item.Item.{Item}
 use Rattle.lane.specs.declared.item.Item.TheVariants.{One, Finish}
 use Rattle.lane.specs.Lanes.{taken_of}
 use Rattle.route.specs.Sending.{put_on, AllSent}
+use Rattle.route.proofs.LaneShares.{put_marked}
 use Rattle.route.specs.Routers.{puts_of, turn_of, pending_of, marked_of}
 use Rattle.shard.specs.declared.Back.{Back}
 use Rattle.shard.specs.declared.working.Worked.{Worked}
-use Rattle.collect.specs.Collected.{Kept, Holds, IsCollected}
+use Rattle.collect.specs.Collected.{Holds, IsCollected}
 use Rattle.detect.specs.Dag.{HasRace, HasLocation}
 use Rattle.detect.specs.declared.made.Done.{Done}
 use Rattle.detect.specs.declared.sharded.Run.{Run}
-use Rattle.detect.specs.Gathered.{given_by, all_given, Gathers}
+use Rattle.detect.specs.Gathered.{given_by, Gathers}
 use Rattle.detect.specs.Closing.{taken_by, told_by, counts_of, IsSettled}
 use Rattle.detect.specs.Finished.{IsFinished}
 use Rattle.detect.specs.Ran.{TookShares, RunReports}
-use Rattle.detect.proofs.RunEnds.{IsWork, IsEnd, did_at, put_whole, took_share, counted_share, told_share}
+use Rattle.detect.proofs.RunEnds.{IsWork, IsEnd, did_at, took_share, counted_share, told_share}
 use Rattle.detect.proofs.Verdicts.{verdict_of_shares}
 
 module _ {S H : Type 0} where
@@ -42,13 +43,13 @@ module _ {S H : Type 0} where
       let P : List (List (Item Back)) → Type 0 = λ ts. (k : ℕ) → k < n → IsWork (get_or (taken_by ws) k []) (get_or ts k []) (get_or (counts_of ws) k 0) in
       let Q : List (List (Item Placed)) → Type 0 = λ ps. (k : ℕ) → k < n → get_or ps k [] ≡ map One (share k n (placed f.sent.trace)) ++ Finish ∷ [] in
       let R : ℕ → Option Placed → ℕ → Type 0 = λ m pending marked. AllSent m (placed f.sent.trace) (turn_of done.router) pending marked (put_on (puts_of done.router)) in
-      let R0 : ℕ → Type 0 = λ m. R m (pending_of done.router) (marked_of done.router) in
-      let R1 : Option Placed → Type 0 = λ pending. R n pending (marked_of done.router) in
-      let R2 : ℕ → Type 0 = λ marked. R n None marked in
-      let sent : R n None n = subst R2 f.marked (subst R1 f.idle (subst R0 f.count f.sent.sent)) in
+      let OfCount : ℕ → Type 0 = λ m. R m (pending_of done.router) (marked_of done.router) in
+      let OfPending : Option Placed → Type 0 = λ pending. R n pending (marked_of done.router) in
+      let OfMarked : ℕ → Type 0 = λ marked. R n None marked in
+      let sent : R n None n = subst OfMarked f.marked (subst OfPending f.idle (subst OfCount f.count f.sent.sent)) in
       record {
         works = subst P (sym h.told_are) (λ k lt. did_at f.lanes ws k f.did (omega (arith, lt, f.workers)));
-        whole = subst Q (sym h.puts_are) (λ k lt. put_whole (placed f.sent.trace) (turn_of done.router) n k (puts_of done.router) lt sent);
+        whole = subst Q (sym h.puts_are) (λ k lt. put_marked n (put_on (puts_of done.router)) (placed f.sent.trace) (turn_of done.router) n k sent lt lt);
         settled = h.settled;
         settled_back = h.settled_back;
         ended = f.ended;
@@ -78,8 +79,8 @@ module _ {S H : Type 0} where
       let P : Bool → Type 0 = λ b. Gathers (given_by done.gathering.backs.items) b done.gathering.collector in
       let gathers : Gathers (given_by done.gathering.backs.items) false done.gathering.collector = subst P good f.gathered in
       let is : run.report ≡ by_location (found (placed w)) =
-          verdict_of_shares n (given_by done.gathering.backs.items) (placed w) done.gathering.collector run.report some f.backs
-          (λ k lt. told_share n records depths w _ puts _ told _ most nested e (gathers.none_failed refl) k lt) gathers collected in
+      verdict_of_shares n (given_by done.gathering.backs.items) (placed w) done.gathering.collector run.report some f.backs
+      (λ k lt. told_share n records depths w _ puts _ told _ most nested e (gathers.none_failed refl) k lt) gathers collected in
       record {
         came = f.sent.came;
         consumed = f.sent.consumed;

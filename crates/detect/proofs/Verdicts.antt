@@ -1,5 +1,5 @@
 -- Where each shard handed back the races found in its share, the report is the verdict on the trace.
-use Rattle.std.proofs.Common.{◌≡◌, ℕ, suc, ◌+◌, ◌%◌, ◌<◌, Bool, true, false, cond, eqb, fold, filter, List, [], ◌∷◌, ◌++◌, length, Option, None, ◌⊎◌, ⊎_elim, refl, sym, ap, subst, ◌∙◌, arith}
+use Rattle.std.proofs.Common.{◌≡◌, ℕ, suc, ◌+◌, ◌%◌, ◌<◌, false, eqb, fold, filter, List, [], ◌∷◌, length, Option, None, ⊎_elim, refl, sym, ap, subst, ◌∙◌, arith}
 use Rattle.std.specs.List.{AllByRecursion}
 use Rattle.std.proofs.lemmas.Bool.{cases_Bool, cond-true, cond-false, eqb-true}
 use Rattle.std.proofs.lemmas.Bool.Decides.{nat_tests}
@@ -23,17 +23,18 @@ home-filter n k [] = tt
 home-filter n k (r ∷ rs) =
     let P : List RaceAt → Type 0 = AllByRecursion (λ s. s.location % n ≡ k) in
     ⊎_elim
-      (λ e. subst P (sym (cond-true (of_shard k n r) _ _ e)) (eqb-true (r.location % n) k e, home-filter n k rs))
-      (λ e. subst P (sym (cond-false (of_shard k n r) _ _ e)) (home-filter n k rs))
-      (cases_Bool (of_shard k n r))
+    (λ e. subst P (sym (cond-true (of_shard k n r) _ _ e)) (eqb-true (r.location % n) k e, home-filter n k rs))
+    (λ e. subst P (sym (cond-false (of_shard k n r) _ _ e)) (home-filter n k rs))
+    (cases_Bool (of_shard k n r))
 
 home-shares : (n j : ℕ) (lists : List (List (Item Back))) (rs : List RaceAt) → ((k : ℕ) → k < length lists → races_of (on_lane lists k) ≡ filter (of_shard (j + k) n) rs) → AreAtHomeFrom n j lists
 home-shares n j [] rs h = tt
 home-shares n j (items ∷ lists) rs h =
     let P : List RaceAt → Type 0 = AllByRecursion (λ r. r.location % n ≡ j) in
-    let zero_more : j + 0 ≡ j = omega arith in
-    (subst P (sym (h 0 (omega arith) ∙ ap (λ m. filter (of_shard m n) rs) zero_more)) (home-filter n j rs),
-    home-shares n (j + 1) lists rs (λ k lt. let e : j + suc k ≡ (j + 1) + k = omega arith in h (suc k) (omega (arith, lt)) ∙ ap (λ m. filter (of_shard m n) rs) e))
+    let zero_more : j + 0 ≡ j = omega arith in (
+      subst P (sym (h 0 (omega arith) ∙ ap (λ m. filter (of_shard m n) rs) zero_more)) (home-filter n j rs),
+      home-shares n (j + 1) lists rs (λ k lt. let e : j + suc k ≡ (j + 1) + k = omega arith in h (suc k) (omega (arith, lt)) ∙ ap (λ m. filter (of_shard m n) rs) e),
+    )
 
 eqb-itself : (m : ℕ) → eqb m m ≡ false → ⊥
 eqb-itself m e = grind (e, arith, nat_tests)
@@ -44,7 +45,7 @@ best_filtered l n o [] = refl
 best_filtered l n o (r ∷ rs) = ⊎_elim
     (λ e. ap (fold (kept_after l) o) (cond-true (of_shard (l % n) n r) _ _ e) ∙ best_filtered l n (kept_after l o r) rs)
     (λ e. ap (fold (kept_after l) o) (cond-false (of_shard (l % n) n r) _ _ e) ∙ best_filtered l n o rs
-        ∙ ap (λ x. fold (kept_after l) x rs) (sym (other_location l o r (λ same. not_here e (ap (λ m. m % n) same)))))
+    ∙ ap (λ x. fold (kept_after l) x rs) (sym (other_location l o r (λ same. not_here e (ap (λ m. m % n) same)))))
     (cases_Bool (of_shard (l % n) n r))
   where
     not_here : of_shard (l % n) n r ≡ false → r.location % n ≡ l % n → ⊥
@@ -61,4 +62,4 @@ verdict_of_shares n lists w c rs some len each gathers collected =
     collected_is_sorted put_in by_location (λ r. refl) (λ r s ss. refl) refl (λ r ss. refl) (all_given lists) rs (found w) (collected (all_given lists) holds)
     (apart (found w) (found_from-apart start w))
     (λ l. best_of_lane l lists home ∙ ap (λ m. best l (races_of (on_lane lists (l % m)))) len
-        ∙ ap (best l) (parts (l % n) (mod-lt l some)) ∙ best_filtered l n None (found w))
+    ∙ ap (best l) (parts (l % n) (mod-lt l some)) ∙ best_filtered l n None (found w))

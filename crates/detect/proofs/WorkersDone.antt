@@ -1,8 +1,8 @@
 -- The workers that have done their work: one more, and what they say lane by lane.
-use Rattle.std.proofs.Common.{◌≡◌, ℕ, zero, suc, ◌<◌, List, [], ◌∷◌, ◌++◌, length, map, get_or, refl, sym, ap, ap₂, subst, ◌∙◌, append_assoc}
+use Rattle.std.proofs.Common.{◌≡◌, List, [], ◌∷◌, ◌++◌, map, refl, sym, ap, ap₂, subst, ◌∙◌, append_assoc}
 use Rattle.std.proofs.lemmas.List.{map-append, append-nil}
 use Rattle.std.specs.declared.thread.PromisedHandle.{PromisedHandle}
-use Rattle.lane.specs.Lanes.{LaneId, taker_lane, lane_of}
+use Rattle.lane.specs.Lanes.{LaneId}
 use Rattle.shard.specs.declared.working.Worked.{Worked}
 use Rattle.shard.specs.Worked.{DidWork}
 use Rattle.detect.specs.declared.jobs.Job.{Job}

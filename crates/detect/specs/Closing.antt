@@ -1,8 +1,7 @@
 -- What the workers and the receipts say, lane by lane.
-use Rattle.std.specs.Prelude.{◌≡◌, ℕ, ◌<◌, true, List, [], length, map, slice_index_or}
+use Rattle.std.specs.Prelude.{◌≡◌, ℕ, true, List, [], length, map, slice_index_or}
 use Rattle.trace.specs.declared.records.Placed.{Placed}
 use Rattle.lane.specs.declared.item.Item.{Item}
-use Rattle.lane.specs.declared.ends.End.{End}
 use Rattle.lane.specs.Items.{has_mark}
 use Rattle.lane.specs.Lanes.{LaneId, taker_lane, taken_of, end_lane, all_put}
 use Rattle.shard.specs.declared.Back.{Back}

@@ -1,11 +1,10 @@
 -- What a run begins with.
-use Rattle.std.specs.Prelude.{◌≡◌, ℕ, ◌≤◌, List, [], length, map, None, vec_len, vec_capacity}
+use Rattle.std.specs.Prelude.{◌≡◌, ℕ, ◌≤◌, [], length, map, None, vec_len, vec_capacity}
 use Rattle.std.specs.List.{All, AllByRecursion}
-use Rattle.lane.specs.Lanes.{LaneId, lane_of, put_of, taken_of, taker_lane}
+use Rattle.lane.specs.Lanes.{lane_of, put_of, taken_of, taker_lane}
 use Rattle.route.specs.Routers.{lanes_of, lane_count, pending_of, marked_of, HasSent}
 use Rattle.detect.specs.declared.made.Ends.{Ends}
 use Rattle.detect.specs.declared.made.Made.{Made}
-use Rattle.detect.specs.Gathered.{given_by}
 use Rattle.detect.specs.Gatherings.{back_lanes, IsGathered}
 use Rattle.detect.specs.Working.{AllNew, to_shards, from_shards}
 

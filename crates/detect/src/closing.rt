@@ -8,8 +8,8 @@ ghost use Rattle.detect.specs.Ran.{IsAnswer};
 ghost use Rattle.detect.specs.Rooms.{HasRoom};
 
 use crate::made::{Done, Lists};
-use crate::sharded::Run;
 use crate::settling::{settle_backs, settle_shards};
+use crate::sharded::Run;
 use collect::Report;
 use shard::Worked;
 use std::hash::BuildHasher;
@@ -42,7 +42,11 @@ fn first_trouble(refused: bool, outcome: Result<(), Fault>) -> Result<(), Fault>
     ensures refused { IsTrue refused → result ≡ Err NoMemory }
     ensures none_refused { IsFalse refused → result ≡ outcome }
 {
-    if refused { Err(Fault::NoMemory) } else { outcome }
+    if refused {
+        Err(Fault::NoMemory)
+    } else {
+        outcome
+    }
 }
 
 // The report, and what the workers have of each shard.

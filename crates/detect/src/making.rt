@@ -82,11 +82,7 @@ fn add_shard<S: BuildHasher + Drop>(
     let (back, gatherer) = lane(alloc, capacity)?;
     ends.senders.push(sender).map_err(|_| NoMemory)?;
     ends.backs.push(gatherer).map_err(|_| NoMemory)?;
-    let job = Job {
-        shard,
-        taker,
-        back,
-    };
+    let job = Job { shard, taker, back };
     ends.jobs.push(job).map_err(|_| NoMemory)
 }
 

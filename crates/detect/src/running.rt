@@ -14,7 +14,14 @@ use trace::{Fault, Limits, Source};
 
 /// Starts the workers, reads the trace and sends it, and joins all workers that were started. After a
 /// refused start nothing is read. Nothing here takes memory but the collector.
-pub(crate) fn run<'s, E, T: Threads + Wait + Sync, R: Source, G: Gate + Sync, S: BuildHasher + Send + Drop + 's>(
+pub(crate) fn run<
+    's,
+    E,
+    T: Threads + Wait + Sync,
+    R: Source,
+    G: Gate + Sync,
+    S: BuildHasher + Send + Drop + 's,
+>(
     rt: &'s T,
     scope: &Scope<'s, E>,
     limits: Limits,

@@ -49,11 +49,7 @@ where
     requires { IsNewJob job }
     ensures { IfOk result (λ handle. handle_lanes handle ≡ job_lanes job) }
 {
-    let Job {
-        shard,
-        taker,
-        back,
-    } = job;
+    let Job { shard, taker, back } = job;
     let promise = WorkOf {
         taker: Snapshot::of(&taker),
         back: Snapshot::of(&back),

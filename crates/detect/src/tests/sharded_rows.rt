@@ -35,7 +35,14 @@ fn run<T: Threads + Wait + Sync>(
         depth: 9,
     };
     let plan = Plan::new(shards, 1, limits);
-    detect(rt, alloc, plan, &mut Pieces { bytes, size: 1 }, &Open, hashers)
+    detect(
+        rt,
+        alloc,
+        plan,
+        &mut Pieces { bytes, size: 1 },
+        &Open,
+        hashers,
+    )
 }
 
 #[test]

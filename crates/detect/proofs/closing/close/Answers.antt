@@ -1,4 +1,4 @@
-use Rattle.std.proofs.Common.{rules, ◌≡◌, ◌<◌, ℕ, vec_len, List, length, sym, ap, subst, ◌∙◌, arith}
+use Rattle.std.proofs.Common.{rules, ◌≡◌, ℕ, vec_len, List, sym, subst, ◌∙◌, arith}
 use Rattle.trace.specs.Accesses.{RaceAt}
 use Rattle.collect.specs.Collected.{IsCollected}
 use Rattle.detect.proofs.RunAnswers.{failed_run, none_refused, closed_of, finished_of, of_good}

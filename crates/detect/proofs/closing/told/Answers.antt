@@ -1,8 +1,7 @@
-use Rattle.std.proofs.Common.{rules, ◌≡◌, ◌+◌, ◌++◌, ◌∷◌, [], List, length, length-append, map, sym, ap, ◌∙◌, arith}
+use Rattle.std.proofs.Common.{length, sym, ap, ◌∙◌}
 use Rattle.std.proofs.lemmas.List.{nil_from_length}
-use Rattle.shard.specs.declared.working.Worked.{Worked}
 use Rattle.detect.specs.Closing.{taken_by, counts_of}
-use Rattle.detect.proofs.WorkersDone.{split_more, gone_through}
+use Rattle.detect.proofs.WorkersDone.{gone_through}
 use Rattle.detect.proofs.closing.told.Goals as goal
 
 pub returns-clause-taken : goal.returns-clause-taken

@@ -1,4 +1,4 @@
-use Rattle.std.proofs.Common.{◌≡◌, sym, ◌∙◌}
+use Rattle.std.proofs.Common.{sym, ◌∙◌}
 use Rattle.detect.proofs.TiedEnds.{tied_more, pushed, on_ok}
 use Rattle.detect.proofs.making.add_shard.Goals as goal
 

@@ -1,4 +1,4 @@
-use Rattle.std.proofs.Common.{rules, ◌≡◌, sym, ◌∙◌}
+use Rattle.std.proofs.Common.{rules, sym, ◌∙◌}
 use Rattle.detect.proofs.TiedEnds.{nothing_gathered}
 use Rattle.detect.proofs.making.make.Goals as goal
 

@@ -1,4 +1,4 @@
-use Rattle.std.proofs.Common.{rules, ◌≡◌, ◌+◌, length, ap, arith}
+use Rattle.std.proofs.Common.{rules, length, ap, arith}
 use Rattle.detect.proofs.TiedEnds.{tied_none}
 use Rattle.detect.proofs.making.make_ends.Goals as goal
 

@@ -1,5 +1,4 @@
 use Rattle.std.proofs.Common.{refl, ◌∙◌}
-use Rattle.route.specs.declared.progress.Progress.TheVariants.{Idle, Moved}
 use Rattle.detect.proofs.Sendings.{on_lanes_trans, sent_step, sent_idle}
 use Rattle.detect.proofs.sending.send.Goals as goal
 

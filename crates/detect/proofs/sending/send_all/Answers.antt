@@ -1,8 +1,7 @@
-use Rattle.std.proofs.Common.{◌≡◌, ◌≤◌, ◌<◌, ◌+◌, ◌-◌, ◌^◌, ℕ, List, [], ◌∷◌, ◌++◌, length, refl, sym, ap, subst, ◌∙◌, arith, length-append}
-use Rattle.std.specs.Io.KnownBytes.{Consumes}
+use Rattle.std.proofs.Common.{ℕ, List, [], ◌∷◌, ◌++◌, refl, sym, ap, subst, ◌∙◌, arith, length-append}
 use Rattle.trace.specs.declared.records.Placed.{Placed}
 use Rattle.trace.specs.Traces.{placed}
-use Rattle.trace.specs.Feeding.{Feeding, HasFed, IsWhole, IsFaultFed}
+use Rattle.trace.specs.Feeding.{Feeding, HasFed, IsWhole}
 use Rattle.trace.proofs.Feedings.{consumes_none, consumes_more, fed_none, at_limits}
 use Rattle.route.specs.Routers.{HasSent}
 use Rattle.trace.proofs.Runs.{fails_by, given_next, given_end}

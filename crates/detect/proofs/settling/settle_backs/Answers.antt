@@ -1,4 +1,4 @@
-use Rattle.std.proofs.Common.{rules, ◌≡◌, ◌<◌, ℕ, map, refl, sym, ap, ◌∙◌}
+use Rattle.std.proofs.Common.{rules, refl, sym, ap, ◌∙◌}
 use Rattle.std.proofs.Math.Seq.{map-set_same}
 use Rattle.lane.specs.Lanes.{end_lane, taker_lane, taken_of, all_put}
 use Rattle.shard.specs.declared.working.Worked.{Worked}
@@ -24,11 +24,11 @@ loop-shard-preserved g c =
       taken = map-set_same taken_of c.loop-shard.backs.items c.loop-shard.shard c.settle.new.self t (c.settle.ensures.taken ∙ ap taken_of c.index_mut.ensures.value) ∙ i.taken;
       lanes = map-set_same taker_lane c.loop-shard.backs.items c.loop-shard.shard c.settle.new.self t (c.settle.ensures.lane.0 ∙ ap taker_lane c.index_mut.ensures.value) ∙ i.lanes;
       settled = λ k lt. ended_to (IsSettled (given_by c.args.backs.now.items) (told_by c.args.workers.now.items)) c.loop-shard.shard
-        (settled_at (given_by c.loop-shard.backs.items) (given_by c.args.backs.now.items) (told_by c.loop-shard.workers.items) (told_by c.args.workers.now.items) c.loop-shard.shard
+          (settled_at (given_by c.loop-shard.backs.items) (given_by c.args.backs.now.items) (told_by c.loop-shard.workers.items) (told_by c.args.workers.now.items) c.loop-shard.shard
           (taken_of t) (taken_of c.settle.new.self) (all_put w.back) (all_put c.settle.new.end) i.taken i.same.told
           (at_map taken_of c.loop-shard.backs.items c.loop-shard.shard t _
-            (within_same taker_lane (λ (x : Worked g.row.S.Denot g.row.S-Hasher.Denot). end_lane x.back) c.loop-shard.backs.items c.loop-shard.workers.items c.loop-shard.shard (i.lanes ∙ sym c.requires ∙ sym i.same.from_shards) (search rules)) c.index_mut.ensures.value)
+          (within_same taker_lane (λ (x : Worked g.row.S.Denot g.row.S-Hasher.Denot). end_lane x.back) c.loop-shard.backs.items c.loop-shard.workers.items c.loop-shard.shard (i.lanes ∙ sym c.requires ∙ sym i.same.from_shards) (search rules)) c.index_mut.ensures.value)
           (at_map (λ (x : Worked g.row.S.Denot g.row.S-Hasher.Denot). all_put x.back) c.loop-shard.workers.items c.loop-shard.shard w _ (search rules) c.index_mut-in-loop-shard.ensures.value)
           c.settle.ensures.taken c.settle.ensures.put c.settle.ensures.whole)
-        i.settled k lt;
+          i.settled k lt;
     }

@@ -1,7 +1,7 @@
-use Rattle.std.proofs.Common.{rules, ◌≡◌, ◌+◌, ◌++◌, ◌∷◌, [], List, length, length-append, map, sym, ap, subst, arith, ◌∙◌}
+use Rattle.std.proofs.Common.{List, length, sym, ap, subst, arith, ◌∙◌}
 use Rattle.std.proofs.lemmas.List.{nil_from_length}
 use Rattle.detect.specs.declared.jobs.Job.{Job}
-use Rattle.detect.specs.Working.{AllNew, job_lanes, handle_lanes}
+use Rattle.detect.specs.Working.{AllNew}
 use Rattle.detect.proofs.WorkersDone.{started_more, started_all, split_more}
 use Rattle.detect.proofs.workers.start_all.Goals as goal
 

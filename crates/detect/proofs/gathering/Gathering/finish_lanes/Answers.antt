@@ -1,5 +1,5 @@
-use Rattle.std.proofs.Common.{rules, arith, ⊎_elim, subst, sym}
-use Rattle.detect.specs.Gatherings.{IsFurther, HasEnded}
+use Rattle.std.proofs.Common.{arith}
+use Rattle.detect.specs.Gatherings.{HasEnded}
 use Rattle.detect.proofs.Gatherings.{further_refl, further_trans, ended_to}
 use Rattle.detect.proofs.gathering.Gathering.finish_lanes.Goals as goal
 

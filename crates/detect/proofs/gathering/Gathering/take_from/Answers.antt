@@ -1,5 +1,4 @@
 use Rattle.std.proofs.Common.{rules}
-use Rattle.lane.specs.Lanes.{taken_of}
 use Rattle.detect.specs.Gathered.{given_by}
 use Rattle.detect.proofs.Gatherings.{further_none, further_some, further_kept, gathers_mark, gathers_item, within_given}
 use Rattle.detect.proofs.gathering.Gathering.take_from.Goals as goal

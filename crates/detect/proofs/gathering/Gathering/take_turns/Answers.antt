@@ -1,5 +1,3 @@
-use Rattle.std.proofs.Common.{rules, arith, ⊎_elim, subst, sym}
-use Rattle.detect.specs.Gatherings.{IsFurther, HasEnded}
 use Rattle.detect.proofs.Gatherings.{further_refl, further_trans}
 use Rattle.detect.proofs.gathering.Gathering.take_turns.Goals as goal
 
