@@ -1,5 +1,6 @@
 //! The program from its words to its bytes, by worked rows: nothing here is taken from its own output.
 mod devices;
+mod examples;
 mod questions;
 mod rows;
 mod words;
