@@ -82,12 +82,12 @@ impl<S: BuildHasher> Shadow<S> {
     {
         let race = match self.cells.get_mut(&location) {
             Some(kept) => {
-                let race = race_at(bags, location, kind, place, *kept);
-                *kept = touched(bags, kind, place, *kept, race.is_some());
+                let race = race_at(bags, location, kind, place, kept);
+                *kept = touched(bags, kind, place, kept, race.is_some());
                 race
             }
             None => {
-                let kept = touched(bags, kind, place, Kept::untouched(), false);
+                let kept = touched(bags, kind, place, &Kept::untouched(), false);
                 self.cells.insert(location, kept).map_err(|_| NoMemory)?;
                 None
             }
