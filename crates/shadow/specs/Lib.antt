@@ -1,4 +1,5 @@
 pub mod Before
+pub mod Blocks
 pub mod Cells
 pub mod Found
 pub mod Memory
