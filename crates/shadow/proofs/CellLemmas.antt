@@ -3,7 +3,7 @@ use Rattle.std.proofs.Common.{◌≡◌, ℕ, ◌+◌, ◌<◌, ◌≤◌, ◌�
 use Rattle.std.specs.Map.{lookup}
 use Rattle.std.proofs.lemmas.Bool.{eqb-true, eq-eqb}
 use Rattle.std.proofs.lemmas.Bool.Decides.{eqb_tells}
-use Rattle.shadow.specs.Cells.{Named, Cell, untouched}
+use Rattle.shadow.specs.Cells.{Named, Cell}
 use Rattle.shadow.specs.Before.{IsNameBefore, IsCellBefore}
 use Rattle.shadow.specs.Blocks.{cell_at, page_of, seat_of}
 use Rattle.shadow.specs.Found.{with_cell}

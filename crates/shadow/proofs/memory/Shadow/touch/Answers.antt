@@ -1,7 +1,6 @@
 use Rattle.std.proofs.Common.{◌≡◌, ◌∙◌, true, false, is_ok, is_some, nat_eq, Some, None, [], unwrap_or, refl, sym, ap, arith}
 use Rattle.std.specs.Map.{lookup}
-use Rattle.shadow.specs.Before.{IsCellBefore}
-use Rattle.shadow.specs.Blocks.{cell_at, page_of, seat_of}
+use Rattle.shadow.specs.Blocks.{page_of}
 use Rattle.shadow.specs.Memory.{Memory, block_of}
 use Rattle.shadow.proofs.CellLemmas.{found_before, cell_changed, cells_before, blocks_stay, on_ok, on_err}
 use Rattle.shadow.proofs.memory.Shadow.touch.Goals as goal
@@ -12,14 +11,14 @@ race_at-race-requires-clause-earlier g c =
     let last : c.self.inside.last_place ≡ c.args.self.now.last_place = ap (λ (m : Memory). m.last_place) c.self.view_is in
     let least : c.self.inside.least_count ≡ c.args.self.now.least_count = ap (λ (m : Memory). m.least_count) c.self.view_is in
     rw (c.cell-kept.ensures, c.seat_of-seat.ensures.seat)
-      (found_before _ c.args.place c.args.bags.now.count c.args.location c.in-Some.block.now c.self.invariant (omega arith) (omega arith) (c.in-Some.ensures.value ∙ rw c.page_of-page.ensures refl))
+    (found_before _ c.args.place c.args.bags.now.count c.args.location c.in-Some.block.now c.self.invariant (omega arith) (omega arith) (c.in-Some.ensures.value ∙ rw c.page_of-page.ensures refl))
 
 pub touched-kept-requires-clause-earlier : goal.touched-kept-requires-clause-earlier
 touched-kept-requires-clause-earlier g c =
     let last : c.self.inside.last_place ≡ c.args.self.now.last_place = ap (λ (m : Memory). m.last_place) c.self.view_is in
     let least : c.self.inside.least_count ≡ c.args.self.now.least_count = ap (λ (m : Memory). m.least_count) c.self.view_is in
     rw (c.cell-kept.ensures, c.seat_of-seat.ensures.seat)
-      (found_before _ c.args.place c.args.bags.now.count c.args.location c.in-Some.block.now c.self.invariant (omega arith) (omega arith) (c.in-Some.ensures.value ∙ rw c.page_of-page.ensures refl))
+    (found_before _ c.args.place c.args.bags.now.count c.args.location c.in-Some.block.now c.self.invariant (omega arith) (omega arith) (c.in-Some.ensures.value ∙ rw c.page_of-page.ensures refl))
 
 pub invariant_of-self : goal.invariant_of-self
 invariant_of-self g c =
