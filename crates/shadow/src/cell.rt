@@ -1,5 +1,5 @@
 //! What is kept of one location, and what an access does to it.
-ghost use Rattle.std.specs.Prelude.{◌≡◌, ◌+◌, ◌<◌, ◌≤◌, ◌^◌, is_some};
+ghost use Rattle.std.specs.Prelude.{◌≡◌, ◌+◌, ◌<◌, ◌≤◌, ◌^◌, None, is_some};
 ghost use Rattle.std.specs.Option.{ForSome};
 ghost use Rattle.shadow.specs.Cells.{untouched, race_at, race_with, touched, rival, parallel_access, reader_after, name_of};
 ghost use Rattle.shadow.specs.Before.{IsNameBefore, IsCellBefore, CanRace};
@@ -25,12 +25,71 @@ impl Model for Name {
     ghost inverse = { λ n. record { procedure = n.procedure; place = n.place } };
 }
 
+/// The name that is kept, if any: a procedure and a place, or the place 0 where none is kept.
+#[derive(Drop)]
+pub struct Slot {
+    procedure: u64,
+    place: u64,
+}
+
+impl Model for Slot {
+    ghost use Rattle.std.specs.Prelude.{Option};
+    ghost use Rattle.shadow.specs.Cells.{Named};
+    ghost use Rattle.shadow.specs.Slots.{slot_name};
+
+    ghost Value = { Option Named };
+
+    ghost view = { λ s. slot_name s.procedure s.place };
+}
+
+impl Slot {
+    /// No name is kept.
+    #[inline(always)]
+    fn empty() -> Slot
+        ensures { result ≡ None }
+    {
+        Slot {
+            procedure: 0,
+            place: 0,
+        }
+    }
+
+    /// This name is kept.
+    #[inline(always)]
+    fn of(kept: Option<Name>) -> Slot
+        requires { ForSome kept (λ name. 1 ≤ name.place) }
+        ensures { result ≡ kept }
+    {
+        match kept {
+            None => Slot::empty(),
+            Some(name) => Slot {
+                procedure: name.procedure,
+                place: name.place,
+            },
+        }
+    }
+
+    /// The name that is kept.
+    #[inline(always)]
+    fn name(&self) -> Option<Name>
+        ensures { result ≡ self.now }
+    {
+        if self.place == 0 {
+            return None;
+        }
+        Some(Name {
+            procedure: self.procedure,
+            place: self.place,
+        })
+    }
+}
+
 /// The kept writer and the kept reader of a location, and whether its race was told.
-#[derive(Clone, Copy)]
+#[derive(Drop)]
 pub struct Kept {
-    pub writer: Option<Name>,
-    pub reader: Option<Name>,
-    pub told: bool,
+    writer: Slot,
+    reader: Slot,
+    told: bool,
 }
 
 impl Model for Kept {
@@ -39,8 +98,6 @@ impl Model for Kept {
     ghost Value = { Cell };
 
     ghost view = { λ k. record { writer = k.writer; reader = k.reader; told = k.told } };
-
-    ghost inverse = { λ k. record { writer = k.writer; reader = k.reader; told = k.told } };
 }
 
 impl Kept {
@@ -49,18 +106,18 @@ impl Kept {
         ensures { result ≡ untouched }
     {
         Kept {
-            writer: None,
-            reader: None,
+            writer: Slot::empty(),
+            reader: Slot::empty(),
             told: false,
         }
     }
 }
 
 /// The race that is told at an access of a location.
-pub fn race_at(bags: &Bags, location: u64, kind: Kind, place: u64, kept: Kept) -> Option<Race>
-    requires earlier { IsCellBefore place bags.now.count kept }
+pub fn race_at(bags: &Bags, location: u64, kind: Kind, place: u64, kept: &Kept) -> Option<Race>
+    requires earlier { IsCellBefore place bags.now.count kept.now }
     requires to_limit { place ≤ 2 ^ 48 }
-    ensures { result ≡ race_at bags.now.active location kind place kept }
+    ensures { result ≡ race_at bags.now.active location kind place kept.now }
 {
     if kept.told {
         return None;
@@ -74,37 +131,37 @@ pub fn race_at(bags: &Bags, location: u64, kind: Kind, place: u64, kept: Kept) -
 }
 
 /// What is kept of a location after an access of it, at which its race is told or not.
-pub fn touched(bags: &Bags, kind: Kind, place: u64, kept: Kept, told: bool) -> Kept
-    requires earlier { IsCellBefore place bags.now.count kept }
+pub fn touched(bags: &Bags, kind: Kind, place: u64, kept: &Kept, told: bool) -> Kept
+    requires earlier { IsCellBefore place bags.now.count kept.now }
     requires from_one { 1 ≤ place }
-    requires race { told ≡ is_some (race_with 0 kind place kept.told (rival bags.now.active kind kept)) }
-    ensures kept { result ≡ touched bags.now.active kind place kept }
+    requires race { told ≡ is_some (race_with 0 kind place kept.now.told (rival bags.now.active kind kept.now)) }
+    ensures kept { result ≡ touched bags.now.active kind place kept.now }
     ensures earlier { IsCellBefore (place + 1) bags.now.count result }
 {
     let told = kept.told || told;
     match kind {
         Kind::Read => Kept {
-            writer: kept.writer,
-            reader: reader_after(bags, place, kept.reader),
+            writer: Slot::of(kept.writer.name()),
+            reader: Slot::of(reader_after(bags, place, kept.reader.name())),
             told,
         },
         Kind::Write => Kept {
-            writer: name_of(bags, place),
-            reader: kept.reader,
+            writer: Slot::of(name_of(bags, place)),
+            reader: Slot::of(kept.reader.name()),
             told,
         },
     }
 }
 
 /// The first access of a race with an access by the executing procedure.
-fn rival(bags: &Bags, kind: Kind, place: u64, kept: Kept) -> Option<Access>
-    requires { IsCellBefore place bags.now.count kept }
-    ensures first { result ≡ rival bags.now.active kind kept }
+fn rival(bags: &Bags, kind: Kind, place: u64, kept: &Kept) -> Option<Access>
+    requires { IsCellBefore place bags.now.count kept.now }
+    ensures first { result ≡ rival bags.now.active kind kept.now }
     ensures can_race { ForSome result (CanRace kind place) }
 {
-    let writer = parallel_access(bags, Kind::Write, place, kept.writer);
+    let writer = parallel_access(bags, Kind::Write, place, kept.writer.name());
     match (kind, writer) {
-        (Kind::Write, None) => parallel_access(bags, Kind::Read, place, kept.reader),
+        (Kind::Write, None) => parallel_access(bags, Kind::Read, place, kept.reader.name()),
         _ => writer,
     }
 }

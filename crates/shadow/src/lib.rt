@@ -1,6 +1,7 @@
 //! Shadow memory: the kept writer and reader of each location, by the read rule and the write rule of SP-bags.
 #![tactic(auto)]
 
+mod block;
 mod cell;
 mod memory;
 mod rules;

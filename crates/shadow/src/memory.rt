@@ -3,6 +3,7 @@ ghost use Rattle.std.specs.Prelude.{◌≡◌, ℕ, ◌<◌, ◌≤◌, ◌^◌,
 ghost use Rattle.shadow.specs.Cells.{untouched, race_at, touched};
 ghost use Rattle.shadow.specs.Found.{with_cell};
 
+use crate::block::{Block, page_of, seat_of};
 use crate::cell::{Kept, race_at, touched};
 use bags::Bags;
 use indexmap::IndexMap;
@@ -14,7 +15,7 @@ use trace::{Kind, NoMemory, Race};
 /// The shadow memory of a serial run: the kept writer and the kept reader of each location.
 #[derive(Drop)]
 pub struct Shadow<S: BuildHasher> {
-    cells: IndexMap<u64, Kept, S>,
+    blocks: IndexMap<u64, Block, S>,
     last_place: u64,
     least_count: u64,
 }
@@ -24,9 +25,9 @@ impl<S: BuildHasher> Model for Shadow<S> {
 
     ghost Value = { Memory };
 
-    ghost view = { λ s. record { entries = s.cells.entries; last_place = s.last_place; least_count = s.least_count } };
+    ghost view = { λ s. record { blocks = s.blocks.entries; last_place = s.last_place; least_count = s.least_count } };
 
-    ghost invariant = { λ s. IsMemoryBefore (record { entries = s.cells.entries; last_place = s.last_place; least_count = s.least_count }) };
+    ghost invariant = { λ s. IsMemoryBefore (record { blocks = s.blocks.entries; last_place = s.last_place; least_count = s.least_count }) };
 }
 
 impl<S: BuildHasher> Shadow<S> {
@@ -39,7 +40,7 @@ impl<S: BuildHasher> Shadow<S> {
         ensures least_count { least_count_of result ≡ 1 }
     {
         Shadow {
-            cells: IndexMap::with_hasher(alloc, hasher),
+            blocks: IndexMap::with_hasher(alloc, hasher),
             last_place: 0,
             least_count: 1,
         }
@@ -80,15 +81,20 @@ impl<S: BuildHasher> Shadow<S> {
         ensures err { OnErr result (IsSameMemory self.old self.new) }
         ensures not_there { OnErr result (kept_of self.old location ≡ untouched) }
     {
-        let race = match self.cells.get_mut(&location) {
-            Some(kept) => {
-                let race = race_at(bags, location, kind, place, *kept);
-                *kept = touched(bags, kind, place, *kept, race.is_some());
+        let page = page_of(location);
+        let seat = seat_of(location);
+        let race = match self.blocks.get_mut(&page) {
+            Some(block) => {
+                let kept = block.cell(seat);
+                let race = race_at(bags, location, kind, place, kept);
+                let kept = touched(bags, kind, place, kept, race.is_some());
+                block.put(seat, kept);
                 race
             }
             None => {
-                let kept = touched(bags, kind, place, Kept::untouched(), false);
-                self.cells.insert(location, kept).map_err(|_| NoMemory)?;
+                let mut block = Block::untouched();
+                block.put(seat, touched(bags, kind, place, &Kept::untouched(), false));
+                self.blocks.insert(page, block).map_err(|_| NoMemory)?;
                 None
             }
         };

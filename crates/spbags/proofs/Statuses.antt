@@ -12,7 +12,8 @@ use Rattle.trace.specs.Runs.{OfTrace}
 use Rattle.audit.specs.Pairs.{IsPair, ArePairs}
 use Rattle.collect.specs.ReportText.{rtext}
 use Rattle.detect.specs.Dag.{HasRace, HasLocation}
-use Rattle.detect.specs.Runs.{Reports}
+use Rattle.detect.specs.declared.sharded.Run.{Run}
+use Rattle.detect.specs.Ran.{RunReports}
 use Rattle.spbags.specs.Questions.{AnswersCheck}
 
 no_location : (l : ℕ) → HasLocation [] l → ⊥
@@ -39,20 +40,20 @@ one_exactly status races w low none racy = (to, from)
             absurd (no_location l (subst P e ((racy l).0 race)))
         go (no more) = omega arith
 
--- a report of a trace that was read whole answers `check`
-pub check_answered : {records depths : ℕ} {before after : Option (List ℕ)} {races : List RaceAt} (status : ℕ) → Reports records depths before after races
-    → status < 2 → (status ≡ 0) ↔ (races ≡ []) → OfTrace records depths before after (λ w. AnswersCheck w (rtext races) status)
-check_answered {records} {depths} {before} {after} {races} status run low zero = record {
-  trace = run.trace;
-  read = record { came = run.came; consumed = run.consumed; whole = run.whole };
+-- the report of a run over a trace that was read whole answers `check`
+pub check_answered : {shards records depths : ℕ} {before after : Option (List ℕ)} {run : Run} (status : ℕ) → RunReports shards records depths before after run
+    → status < 2 → (status ≡ 0) ↔ (run.report ≡ []) → OfTrace records depths before after (λ w. AnswersCheck w (rtext run.report) status)
+check_answered {shards} {records} {depths} {before} {after} {run} status reports low zero = record {
+  trace = reports.trace;
+  read = record { came = reports.came; consumed = reports.consumed; whole = reports.whole };
   says = record {
-    races = races;
-    is_verdict = run.is_verdict;
-    is_report = run.is_report;
-    racy = run.racy;
+    races = run.report;
+    is_verdict = reports.is_verdict;
+    is_report = reports.is_report;
+    racy = reports.racy;
     is_text = refl;
     zero = zero;
-    one = one_exactly status races run.trace low zero run.racy;
+    one = one_exactly status run.report reports.trace low zero reports.racy;
   };
 }
 

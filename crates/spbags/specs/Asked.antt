@@ -5,7 +5,7 @@ use Rattle.spbags.specs.declared.words.Asked.TheVariants.{Check, Pairs, Measure,
 
 -- each number lies in its range, each file that the command reads has a name, and standard input is one of them at most
 abbrev pub IsInRange : Asked → Type 0
-IsInRange (Check c) = (c.depth ≤ 1000000) × (0 < string_len c.trace)
+IsInRange (Check c) = ((1 ≤ c.shards) × (c.shards ≤ 64)) × ((1 ≤ c.capacity) × (c.capacity ≤ 65536)) × (c.depth ≤ 1000000) × (0 < string_len c.trace)
 IsInRange (Pairs p) = (p.depth ≤ 1000000) × (0 < string_len p.trace)
 IsInRange (Measure m) = (m.depth ≤ 1000000) × (0 < string_len m.trace)
 IsInRange (Confirm c) = (c.depth ≤ 1000000) × (0 < string_len c.trace) × (0 < string_len c.report)

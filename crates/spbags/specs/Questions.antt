@@ -1,12 +1,16 @@
 -- What answers the questions of a trace: the text, and the exit status.
-use Rattle.std.specs.Prelude.{◌≡◌, ℕ, ◌↔◌, List, []}
+use Rattle.std.specs.Prelude.{◌≡◌, ◌⊎◌, ℕ, ◌↔◌, List, [], Option}
 use Rattle.trace.specs.declared.records.Record.{Record}
 use Rattle.trace.specs.declared.records.Access.{Access}
+use Rattle.trace.specs.declared.faults.Fault.{Fault}
+use Rattle.trace.specs.declared.faults.Fault.TheVariants.{NoMemory, NoThread}
+use Rattle.trace.specs.Runs.{FailsBy}
 use Rattle.trace.specs.Accesses.{RaceAt}
 use Rattle.trace.specs.Races.{IsReport}
 use Rattle.shadow.specs.Found.{verdict}
 use Rattle.collect.specs.ReportText.{rtext}
 use Rattle.detect.specs.Dag.{HasRace, HasLocation}
+use Rattle.detect.specs.Sent.{FailsInRun}
 use Rattle.audit.specs.declared.answers.Measure.{Measure}
 use Rattle.audit.specs.declared.answers.Confirm.{Confirm}
 use Rattle.audit.specs.declared.answers.Confirm.TheVariants.{Yes, No}
@@ -61,3 +65,17 @@ Answers (asked.Check c) w text status = AnswersCheck w text status
 Answers (asked.Pairs p) w text status = AnswersPairs w p.location text status
 Answers (asked.Measure m) w text status = AnswersMeasure w text status
 Answers (asked.Confirm c) w text status = ⊥
+
+-- how reading the trace that is asked about fails: `check` alone starts threads, and may fail to
+abbrev pub Fails : Asked → ℕ → ℕ → Option (List ℕ) → Option (List ℕ) → ℕ → ℕ → Fault → Type 0
+Fails (asked.Check c) records depths before after failed fails f = FailsInRun records depths before after failed fails f
+Fails (asked.Pairs p) records depths before after failed fails f = FailsBy records depths before after failed fails f
+Fails (asked.Measure m) records depths before after failed fails f = FailsBy records depths before after failed fails f
+Fails (asked.Confirm c) records depths before after failed fails f = FailsBy records depths before after failed fails f
+
+-- what a good trace may go without an answer for: want of memory, and in `check` of a thread
+abbrev pub IsWant : Asked → Fault → Type 0
+IsWant (asked.Check c) f = (f ≡ NoMemory) ⊎ (f ≡ NoThread)
+IsWant (asked.Pairs p) f = f ≡ NoMemory
+IsWant (asked.Measure m) f = f ≡ NoMemory
+IsWant (asked.Confirm c) f = f ≡ NoMemory

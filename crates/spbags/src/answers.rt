@@ -1,40 +1,48 @@
 //! The answers of the program: what goes to standard output and to standard error, and the exit status.
-ghost use Rattle.std.specs.Prelude.{◌≡◌, ◌<◌, ◌≤◌, ◌^◌, ◌↔◌, ◌⊎◌, ℕ, [], List, Option, Some, IfSome, IfNone, MatchResult, false};
+ghost use Rattle.std.specs.Prelude.{◌≡◌, ◌<◌, ◌≤◌, ◌^◌, ◌↔◌, ◌⊎◌, ℕ, [], List, Option, Some, IfSome, IfNone, IfOk, IfErr, MatchResult, vec_len, false};
 ghost use Rattle.trace.specs.Devices.{HasRisen};
 ghost use Rattle.trace.specs.Text.{text, AllFit};
 ghost use Rattle.trace.specs.Traces.{IsWellNested};
 ghost use Rattle.trace.specs.declared.faults.Fault.{Fault};
-ghost use Rattle.trace.specs.declared.faults.Fault.TheVariants.{NoMemory};
+ghost use Rattle.trace.specs.declared.faults.Fault.TheVariants.{NoMemory, NoThread};
 ghost use Rattle.trace.specs.declared.records.Record.{Record};
 ghost use Rattle.collect.specs.ReportText.{rtext};
-ghost use Rattle.trace.specs.Runs.{FailsBy, OfTrace};
+ghost use Rattle.trace.specs.Runs.{OfTrace};
+ghost use Rattle.detect.specs.Ran.{RunReports};
+ghost use Rattle.detect.specs.Sent.{FailsInRun};
 ghost use Rattle.spbags.specs.Answers.{IsUntouched, Puts, Took, TookFront, WasGiven, Tells};
-ghost use Rattle.spbags.specs.Asked.{depth_of, asks_report};
-ghost use Rattle.spbags.specs.Questions.{Answers, AnswersCheck};
+ghost use Rattle.spbags.specs.Asked.{IsInRange, depth_of, asks_report};
+ghost use Rattle.spbags.specs.Questions.{Answers, AnswersCheck, Fails, IsWant};
 ghost use Rattle.spbags.specs.Messages.{message, cannot_write, help_of, refusal};
 
 use crate::messages::{put, say, say_fault};
 use crate::questions::{answer_measure, answer_pairs};
-use crate::words::{Asked, WordsFault};
+use crate::words::{Asked, Check, WordsFault};
 use collect::{Report, write_report};
-use detect::detect_plain;
-use std::alloc::Global;
+use detect::{Plan, Run, detect};
+use shard::Open;
+use std::alloc::{AllocError, Global};
 use std::hash::{BuildHasherDefault, FoldHasher};
-use trace::{Limits, Sink, Source, WriteFault};
+use std::sync::Wait;
+use std::thread::Threads;
+use trace::{Fault, Limits, Sink, Source, WriteFault};
 
 /// The most records that a trace may have: 2^48.
 pub const MOST_RECORDS: u64 = 1 << 48;
 
 /// Answers what the words ask of a trace alone, and gives the exit status: 0 for no race, or for the numbers of a
-/// trace, 1 for a race, 2 for a fault.
-pub fn answer<R: Source, W: Sink, E: Sink>(
+/// trace, 1 for a race, 2 for a fault. What is asked lies in its ranges, as `read_words` leaves it. For `check` this
+/// starts threads, and waits for them.
+pub fn answer<T: Threads + Wait + Sync, R: Source, W: Sink, E: Sink>(
+    rt: &T,
     alloc: Global,
     asked: &Asked,
     trace: &mut R,
     out: &mut W,
     err: &mut E,
 ) -> u8
-    requires { asks_report asked.now ≡ false }
+    requires alone { asks_report asked.now ≡ false }
+    requires range { IsInRange asked.now }
     ensures status { result ≤ 2 }
 
     // Status 0 or 1: all bytes of the trace were read, and what answers the question was written.
@@ -43,9 +51,10 @@ pub fn answer<R: Source, W: Sink, E: Sink>(
         × Took text (W.held out.old) (W.held out.new) (W.failures out.old) (W.failures out.new)
         × IsUntouched (E.held err.old) (E.held err.new) (E.failures err.old) (E.failures err.new) }
 
-    // Status 2: the first fault, and nothing of an answer; or writing the answer failed.
+    // Status 2: the first fault, or want of memory or in `check` of a thread, and nothing of an answer; or writing the
+    // answer failed.
     ensures failed { result ≡ 2 → ((fault : Fault)
-        × FailsBy (2 ^ 48) (depth_of asked.now) (R.rest trace.old) (R.rest trace.new) (R.failures trace.old) (R.failures trace.new) fault
+        × Fails asked.now (2 ^ 48) (depth_of asked.now) (R.rest trace.old) (R.rest trace.new) (R.failures trace.old) (R.failures trace.new) fault
         × IsUntouched (W.held out.old) (W.held out.new) (W.failures out.old) (W.failures out.new)
         × WasGiven (message fault) (E.held err.old) (E.held err.new) (E.failures err.old) (E.failures err.new))
         ⊎ ((text : List ℕ) × (status : ℕ)
@@ -53,14 +62,16 @@ pub fn answer<R: Source, W: Sink, E: Sink>(
         × TookFront text (W.held out.old) (W.held out.new) (W.failures out.old) (W.failures out.new)
         × WasGiven cannot_write (E.held err.old) (E.held err.new) (E.failures err.old) (E.failures err.new)) }
 
-    // A good trace from a reader that doesn't fail has status 2 only for want of memory, or where writing failed.
+    // A good trace from a reader that doesn't fail has status 2 only for want of memory, or in `check` of a thread, or
+    // where writing failed.
     ensures honest { (w : List Record) → R.rest trace.old ≡ Some (text w) → AllFit w → IsWellNested w (2 ^ 48) (depth_of asked.now)
         → (HasRisen (R.failures trace.old) (R.failures trace.new) → ⊥) → result ≡ 2
-        → WasGiven (message NoMemory) (E.held err.old) (E.held err.new) (E.failures err.old) (E.failures err.new)
+        → ((fault : Fault) × IsWant asked.now fault
+        × WasGiven (message fault) (E.held err.old) (E.held err.new) (E.failures err.old) (E.failures err.new))
         ⊎ HasRisen (W.failures out.old) (W.failures out.new) }
 {
     match asked {
-        Asked::Check(check) => answer_check(alloc, check.depth, trace, out, err),
+        Asked::Check(check) => answer_check(rt, alloc, check, trace, out, err),
         Asked::Pairs(pairs) => answer_pairs(alloc, pairs.depth, pairs.location, trace, out, err),
         Asked::Measure(measure) => answer_measure(alloc, measure.depth, trace, out, err),
         Asked::Confirm(_) => unreachable!(),
@@ -68,39 +79,77 @@ pub fn answer<R: Source, W: Sink, E: Sink>(
 }
 
 // The races of a trace.
-fn answer_check<R: Source, W: Sink, E: Sink>(
+fn answer_check<T: Threads + Wait + Sync, R: Source, W: Sink, E: Sink>(
+    rt: &T,
     alloc: Global,
-    depth: u32,
+    check: &Check,
     trace: &mut R,
     out: &mut W,
     err: &mut E,
 ) -> u8
+    requires shards { (1 ≤ check.now.shards) × (check.now.shards ≤ 64) }
+    requires capacity { (1 ≤ check.now.capacity) × (check.now.capacity ≤ 65536) }
     ensures status { result ≤ 2 }
     ensures told { result < 2 → (text : List ℕ)
-        × OfTrace (2 ^ 48) depth (R.rest trace.old) (R.rest trace.new) (λ w. AnswersCheck w text result)
+        × OfTrace (2 ^ 48) check.now.depth (R.rest trace.old) (R.rest trace.new) (λ w. AnswersCheck w text result)
         × Took text (W.held out.old) (W.held out.new) (W.failures out.old) (W.failures out.new)
         × IsUntouched (E.held err.old) (E.held err.new) (E.failures err.old) (E.failures err.new) }
     ensures failed { result ≡ 2 → ((fault : Fault)
-        × FailsBy (2 ^ 48) depth (R.rest trace.old) (R.rest trace.new) (R.failures trace.old) (R.failures trace.new) fault
+        × FailsInRun (2 ^ 48) check.now.depth (R.rest trace.old) (R.rest trace.new) (R.failures trace.old) (R.failures trace.new) fault
         × IsUntouched (W.held out.old) (W.held out.new) (W.failures out.old) (W.failures out.new)
         × WasGiven (message fault) (E.held err.old) (E.held err.new) (E.failures err.old) (E.failures err.new))
         ⊎ ((text : List ℕ) × (status : ℕ)
-        × OfTrace (2 ^ 48) depth (R.rest trace.old) (R.rest trace.new) (λ w. AnswersCheck w text status)
+        × OfTrace (2 ^ 48) check.now.depth (R.rest trace.old) (R.rest trace.new) (λ w. AnswersCheck w text status)
         × TookFront text (W.held out.old) (W.held out.new) (W.failures out.old) (W.failures out.new)
         × WasGiven cannot_write (E.held err.old) (E.held err.new) (E.failures err.old) (E.failures err.new)) }
-    ensures honest { (w : List Record) → R.rest trace.old ≡ Some (text w) → AllFit w → IsWellNested w (2 ^ 48) depth
+    ensures honest { (w : List Record) → R.rest trace.old ≡ Some (text w) → AllFit w → IsWellNested w (2 ^ 48) check.now.depth
         → (HasRisen (R.failures trace.old) (R.failures trace.new) → ⊥) → result ≡ 2
-        → WasGiven (message NoMemory) (E.held err.old) (E.held err.new) (E.failures err.old) (E.failures err.new)
+        → ((fault : Fault) × ((fault ≡ NoMemory) ⊎ (fault ≡ NoThread))
+        × WasGiven (message fault) (E.held err.old) (E.held err.new) (E.failures err.old) (E.failures err.new))
         ⊎ HasRisen (W.failures out.old) (W.failures out.new) }
 {
-    let hasher = BuildHasherDefault::<FoldHasher>::default();
-    match detect_plain(alloc, limits_of(depth), trace, hasher) {
-        Ok(report) => tell(&report, out, err),
+    match run_on(rt, alloc, check, trace) {
+        Ok(ran) => tell(&ran.report, out, err),
         Err(fault) => {
             say_fault(&fault, err);
             2
         }
     }
+}
+
+// Detects the races of a trace, with a thread for each shard.
+fn run_on<T: Threads + Wait + Sync, R: Source>(
+    rt: &T,
+    alloc: Global,
+    check: &Check,
+    trace: &mut R,
+) -> Result<Run, Fault>
+    requires shards { (1 ≤ check.now.shards) × (check.now.shards ≤ 64) }
+    requires capacity { (1 ≤ check.now.capacity) × (check.now.capacity ≤ 65536) }
+    ensures report { IfOk result (RunReports check.now.shards (2 ^ 48) check.now.depth (R.rest trace.old) (R.rest trace.new)) }
+    ensures fault { IfErr result (FailsInRun (2 ^ 48) check.now.depth (R.rest trace.old) (R.rest trace.new) (R.failures trace.old) (R.failures trace.new)) }
+    ensures honest { (w : List Record) → R.rest trace.old ≡ Some (text w) → AllFit w → IsWellNested w (2 ^ 48) check.now.depth
+        → (HasRisen (R.failures trace.old) (R.failures trace.new) → ⊥) → IfErr result (λ f. (f ≡ NoMemory) ⊎ (f ≡ NoThread)) }
+{
+    let Ok(hashers) = hashers_for(alloc, check.shards) else {
+        return Err(Fault::NoMemory);
+    };
+    let plan = Plan::new(check.shards, check.capacity, limits_of(check.depth));
+    detect(rt, alloc, plan, trace, &Open, hashers)
+}
+
+// A hasher for each shard.
+fn hashers_for(
+    alloc: Global,
+    shards: u32,
+) -> Result<Vec<BuildHasherDefault<FoldHasher>>, AllocError>
+    ensures { IfOk result (λ hashers. vec_len hashers ≡ shards) }
+{
+    let mut hashers = Vec::new(alloc);
+    for _ in 0..shards {
+        hashers.push(BuildHasherDefault::default())?;
+    }
+    Ok(hashers)
 }
 
 /// The limits of every trace that the program reads.

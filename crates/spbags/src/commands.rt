@@ -20,10 +20,12 @@ Exit status:
 const CHECK_ABOUT: &str = "Tells one race of each location that has any.";
 
 const CHECK_NOTES: &str = "\
-The trace is read from FILE, or from standard input where FILE is `-`.
+The trace is read from FILE, or from standard input where FILE is `-`. Neither the number of shards nor the capacity
+changes the answer.
 
-Example:
-  spbags check --depth 1000 run.trace
+Examples:
+  spbags check run.trace
+  spbags check --shards 8 --depth 1000 run.trace
 
 Exit status:
   0  no race
@@ -94,6 +96,8 @@ fn check_command<'a>(alloc: Global) -> Result<Command<'a>, AllocError> {
     Command::new(alloc, "check")
         .about(CHECK_ABOUT)
         .after_help(CHECK_NOTES)
+        .arg(shards(alloc))?
+        .arg(capacity(alloc))?
         .arg(depth(alloc))?
         .arg(needed(alloc, "FILE", "The trace; `-` is standard input"))
 }
@@ -124,12 +128,37 @@ fn confirm_command<'a>(alloc: Global) -> Result<Command<'a>, AllocError> {
         .arg(needed(alloc, "REPORT", "The report; `-` is standard input"))
 }
 
+fn shards<'a>(alloc: Global) -> Arg<'a> {
+    number(
+        alloc,
+        "shards",
+        "How many threads the locations are divided among: 1 to 64, 4 where it is left out",
+    )
+}
+
+fn capacity<'a>(alloc: Global) -> Arg<'a> {
+    number(
+        alloc,
+        "capacity",
+        "How many records may wait for a thread: 1 to 65536, 1024 where it is left out",
+    )
+}
+
 fn depth<'a>(alloc: Global) -> Arg<'a> {
-    Arg::new(alloc, "depth")
-        .long("depth")
+    number(
+        alloc,
+        "depth",
+        "How deep procedures may nest: 0 to 1000000, 65536 where it is left out",
+    )
+}
+
+// An option with a number.
+fn number<'a>(alloc: Global, name: &'a str, help: &'a str) -> Arg<'a> {
+    Arg::new(alloc, name)
+        .long(name)
         .value_name("N")
         .action(ArgAction::Set)
-        .help("How deep procedures may nest: 0 to 1000000, 65536 where it is left out")
+        .help(help)
 }
 
 // A word that has to be there.

@@ -1,6 +1,9 @@
 //! The program `spbags`: the races of a trace, and questions about it.
 #![tactic(auto)]
 
+ghost use Rattle.std.specs.Prelude.{IfOk};
+ghost use Rattle.spbags.specs.Asked.{IsInRange};
+
 mod answers;
 mod commands;
 mod confirms;
@@ -19,6 +22,8 @@ use input::Input;
 use std::env;
 use std::io::{BufWriter, ErrorKind};
 use std::process::ExitCode;
+use std::sync::Wait;
+use std::thread::Threads;
 use trace::{Counted, Sink};
 use words::{Asked, WordsFault, read_words};
 
@@ -35,14 +40,16 @@ fn main(rt: HostRuntime) -> ExitCode {
     };
     let mut out = Counted::new(buffered);
     let status = match read_arguments(&rt) {
-        Ok(asked) => answer_from_files(&rt, &asked, &mut out, &mut err),
+        Ok(asked) => answer_from_files(&rt, &rt, &asked, &mut out, &mut err),
         Err(fault) => refuse(&fault, &mut out, &mut err),
     };
     ExitCode::from(status)
 }
 
 // Reads the program's own words. Words that aren't text ask for nothing.
-fn read_arguments(rt: &HostRuntime) -> Result<Asked, WordsFault> {
+fn read_arguments(rt: &HostRuntime) -> Result<Asked, WordsFault>
+    ensures { IfOk result IsInRange }
+{
     let arguments = match env::args(rt) {
         Ok(arguments) => arguments,
         Err(error) if error.kind() == ErrorKind::OutOfMemory => return Err(WordsFault::NoMemory),
@@ -56,12 +63,15 @@ fn read_arguments(rt: &HostRuntime) -> Result<Asked, WordsFault> {
 
 // Opens all files that are asked for, and then answers. Where the trace of a report can't be opened the report isn't
 // read either.
-fn answer_from_files<W: Sink, E: Sink>(
+fn answer_from_files<T: Threads + Wait + Sync, W: Sink, E: Sink>(
+    threads: &T,
     rt: &HostRuntime,
     asked: &Asked,
     out: &mut W,
     err: &mut E,
-) -> u8 {
+) -> u8
+    requires { IsInRange asked.now }
+{
     let trace = Input::open(rt, asked.trace());
     if asked.asks_report() {
         let report = match trace {
@@ -73,6 +83,6 @@ fn answer_from_files<W: Sink, E: Sink>(
         answer_confirm(rt.alloc(), asked, &mut trace, &mut report, out, err)
     } else {
         let mut trace = Counted::new(trace);
-        answer(rt.alloc(), asked, &mut trace, out, err)
+        answer(threads, rt.alloc(), asked, &mut trace, out, err)
     }
 }

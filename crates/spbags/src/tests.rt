@@ -1,4 +1,6 @@
 //! The program from its words to its bytes, by worked rows: nothing here is taken from its own output.
+ghost use Rattle.spbags.specs.Asked.{IsInRange};
+
 mod devices;
 mod examples;
 mod questions;
@@ -10,6 +12,8 @@ use crate::confirms::answer_confirm;
 use crate::words::{Asked, read_words};
 use devices::Slow;
 use std::alloc::{AllocError, Global};
+use std::sync::Wait;
+use std::thread::Threads;
 use trace::{Counted, Sink, Source};
 
 /// What a run of the program left.
@@ -21,12 +25,19 @@ pub struct Ran {
 }
 
 /// Runs the program on a trace, of which each call of its reader hands at most `step` bytes.
-pub fn run(alloc: Global, line: &str, trace: &[u8], step: usize) -> Result<Ran, AllocError> {
-    run_with_report(alloc, line, trace, b"", step)
+pub fn run<T: Threads + Wait + Sync>(
+    rt: &T,
+    alloc: Global,
+    line: &str,
+    trace: &[u8],
+    step: usize,
+) -> Result<Ran, AllocError> {
+    run_with_report(rt, alloc, line, trace, b"", step)
 }
 
 /// Runs the program on a trace and a report.
-pub fn run_with_report(
+pub fn run_with_report<T: Threads + Wait + Sync>(
+    rt: &T,
     alloc: Global,
     line: &str,
     trace: &[u8],
@@ -43,6 +54,7 @@ pub fn run_with_report(
         let mut faults = Counted::new(&mut err);
         match read_words(alloc, words.as_slice()) {
             Ok(asked) => answer_any(
+                rt,
                 alloc,
                 &asked,
                 &mut trace,
@@ -57,18 +69,21 @@ pub fn run_with_report(
 }
 
 /// Answers what is asked; the report is read only where it is asked for.
-pub fn answer_any<R: Source, Q: Source, W: Sink, E: Sink>(
+pub fn answer_any<T: Threads + Wait + Sync, R: Source, Q: Source, W: Sink, E: Sink>(
+    rt: &T,
     alloc: Global,
     asked: &Asked,
     trace: &mut R,
     report: &mut Q,
     out: &mut W,
     err: &mut E,
-) -> u8 {
+) -> u8
+    requires { IsInRange asked.now }
+{
     if asked.asks_report() {
         answer_confirm(alloc, asked, trace, report, out, err)
     } else {
-        answer(alloc, asked, trace, out, err)
+        answer(rt, alloc, asked, trace, out, err)
     }
 }
 

@@ -25,6 +25,10 @@ pub enum Asked {
 /// `check`: the races of a trace.
 #[derive(Debug, Drop, PartialEq, Eq)]
 pub struct Check {
+    /// How many threads the locations are divided among.
+    pub shards: u32,
+    /// How many records may wait for a thread.
+    pub capacity: u32,
     /// How deep procedures may nest.
     pub depth: u32,
     /// The name of the trace's file; `-` is standard input.
@@ -106,6 +110,18 @@ pub enum WordsFault {
     NoMemory,
 }
 
+/// The most shards that may be asked for.
+pub const MOST_SHARDS: u64 = 64;
+
+/// The shards where no number is asked for.
+pub const USUAL_SHARDS: u32 = 4;
+
+/// The greatest capacity that may be asked for.
+pub const GREATEST_CAPACITY: u64 = 65_536;
+
+/// The capacity where none is asked for.
+pub const USUAL_CAPACITY: u32 = 1024;
+
 /// The greatest depth that may be asked for.
 pub const GREATEST_DEPTH: u64 = 1_000_000;
 
@@ -161,9 +177,16 @@ fn fault_of(alloc: Global, error: &Error) -> WordsFault {
 fn check_of(alloc: Global, found: &ArgMatches<'_>) -> Result<Asked, WordsFault>
     ensures { IfOk result IsInRange }
 {
+    let shards = shards_of(found)?;
+    let capacity = capacity_of(found)?;
     let depth = depth_of(found)?;
     let trace = name_of(alloc, found, "FILE")?;
-    Ok(Asked::Check(Check { depth, trace }))
+    Ok(Asked::Check(Check {
+        shards,
+        capacity,
+        depth,
+        trace,
+    }))
 }
 
 fn pairs_of(alloc: Global, found: &ArgMatches<'_>) -> Result<Asked, WordsFault>
@@ -231,15 +254,46 @@ fn location_of(found: &ArgMatches<'_>) -> Result<u64, WordsFault> {
     }
 }
 
-// How deep procedures may nest: a number, spelled as a trace spells its numbers, or the usual depth.
+// How many threads the locations are divided among.
+fn shards_of(found: &ArgMatches<'_>) -> Result<u32, WordsFault>
+    ensures { IfOk result (λ shards. (1 ≤ shards) × (shards ≤ 64)) }
+{
+    match number_of(found, "shards")? {
+        None => Ok(USUAL_SHARDS),
+        Some(shards) if 1 <= shards && shards <= MOST_SHARDS => Ok(shards as u32),
+        Some(_) => Err(WordsFault::Bad),
+    }
+}
+
+// How many records may wait for a thread.
+fn capacity_of(found: &ArgMatches<'_>) -> Result<u32, WordsFault>
+    ensures { IfOk result (λ capacity. (1 ≤ capacity) × (capacity ≤ 65536)) }
+{
+    match number_of(found, "capacity")? {
+        None => Ok(USUAL_CAPACITY),
+        Some(capacity) if 1 <= capacity && capacity <= GREATEST_CAPACITY => Ok(capacity as u32),
+        Some(_) => Err(WordsFault::Bad),
+    }
+}
+
+// How deep procedures may nest.
 fn depth_of(found: &ArgMatches<'_>) -> Result<u32, WordsFault>
     ensures { IfOk result (λ depth. depth ≤ 1000000) }
 {
-    let Some(digits) = found.get_str("depth") else {
-        return Ok(USUAL_DEPTH);
+    match number_of(found, "depth")? {
+        None => Ok(USUAL_DEPTH),
+        Some(depth) if depth <= GREATEST_DEPTH => Ok(depth as u32),
+        Some(_) => Err(WordsFault::Bad),
+    }
+}
+
+// The number that an option gives, spelled as a trace spells its numbers; `None` where the option is left out.
+fn number_of(found: &ArgMatches<'_>, option: &str) -> Result<Option<u64>, WordsFault> {
+    let Some(digits) = found.get_str(option) else {
+        return Ok(None);
     };
     match decimal_of(digits.as_bytes()) {
-        Some(depth) if depth <= GREATEST_DEPTH => Ok(depth as u32),
-        _ => Err(WordsFault::Bad),
+        Some(number) => Ok(Some(number)),
+        None => Err(WordsFault::Bad),
     }
 }

@@ -5242,8 +5242,8 @@ fn checks_examples(rt: HostRuntime) -> Result<(), Fail> {
     for example in EXAMPLES {
         let trace = example.trace.as_bytes();
         let status = if example.report == "races 0\n" { 0 } else { 1 };
-        for step in [1, 4096] {
-            let ran = run(rt.alloc(), "check -", trace, step)?;
+        for (line, step) in [("check -", 4096), ("check --shards 3 --capacity 1 -", 1)] {
+            let ran = run(&rt, rt.alloc(), line, trace, step)?;
             assert_eq!(rt;
                 ran.out.as_slice(),
                 example.report.as_bytes(),
@@ -5262,7 +5262,7 @@ fn confirms_examples(rt: HostRuntime) -> Result<(), Fail> {
     for example in EXAMPLES {
         let trace = example.trace.as_bytes();
         let report = example.report.as_bytes();
-        let ran = run_with_report(rt.alloc(), "confirm - report", trace, report, 4096)?;
+        let ran = run_with_report(&rt, rt.alloc(), "confirm - report", trace, report, 4096)?;
         assert_eq!(rt; ran.out.as_slice(), b"yes\n".as_slice(), "{}", example.name);
         assert_eq!(rt; ran.status, 0, "{}", example.name);
     }
@@ -5273,14 +5273,14 @@ fn confirms_examples(rt: HostRuntime) -> Result<(), Fail> {
 fn answers_about_examples(rt: HostRuntime) -> Result<(), Fail> {
     for example in EXAMPLES {
         let trace = example.trace.as_bytes();
-        let ran = run(rt.alloc(), "measure -", trace, 4096)?;
+        let ran = run(&rt, rt.alloc(), "measure -", trace, 4096)?;
         assert_eq!(rt;
             ran.out.as_slice(),
             example.measure.as_bytes(),
             "{}",
             example.name
         );
-        let ran = run(rt.alloc(), example.asked, trace, 4096)?;
+        let ran = run(&rt, rt.alloc(), example.asked, trace, 4096)?;
         assert_eq!(rt;
             ran.out.as_slice(),
             example.pairs.as_bytes(),

@@ -1,11 +1,16 @@
 //! Worked rows of `pairs`, `measure` and `confirm`.
+ghost use Rattle.std.specs.Prelude.{IfOk};
+ghost use Rattle.spbags.specs.Asked.{IsInRange};
+
 use super::devices::{Broken, Full, Large, Slow};
 use super::{Ran, answer_any, flood, run, run_with_report, trace_of, words_of};
 use crate::reports::MOST_BYTES;
 use crate::words::{Asked, read_words};
 use std::alloc::Global;
 use std::io::ErrorKind;
+use std::sync::Wait;
 use std::test::Fail;
+use std::thread::Threads;
 use trace::{Counted, Source};
 
 const WRITE_WRITE: &str = "spawn, write 5, return, write 5, return";
@@ -113,7 +118,7 @@ fn answers_questions(rt: HostRuntime) -> Result<(), Fail> {
     for (records, line, answer, status) in ANSWERS {
         let trace = trace_of(rt.alloc(), records)?;
         for step in [1, 4096] {
-            let ran = run(rt.alloc(), line, trace.as_slice(), step)?;
+            let ran = run(&rt, rt.alloc(), line, trace.as_slice(), step)?;
             assert_eq!(rt; ran.status, status, "{line}: {records}");
             assert_eq!(rt; ran.out.as_slice(), answer.as_bytes(), "{line}: {records}");
             assert!(rt; ran.err.is_empty(), "{line}: {records}");
@@ -125,12 +130,12 @@ fn answers_questions(rt: HostRuntime) -> Result<(), Fail> {
 #[test]
 fn questions_of_a_thousand_races(rt: HostRuntime) -> Result<(), Fail> {
     let text = flood(rt.alloc())?;
-    let ran = run(rt.alloc(), "measure -", text.as_slice(), 4096)?;
+    let ran = run(&rt, rt.alloc(), "measure -", text.as_slice(), 4096)?;
     assert_eq!(rt;
         ran.out.as_slice(),
         b"work 2003\nspan 1003\nspawns 1\ndepth 1\n".as_slice()
     );
-    let ran = run(rt.alloc(), "pairs - 1998", text.as_slice(), 4096)?;
+    let ran = run(&rt, rt.alloc(), "pairs - 1998", text.as_slice(), 4096)?;
     assert_eq!(rt;
         ran.out.as_slice(),
         b"pairs 1\npair write 1001 write 2002\n".as_slice()
@@ -140,7 +145,7 @@ fn questions_of_a_thousand_races(rt: HostRuntime) -> Result<(), Fail> {
     let (text, _) = text.split_at(text.len() - b"return\n".len().min(text.len()));
     for line in ["measure -", "pairs - 0", "confirm - b"] {
         let report = b"races 1\nrace 0 write 2 write 1003\n";
-        let ran = run_with_report(rt.alloc(), line, text, report, 4096)?;
+        let ran = run_with_report(&rt, rt.alloc(), line, text, report, 4096)?;
         assert_eq!(rt; ran.status, 2, "{line}");
         assert!(rt; ran.out.is_empty(), "{line}");
         assert_eq!(rt;
@@ -178,6 +183,7 @@ fn confirms_reports(rt: HostRuntime) -> Result<(), Fail> {
         let trace = trace_of(rt.alloc(), records)?;
         for step in [1, 4096] {
             let ran = run_with_report(
+                &rt,
                 rt.alloc(),
                 "confirm - b",
                 trace.as_slice(),
@@ -219,6 +225,7 @@ fn refuses_bad_reports_first(rt: HostRuntime) -> Result<(), Fail> {
         let want = format!(in rt.alloc(); "spbags: report line {fault}: bad\n")?;
         for trace in ["trace 1\nreturn\n", "x\n"] {
             let ran = run_with_report(
+                &rt,
                 rt.alloc(),
                 "confirm - b",
                 trace.as_bytes(),
@@ -230,13 +237,17 @@ fn refuses_bad_reports_first(rt: HostRuntime) -> Result<(), Fail> {
             assert_eq!(rt; ran.err.as_slice(), want.as_bytes(), "{report}");
         }
     }
-    let ran = run_with_report(rt.alloc(), "confirm - b", b"x\n", b"races 0\n", 4096)?;
+    let ran = run_with_report(&rt, rt.alloc(), "confirm - b", b"x\n", b"races 0\n", 4096)?;
     assert_eq!(rt; ran.err.as_slice(), b"spbags: line 1: header\n".as_slice());
     Ok(())
 }
 
 // What `confirm` leaves of a report from this source.
-fn confirm_from<Q: Source>(alloc: Global, report: &mut Q) -> Result<Ran, Fail> {
+fn confirm_from<T: Threads + Wait + Sync, Q: Source>(
+    rt: &T,
+    alloc: Global,
+    report: &mut Q,
+) -> Result<Ran, Fail> {
     let mut out = Vec::new(alloc);
     let mut err = Vec::new(alloc);
     let asked = asked_by(alloc, "confirm a b")?;
@@ -244,12 +255,22 @@ fn confirm_from<Q: Source>(alloc: Global, report: &mut Q) -> Result<Ran, Fail> {
         let mut trace = Counted::new(Slow::new(b"x\n", 1));
         let mut answers = Counted::new(&mut out);
         let mut faults = Counted::new(&mut err);
-        answer_any(alloc, &asked, &mut trace, report, &mut answers, &mut faults)
+        answer_any(
+            rt,
+            alloc,
+            &asked,
+            &mut trace,
+            report,
+            &mut answers,
+            &mut faults,
+        )
     };
     Ok(Ran { status, out, err })
 }
 
-fn asked_by(alloc: Global, line: &str) -> Result<Asked, Fail> {
+fn asked_by(alloc: Global, line: &str) -> Result<Asked, Fail>
+    ensures { IfOk result IsInRange }
+{
     let words = words_of(alloc, line)?;
     match read_words(alloc, words.as_slice()) {
         Ok(asked) => Ok(asked),
@@ -267,12 +288,16 @@ fn limits_the_bytes_of_a_report(rt: HostRuntime) -> Result<(), Fail> {
         (MOST_BYTES + 4096, "spbags: report too large\n"),
     ];
     for (size, want) in table {
-        let ran = confirm_from(rt.alloc(), &mut Counted::new(Large::new(size, true)))?;
+        let ran = confirm_from(&rt, rt.alloc(), &mut Counted::new(Large::new(size, true)))?;
         assert_eq!(rt; ran.status, 2, "{size}");
         assert!(rt; ran.out.is_empty(), "{size}");
         assert_eq!(rt; ran.err.as_slice(), want.as_bytes(), "{size}");
     }
-    let most = confirm_from(rt.alloc(), &mut Counted::new(Large::new(MOST_BYTES, false)))?;
+    let most = confirm_from(
+        &rt,
+        rt.alloc(),
+        &mut Counted::new(Large::new(MOST_BYTES, false)),
+    )?;
     assert_eq!(rt;
         most.err.as_slice(),
         b"spbags: report line 1: bad\n".as_slice()
@@ -286,7 +311,7 @@ fn tells_a_failed_report(rt: HostRuntime) -> Result<(), Fail> {
     for cut in 0..=report.len() {
         let (front, _) = report.split_at(cut);
         let mut source = Counted::new(Broken::new(front, ErrorKind::Other));
-        let ran = confirm_from(rt.alloc(), &mut source)?;
+        let ran = confirm_from(&rt, rt.alloc(), &mut source)?;
         assert_eq!(rt; ran.status, 2, "at {cut}");
         assert!(rt; ran.out.is_empty(), "at {cut}");
         assert_eq!(rt;
@@ -312,7 +337,7 @@ fn tells_a_full_output_of_each_question(rt: HostRuntime) -> Result<(), Fail> {
     for (line, answer) in table {
         for room in 0..=answer.len() {
             let (front, _) = answer.as_bytes().split_at(room);
-            let ran = answer_into(rt.alloc(), line, trace.as_slice(), room)?;
+            let ran = answer_into(&rt, rt.alloc(), line, trace.as_slice(), room)?;
             assert_eq!(rt; ran.status, 2, "{line}: room for {room}");
             assert_eq!(rt; ran.out.as_slice(), front, "{line}: room for {room}");
             assert_eq!(rt;
@@ -326,7 +351,13 @@ fn tells_a_full_output_of_each_question(rt: HostRuntime) -> Result<(), Fail> {
 }
 
 // What an answer leaves in a writer with so much room; `confirm` is asked of a race that isn't there.
-fn answer_into(alloc: Global, line: &str, trace: &[u8], room: usize) -> Result<Ran, Fail> {
+fn answer_into<T: Threads + Wait + Sync>(
+    rt: &T,
+    alloc: Global,
+    line: &str,
+    trace: &[u8],
+    room: usize,
+) -> Result<Ran, Fail> {
     let mut out = Vec::new(alloc);
     let mut err = Vec::new(alloc);
     let asked = asked_by(alloc, line)?;
@@ -336,6 +367,7 @@ fn answer_into(alloc: Global, line: &str, trace: &[u8], room: usize) -> Result<R
         let mut answers = Counted::new(Full::new(&mut out, room));
         let mut faults = Counted::new(&mut err);
         answer_any(
+            rt,
             alloc,
             &asked,
             &mut trace,

@@ -5,7 +5,9 @@ use crate::answers::refuse;
 use crate::words::{WordsFault, read_words};
 use std::alloc::{AllocError, Global};
 use std::io::ErrorKind;
+use std::sync::Wait;
 use std::test::Fail;
+use std::thread::Threads;
 use trace::Counted;
 
 // Traces by their records, and the lines of their reports after the head.
@@ -62,19 +64,43 @@ const ROWS: [(&str, &str); 17] = [
     ("sync, return", ""),
 ];
 
+// What `check` may be given beside its file; none of it changes an answer.
+const OPTIONS: [&str; 3] = ["", "--shards 1 --capacity 1", "--shards 3"];
+
 #[test]
 fn checks_rows(rt: HostRuntime) -> Result<(), Fail> {
     for (records, lines) in ROWS {
         let trace = trace_of(rt.alloc(), records)?;
         let count = lines.split('\n').count() - 1;
         let report = format!(in rt.alloc(); "races {count}\n{lines}")?;
-        for step in [1, 4096] {
-            let ran = run(rt.alloc(), "check -", trace.as_slice(), step)?;
-            assert_eq!(rt; ran.status, if count == 0 { 0 } else { 1 }, "{records}");
-            assert_eq!(rt; ran.out.as_slice(), report.as_bytes(), "{records}");
-            assert!(rt; ran.err.is_empty(), "{records}");
+        for (options, step) in [
+            (OPTIONS[0], 1),
+            (OPTIONS[0], 4096),
+            (OPTIONS[1], 1),
+            (OPTIONS[2], 4096),
+        ] {
+            let line = format!(in rt.alloc(); "check - {options}")?;
+            let ran = run(&rt, rt.alloc(), line.as_str(), trace.as_slice(), step)?;
+            assert_eq!(rt;
+                ran.status,
+                if count == 0 { 0 } else { 1 },
+                "{line}: {records}"
+            );
+            assert_eq!(rt; ran.out.as_slice(), report.as_bytes(), "{line}: {records}");
+            assert!(rt; ran.err.is_empty(), "{line}: {records}");
         }
     }
+    Ok(())
+}
+
+#[test]
+fn checks_with_the_most_shards(rt: HostRuntime) -> Result<(), Fail> {
+    let trace = trace_of(rt.alloc(), "spawn, write 5, return, sync, write 5, return")?;
+    let line = "check --shards 64 --capacity 1 -";
+    let ran = run(&rt, rt.alloc(), line, trace.as_slice(), 4096)?;
+    assert_eq!(rt; ran.status, 0);
+    assert_eq!(rt; ran.out.as_slice(), b"races 0\n".as_slice());
+    assert!(rt; ran.err.is_empty());
     Ok(())
 }
 
@@ -140,14 +166,20 @@ const FAULTS: [(&str, &str, &str); 26] = [
 fn names_faults(rt: HostRuntime) -> Result<(), Fail> {
     for (line, trace, message) in FAULTS {
         let want = format!(in rt.alloc(); "spbags: {message}\n")?;
-        for step in [1, 4096] {
-            let ran = run(rt.alloc(), line, trace.as_bytes(), step)?;
-            assert_eq!(rt; ran.status, 2, "{trace}");
-            assert!(rt; ran.out.is_empty(), "{trace}");
-            assert_eq!(rt; ran.err.as_slice(), want.as_bytes(), "{trace}");
+        for (options, step) in [
+            (OPTIONS[0], 1),
+            (OPTIONS[0], 4096),
+            (OPTIONS[1], 1),
+            (OPTIONS[2], 4096),
+        ] {
+            let line = format!(in rt.alloc(); "{line} {options}")?;
+            let ran = run(&rt, rt.alloc(), line.as_str(), trace.as_bytes(), step)?;
+            assert_eq!(rt; ran.status, 2, "{line}: {trace}");
+            assert!(rt; ran.out.is_empty(), "{line}: {trace}");
+            assert_eq!(rt; ran.err.as_slice(), want.as_bytes(), "{line}: {trace}");
         }
     }
-    let ran = run(rt.alloc(), "check -", b"trace 1\n\xff\n", 1)?;
+    let ran = run(&rt, rt.alloc(), "check -", b"trace 1\n\xff\n", 1)?;
     assert_eq!(rt;
         ran.err.as_slice(),
         b"spbags: line 2: bad line\n".as_slice()
@@ -155,11 +187,18 @@ fn names_faults(rt: HostRuntime) -> Result<(), Fail> {
     Ok(())
 }
 
+// Command lines that are given a thousand races.
+const FLOODED: [&str; 5] = [
+    "check -",
+    "check --shards 1 --capacity 1 -",
+    "check --shards 2 --capacity 1 -",
+    "check --shards 3 -",
+    "check --shards 64 --capacity 1 -",
+];
+
 #[test]
 fn tells_a_thousand_races(rt: HostRuntime) -> Result<(), Fail> {
     let text = flood(rt.alloc())?;
-    let ran = run(rt.alloc(), "check -", text.as_slice(), 4096)?;
-    assert_eq!(rt; ran.status, 1);
     let mut want = String::from_str(rt.alloc(), "races 1000\n")?;
     for race in 0..1000u64 {
         let line = format!(in rt.alloc();
@@ -170,17 +209,29 @@ fn tells_a_thousand_races(rt: HostRuntime) -> Result<(), Fail> {
         )?;
         want.push_str(line.as_str())?;
     }
-    assert!(rt; ran.out.as_slice() == want.as_bytes());
+    for line in FLOODED {
+        let ran = run(&rt, rt.alloc(), line, text.as_slice(), 4096)?;
+        assert_eq!(rt; ran.status, 1, "{line}");
+        assert!(rt; ran.out.as_slice() == want.as_bytes(), "{line}");
+        assert!(rt; ran.err.is_empty(), "{line}");
+    }
+    Ok(())
+}
 
-    // A fault at the end leaves nothing of them.
+#[test]
+fn tells_nothing_of_races_before_a_fault(rt: HostRuntime) -> Result<(), Fail> {
+    let text = flood(rt.alloc())?;
     let (text, _) = text.split_at(text.len() - b"return\n".len().min(text.len()));
-    let ran = run(rt.alloc(), "check -", text, 4096)?;
-    assert_eq!(rt; ran.status, 2);
-    assert!(rt; ran.out.is_empty());
-    assert_eq!(rt;
-        ran.err.as_slice(),
-        b"spbags: place 2003: unfinished\n".as_slice()
-    );
+    for line in FLOODED {
+        let ran = run(&rt, rt.alloc(), line, text, 4096)?;
+        assert_eq!(rt; ran.status, 2, "{line}");
+        assert!(rt; ran.out.is_empty(), "{line}");
+        assert_eq!(rt;
+            ran.err.as_slice(),
+            b"spbags: place 2003: unfinished\n".as_slice(),
+            "{line}"
+        );
+    }
     Ok(())
 }
 
@@ -201,10 +252,10 @@ fn nested(alloc: Global, depth: u32) -> Result<Vec<u8>, AllocError> {
 fn keeps_to_its_depth(rt: HostRuntime) -> Result<(), Fail> {
     for (line, depth) in [("check -", 65536), ("check --depth 0 -", 0)] {
         let text = nested(rt.alloc(), depth)?;
-        let ran = run(rt.alloc(), line, text.as_slice(), 4096)?;
+        let ran = run(&rt, rt.alloc(), line, text.as_slice(), 4096)?;
         assert_eq!(rt; ran.out.as_slice(), b"races 0\n".as_slice(), "{line}");
         let text = nested(rt.alloc(), depth + 1)?;
-        let ran = run(rt.alloc(), line, text.as_slice(), 4096)?;
+        let ran = run(&rt, rt.alloc(), line, text.as_slice(), 4096)?;
         let want = format!(in rt.alloc(); "spbags: place {}: too deep\n", depth + 1)?;
         assert_eq!(rt; ran.err.as_slice(), want.as_bytes(), "{line}");
     }
@@ -222,13 +273,13 @@ fn tells_a_failed_reader(rt: HostRuntime) -> Result<(), Fail> {
         ("", "spbags: cannot read\n"),
     ];
     for (trace, want) in table {
-        let err = read_from(rt.alloc(), trace.as_bytes(), ErrorKind::Other)?;
+        let err = read_from(&rt, rt.alloc(), trace.as_bytes(), ErrorKind::Other)?;
         assert_eq!(rt; err.as_slice(), want.as_bytes(), "{trace}");
     }
     for cut in 0..whole.len() {
         let (front, _) = whole.split_at(cut);
         for kind in [ErrorKind::Interrupted, ErrorKind::Other] {
-            let err = read_from(rt.alloc(), front, kind)?;
+            let err = read_from(&rt, rt.alloc(), front, kind)?;
             assert_eq!(rt;
                 err.as_slice(),
                 b"spbags: cannot read\n".as_slice(),
@@ -240,7 +291,12 @@ fn tells_a_failed_reader(rt: HostRuntime) -> Result<(), Fail> {
 }
 
 // What standard error gets where the reader fails after these bytes.
-fn read_from(alloc: Global, bytes: &[u8], kind: ErrorKind) -> Result<Vec<u8>, Fail> {
+fn read_from<T: Threads + Wait + Sync>(
+    rt: &T,
+    alloc: Global,
+    bytes: &[u8],
+    kind: ErrorKind,
+) -> Result<Vec<u8>, Fail> {
     let mut out = Vec::new(alloc);
     let mut err = Vec::new(alloc);
     let words = words_of(alloc, "check -")?;
@@ -253,6 +309,7 @@ fn read_from(alloc: Global, bytes: &[u8], kind: ErrorKind) -> Result<Vec<u8>, Fa
         let mut faults = Counted::new(&mut err);
         let mut report = Counted::new(Slow::new(b"", 1));
         if answer_any(
+            rt,
             alloc,
             &asked,
             &mut reader,
@@ -287,6 +344,7 @@ fn tells_a_full_output(rt: HostRuntime) -> Result<(), Fail> {
             let mut faults = Counted::new(&mut err);
             let mut report = Counted::new(Slow::new(b"", 1));
             answer_any(
+                &rt,
                 rt.alloc(),
                 &asked,
                 &mut reader,

@@ -27,6 +27,29 @@ fn reads_command_lines(rt: HostRuntime) -> Result<(), Fail> {
 }
 
 #[test]
+fn reads_shards_and_capacity(rt: HostRuntime) -> Result<(), Fail> {
+    let table = [
+        ("check -", 4, 1024, 65536),
+        ("check --shards 1 --capacity 1 -", 1, 1, 65536),
+        ("check --shards 64 --capacity 65536 -", 64, 65536, 65536),
+        ("check --capacity=7 --shards=3 -", 3, 7, 65536),
+        ("check - --shards 2", 2, 1024, 65536),
+        ("check - --capacity 9", 4, 9, 65536),
+        ("check --shards 5 --depth 6 --capacity 7 -", 5, 7, 6),
+    ];
+    for (line, shards, capacity, depth) in table {
+        let words = words_of(rt.alloc(), line)?;
+        let Ok(Asked::Check(check)) = read_words(rt.alloc(), words.as_slice()) else {
+            return Err(Fail::from(line));
+        };
+        assert_eq!(rt; check.shards, shards, "{line}");
+        assert_eq!(rt; check.capacity, capacity, "{line}");
+        assert_eq!(rt; check.depth, depth, "{line}");
+    }
+    Ok(())
+}
+
+#[test]
 fn reads_questions(rt: HostRuntime) -> Result<(), Fail> {
     let table = [
         ("pairs run.trace 5", 65536, "run.trace", 5),
@@ -104,6 +127,20 @@ fn refuses_command_lines(rt: HostRuntime) -> Result<(), Fail> {
         "check --depth 1 --depth 1 -",
         "check --depths 1 -",
         "check --shards 0 -",
+        "check --shards 65 -",
+        "check --shards 01 -",
+        "check --shards +1 -",
+        "check --shards 4294967297 -",
+        "check --shards 18446744073709551617 -",
+        "check --shards= -",
+        "check --shards",
+        "check --shards 1 --shards 1 -",
+        "check --capacity 0 -",
+        "check --capacity 65537 -",
+        "check --capacity 01 -",
+        "check --capacity x -",
+        "check --capacity 4294967297 -",
+        "check --capacity",
         "check -x -",
         "pairs",
         "pairs -",
@@ -113,21 +150,24 @@ fn refuses_command_lines(rt: HostRuntime) -> Result<(), Fail> {
         "pairs - +5",
         "pairs - 18446744073709551616",
         "pairs --depth 1000001 - 5",
+        "pairs --shards 1 - 5",
         "measure",
         "measure - 5",
         "measure --depth 007 -",
+        "measure --capacity 1 -",
         "confirm",
         "confirm -",
         "confirm - -",
         "confirm a b c",
         "confirm --depth 1000001 a b",
+        "confirm --shards 1 a b",
         "--depth 1 check -",
         "chec -",
         "help",
         "-",
     ];
     for line in table {
-        let ran = run(rt.alloc(), line, b"trace 1\nreturn\n", 1)?;
+        let ran = run(&rt, rt.alloc(), line, b"trace 1\nreturn\n", 1)?;
         assert_eq!(rt; ran.status, 2, "{line}");
         assert!(rt; ran.out.is_empty(), "{line}");
         assert_eq!(rt;
@@ -160,12 +200,12 @@ fn helps(rt: HostRuntime) -> Result<(), Fail> {
         "--version",
         "-V",
     ] {
-        let ran = run(rt.alloc(), line, b"", 1)?;
+        let ran = run(&rt, rt.alloc(), line, b"", 1)?;
         assert_eq!(rt; ran.status, 0, "{line}");
         assert!(rt; ran.err.is_empty(), "{line}");
         assert!(rt; !ran.out.is_empty(), "{line}");
     }
-    let version = run(rt.alloc(), "--version", b"", 1)?;
+    let version = run(&rt, rt.alloc(), "--version", b"", 1)?;
     assert_eq!(rt; version.out.as_slice(), b"spbags 0.1.0\n".as_slice());
     Ok(())
 }

@@ -1,0 +1,81 @@
+//! Blocks of cells: what is kept of eight locations that lie side by side.
+ghost use Rattle.std.specs.Prelude.{◌≡◌, ◌==◌, ◌<◌, ℕ, if◌then◌else◌};
+ghost use Rattle.shadow.specs.Blocks.{cell_at, page_of, seat_of};
+ghost use Rattle.shadow.specs.Cells.{untouched};
+
+use crate::cell::Kept;
+use std::marker::Model;
+
+/// How many cells a block has.
+const SEATS: u64 = 8;
+
+/// What is kept of eight locations.
+#[derive(Drop)]
+pub struct Block {
+    cells: [Kept; 8],
+}
+
+impl Model for Block {
+    ghost use Rattle.std.specs.Prelude.{List};
+    ghost use Rattle.shadow.specs.Cells.{Cell};
+
+    ghost Value = { List Cell };
+
+    ghost view = { λ b. b.cells };
+}
+
+impl Block {
+    /// Nothing is kept of any location.
+    pub fn untouched() -> Block
+        ensures { (seat : ℕ) → cell_at result seat ≡ untouched }
+    {
+        Block {
+            cells: [
+                Kept::untouched(),
+                Kept::untouched(),
+                Kept::untouched(),
+                Kept::untouched(),
+                Kept::untouched(),
+                Kept::untouched(),
+                Kept::untouched(),
+                Kept::untouched(),
+            ],
+        }
+    }
+
+    /// What is kept in this seat.
+    #[inline(always)]
+    pub fn cell(&self, seat: usize) -> &Kept
+        requires { seat < 8 }
+        ensures { result.now ≡ cell_at self.now seat }
+    {
+        &self.cells[seat]
+    }
+
+    /// Keeps this in the seat, and leaves the others.
+    #[inline(always)]
+    pub fn put(&mut self, seat: usize, kept: Kept)
+        requires { seat < 8 }
+        ensures { (k : ℕ) → cell_at self.new k ≡ (if k == seat then kept else cell_at self.old k) }
+    {
+        self.cells[seat] = kept;
+    }
+}
+
+/// The number of the block that has the location's cell. Locations of one block are eight apart, so blocks are
+/// filled by programs whose accesses are one, two, four or eight bytes apart.
+#[inline(always)]
+pub fn page_of(location: u64) -> u64
+    ensures { result ≡ page_of location }
+{
+    location / (8 * SEATS) * 8 + location % 8
+}
+
+/// The seat of the location's cell in its block.
+#[inline(always)]
+pub fn seat_of(location: u64) -> usize
+    ensures seat { result ≡ seat_of location }
+    ensures within { result < 8 }
+{
+    (location / 8 % SEATS) as usize
+}
