@@ -73,7 +73,7 @@ Fails (asked.Pairs p) records depths before after failed fails f = FailsBy recor
 Fails (asked.Measure m) records depths before after failed fails f = FailsBy records depths before after failed fails f
 Fails (asked.Confirm c) records depths before after failed fails f = FailsBy records depths before after failed fails f
 
--- what a good trace may go without an answer for: want of memory, and in `check` of a thread
+-- the faults for which a good trace may go without an answer: want of memory, and in `check` of a thread
 abbrev pub IsWant : Asked → Fault → Type 0
 IsWant (asked.Check c) f = (f ≡ NoMemory) ⊎ (f ≡ NoThread)
 IsWant (asked.Pairs p) f = f ≡ NoMemory

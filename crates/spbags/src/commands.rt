@@ -21,7 +21,7 @@ const CHECK_ABOUT: &str = "Tells one race of each location that has any.";
 
 const CHECK_NOTES: &str = "\
 The trace is read from FILE, or from standard input where FILE is `-`. Neither the number of shards nor the capacity
-changes the answer.
+changes the report.
 
 Examples:
   spbags check run.trace

@@ -64,8 +64,13 @@ const ROWS: [(&str, &str); 17] = [
     ("sync, return", ""),
 ];
 
-// What `check` may be given beside its file; none of it changes an answer.
-const OPTIONS: [&str; 3] = ["", "--shards 1 --capacity 1", "--shards 3"];
+// What `check` is given beside its file, and how many bytes its reader hands at a call; neither changes an answer.
+const WAYS: [(&str, usize); 4] = [
+    ("", 1),
+    ("", 4096),
+    ("--shards 1 --capacity 1", 1),
+    ("--shards 3", 4096),
+];
 
 #[test]
 fn checks_rows(rt: HostRuntime) -> Result<(), Fail> {
@@ -73,12 +78,7 @@ fn checks_rows(rt: HostRuntime) -> Result<(), Fail> {
         let trace = trace_of(rt.alloc(), records)?;
         let count = lines.split('\n').count() - 1;
         let report = format!(in rt.alloc(); "races {count}\n{lines}")?;
-        for (options, step) in [
-            (OPTIONS[0], 1),
-            (OPTIONS[0], 4096),
-            (OPTIONS[1], 1),
-            (OPTIONS[2], 4096),
-        ] {
+        for (options, step) in WAYS {
             let line = format!(in rt.alloc(); "check - {options}")?;
             let ran = run(&rt, rt.alloc(), line.as_str(), trace.as_slice(), step)?;
             assert_eq!(rt;
@@ -166,12 +166,7 @@ const FAULTS: [(&str, &str, &str); 26] = [
 fn names_faults(rt: HostRuntime) -> Result<(), Fail> {
     for (line, trace, message) in FAULTS {
         let want = format!(in rt.alloc(); "spbags: {message}\n")?;
-        for (options, step) in [
-            (OPTIONS[0], 1),
-            (OPTIONS[0], 4096),
-            (OPTIONS[1], 1),
-            (OPTIONS[2], 4096),
-        ] {
+        for (options, step) in WAYS {
             let line = format!(in rt.alloc(); "{line} {options}")?;
             let ran = run(&rt, rt.alloc(), line.as_str(), trace.as_bytes(), step)?;
             assert_eq!(rt; ran.status, 2, "{line}: {trace}");
