@@ -1,4 +1,9 @@
 //! Where a trace is read from.
+ghost use Rattle.std.specs.Prelude.{◌≡◌, ◌↔◌, None, OnOk, codes};
+ghost use Rattle.std.specs.Io.{ReadsAtMost};
+ghost use Rattle.std.specs.Io.KnownBytes.{ReadConsumes};
+ghost use Rattle.spbags.specs.Inputs.{IsStandard, IsMissing};
+
 use std::fs::File;
 use std::io;
 use std::io::{ErrorKind, Read, Stdin};
@@ -15,8 +20,10 @@ pub enum Input {
 }
 
 impl Input {
-    /// Opens what the name stands for. Nothing is read yet.
-    pub fn open(rt: &HostRuntime, name: &str) -> Input {
+    /// Opens what the name stands for: standard input where it is `-`. Nothing is read yet.
+    pub fn open(rt: &HostRuntime, name: &str) -> Input
+        ensures { IsStandard result ↔ (name.now ≡ codes "-") }
+    {
         if name == "-" {
             return Input::Standard(rt.stdin());
         }
@@ -28,7 +35,11 @@ impl Input {
 }
 
 impl Read for Input {
-    fn read(&mut self, buffer: &mut [u8]) -> io::Result<usize> {
+    fn read(&mut self, buffer: &mut [u8]) -> io::Result<usize>
+        ensures bound { ReadsAtMost result buffer.new }
+        ensures bytes { ReadConsumes None None result buffer.new }
+        ensures missing { IsMissing self.old → OnOk result ⊥ }
+    {
         match self {
             Input::File(file) => file.read(buffer),
             Input::Standard(stdin) => stdin.read(buffer),

@@ -143,13 +143,12 @@ fn return_of(piece: &[u8]) -> Option<Front>
     ensures line { IfSome result (λ f. take f.used piece.now ≡ line f.record) }
     ensures fits { IfSome result (λ f. Fits f.record) }
 {
-    if &piece[..7] == b"return\n".as_slice() {
-        Some(Front {
+    match piece {
+        [b'r', b'e', b't', b'u', b'r', b'n', b'\n', ..] => Some(Front {
             record: Record::Return,
             used: 7,
-        })
-    } else {
-        None
+        }),
+        _ => None,
     }
 }
 
@@ -160,17 +159,15 @@ fn structure_of(piece: &[u8]) -> Option<Front>
     ensures line { IfSome result (λ f. take f.used piece.now ≡ line f.record) }
     ensures fits { IfSome result (λ f. Fits f.record) }
 {
-    if &piece[..6] == b"spawn\n".as_slice() {
-        Some(Front {
+    match piece {
+        [b's', b'p', b'a', b'w', b'n', b'\n', ..] => Some(Front {
             record: Record::Spawn,
             used: 6,
-        })
-    } else if &piece[..5] == b"sync\n".as_slice() {
-        Some(Front {
+        }),
+        [b's', b'y', b'n', b'c', b'\n', ..] => Some(Front {
             record: Record::Sync,
             used: 5,
-        })
-    } else {
-        None
+        }),
+        _ => None,
     }
 }
