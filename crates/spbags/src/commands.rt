@@ -15,13 +15,19 @@ Examples:
 Exit status:
   0  no race, or the question was answered, or yes
   1  a race, or no
-  2  no answer; standard error says why";
+  2  no answer; standard error says why
+
+A trace is text: the line `trace 1`, then a line for each record, in the order of the run: `spawn`, `sync`, `return`,
+`read L` or `write L`, where L is a location, 0 to 18446744073709551615. The root procedure's `return` is the last.
+A file named `-` is standard input. Each command has its own help, as in `spbags check --help`.";
 
 const CHECK_ABOUT: &str = "Tells one race of each location that has any.";
 
 const CHECK_NOTES: &str = "\
 The trace is read from FILE, or from standard input where FILE is `-`. Neither the number of shards nor the capacity
-changes the report.
+changes the report. Its first line is the number of races; a line follows for each, as `race 5 write 2 write 6`: the
+location, and the kinds and places of two accesses. Place k stands on line k + 1 of the trace. Location l belongs to
+shard l mod N, where N is the number of shards.
 
 Examples:
   spbags check run.trace
@@ -36,7 +42,8 @@ const PAIRS_ABOUT: &str = "Tells all races of one location.";
 
 const PAIRS_NOTES: &str = "\
 The trace is read from FILE, or from standard input where FILE is `-`. The first line of the answer is the number of
-races; a line follows for each: the kinds and places of its two accesses, by the second place, then by the first.
+races; a line follows for each, as `pair write 2 write 6`: the kinds and places of its two accesses. The lines are
+sorted by the second place, then by the first. Place k stands on line k + 1 of the trace.
 
 Example:
   spbags pairs run.trace 5

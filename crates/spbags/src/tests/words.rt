@@ -210,6 +210,39 @@ fn helps(rt: HostRuntime) -> Result<(), Fail> {
     Ok(())
 }
 
+// Command lines that ask for help, and what it has to say.
+const HELPS: [(&str, &str); 17] = [
+    ("--help", "trace 1"),
+    ("--help", "`spawn`, `sync`, `return`"),
+    ("--help", "`read L` or `write L`"),
+    ("--help", "0 to 18446744073709551615"),
+    ("--help", "A file named `-` is standard input"),
+    ("--help", "spbags check --help"),
+    ("check --help", "1 to 64, 4 where"),
+    ("check --help", "1 to 65536, 1024 where"),
+    ("check --help", "0 to 1000000, 65536 where"),
+    ("check --help", "Place k stands on line k + 1"),
+    ("check --help", "shard l mod N"),
+    ("pairs --help", "0 to 1000000, 65536 where"),
+    ("pairs --help", "0 to 18446744073709551615"),
+    ("pairs --help", "Place k stands on line k + 1"),
+    ("measure --help", "0 to 1000000, 65536 where"),
+    ("confirm --help", "0 to 1000000, 65536 where"),
+    ("confirm --help", "67108864 bytes"),
+];
+
+#[test]
+fn helps_a_newcomer(rt: HostRuntime) -> Result<(), Fail> {
+    for (line, said) in HELPS {
+        let words = words_of(rt.alloc(), line)?;
+        let Err(WordsFault::Help(text)) = read_words(rt.alloc(), words.as_slice()) else {
+            return Err(Fail::from(line));
+        };
+        assert!(rt; text.as_str().split_once(said).is_some(), "{line}: {said}");
+    }
+    Ok(())
+}
+
 #[test]
 fn shows_its_faults(rt: HostRuntime) -> Result<(), Fail> {
     assert_eq!(rt;
