@@ -8,4 +8,5 @@ mod rows;
 mod sharded_rows;
 mod short_lists;
 mod thousand_races;
+mod thousand_runs;
 mod together;

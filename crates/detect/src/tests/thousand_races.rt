@@ -1,21 +1,18 @@
 //! A child and its parent write the same 1,000 locations: the same 1,000 races, in one thread and with shards.
 ghost use Rattle.std.specs.Prelude.{◌≤◌};
 
-use super::answers::{Pieces, run, run_from, text_of, text_plain};
-use shard::Open;
+use super::answers::{run, text_of, text_plain};
 use std::alloc::{AllocError, Global};
 use std::test::Fail;
 use trace::Limits;
 
-const LIMITS: Limits = Limits {
+pub const LIMITS: Limits = Limits {
     records: 2003,
     depth: 1,
 };
 
-/// How often the row is run with 64 shards.
-const RUNS: u32 = 1000;
-
-fn trace_text(alloc: Global) -> Result<Vec<u8>, AllocError> {
+/// The row's text.
+pub fn trace_text(alloc: Global) -> Result<Vec<u8>, AllocError> {
     let mut writes = Vec::new(alloc);
     for k in 0..1000u64 {
         let line = format!(in alloc; "write {}\n", 2 * k)?;
@@ -29,8 +26,8 @@ fn trace_text(alloc: Global) -> Result<Vec<u8>, AllocError> {
     Ok(text)
 }
 
-/// The child writes at places 2 to 1001, and its parent at places 1003 to 2002.
-fn report_text(alloc: Global) -> Result<Vec<u8>, AllocError> {
+/// The row's report: the child writes at places 2 to 1001, and its parent at places 1003 to 2002.
+pub fn report_text(alloc: Global) -> Result<Vec<u8>, AllocError> {
     let mut text = Vec::from_slice(alloc, b"races 1000\n")?;
     for k in 0..1000u64 {
         let line = format!(in alloc; "race {} write {} write {}\n", 2 * k, 2 + k, 1003 + k)?;
@@ -56,20 +53,5 @@ fn thousand_races_by_two(rt: HostRuntime) -> Result<(), Fail> {
     let run = run(&rt, rt.alloc(), 2, LIMITS, &trace)?;
     assert_eq!(rt; run.taken.as_slice(), [2003, 3].as_slice());
     assert_eq!(rt; text_of(rt.alloc(), &run.report)?, report_text(rt.alloc())?);
-    Ok(())
-}
-
-#[test]
-fn thousand_runs_by_64(rt: HostRuntime) -> Result<(), Fail> {
-    let trace = trace_text(rt.alloc())?;
-    let report = report_text(rt.alloc())?;
-    for count in 0..RUNS {
-        let mut pieces = Pieces {
-            bytes: &trace,
-            size: 4096,
-        };
-        let run = run_from(&rt, rt.alloc(), 64, LIMITS, &mut pieces, &Open)?;
-        assert_eq!(rt; text_of(rt.alloc(), &run.report)?, report, "run {count}");
-    }
     Ok(())
 }

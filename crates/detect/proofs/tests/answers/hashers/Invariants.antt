@@ -2,4 +2,4 @@ use Rattle.std.proofs.Common.{◌≡◌, vec_len}
 use Rattle.detect.proofs.tests.answers.hashers.Given as goal
 
 abbrev pub invariant-loop : goal.invariant-loop
-invariant-loop g l = vec_len l.hashers ≡ l.counter
+invariant-loop l = vec_len l.hashers ≡ l.counter
