@@ -1,5 +1,4 @@
 //! The worked rows with a thread a shard: the answers of one thread, and what each shard took.
-ghost use Rattle.std.specs.Prelude.{◌≤◌};
 
 use super::answers::{run, text_of, text_plain};
 use super::faulty_rows::FAULTY;

@@ -1,5 +1,4 @@
 //! A child and its parent write the same 1,000 locations: the same 1,000 races, in one thread and with shards.
-ghost use Rattle.std.specs.Prelude.{◌≤◌};
 
 use super::answers::{run, text_of, text_plain};
 use std::alloc::{AllocError, Global};

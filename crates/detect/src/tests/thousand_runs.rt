@@ -1,7 +1,6 @@
 //! A run with 64 shards over the thousand races, 1,000 times: each ends, and reports the same.
 //!
 //! The runs are shared out among four tests, since a test's time is limited.
-ghost use Rattle.std.specs.Prelude.{◌≤◌};
 
 use super::answers::{Pieces, run_from, text_of};
 use super::thousand_races::{LIMITS, report_text, trace_text};

@@ -1,5 +1,5 @@
 //! The workers run beside each other, and beside the reading. A body on one thread fails here.
-ghost use Rattle.std.specs.Prelude.{◌≤◌, None};
+ghost use Rattle.std.specs.Prelude.{None};
 
 use super::answers::{Pieces, run_from, text_of};
 use super::reported_rows::{LIMITS, WRITE_WRITE};
