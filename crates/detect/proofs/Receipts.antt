@@ -1,5 +1,5 @@
 -- One lane's receipt compared.
-use Rattle.std.proofs.Common.{◌≡◌, ℕ, ◌<◌, true, List, [], length, map, set, get_or, refl, sym, ap, ◌∙◌, arith}
+use Rattle.std.proofs.Common.{◌≡◌, ℕ, ◌<◌, true, List, [], length, map, set, get_or, sym, ap, ◌∙◌, arith}
 use Rattle.std.proofs.lemmas.List.{length-map, length-set, get_or-map}
 use Rattle.std.proofs.Math.Seq.{map-set_same}
 use Rattle.lane.specs.declared.item.Item.{Item}
@@ -29,12 +29,6 @@ settled_at taken taken' puts puts' k t t' e e' same_taken same_puts at_t at_e is
     now ∙ whole (ap has_mark (sym now) ∙ marked) ∙ is_e ∙ sym at_e ∙ ap (λ l. get_or l k []) same_puts
 
 module _ {S H : Type 0} where
-  pub same_refl : (ws : List (Worked S H)) → IsSameWork ws ws
-  same_refl ws = record { count = refl; taken = refl; told = refl; counts = refl; to_shards = refl; from_shards = refl }
-
-  pub same_trans : (a b c : List (Worked S H)) → IsSameWork a b → IsSameWork b c → IsSameWork a c
-  same_trans a b c h k = record { count = k.count ∙ h.count; taken = k.taken ∙ h.taken; told = k.told ∙ h.told; counts = k.counts ∙ h.counts; to_shards = k.to_shards ∙ h.to_shards; from_shards = k.from_shards ∙ h.from_shards }
-
   -- one worker's ends were compared
   pub same_set : (all now : List (Worked S H)) (k : ℕ) (w v : Worked S H) → w ≡ get_or now k w → taken_of v.taker ≡ taken_of w.taker → taker_lane v.taker ≡ taker_lane w.taker → all_put v.back ≡ all_put w.back → end_lane v.back ≡ end_lane w.back → v.shard ≡ w.shard
       → IsSameWork all now → IsSameWork all (set now k v)

@@ -1,15 +1,19 @@
-//! Every list of at most 7 records over one location: what is detected is what the definitions tell.
+//! Every list of at most 7 records over one location: what is detected, and what a shard answers at each place, is
+//! what the definitions tell.
 
+use super::answers::Hasher;
 use super::by_definition::{
     MOST, Told, first_fault, is_well_nested, paths, race_ending_at, second_place,
 };
 use crate::detect_plain;
 use collect::Report;
+use shard::Shard;
 use std::alloc::Global;
-use std::hash::{BuildHasherDefault, FoldHasher};
 use std::process::Abort;
 use std::test::Fail;
-use trace::{Counted, Fault, Limits, NestKind, Record, WriteFault, write_header, write_record};
+use trace::{
+    Counted, Fault, Limits, NestKind, Placed, Race, Record, WriteFault, write_header, write_record,
+};
 
 const LETTERS: [Record; 5] = [
     Record::Spawn,
@@ -90,19 +94,42 @@ fn detected(alloc: Global, text: &[u8], depth: u32) -> Result<Report, Fault> {
         records: 1 << 48,
         depth,
     };
-    let hasher = BuildHasherDefault::<FoldHasher>::default();
-    detect_plain(alloc, limits, &mut Counted::new(text), hasher)
+    detect_plain(alloc, limits, &mut Counted::new(text), Hasher::default())
 }
 
 /// The race of a report that has one at most.
 fn only_race(rt: &impl Abort, report: &Report) -> Option<Told> {
     assert!(rt; report.races().len() <= 1);
-    let race = report.races().first()?;
-    Some(Told {
+    report.races().first().map(|race| told(*race))
+}
+
+fn told(race: Race) -> Told {
+    Told {
         location: race.location,
         first: race.first,
         second: race.second,
-    })
+    }
+}
+
+/// A shard answers the race at its second place, and none elsewhere.
+fn check_shard(
+    rt: &impl Abort,
+    alloc: Global,
+    records: &[Record],
+    wanted: Option<Told>,
+) -> Result<(), Fail> {
+    let mut shard = Shard::new(alloc, 0, Hasher::default())?;
+    for (index, what) in records.iter().enumerate() {
+        let place = index as u64 + 1;
+        let what = *what;
+        if !shard.accepts(place) {
+            return Err("not accepted".into());
+        }
+        let answer = shard.apply(Placed { place, what })?.map(told);
+        let wanted_here = wanted.filter(|race| race.second.place == place);
+        assert_eq!(rt; answer, wanted_here, "place {place} of {records:?}");
+    }
+    Ok(())
 }
 
 /// Detects every list, each after another in the same text.
@@ -125,6 +152,9 @@ fn check_lists(rt: &impl Abort, alloc: Global, depth: u32) -> Result<Tally, Fail
                 Err(fault) => Err(fault),
             };
             assert_eq!(rt; found, wanted, "{records:?} within depth {depth}");
+            if let Ok(race) = wanted {
+                check_shard(rt, alloc, records, race)?;
+            }
             tally.count(&wanted);
         }
     }

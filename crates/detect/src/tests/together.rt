@@ -1,0 +1,147 @@
+//! The workers run beside each other, and beside the reading. A body on one thread fails here.
+ghost use Rattle.std.specs.Prelude.{None};
+
+use super::answers::{Pieces, run_from, text_of};
+use super::reported_rows::{LIMITS, WRITE_WRITE};
+use shard::Gate;
+use std::alloc::{AllocError, Global};
+use std::sync::atomic::{AtomicBool, Ordering};
+use std::test::Fail;
+use std::thread;
+use trace::{Failed, Source};
+
+/// How many turns a gate or a reader waits: a load of a flag, and a yield where it isn't set.
+const TURNS: u32 = 1_000_000;
+
+const REPORT: &[u8] = b"races 1\nrace 5 write 2 write 4\n";
+
+/// A gate at which all shards meet: the first pass of each sets its flag, and waits for the others' flags.
+#[derive(Drop)]
+struct Meeting {
+    came: Vec<AtomicBool>,
+    missed: AtomicBool,
+}
+
+impl Meeting {
+    fn of(alloc: Global, shards: u32) -> Result<Meeting, AllocError> {
+        let mut came = Vec::new(alloc);
+        for _ in 0..shards {
+            came.push(AtomicBool::new(false))?;
+        }
+        Ok(Meeting {
+            came,
+            missed: AtomicBool::new(false),
+        })
+    }
+
+    /// After the last turn the run goes on, so that it ends.
+    fn wait_for_all(&self) {
+        let mut known = 0;
+        for _ in 0..TURNS {
+            match self.came.get(known) {
+                None => return,
+                Some(flag) if flag.load(Ordering::SeqCst) => known += 1,
+                Some(_) => thread::yield_now(),
+            }
+        }
+        self.missed.store(true, Ordering::SeqCst);
+    }
+}
+
+impl Gate for Meeting {
+    fn pass(&self, shard: u32, _place: u64) {
+        match self.came.get(shard as usize) {
+            Some(flag) if !flag.swap(true, Ordering::SeqCst) => self.wait_for_all(),
+            _ => {}
+        }
+    }
+}
+
+#[test]
+fn two_shards_meet(rt: HostRuntime) -> Result<(), Fail> {
+    for shards in [2u32, 8] {
+        assert!(rt; 1 <= shards && shards <= 64);
+        let gate = Meeting::of(rt.alloc(), shards)?;
+        let mut pieces = Pieces {
+            bytes: WRITE_WRITE,
+            size: 1,
+        };
+        let run = run_from(&rt, rt.alloc(), shards, LIMITS, &mut pieces, &gate)?;
+        assert!(rt; !gate.missed.load(Ordering::SeqCst), "{shards} shards");
+        assert_eq!(rt; text_of(rt.alloc(), &run.report)?.as_slice(), REPORT);
+    }
+    Ok(())
+}
+
+/// A gate that notes that a shard has passed.
+#[derive(Drop)]
+struct Noting {
+    passed: AtomicBool,
+}
+
+impl Gate for Noting {
+    fn pass(&self, _shard: u32, _place: u64) {
+        self.passed.store(true, Ordering::SeqCst);
+    }
+}
+
+/// A reader that gives its second piece only after a shard has passed a record, which is one of the first.
+#[derive(Drop)]
+struct Following<'a> {
+    first: Pieces<'a>,
+    second: Pieces<'a>,
+    passed: &'a AtomicBool,
+    missed: bool,
+}
+
+impl<'a> Following<'a> {
+    /// After the last turn the run goes on, so that it ends.
+    fn wait_for_shard(&mut self) {
+        for _ in 0..TURNS {
+            if self.missed || self.passed.load(Ordering::SeqCst) {
+                return;
+            }
+            thread::yield_now();
+        }
+        self.missed = true;
+    }
+}
+
+impl<'a> Source for Following<'a> {
+    ghost rest = { λ _. None };
+
+    ghost failures = { λ s. 0 };
+
+    fn get(&mut self, buffer: &mut [u8]) -> Result<usize, Failed> {
+        if !self.first.bytes.is_empty() {
+            return self.first.get(buffer);
+        }
+        self.wait_for_shard();
+        self.second.get(buffer)
+    }
+}
+
+#[test]
+fn reader_follows_shard(rt: HostRuntime) -> Result<(), Fail> {
+    let gate = Noting {
+        passed: AtomicBool::new(false),
+    };
+    let (first, second) = WRITE_WRITE.split_at(14);
+    assert_eq!(rt; first, b"trace 1\nspawn\n".as_slice());
+    let mut reader = Following {
+        first: Pieces {
+            bytes: first,
+            size: 4096,
+        },
+        second: Pieces {
+            bytes: second,
+            size: 4096,
+        },
+        passed: &gate.passed,
+        missed: false,
+    };
+    let run = run_from(&rt, rt.alloc(), 2, LIMITS, &mut reader, &gate)?;
+    assert!(rt; !reader.missed);
+    assert_eq!(rt; text_of(rt.alloc(), &run.report)?.as_slice(), REPORT);
+    Ok(())
+}
