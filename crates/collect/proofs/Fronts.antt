@@ -36,14 +36,6 @@ front_is_number s bs i n more low small h here before e =
 
 -- ---- no access
 
-pub no_kind : (s : ℕ) (bs : List ℕ) → ((k : Kind) (more : List ℕ) → bs ≡ word k ++ space ∷ more → ⊥) → (a : Access) (more : List ℕ) → bs ≡ told a ++ s ∷ more → ⊥
-no_kind s bs h a more e = h a.kind (decimal a.place ++ s ∷ more) (e ∙ told-before s a more)
-
-pub no_place : (s : ℕ) (bs : List ℕ) (k : Kind) (rest : List ℕ) → bs ≡ word k ++ space ∷ rest → ((n : ℕ) (more : List ℕ) → n < 2 ^ 64 → rest ≡ decimal n ++ s ∷ more → ⊥)
-    → (a : Access) (more : List ℕ) → a.place < 2 ^ 64 → bs ≡ told a ++ s ∷ more → ⊥
-no_place s bs k rest found h a more small e =
-    h a.place more small (same_kind k a.kind rest (decimal a.place ++ s ∷ more) (sym found ∙ e ∙ told-before s a more)).1
-
 -- ---- no race
 
 -- the line of a race stands in front

@@ -13,10 +13,6 @@ use Rattle.trace.specs.Text.{newline, header, spell, Fits, AllFit, ended, line, 
 pub text-push : (w : List Record) (r : Record) → text (w ++ r ∷ []) ≡ text w ++ line r
 text-push w r = ap (λ x. ended header ++ x) (flat_map-append line w (r ∷ []) ∙ ap (λ x. flat_map line w ++ x) (append-nil (line r))) ∙ sym (append_assoc (ended header) (flat_map line w) (line r))
 
-pub AllFit-push : (w : List Record) (r : Record) → AllFit w → Fits r → AllFit (w ++ r ∷ [])
-AllFit-push [] r all fits = (fits, tt)
-AllFit-push (x ∷ w) r all fits = (all.0, AllFit-push w r all.1 fits)
-
 -- no line has more than 26 bytes
 pub length-spell : (r : Record) → Fits r → length (spell r) ≤ 26
 length-spell Spawn fits = omega arith
