@@ -4,12 +4,12 @@ use Rattle.std.proofs.lemmas.Bool.{cases_Bool, both_ways, or_cases}
 use Rattle.std.specs.FinSet as set
 use Rattle.trace.specs.declared.records.Record.{Record}
 use Rattle.trace.specs.declared.records.Record.TheVariants.{Spawn, Return, Sync, Read, Write}
-use Rattle.trace.specs.Traces.{at, placed, placed_from, depth, IsPlace, IsWellNested}
+use Rattle.trace.specs.Traces.{placed, placed_from, depth, IsPlace, IsWellNested}
 use Rattle.trace.specs.Dag.{JoinsAt, Leads, IsParallel}
 use Rattle.trace.specs.Races.{IsAccessPlace}
 use Rattle.trace.proofs.World.{World, Shape, Step, joins}
 use Rattle.trace.proofs.Lists.{element_at}
-use Rattle.trace.proofs.Traced.{traced, shape_of, shape_at, step_at, shape-joins, not_joined}
+use Rattle.trace.proofs.Traced.{traced, shape_of, shape_at, step_at, not_joined}
 use Rattle.trace.proofs.Paths.{pending-parallel, parallel-pending, access-place, access-not_joins, IsPlace-at, leads_or_parallel}
 use Rattle.bags.specs.Procedures.{Active, Procedures, event, bags_from, bags_after, in_p, current, procedure_at}
 use Rattle.bags.specs.Paths.{TellsPaths, IsCompletedAt}

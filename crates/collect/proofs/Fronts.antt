@@ -2,13 +2,12 @@
 use Rattle.std.proofs.Common.{◌≡◌, ℕ, suc, ◌<◌, ◌^◌, Bool, true, false, List, [], ◌∷◌, ◌++◌, length, get_or, take, drop, decimal, arith, refl, sym, ap, ◌∙◌, subst, take-append-drop, drop-cons}
 use Rattle.std.specs.Prelude.{codes, Option, Some, None, IfSome, IfNone, MatchOption, IsTrue}
 use Rattle.std.proofs.lemmas.List.{length-append, length-take, get_or-take}
-use Rattle.trace.specs.declared.records.Kind.{Kind}
 use Rattle.trace.specs.declared.records.Access.{Access}
 use Rattle.trace.specs.Accesses.{RaceAt, IsRaceShape}
 use Rattle.trace.specs.Text.{newline}
 use Rattle.collect.specs.Reports.{IsEntry}
-use Rattle.collect.specs.ReportText.{space, word, told, race_line}
-use Rattle.collect.proofs.Unique.{HasNo, same_parts, HasNo-decimal, same_number, same_kind, same_told, told-before, race_line-parts, after_race, after_location, after_first}
+use Rattle.collect.specs.ReportText.{space, told, race_line}
+use Rattle.collect.proofs.Unique.{HasNo, same_parts, HasNo-decimal, same_number, same_told, race_line-parts, after_race, after_location, after_first}
 
 get_or-middle : (xs : List ℕ) (s : ℕ) (more : List ℕ) → get_or (xs ++ s ∷ more) (length xs) 0 ≡ s
 get_or-middle [] s more = refl

@@ -3,14 +3,13 @@ use Rattle.std.proofs.Common.{◌≡◌, ℕ, suc, Bool, true, false, eqb, ltb, 
 use Rattle.std.specs.List.{AllByRecursion, slice_get}
 use Rattle.std.specs.Option.{option_map_or}
 use Rattle.std.proofs.lemmas.Bool.{eqb-true, ltb-true, ltb-false}
-use Rattle.std.proofs.lemmas.Grind.{flat_map-append}
 use Rattle.std.proofs.lemmas.List.{length-append}
 use Rattle.trace.specs.Accesses.{RaceAt}
 use Rattle.trace.proofs.Lists.{all-push, all-front}
 use Rattle.collect.specs.Reports.{IsEntry, IsReportList, may_follow}
 use Rattle.collect.specs.ReportText.{head, race_line, race_lines, rtext}
 use Rattle.collect.specs.ReportFaults.{IsFirstBadLine, no_head, no_race, no_end, OneList}
-use Rattle.collect.proofs.Ascending.{Above, Ascends, Ascends-from_increasing, increasing_from_ascends}
+use Rattle.collect.proofs.Ascending.{Ascends, Ascends-from_increasing, increasing_from_ascends}
 use Rattle.collect.proofs.Unique.{same_line, same_head, goes_on}
 
 -- each location of the list is below l

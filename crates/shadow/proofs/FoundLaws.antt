@@ -1,23 +1,20 @@
 -- Laws of the rules over lists of placed records, whatever trace they come from: appending, one location at a
 -- time, and the order of the races that are told.
-use Rattle.std.proofs.Common.{◌≡◌, ◌≢◌, ℕ, zero, suc, ◌+◌, ◌<◌, ◌≤◌, ◌^◌, Bool, true, false, ◌||◌, is_some, ◌==◌, if◌then◌else◌, List, [], ◌∷◌, ◌++◌, map, take, length, slice_get, Option, Some, None, option_to_list, AllPairs, ⊎_elim, refl, sym, ap, ap₂, subst, ◌∙◌, arith, append-nil, append_assoc}
+use Rattle.std.proofs.Common.{◌≡◌, ◌≢◌, ℕ, zero, suc, ◌+◌, ◌<◌, Bool, true, false, ◌||◌, is_some, ◌==◌, List, [], ◌∷◌, ◌++◌, map, take, length, slice_get, Option, Some, None, option_to_list, refl, sym, ap, subst, ◌∙◌, arith, append-nil, append_assoc}
 use Rattle.std.specs.List.{AllByRecursion}
-use Rattle.std.specs.Option.{option_or}
 use Rattle.std.specs.List.Sorted.{IsStrictlyIncreasing}
-use Rattle.std.proofs.lemmas.Bool.{cond-true, cond-false, cond_both, eq-eqb, ne_eqb, eqb-true, or_left, cases_eq}
-use Rattle.std.proofs.lemmas.Option.{same_Some, cond_some}
-use Rattle.std.proofs.lemmas.List.Elements.{All-from_recursion}
-use Rattle.std.proofs.lemmas.List.Kept.{AllPairs-cons}
+use Rattle.std.proofs.lemmas.Bool.{cond-true, cond-false, cond_both, eq-eqb, ne_eqb, eqb-true, or_left}
+use Rattle.std.proofs.lemmas.Option.{same_Some}
 use Rattle.trace.specs.declared.records.Record.{Record}
 use Rattle.trace.specs.declared.records.Record.TheVariants as records
 use Rattle.trace.specs.declared.records.Kind.{Kind}
 use Rattle.trace.specs.declared.records.Kind.TheVariants.{Read, Write}
 use Rattle.trace.specs.declared.records.Placed.{Placed}
 use Rattle.trace.specs.declared.records.Access.{Access}
-use Rattle.trace.specs.Traces.{placed, placed_from}
-use Rattle.trace.specs.Accesses.{RaceAt, IsRaceShape, writes}
-use Rattle.bags.specs.Procedures.{Active, in_p, Procedures, event, bags_from, bags_after}
-use Rattle.shadow.specs.Cells.{Cell, Named, is_parallel, parallel_access, name_of, touched, race_at, race_with, rival}
+use Rattle.trace.specs.Traces.{placed_from}
+use Rattle.trace.specs.Accesses.{RaceAt}
+use Rattle.bags.specs.Procedures.{Active, Procedures, event, bags_from, bags_after}
+use Rattle.shadow.specs.Cells.{Cell, touched, race_at, race_with}
 use Rattle.trace.proofs.Once.{Rises, AllAbove, AllAbove-lower, increasing-from_rises}
 use Rattle.shadow.specs.Found.{State, start, after_access, after_record, race_of, state_from, state_after, found_from, found}
 

@@ -1,5 +1,5 @@
 -- One more record: the state after it, and the races found up to it.
-use Rattle.std.proofs.Common.{◌≡◌, ℕ, ◌≤◌, List, [], ◌∷◌, ◌++◌, Option, None, refl, sym, ap, subst, ◌∙◌, append_assoc, append-nil, Result, Ok, Err, OnOk, IfOk, length, arith}
+use Rattle.std.proofs.Common.{◌≡◌, ℕ, ◌≤◌, List, [], ◌∷◌, ◌++◌, Option, None, refl, sym, ap, subst, ◌∙◌, Result, Ok, Err, OnOk, IfOk, length, arith}
 use Rattle.std.specs.Option.{option_to_list}
 use Rattle.trace.specs.declared.records.Record.{Record}
 use Rattle.trace.specs.declared.records.Record.TheVariants as records
@@ -9,7 +9,7 @@ use Rattle.trace.specs.declared.records.Kind.TheVariants.{Read, Write}
 use Rattle.trace.specs.Accesses.{RaceAt}
 use Rattle.bags.specs.Procedures.{Procedures, Active, event, after_return}
 use Rattle.shadow.specs.Cells.{touched, race_at}
-use Rattle.shadow.specs.Found.{State, start, with_cell, after_access, after_record, race_of, state_from, state_after, found_from, found}
+use Rattle.shadow.specs.Found.{State, with_cell, after_access, after_record, race_of, state_after, found}
 use Rattle.shadow.specs.Memory.{Memory, kept_of, HaveSeen}
 use Rattle.shadow.proofs.FoundLaws.{state_after-push, found-push}
 

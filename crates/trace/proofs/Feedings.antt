@@ -9,7 +9,7 @@ use Rattle.trace.specs.declared.faults.NestKind.{NestKind}
 use Rattle.trace.specs.declared.faults.NestKind.TheVariants.{Unfinished}
 use Rattle.trace.specs.declared.faults.Fault.{Fault}
 use Rattle.trace.specs.declared.faults.Fault.TheVariants.{Text, Nest}
-use Rattle.trace.specs.Text.{Fits, AllFit, line, text}
+use Rattle.trace.specs.Text.{Fits, line, text}
 use Rattle.trace.specs.Faults.{HasEnded, IsMisplaced, AreNested, IsBadLine, IsBadPlace, bad_place, IsTruncated, IsFirstFault, IsFaultOfAll, truncated, unfinished}
 use Rattle.trace.specs.Faults as faults
 use Rattle.trace.specs.Reading.{Reading, AreBytes, HasRead}
