@@ -11,15 +11,6 @@ slice_get-push [] x (suc k) f e = absurd (cc)
 slice_get-push (y ∷ xs) x zero f e = inl e
 slice_get-push (y ∷ xs) x (suc k) f e = elim (slice_get-push xs x k f e) [ inl q ↦ inl q | inr q ↦ inr (ap suc q.0, q.1) ]
 
-pub slice_get-front : {A : Type 0} (xs ys : List A) (k : ℕ) (f : A) → slice_get xs k ≡ Some f → slice_get (xs ++ ys) k ≡ Some f
-slice_get-front [] ys k f e = absurd (cc)
-slice_get-front (x ∷ xs) ys zero f e = e
-slice_get-front (x ∷ xs) ys (suc k) f e = slice_get-front xs ys k f e
-
-pub slice_get-last : {A : Type 0} (xs : List A) (x : A) → slice_get (xs ++ x ∷ []) (length xs) ≡ Some x
-slice_get-last [] x = refl
-slice_get-last (y ∷ xs) x = slice_get-last xs x
-
 -- the record that comes after u, in a trace that begins with both
 pub place_there : (w u rest : List Record) (r : Record) → w ≡ (u ++ r ∷ []) ++ rest → suc (length u) ≤ length w
 place_there w u rest r is = omega (arith, ap length is, length-append (u ++ r ∷ []) rest, length-append u (r ∷ []))
@@ -27,16 +18,6 @@ place_there w u rest r is = omega (arith, ap length is, length-append (u ++ r �
 pub record_there : (w u rest : List Record) (r : Record) → w ≡ (u ++ r ∷ []) ++ rest → at w (suc (length u)) ≡ Some r
 record_there w u rest r is =
     ap (λ (z : List Record). at z (suc (length u))) is ∙ at-front (u ++ r ∷ []) rest (suc (length u)) (omega (arith, length-append u (r ∷ []))) ∙ at-seam u r
-
-pub element_at : {A : Type 0} (xs : List A) (k : ℕ) → k < length xs → (x : A) × (slice_get xs k ≡ Some x)
-element_at [] k l = absurd (omega arith)
-element_at (x ∷ xs) zero l = (x, refl)
-element_at (x ∷ xs) (suc k) l = element_at xs k (omega arith)
-
--- what a push that succeeded leaves
-pub pushed : {A : Type 0} (b : Bool) (xs ys zs : List A) → xs ≡ cond b ys zs → true ≡ b → xs ≡ ys
-pushed true xs ys zs e f = e
-pushed false xs ys zs e f = absurd (cc)
 
 -- what a test of numbers tells
 

@@ -15,7 +15,8 @@ use Rattle.audit.specs.declared.measuring.Measuring.{Measuring}
 use Rattle.audit.specs.Measures.{is_spawn, IsMeasure, IsSpan, IsGreatestDepth}
 use Rattle.audit.specs.Watching.{ComesAfter}
 use Rattle.audit.specs.LongestPaths.{PathTo, IsLongestTo, LastOn, LeadsOn, at_start, own, opened, IsLongestUnjoined, AreActive, IsSpanTo, IsDepthTo, HasMeasuredTo, IsWithin, HasMeasured, through, Advances}
-use Rattle.audit.proofs.ListLemmas.{slice_get-push, slice_get-front, slice_get-last, place_there, record_there}
+use Rattle.trace.proofs.Lists.{slice_get-front, slice_get-last}
+use Rattle.audit.proofs.ListLemmas.{slice_get-push, place_there, record_there}
 use Rattle.audit.proofs.PathLemmas.{path_to, path_list, path_place, longest_on, longest_joined, last_kept, last_here, unjoined_kept, unjoined_synced, unjoined_opened, unjoined_returned}
 
 -- the active procedures, where the next place is at depth d

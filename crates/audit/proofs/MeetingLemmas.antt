@@ -18,7 +18,8 @@ use Rattle.audit.specs.declared.meetings.Active.{Active}
 use Rattle.audit.specs.declared.meetings.Meetings.{Meetings}
 use Rattle.audit.specs.Watching.{ComesAfter}
 use Rattle.audit.specs.Meetings.{IsActive, AreActive, HasMet, TellsParallel, Moves}
-use Rattle.audit.proofs.ListLemmas.{slice_get-push, slice_get-front, slice_get-last, place_there, record_there, element_at, below-true, not-below}
+use Rattle.trace.proofs.Lists.{slice_get-front, slice_get-last, element_at}
+use Rattle.audit.proofs.ListLemmas.{slice_get-push, place_there, record_there, below-true, not-below}
 
 -- the active procedure at a depth
 data ActiveAt (e : Active) (xs : List Active) (k : ℕ) (f : Active) : Type 0 where

@@ -17,7 +17,7 @@ use Rattle.trace.specs.Dag.{IsParallel}
 use Rattle.trace.specs.Races.{access, IsAccess, IsWrite, IsAccessPlace, IsRace}
 use Rattle.trace.proofs.Paths.{access-place}
 use Rattle.trace.proofs.Readers.{IsAccessPlace-at, read_or_write}
-use Rattle.trace.proofs.Once.{kind_once}
+use Rattle.trace.proofs.Once.{kind_once, same_access}
 use Rattle.audit.specs.declared.meetings.Meetings.{Meetings}
 use Rattle.audit.specs.declared.pairing.Kept.{Kept}
 use Rattle.audit.specs.declared.pairing.Pairing.{Pairing}
@@ -25,7 +25,8 @@ use Rattle.audit.specs.Watching.{ComesAfter}
 use Rattle.audit.specs.Meetings.{HasMet, TellsParallel, Moves}
 use Rattle.audit.specs.Pairs.{IsPair, IsBefore, ArePairs}
 use Rattle.audit.specs.Pairing.{IsKept, IsAmong, AreKept, ArePairsTo, ArePairsWith, AddsPairs, HasPaired}
-use Rattle.audit.proofs.ListLemmas.{slice_get-push, slice_get-front, slice_get-last, place_there, record_there}
+use Rattle.trace.proofs.Lists.{slice_get-front, slice_get-last}
+use Rattle.audit.proofs.ListLemmas.{slice_get-push, place_there, record_there}
 use Rattle.audit.proofs.MeetingLemmas.{met_next}
 
 -- kinds of accesses
@@ -49,9 +50,6 @@ pub race_writes : (w : List Record) (l i j : ℕ) (k q : Kind) → IsAccess w l 
 race_writes w l i j k q a b r = writes_one w l i j k q a b r.one_writes
 
 -- equal accesses
-
-access_same : (a b : Access) → a.kind ≡ b.kind → a.place ≡ b.place → a ≡ b
-access_same a b e f = λ i. record { kind = e i; place = f i }
 
 pair_same : (p : Access × Access) (a b : Access) → a ≡ p.0 → b ≡ p.1 → (a, b) ≡ p
 pair_same p a b e f = λ i. (e i, f i)
@@ -89,8 +87,8 @@ module _ (w : List Record) (l t n : ℕ) (ks : List Kept) (b : Access) (a : Kept
   -- a race of place t + 1 whose first place is that of a
   the_pair : (p : Access × Access) → IsPair w l p → p.1.place ≡ suc t → a.access.place ≡ p.0.place → (a.access, b) ≡ p
   the_pair p r e f = pair_same p a.access b
-      (access_same a.access p.0 (kind_once w l p.0.place a.access.kind p.0.kind (subst (λ (z : ℕ). IsAccess w l z a.access.kind) f first.access) r.first_kind) f)
-      (access_same b p.1 (kind_once w l p.1.place b.kind p.1.kind (subst (λ (z : ℕ). IsAccess w l z b.kind) (is ∙ sym e) second) r.second_kind) (is ∙ sym e))
+      (same_access a.access p.0 (kind_once w l p.0.place a.access.kind p.0.kind (subst (λ (z : ℕ). IsAccess w l z a.access.kind) f first.access) r.first_kind) f)
+      (same_access b p.1 (kind_once w l p.1.place b.kind p.1.kind (subst (λ (z : ℕ). IsAccess w l z b.kind) (is ∙ sym e) second) r.second_kind) (is ∙ sym e))
 
   pub pair_added : (ps : List (Access × Access)) → IsRace w l a.access.place b.place → ArePairsWith w l t n ks ps → ArePairsWith w l t (n + 1) ks (ps ++ (a.access, b) ∷ [])
   pair_added ps r h = record {
@@ -132,14 +130,6 @@ module _ (w : List Record) (l t n : ℕ) (ks : List Kept) (b : Access) (a : Kept
         | inl y ↦ (h.exactly p).1 (q, inr (z, y))
         | inr y ↦ absurd (never (subst (λ (v : ℕ). IsRace w l a.access.place v) (z ∙ sym is) (subst (λ (v : ℕ). IsRace w l v p.1.place) (sym y) q.race)))
       ]
-
--- no access was compared yet
-pub adds_none : (m : Meetings) (ks : List Kept) (b : Access) (ps : List (Access × Access)) → AddsPairs m ks b 0 ps ps
-adds_none m ks b ps l u met is w rest begins n d h keeps second to = record { ascending = to.ascending; exactly = λ p. ((λ c. let q = (to.exactly p).0 c in (q.0, inl q.1)), (λ q. back p q.0 q.1)) }
-  where
-    back : (p : Access × Access) → IsPair w l p → (p.1.place ≤ length u) ⊎ ((p.1.place ≡ suc (length u)) × IsAmong 0 ks p.0.place) → Contains ps p
-    back p q (inl z) = (to.exactly p).1 (q, z)
-    back p q (inr (z, (k, c, f, s, e))) = absurd (omega arith)
 
 module _ (m : Meetings) (ks : List Kept) (b : Access) (n : ℕ) (a : Kept) (there : slice_get ks n ≡ Some a) (old ps : List (Access × Access)) where
   -- it races with the access

@@ -4,12 +4,13 @@ use Rattle.std.proofs.lemmas.Bool.{cases_Bool, both_ways, or_cases}
 use Rattle.std.specs.FinSet as set
 use Rattle.trace.specs.declared.records.Record.{Record}
 use Rattle.trace.specs.declared.records.Record.TheVariants.{Spawn, Return, Sync, Read, Write}
-use Rattle.trace.specs.Traces.{at, placed, placed_from, depth, IsPlace, IsWellNested}
+use Rattle.trace.specs.Traces.{placed, placed_from, depth, IsPlace, IsWellNested}
 use Rattle.trace.specs.Dag.{JoinsAt, Leads, IsParallel}
 use Rattle.trace.specs.Races.{IsAccessPlace}
 use Rattle.trace.proofs.World.{World, Shape, Step, joins}
-use Rattle.trace.proofs.Traced.{traced, shape_of, shape_at, has_record, step_at, shape-joins}
-use Rattle.trace.proofs.Paths.{pending-parallel, parallel-pending, access-place, access-not_joins, some-place, leads_or_parallel}
+use Rattle.trace.proofs.Lists.{element_at}
+use Rattle.trace.proofs.Traced.{traced, shape_of, shape_at, step_at, not_joined}
+use Rattle.trace.proofs.Paths.{pending-parallel, parallel-pending, access-place, access-not_joins, IsPlace-at, leads_or_parallel}
 use Rattle.bags.specs.Procedures.{Active, Procedures, event, bags_from, bags_after, in_p, current, procedure_at}
 use Rattle.bags.specs.Paths.{TellsPaths, IsCompletedAt}
 use Rattle.trace.proofs.Standing.{Kept, Serial, kept-pending, serial-not_pending}
@@ -52,7 +53,7 @@ one_record w h t r b e i =
 -- the invariant after every beginning of a trace
 pub holds : (w : List Record) {n d : ℕ} (h : IsWellNested w n d) (t : ℕ) → suc t ≤ length w → Holds w h t (bags_after (take t (placed w)))
 holds w h zero b = at_start (traced w h) (procedure_at w) refl refl
-holds w h (suc t) b = let r = has_record w t (omega arith) in one_record w h t r.0 b r.1 (holds w h t (omega arith))
+holds w h (suc t) b = let r = element_at w t (omega arith) in one_record w h t r.0 b r.1 (holds w h t (omega arith))
 
 -- what a look-up says
 
@@ -77,9 +78,6 @@ somewhere-serial v proc m t count (f ∷ fs) i a b (one_more s r) h n = elim (or
   ]
   | inr q ↦ somewhere-serial v proc m t count fs i a b r q (or_false (set.contains f.parallel (proc i)) (in_p fs (proc i)) n).1
 ]
-
-not_joined : (w : List Record) (i : ℕ) → (JoinsAt w i → ⊥) → joins (shape_at w i) ≡ false
-not_joined w i n = elim (cases_Bool (joins (shape_at w i))) [ inl q ↦ absurd (n (shape-joins (at w i) q)) | inr q ↦ q ]
 
 -- at a place that doesn't wait for children
 pub in_p-parallel_at : (w : List Record) {n d : ℕ} → IsWellNested w n d → (i t : ℕ) → IsPlace w i → i ≤ t → IsPlace w (suc t) → (JoinsAt w (suc t) → ⊥)
@@ -115,7 +113,7 @@ tells : (w : List Record) (n d t r p : ℕ) → IsWellNested w n d → IsPlace w
 tells w n d t r p h b j c l = (λ q. forth q, λ q. back q)
   where
     a : IsPlace w r
-    a = some-place w r Return c.a_return
+    a = IsPlace-at w r Return c.a_return
 
     both : (in_p (bags_after (take t (placed w))).active (procedure_at w r) ≡ true) ↔ IsParallel w r (suc t)
     both = in_p-parallel_at w h r t a l b j

@@ -28,9 +28,6 @@ contains-run from to q up =
 side_by_side : (a b c q : ℕ) → a ≤ b → b ≤ c → ((leb a q && ltb q b) || (leb b q && ltb q c)) ≡ (leb a q && ltb q c)
 side_by_side a b c q ab bc = grind (arith, nat_tests)
 
-nothing : (a q : ℕ) → (leb a q && ltb q a) ≡ false
-nothing a q = grind (arith, nat_tests)
-
 pub union-run : (a b c : ℕ) → a ≤ b → b ≤ c → bag.union (run a b) (run b c) ≡ run a c
 union-run a b c ab bc =
     bag.same_set nat_cmp_total bag.nat_cmp-IsAntisymmetric _ _ (λ q.

@@ -6,7 +6,7 @@ use Rattle.std.specs.List.{list_any}
 use Rattle.std.specs.Cmp.{nat_cmp_total}
 use Rattle.std.specs.Ordering.{nat_cmp}
 use Rattle.std.specs.FinSet as set
-use Rattle.trace.proofs.World.{World, spawned_return, joins}
+use Rattle.trace.proofs.World.{World, spawned_return, joins, all_more}
 use Rattle.bags.specs.Procedures.{Bag, Active, opened, synced, takes_in, after_sync, after_return, current}
 use Rattle.trace.proofs.Standing.{Kept, Serial, kept_stays, serial_stays, kept-above, kept_synced, returned, serial_now, own-serial, own-kept}
 
@@ -128,12 +128,6 @@ more_of_new_all v proc t old count (f ∷ fs) n (one_more s r) l =
 
 -- a record more, which leaves a level alone
 
-home_more : (f : ℕ → ℕ) (d y t : ℕ) → ((k : ℕ) → y ≤ k → k ≤ t → d ≤ f k) → d ≤ f (suc t) → (k : ℕ) → y ≤ k → k ≤ suc t → d ≤ f k
-home_more f d y t h l k x z = elim (cases_eq k (suc t)) [
-  | inl e ↦ (let g : f k ≡ f (suc t) = ap f e in omega arith)
-  | inr n ↦ h k x (omega arith)
-]
-
 stays : (v : World) (proc : ℕ → ℕ) (m t count d : ℕ) (f : Active) → d ≤ v.depth (suc (suc t)) → (v.depth (suc t) ≡ d → joins (v.shape (suc t)) ≡ true → ⊥)
     → Stands v proc m t count d f → Stands v proc m (suc t) count d f
 stays v proc m t count d f l n s = record {
@@ -146,7 +140,7 @@ stays v proc m t count d f l n s = record {
   home_upto = omega (arith, s.home_upto);
   home_own = s.home_own;
   home_level = s.home_level;
-  home_above = home_more v.depth d s.home (suc t) s.home_above l;
+  home_above = all_more v.depth d s.home (suc t) s.home_above l;
 }
 
 stay : (v : World) (proc : ℕ → ℕ) (m t count : ℕ) (fs : List Active) → length fs ≤ suc (v.depth (suc (suc t))) → (joins (v.shape (suc t)) ≡ true → length fs ≤ v.depth (suc t))
@@ -173,7 +167,7 @@ syncs v proc m t count d f b j e l s = record {
   home_upto = omega (arith, s.home_upto);
   home_own = s.home_own;
   home_level = s.home_level;
-  home_above = home_more v.depth d s.home (suc t) s.home_above l;
+  home_above = all_more v.depth d s.home (suc t) s.home_above l;
 }
 
 -- a return
@@ -199,7 +193,7 @@ closes v proc t count d f g b e a l u s = record {
   home_upto = omega (arith, s.home_upto);
   home_own = s.home_own;
   home_level = s.home_level;
-  home_above = home_more v.depth d s.home (suc t) s.home_above (omega arith);
+  home_above = all_more v.depth d s.home (suc t) s.home_above (omega arith);
 }
 
 -- no procedure is lost
@@ -238,7 +232,7 @@ pub finish : (v : World) (proc : ℕ → ℕ) (t count y : ℕ) (f : Active) (fs
 finish v proc t count y f fs b x l o e h d n s a = record {
   deep = omega arith;
   each = more_of_known_all v proc (suc t) count y (f ∷ fs) b x (omega arith) (n ∙ sym o) (omega arith)
-      (home_more v.depth (v.depth y) y (suc t) (λ k p q. omega (arith, h k p q)) (omega arith)) s;
+      (all_more v.depth (v.depth y) y (suc t) (λ k p q. omega (arith, h k p q)) (omega arith)) s;
   stand = λ i p q. elim (cases_eq i (suc (suc t))) [
     | inl z ↦ ap (λ (j : ℕ). somewhere (f ∷ fs) j) (ap proc z ∙ (n ∙ sym o)) ∙ a y x l
     | inr z ↦ a i p (omega arith)

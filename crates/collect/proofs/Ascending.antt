@@ -1,5 +1,5 @@
 -- Lists of races that ascend by location, by recursion.
-use Rattle.std.proofs.Common.{◌≡◌, ℕ, ◌<◌, List, [], ◌∷◌, sym}
+use Rattle.std.proofs.Common.{◌≡◌, ℕ, ◌<◌, List, [], ◌∷◌, sym, arith}
 use Rattle.std.specs.Cmp.{nat_cmp_is, ranked}
 use Rattle.std.specs.List.{AllByRecursion}
 use Rattle.std.specs.List.Sorted.{IsStrictlyIncreasing, IsStrictlySortedBy}
@@ -12,6 +12,10 @@ use Rattle.collect.specs.Reports.{locations}
 -- each location of the list is above l
 abbrev pub Above : ℕ → List RaceAt → Type 0
 Above l rs = AllByRecursion (λ r. l < r.location) rs
+
+pub Above-trans : (l m : ℕ) (rs : List RaceAt) → l < m → Above m rs → Above l rs
+Above-trans l m [] h a = tt
+Above-trans l m (r ∷ rs) h a = (omega (arith, a.0), Above-trans l m rs h a.1)
 
 abbrev pub Ascends : List RaceAt → Type 0
 Ascends [] = Unit {0}

@@ -2,13 +2,12 @@
 use Rattle.std.proofs.Common.{◌≡◌, ℕ, suc, ◌<◌, ◌^◌, Bool, true, false, List, [], ◌∷◌, ◌++◌, length, get_or, take, drop, decimal, arith, refl, sym, ap, ◌∙◌, subst, take-append-drop, drop-cons}
 use Rattle.std.specs.Prelude.{codes, Option, Some, None, IfSome, IfNone, MatchOption, IsTrue}
 use Rattle.std.proofs.lemmas.List.{length-append, length-take, get_or-take}
-use Rattle.trace.specs.declared.records.Kind.{Kind}
 use Rattle.trace.specs.declared.records.Access.{Access}
 use Rattle.trace.specs.Accesses.{RaceAt, IsRaceShape}
 use Rattle.trace.specs.Text.{newline}
 use Rattle.collect.specs.Reports.{IsEntry}
-use Rattle.collect.specs.ReportText.{space, word, told, race_line}
-use Rattle.collect.proofs.Unique.{HasNo, same_parts, HasNo-decimal, same_number, same_kind, same_told, told-before, race_line-parts, after_race, after_location, after_first}
+use Rattle.collect.specs.ReportText.{space, told, race_line}
+use Rattle.collect.proofs.Unique.{HasNo, same_parts, HasNo-decimal, same_number, same_told, race_line-parts, after_race, after_location, after_first}
 
 get_or-middle : (xs : List ℕ) (s : ℕ) (more : List ℕ) → get_or (xs ++ s ∷ more) (length xs) 0 ≡ s
 get_or-middle [] s more = refl
@@ -35,14 +34,6 @@ front_is_number s bs i n more low small h here before e =
     (same_parts s (take i bs) (decimal n) (drop (suc i) bs) more none (HasNo-decimal s n low small) (sym (cut_at s bs i h here) ∙ e)).0
 
 -- ---- no access
-
-pub no_kind : (s : ℕ) (bs : List ℕ) → ((k : Kind) (more : List ℕ) → bs ≡ word k ++ space ∷ more → ⊥) → (a : Access) (more : List ℕ) → bs ≡ told a ++ s ∷ more → ⊥
-no_kind s bs h a more e = h a.kind (decimal a.place ++ s ∷ more) (e ∙ told-before s a more)
-
-pub no_place : (s : ℕ) (bs : List ℕ) (k : Kind) (rest : List ℕ) → bs ≡ word k ++ space ∷ rest → ((n : ℕ) (more : List ℕ) → n < 2 ^ 64 → rest ≡ decimal n ++ s ∷ more → ⊥)
-    → (a : Access) (more : List ℕ) → a.place < 2 ^ 64 → bs ≡ told a ++ s ∷ more → ⊥
-no_place s bs k rest found h a more small e =
-    h a.place more small (same_kind k a.kind rest (decimal a.place ++ s ∷ more) (sym found ∙ e ∙ told-before s a more)).1
 
 -- ---- no race
 

@@ -13,7 +13,7 @@ use Rattle.trace.specs.Accesses.{RaceAt}
 use Rattle.collect.specs.Collected.{race_on}
 use Rattle.collect.specs.Keyed.{keyed, IsKeyed}
 use Rattle.collect.specs.Reports.{IsEntry, IsReportList}
-use Rattle.collect.proofs.Ascending.{Above, Ascends, Ascends-from_increasing, increasing_from_ascends}
+use Rattle.collect.proofs.Ascending.{Above, Above-trans, Ascends, Ascends-from_increasing, increasing_from_ascends}
 
 -- by the order of two locations: before the first race, in its place, or further on
 abbrev pub placed_at : Ordering → RaceAt → RaceAt → List RaceAt → List RaceAt → List RaceAt
@@ -52,10 +52,6 @@ lookup-keyed l [] = refl
 lookup-keyed l (r ∷ rs) = cond_same (is_at (nat_cmp l) r.location) (eqb r.location l) _ _ _ (same_test l r.location) (lookup-keyed l rs)
 
 -- ---- a put keeps the order
-
-Above-trans : (l m : ℕ) (rs : List RaceAt) → l < m → Above m rs → Above l rs
-Above-trans l m [] h a = tt
-Above-trans l m (r ∷ rs) h a = (omega (arith, a.0), Above-trans l m rs h a.1)
 
 Above-at : (l : ℕ) (r s : RaceAt) (rs more : List RaceAt) (o : Ordering) → l < r.location → Above l (s ∷ rs) → Above l more → Above l (placed_at o r s rs more)
 Above-at l r s rs more Less h a b = (h, a)

@@ -3,30 +3,22 @@ use Rattle.std.proofs.Common.{◌≡◌, ℕ, suc, Bool, true, false, eqb, ltb, 
 use Rattle.std.specs.List.{AllByRecursion, slice_get}
 use Rattle.std.specs.Option.{option_map_or}
 use Rattle.std.proofs.lemmas.Bool.{eqb-true, ltb-true, ltb-false}
-use Rattle.std.proofs.lemmas.Grind.{flat_map-append}
 use Rattle.std.proofs.lemmas.List.{length-append}
 use Rattle.trace.specs.Accesses.{RaceAt}
+use Rattle.trace.proofs.Lists.{all-push, all-front}
 use Rattle.collect.specs.Reports.{IsEntry, IsReportList, may_follow}
 use Rattle.collect.specs.ReportText.{head, race_line, race_lines, rtext}
 use Rattle.collect.specs.ReportFaults.{IsFirstBadLine, no_head, no_race, no_end, OneList}
-use Rattle.collect.proofs.Ascending.{Above, Ascends, Ascends-from_increasing, increasing_from_ascends}
+use Rattle.collect.proofs.Ascending.{Ascends, Ascends-from_increasing, increasing_from_ascends}
 use Rattle.collect.proofs.Unique.{same_line, same_head, goes_on}
 
 -- each location of the list is below l
 abbrev pub Below : ℕ → List RaceAt → Type 0
 Below l rs = AllByRecursion (λ r. r.location < l) rs
 
-Above-push : (l : ℕ) (rs : List RaceAt) (r : RaceAt) → Above l rs → l < r.location → Above l (rs ++ r ∷ [])
-Above-push l [] r a h = (h, tt)
-Above-push l (s ∷ rs) r a h = (a.0, Above-push l rs r a.1 h)
-
 Ascends-push : (rs : List RaceAt) (r : RaceAt) → Ascends rs → Below r.location rs → Ascends (rs ++ r ∷ [])
 Ascends-push [] r a b = (tt, tt)
-Ascends-push (s ∷ rs) r a b = (Above-push s.location rs r a.0 b.0, Ascends-push rs r a.1 b.1)
-
-All-push : (P : RaceAt → Type 0) (rs : List RaceAt) (r : RaceAt) → AllByRecursion P rs → P r → AllByRecursion P (rs ++ r ∷ [])
-All-push P [] r a p = (p, tt)
-All-push P (s ∷ rs) r a p = (a.0, All-push P rs r a.1 p)
+Ascends-push (s ∷ rs) r a b = (all-push (λ q. s.location < q.location) rs r a.0 b.0, Ascends-push rs r a.1 b.1)
 
 -- ---- the last race
 
@@ -66,7 +58,7 @@ last_none (r ∷ s ∷ rs) e = let empty : s ∷ rs ≡ [] = last_none (s ∷ rs
 pub IsReportList-push : (rs : List RaceAt) (r : RaceAt) → IsReportList rs → IsEntry r → Below r.location rs → IsReportList (rs ++ r ∷ [])
 IsReportList-push rs r h p b = record {
   ascending = increasing_from_ascends (rs ++ r ∷ []) (Ascends-push rs r (Ascends-from_increasing rs h.ascending) b);
-  entries = All-push IsEntry rs r h.entries p;
+  entries = all-push IsEntry rs r h.entries p;
 }
 
 -- whether the last race, if there is one, is below l
@@ -98,15 +90,6 @@ breaks_order rs bs found rest is p b r more h line =
 
 -- ---- lines
 
-pub race_lines-push : (rs : List RaceAt) (r : RaceAt) → race_lines (rs ++ r ∷ []) ≡ race_lines rs ++ race_line r
-race_lines-push rs r = flat_map-append race_line rs (r ∷ []) ∙ ap (λ l. race_lines rs ++ l) (append-nil (race_line r))
-
--- the bytes read so far with one line more
-pub read_more : (bs front rest after : List ℕ) (rs : List RaceAt) (r : RaceAt) → bs ≡ front ++ (race_lines rs ++ rest) → rest ≡ race_line r ++ after → bs ≡ front ++ (race_lines (rs ++ r ∷ []) ++ after)
-read_more bs front rest after rs r e line =
-    e ∙ ap (λ l. front ++ (race_lines rs ++ l)) line ∙ ap (λ l. front ++ l) (sym (append_assoc (race_lines rs) (race_line r) after))
-    ∙ ap (λ l. front ++ (l ++ after)) (sym (race_lines-push rs r))
-
 length-race_lines : (rs : List RaceAt) → length rs ≤ length (race_lines rs)
 length-race_lines [] = omega arith
 length-race_lines (r ∷ rs) = omega (arith, length-race_lines rs, length-append (race_line r) (race_lines rs))
@@ -128,18 +111,14 @@ one_list rs ss h k few some e =
     let none : on.more ≡ [] = nothing_more rs on.more (ap length (sym on.list) ∙ sym lengths) in
     sym (append-nil rs) ∙ ap (λ l. rs ++ l) (sym none) ∙ sym on.list
 
-All-front : (P : RaceAt → Type 0) (xs ys : List RaceAt) → AllByRecursion P (xs ++ ys) → AllByRecursion P xs
-All-front P [] ys h = tt
-All-front P (x ∷ xs) ys h = (h.0, All-front P xs ys h.1)
-
 Ascends-front : (rs more : List RaceAt) → Ascends (rs ++ more) → Ascends rs
 Ascends-front [] more a = tt
-Ascends-front (r ∷ rs) more a = (All-front (λ s. r.location < s.location) rs more a.0, Ascends-front rs more a.1)
+Ascends-front (r ∷ rs) more a = (all-front (λ s. r.location < s.location) rs more a.0, Ascends-front rs more a.1)
 
 pub IsReportList-front : (rs more : List RaceAt) → IsReportList (rs ++ more) → IsReportList rs
 IsReportList-front rs more h = record {
   ascending = increasing_from_ascends rs (Ascends-front rs more (Ascends-from_increasing (rs ++ more) h.ascending));
-  entries = All-front IsEntry rs more h.entries;
+  entries = all-front IsEntry rs more h.entries;
 }
 
 -- the next line is there

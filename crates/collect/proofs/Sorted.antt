@@ -7,7 +7,7 @@ use Rattle.std.proofs.lemmas.Bool.Decides.{nat_tests}
 use Rattle.shard.specs.declared.Back.{Back}
 use Rattle.trace.specs.Accesses.{RaceAt}
 use Rattle.collect.specs.Collected.{races_of, race_on, better, kept_after, best, IsCollected}
-use Rattle.collect.proofs.Ascending.{Above, Ascends, Ascends-from_increasing}
+use Rattle.collect.proofs.Ascending.{Above, Above-trans, Ascends, Ascends-from_increasing}
 use Rattle.collect.proofs.Kept.{cond_swap}
 
 -- ---- the race on a location
@@ -101,10 +101,6 @@ pub best-apart : (l : ℕ) (rs : List RaceAt) → AreApart rs → best l rs ≡ 
 best-apart l [] h = refl
 best-apart l (r ∷ rs) h = best-at l r rs (eqb r.location l) refl h.0 (best-apart l rs h.1)
 
-AreApart-ascends : (rs : List RaceAt) → Ascends rs → AreApart rs
-AreApart-ascends [] h = tt
-AreApart-ascends (r ∷ rs) h = (NoneOn-above r.location rs h.0, AreApart-ascends rs h.1)
-
 -- ---- a sort by insertion, given by its equations
 
 module _ (put_in : RaceAt → List RaceAt → List RaceAt) (by_location : List RaceAt → List RaceAt)
@@ -119,10 +115,6 @@ module _ (put_in : RaceAt → List RaceAt → List RaceAt) (by_location : List R
   Above-put_in : (l : ℕ) (r : RaceAt) (rs : List RaceAt) → l < r.location → Above l rs → Above l (put_in r rs)
   Above-put_in l r [] p a = subst (Above l) (sym (put_in-nil r)) (p, tt)
   Above-put_in l r (s ∷ rs) p a = subst (Above l) (sym (put_in-cons r s rs)) (Above-put_at l r s rs (put_in r rs) (ltb r.location s.location) p a (Above-put_in l r rs p a.1))
-
-  Above-trans : (l m : ℕ) (rs : List RaceAt) → l < m → Above m rs → Above l rs
-  Above-trans l m [] h a = tt
-  Above-trans l m (r ∷ rs) h a = (let above = a.0 in omega arith, Above-trans l m rs h a.1)
 
   Ascends-put_at : (r s : RaceAt) (rs : List RaceAt) (b : Bool) → ltb r.location s.location ≡ b → NoneOn r.location (s ∷ rs) → Ascends (s ∷ rs) → Ascends (put_in r rs) → Ascends (cond b (r ∷ s ∷ rs) (s ∷ put_in r rs))
   Ascends-put_at r s rs true e n a m = let lt = ltb-true r.location s.location e in ((lt, Above-trans r.location s.location rs lt a.0), a)

@@ -5,12 +5,14 @@ use Rattle.std.specs.Int.{IsInRange}
 use Rattle.std.specs.List.{AllByRecursion}
 use Rattle.std.specs.Str.Parse.{AllDigits, digits_value}
 use Rattle.std.proofs.lemmas.Fmt.{digits_decimal, digits_value-decimal}
-use Rattle.std.proofs.lemmas.Str.Parse.{IsNumeralModel, numerals_by_value, tells_digits, digit_from_value}
+use Rattle.std.proofs.lemmas.Str.Parse.{digit_from_value}
 use Rattle.trace.specs.declared.records.Kind.{Kind}
 use Rattle.trace.specs.declared.records.Kind.TheVariants.{Read, Write}
 use Rattle.trace.specs.declared.records.Access.{Access}
 use Rattle.trace.specs.Accesses.{RaceAt}
 use Rattle.trace.specs.Text.{newline}
+use Rattle.trace.proofs.Decimals.{decimal_numerals}
+use Rattle.trace.proofs.Once.{same_access, same_race}
 use Rattle.collect.specs.Reports.{IsEntry}
 use Rattle.collect.specs.ReportText.{space, word, told, head, race_line, race_lines}
 
@@ -31,18 +33,15 @@ same_parts s (x ∷ xs) (y ∷ ys) a b h k e =
     let front : xs ≡ ys = both.0 in
     (cc, both.1)
 
-own : IsNumeralModel (AllDigits 10) (digits_value 10)
-own = numerals_by_value _ tells_digits
-
 HasNo-digits : (s : ℕ) (ds : List ℕ) → s < 48 → AllDigits 10 ds → HasNo s ds
 HasNo-digits s [] h all = tt
 HasNo-digits s (d ∷ ds) h all = let range : IsInRange 48 57 d = digit_from_value d all.0 in ((λ e. omega (arith, range.0, e)), HasNo-digits s ds h all.1)
 
 pub HasNo-decimal : (s n : ℕ) → s < 48 → n < 2 ^ 64 → HasNo s (decimal n)
-HasNo-decimal s n h small = HasNo-digits s (decimal n) h (digits_decimal own n small)
+HasNo-decimal s n h small = HasNo-digits s (decimal n) h (digits_decimal decimal_numerals n small)
 
 same_decimal : (m n : ℕ) → m < 2 ^ 64 → n < 2 ^ 64 → decimal m ≡ decimal n → m ≡ n
-same_decimal m n p q e = sym (digits_value-decimal own m p) ∙ ap (digits_value 10) e ∙ digits_value-decimal own n q
+same_decimal m n p q e = sym (digits_value-decimal decimal_numerals m p) ∙ ap (digits_value 10) e ∙ digits_value-decimal decimal_numerals n q
 
 pub same_number : (s m n : ℕ) (a b : List ℕ) → s < 48 → m < 2 ^ 64 → n < 2 ^ 64 → decimal m ++ s ∷ a ≡ decimal n ++ s ∷ b → (m ≡ n) × (a ≡ b)
 same_number s m n a b h p q e =
@@ -67,12 +66,6 @@ same_kind Read Write a b e = absurd (omega (arith, same_first 114 119 _ _ e))
 same_kind Write Read a b e = absurd (omega (arith, same_first 119 114 _ _ e))
 same_kind Write Write a b e = (refl, cc)
 
-same_access : (a b : Access) → a.kind ≡ b.kind → a.place ≡ b.place → a ≡ b
-same_access a b kind place =
-    let of_kind : Kind → Access = λ k. record { kind = k; place = a.place } in
-    let of_place : ℕ → Access = λ p. record { kind = b.kind; place = p } in
-    ap of_kind kind ∙ ap of_place place
-
 pub same_told : (s : ℕ) (a b : Access) (x y : List ℕ) → s < 48 → a.place < 2 ^ 64 → b.place < 2 ^ 64 → told a ++ s ∷ x ≡ told b ++ s ∷ y → (a ≡ b) × (x ≡ y)
 same_told s a b x y h p q e =
     let kinds = same_kind a.kind b.kind (decimal a.place ++ s ∷ x) (decimal b.place ++ s ∷ y) (sym (told-before s a x) ∙ e ∙ told-before s b y) in
@@ -96,13 +89,6 @@ five a b c d e = simp append_assoc
 
 pub race_line-parts : (r : RaceAt) (rest : List ℕ) → race_line r ++ rest ≡ codes "race " ++ after_race r rest
 race_line-parts r rest = ap (λ l. codes "race " ++ l) (five (decimal r.location) (space ∷ told r.first) (space ∷ told r.second) (newline ∷ []) rest)
-
-same_race : (r s : RaceAt) → r.location ≡ s.location → r.first ≡ s.first → r.second ≡ s.second → r ≡ s
-same_race r s location first second =
-    let of_location : ℕ → RaceAt = λ l. record { location = l; first = r.first; second = r.second } in
-    let of_first : Access → RaceAt = λ a. record { location = s.location; first = a; second = r.second } in
-    let of_second : Access → RaceAt = λ a. record { location = s.location; first = s.first; second = a } in
-    ap of_location location ∙ ap of_first first ∙ ap of_second second
 
 pub same_line : (r s : RaceAt) (x y : List ℕ) → IsEntry r → IsEntry s → race_line r ++ x ≡ race_line s ++ y → (r ≡ s) × (x ≡ y)
 same_line r s x y h k e =

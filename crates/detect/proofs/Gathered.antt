@@ -11,6 +11,7 @@ use Rattle.lane.specs.declared.item.Item.TheVariants.{One, Finish}
 use Rattle.lane.specs.Items.{records}
 use Rattle.lane.proofs.Marks.{records-one, records-finish}
 use Rattle.trace.specs.Accesses.{RaceAt}
+use Rattle.trace.proofs.Lists.{all-front, all-last}
 use Rattle.collect.specs.Collected.{Kept, Holds, races_of, fails, kept_after, best}
 use Rattle.collect.proofs.Best.{races_of-append, fails-push_race, best-push}
 use Rattle.detect.specs.Gathered.{on_lane, all_given, AreAtHomeFrom, AreAtHome, Gathers}
@@ -60,14 +61,6 @@ fails_on (items ∷ lists) zero e = fails-front (records items) (all_given lists
 fails_on (items ∷ lists) (suc k) e = fails_on lists k (fails-back (records items) (all_given lists) e)
 
 -- ---- at home
-
-all-front : {X : Type 0} (P : X → Type 0) (xs ys : List X) → AllByRecursion P (xs ++ ys) → AllByRecursion P xs
-all-front P [] ys h = tt
-all-front P (x ∷ xs) ys h = (h.0, all-front P xs ys h.1)
-
-all-last : {X : Type 0} (P : X → Type 0) (xs : List X) (y : X) → AllByRecursion P (xs ++ y ∷ []) → P y
-all-last P [] y h = h.0
-all-last P (x ∷ xs) y h = all-last P xs y h.1
 
 -- a lane that gave one item less was at home
 home-before : (n j : ℕ) (lists : List (List (Item Back))) (k : ℕ) (x : Item Back) → AreAtHomeFrom n j (set lists k (get_or lists k [] ++ x ∷ [])) → AreAtHomeFrom n j lists

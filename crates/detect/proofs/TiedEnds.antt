@@ -4,6 +4,7 @@ use Rattle.std.specs.List.{All, AllByRecursion}
 use Rattle.std.proofs.lemmas.List.{map-append}
 use Rattle.std.proofs.lemmas.List.Elements.{All-push, All-nil}
 use Rattle.trace.specs.declared.records.Placed.{Placed}
+use Rattle.trace.proofs.Lists.{all-push}
 use Rattle.lane.specs.declared.ends.Sender.{Sender}
 use Rattle.lane.specs.declared.ends.Taker.{Taker}
 use Rattle.lane.specs.Lanes.{lane_of, put_of, taker_lane, taken_of}
@@ -17,10 +18,6 @@ use Rattle.detect.specs.declared.jobs.Job.{Job}
 use Rattle.detect.specs.declared.made.Ends.{Ends}
 use Rattle.detect.specs.Working.{IsNewJob, AllNew, to_shards, from_shards}
 use Rattle.detect.specs.Readiness.{IsTied}
-
-pub all-push : {X : Type 0} (P : X → Type 0) (xs : List X) (x : X) → AllByRecursion P xs → P x → AllByRecursion P (xs ++ x ∷ [])
-all-push P [] x h p = (p, tt)
-all-push P (y ∷ xs) x h p = (h.0, all-push P xs x h.1 p)
 
 -- what f says of the one list, g says of the other, and of one element more too
 same_more : {X Y Z : Type 0} (f : X → Z) (g : Y → Z) (xs xs' : List X) (x : X) (ys ys' : List Y) (y : Y) → xs' ≡ xs ++ x ∷ [] → ys' ≡ ys ++ y ∷ [] → f x ≡ g y → map f xs ≡ map g ys → map f xs' ≡ map g ys'
@@ -76,11 +73,6 @@ module _ {S H : Type 0} where
         none_put = subst Q (sym senders) (All-push (λ (s : Sender Placed). put_of s ≡ []) old.senders.items sender h.none_put none_put);
         none_taken = subst R (sym backs) (all-push (λ (t : Taker Back). taken_of t ≡ []) old.backs.items back h.none_taken none_taken);
       }
-
--- what a push that succeeded leaves
-pub pushed : {A : Type 0} (b : Bool) (xs ys zs : List A) → xs ≡ cond b ys zs → true ≡ b → xs ≡ ys
-pushed true xs ys zs e f = e
-pushed false xs ys zs e f = absurd cc
 
 pub on_ok : {T E : Type 0} (r : Result T E) (P : Type 0) → (true ≡ is_ok r → P) → OnOk r P
 on_ok (Ok v) P f = f refl

@@ -10,10 +10,11 @@ use Rattle.trace.specs.declared.records.Record.{Record}
 use Rattle.trace.specs.declared.records.Record.TheVariants.{Spawn, Return, Sync, Read, Write}
 use Rattle.trace.specs.declared.records.Placed.{Placed}
 use Rattle.trace.specs.Shares.{goes, goes_placed, share}
+use Rattle.trace.proofs.Lists.{Contains-nil}
 use Rattle.trace.proofs.ShareLemmas.{share-push, goes_somewhere}
 use Rattle.route.specs.Sending.{part, AllSent}
 use Rattle.route.specs.Routed.{IsRising, in_hand, IsOnSome, IsRouted, IsBeingSent, HasShare, HasWholeShare, HasRouted}
-use Rattle.route.proofs.Rising.{Contains-here, Contains-later, Contains-cases, Contains-nil, Ordered-from_rising, rising_front, last_above, same_records}
+use Rattle.route.proofs.Rising.{Contains-here, Contains-later, Contains-cases, Ordered-from_rising, rising_front, last_above, same_records}
 
 -- the records and the mark of a lane
 records-ones : (xs : List Placed) (b : Bool) → records (map One xs ++ cond b (Finish ∷ []) []) ≡ xs

@@ -6,6 +6,7 @@ use Rattle.std.proofs.lemmas.List.{get_or-map, get_or_append_left, map-append, l
 use Rattle.std.proofs.lemmas.List.Elements.{Contains-push}
 use Rattle.std.proofs.lemmas.List.Kept.{AllPairs-from_increasing}
 use Rattle.trace.specs.declared.records.Placed.{Placed}
+use Rattle.trace.proofs.Lists.{Contains-nil}
 use Rattle.route.specs.Routed.{IsRising}
 
 pub Contains-here : (p : Placed) (u : List Placed) → Contains (p ∷ u) p
@@ -17,9 +18,6 @@ Contains-later p q u (k, l, e) = (suc k, omega arith, e)
 pub Contains-cases : (p q : Placed) (u : List Placed) → Contains (p ∷ u) q → (p ≡ q) ⊎ Contains u q
 Contains-cases p q u (zero, l, e) = inl e
 Contains-cases p q u (suc k, l, e) = inr (k, omega arith, e)
-
-pub Contains-nil : (q : Placed) → Contains [] q → ⊥
-Contains-nil q (k, l, e) = omega arith
 
 -- each place is below all later ones
 abbrev pub Ordered : List Placed → Type 0

@@ -39,9 +39,6 @@ part-before k n i p h = ap (λ (b : Bool). cond (b && goes_placed k n p) (p ∷ 
 part-from : (k n i : ℕ) (p : Placed) → i ≤ k → part k n i (Some p) ≡ []
 part-from k n i p h = cond-false (nat_lt k i && goes_placed k n p) (p ∷ []) [] (and_left (nat_lt k i) (goes_placed k n p) (le-ltb k i h))
 
-mark_of-before : (k m : ℕ) → k < m → mark_of k m ≡ Finish ∷ []
-mark_of-before k m h = cond-true (nat_lt k m) (Finish ∷ []) [] (lt-ltb k m h)
-
 mark_of-from : (k m : ℕ) → m ≤ k → mark_of k m ≡ []
 mark_of-from k m h = cond-false (nat_lt k m) (Finish ∷ []) [] (le-ltb k m h)
 
@@ -87,20 +84,6 @@ sent-last puts w i p m none h goes last all =
     (λ (x : i < k). part-from k n i p (omega arith) ∙ sym (cond-false (goes_placed k n p) (p ∷ []) [] (last k x l))) (apart k i e)) ∙ whole k) in
     let Q : ℕ → Type 0 = λ j. (k : ℕ) → k < length (with_put puts i (One p)) → put_on (with_put puts i (One p)) k ≡ map One (share k j (w ++ p ∷ []) ++ []) ++ mark_of k m in
     subst Q (sym (length-set puts i (put_on puts i ++ One p ∷ []))) (each_after P puts i (One p) h here others)
-
--- one lane more has its mark
-pub sent-mark : (puts : List Items) (w : List Placed) (i : ℕ) (m : ℕ) → m < length puts → OnPuts w i None m puts → OnPuts w i None (m + 1) (with_put puts m Finish)
-sent-mark puts w i m h all =
-    let n : ℕ = length puts in
-    let P : ℕ → Items → Type 0 = λ k l. l ≡ map One (share k n w ++ []) ++ mark_of k (m + 1) in
-    let here : P m (put_on puts m ++ Finish ∷ []) =
-    ap (λ (l : Items). l ++ Finish ∷ []) (all m h ∙ ap (λ (l : Items). map One (share m n w ++ []) ++ l) (mark_of-from m m (omega arith)) ∙ append-nil (map One (share m n w ++ [])))
-    ∙ ap (λ (l : Items). map One (share m n w ++ []) ++ l) (sym (mark_of-before m (m + 1) (omega arith))) in
-    let others : (k : ℕ) → (k ≡ m → ⊥) → k < n → P k (put_on puts k) =
-    λ k e l. all k l ∙ ap (λ (x : Items). map One (share k n w ++ []) ++ x) (⊎_elim (λ (x : k < m). mark_of-before k m x ∙ sym (mark_of-before k (m + 1) (omega arith)))
-    (λ (x : m < k). mark_of-from k m (omega arith) ∙ sym (mark_of-from k (m + 1) (omega arith))) (apart k m e)) in
-    let Q : ℕ → Type 0 = λ j. (k : ℕ) → k < length (with_put puts m Finish) → put_on (with_put puts m Finish) k ≡ map One (share k j w ++ []) ++ mark_of k (m + 1) in
-    subst Q (sym (length-set puts m (put_on puts m ++ Finish ∷ []))) (each_after P puts m Finish h here others)
 
 -- the marks after a record was put, and after a mark was
 pub marks-one : (puts : List Items) (i : ℕ) (p : Placed) (m : ℕ) → i < length puts → has_mark (put_on puts i) ≡ false → HaveMarks m puts → HaveMarks m (with_put puts i (One p))

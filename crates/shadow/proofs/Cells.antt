@@ -12,8 +12,8 @@ use Rattle.trace.specs.Dag.{IsParallel, Leads}
 use Rattle.trace.specs.Races.{IsAccess, IsAccessPlace, IsRead, IsWrite, IsRace, IsLastWrite, IsKeptReader, IsTold, nothing_yet, no_read, first_read, replaces, stays}
 use Rattle.bags.specs.Procedures.{Active, in_p, current, procedure_at}
 use Rattle.shadow.specs.Cells.{Cell, Named, untouched, parallel_access, name_of, reader_after, rival, touched}
-use Rattle.trace.proofs.Paths.{leads_or_parallel}
-use Rattle.trace.proofs.Readers.{IsPlace-at, NoneBefore, NoWrite, NoRead, last_write_parallel, no_read_parallel, kept_reads, told_by_write, told_by_reader, no_race_at_read, no_race_at_write}
+use Rattle.trace.proofs.Paths.{IsPlace-at, leads_or_parallel}
+use Rattle.trace.proofs.Readers.{NoneBefore, NoWrite, NoRead, last_write_parallel, no_read_parallel, kept_reads, told_by_write, told_by_reader, no_race_at_read, no_race_at_write}
 
 -- a P-bag holds the procedure of a place up to t just where the place is parallel to the next
 abbrev pub Sees : List Record → ℕ → List Active → Type 0

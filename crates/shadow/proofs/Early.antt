@@ -17,7 +17,9 @@ use Rattle.bags.specs.Procedures.{Procedures, in_p, current, procedure_at}
 use Rattle.shadow.specs.Cells.{rival, race_at, race_with}
 use Rattle.shadow.specs.Found.{State, after_access, after_record, race_of, state_after, found}
 use Rattle.bags.proofs.BagPaths.{in_p-parallel}
-use Rattle.trace.proofs.Readers.{IsPlace-at, IsAccessPlace-at, NoneBefore}
+use Rattle.trace.proofs.Lists.{element_at}
+use Rattle.trace.proofs.Paths.{IsPlace-at}
+use Rattle.trace.proofs.Readers.{IsAccessPlace-at, NoneBefore}
 use Rattle.trace.proofs.Once.{In, told_once}
 use Rattle.shadow.proofs.FoundLaws.{state_after-push, found-push, bags-state_after, placed_from-push, length-placed_from, kept-same, kept-other}
 use Rattle.shadow.proofs.Cells.{Sees, IsCell, HasTold, RivalSays, IsElsewhere, rival_says, cell_stays, cell_touched, cell_start}
@@ -66,12 +68,6 @@ cells_step w v t records.Sync s z a l = cell_stays w l t (s.kept l) (not_structu
 cells_step w v t (records.Read m) s z a l = cells_access w v t m Read s z a l
 cells_step w v t (records.Write m) s z a l = cells_access w v t m Write s z a l
 
--- the record at a place within the trace
-record_at : (w : List Record) (t : ℕ) → t < length w → (r : Record) × (slice_get w t ≡ Some r)
-record_at [] t h = absurd (omega arith)
-record_at (x ∷ w) zero h = (x, refl)
-record_at (x ∷ w) (suc t) h = record_at w t (omega arith)
-
 abbrev first : List Record → ℕ → List Placed
 first w t = take t (placed w)
 
@@ -96,7 +92,7 @@ with_cells w v t c =
 cells_after : (w : List Record) {n d : ℕ} → IsWellNested w n d → (t : ℕ) → t ≤ length w → (l : ℕ) → IsCell w l t ((state_after (first w t)).kept l)
 cells_after w v zero h l = cell_start w l
 cells_after w v (suc t) h l =
-    let q = record_at w t h in
+    let q = element_at w t h in
     subst (λ (s : State). IsCell w l (suc t) (s.kept l)) (sym (next_state w t q.0 q.1))
     (cells_step w v t q.0 (state_after (first w t)) (with_cells w v t (cells_after w v t (omega arith))) q.1 l)
 
@@ -163,7 +159,7 @@ one_more w t x xs o a b = (
 early_within : (w : List Record) {n d : ℕ} → IsWellNested w n d → (t : ℕ) → t ≤ length w → (x : RaceAt) → In x (found (first w t)) ↔ EndsBy w t x
 early_within w v zero h x = ((λ p. absurd p), (λ q. let z = IsPlace-at w x.second.place _ q.0.second_kind in let y = q.1 in absurd (omega arith)))
 early_within w v (suc t) h x =
-    let q = record_at w t h in
+    let q = element_at w t h in
     subst (λ (rs : List RaceAt). In x rs ↔ EndsBy w (suc t) x) (sym (next_found w t q.0 q.1))
     (one_more w t x (found (first w t)) _ (early_within w v t (omega arith) x) (race_here w v t q.0 (state_after (first w t)) (state_at w v t (omega arith)) q.1 x))
 

@@ -1,23 +1,20 @@
 -- Laws of the rules over lists of placed records, whatever trace they come from: appending, one location at a
--- time, and the order and shape of the races that are told.
-use Rattle.std.proofs.Common.{◌≡◌, ◌≢◌, ℕ, zero, suc, ◌+◌, ◌<◌, ◌≤◌, ◌^◌, Bool, true, false, ◌||◌, is_some, ◌==◌, if◌then◌else◌, List, [], ◌∷◌, ◌++◌, map, take, length, slice_get, Option, Some, None, option_to_list, AllPairs, ⊎_elim, refl, sym, ap, ap₂, subst, ◌∙◌, arith, append-nil, append_assoc}
+-- time, and the order of the races that are told.
+use Rattle.std.proofs.Common.{◌≡◌, ◌≢◌, ℕ, zero, suc, ◌+◌, ◌<◌, Bool, true, false, ◌||◌, is_some, ◌==◌, List, [], ◌∷◌, ◌++◌, map, take, length, slice_get, Option, Some, None, option_to_list, refl, sym, ap, subst, ◌∙◌, arith, append-nil, append_assoc}
 use Rattle.std.specs.List.{AllByRecursion}
-use Rattle.std.specs.Option.{option_or}
 use Rattle.std.specs.List.Sorted.{IsStrictlyIncreasing}
-use Rattle.std.proofs.lemmas.Bool.{cond-true, cond-false, cond_both, eq-eqb, ne_eqb, eqb-true, or_left, cases_eq}
-use Rattle.std.proofs.lemmas.Option.{same_Some, cond_some}
-use Rattle.std.proofs.lemmas.List.Elements.{All-from_recursion}
-use Rattle.std.proofs.lemmas.List.Kept.{AllPairs-cons}
+use Rattle.std.proofs.lemmas.Bool.{cond-true, cond-false, cond_both, eq-eqb, ne_eqb, eqb-true, or_left}
+use Rattle.std.proofs.lemmas.Option.{same_Some}
 use Rattle.trace.specs.declared.records.Record.{Record}
 use Rattle.trace.specs.declared.records.Record.TheVariants as records
 use Rattle.trace.specs.declared.records.Kind.{Kind}
 use Rattle.trace.specs.declared.records.Kind.TheVariants.{Read, Write}
 use Rattle.trace.specs.declared.records.Placed.{Placed}
 use Rattle.trace.specs.declared.records.Access.{Access}
-use Rattle.trace.specs.Traces.{placed, placed_from}
-use Rattle.trace.specs.Accesses.{RaceAt, IsRaceShape, writes}
-use Rattle.bags.specs.Procedures.{Active, in_p, Procedures, event, bags_from, bags_after}
-use Rattle.shadow.specs.Cells.{Cell, Named, is_parallel, parallel_access, name_of, touched, race_at, race_with, rival}
+use Rattle.trace.specs.Traces.{placed_from}
+use Rattle.trace.specs.Accesses.{RaceAt}
+use Rattle.bags.specs.Procedures.{Active, Procedures, event, bags_from, bags_after}
+use Rattle.shadow.specs.Cells.{Cell, touched, race_at, race_with}
 use Rattle.trace.proofs.Once.{Rises, AllAbove, AllAbove-lower, increasing-from_rises}
 use Rattle.shadow.specs.Found.{State, start, after_access, after_record, race_of, state_from, state_after, found_from, found}
 
@@ -71,39 +68,6 @@ kept-same s l k place = cond-true (l == l) _ _ (eq-eqb l l refl)
 
 pub kept-other : (s : State) (l m : ℕ) (k : Kind) (place : ℕ) → m ≢ l → (after_access s l k place).kept m ≡ s.kept m
 kept-other s l m k place h = cond-false (m == l) _ _ (ne_eqb m l h)
-
--- what a record leaves of the cell of one location
-abbrev pub cell_after : ℕ → Procedures → ℕ → Record → Cell → Cell
-cell_after l b place records.Spawn c = c
-cell_after l b place records.Return c = c
-cell_after l b place records.Sync c = c
-cell_after l b place (records.Read m) c = if l == m then touched b.active Read place c else c
-cell_after l b place (records.Write m) c = if l == m then touched b.active Write place c else c
-
--- the cell of one location after records, by its own accesses and the bags
-abbrev pub cell_from : ℕ → Procedures → Cell → List Placed → Cell
-cell_from l b c [] = c
-cell_from l b c (p ∷ u) = cell_from l (event b p.what) (cell_after l b p.place p.what c) u
-
-kept-access : (s : State) (l m : ℕ) (k : Kind) (place : ℕ) → (after_access s m k place).kept l ≡ (if l == m then touched s.bags.active k place (s.kept l) else s.kept l)
-kept-access s l m k place = ⊎_elim
-    (λ e. subst (λ (i : ℕ). (after_access s m k place).kept i ≡ (if i == m then touched s.bags.active k place (s.kept i) else s.kept i)) (sym e) refl)
-    (λ f. kept-other s m l k place f ∙ sym (cond-false (l == m) _ _ (ne_eqb l m f)))
-    (cases_eq l m)
-
-kept-after_record : (s : State) (place : ℕ) (r : Record) (l : ℕ) → (after_record s place r).kept l ≡ cell_after l s.bags place r (s.kept l)
-kept-after_record s place records.Spawn l = refl
-kept-after_record s place records.Return l = refl
-kept-after_record s place records.Sync l = refl
-kept-after_record s place (records.Read m) l = kept-access s l m Read place
-kept-after_record s place (records.Write m) l = kept-access s l m Write place
-
--- each location has its cell by itself
-pub kept-state_from : (s : State) (u : List Placed) (l : ℕ) → (state_from s u).kept l ≡ cell_from l s.bags (s.kept l) u
-kept-state_from s [] l = refl
-kept-state_from s (p ∷ u) l =
-    kept-state_from (after_record s p.place p.what) u l
-    ∙ ap₂ (λ (b : Procedures) (c : Cell). cell_from l b c u) (bags-after_record s p.place p.what) (kept-after_record s p.place p.what l)
 
 -- what a race that is told says of itself: its location and its second place
 pub race_with-is : (l : ℕ) (k : Kind) (place : ℕ) (told : Bool) (o : Option Access) (x : RaceAt) → race_with l k place told o ≡ Some x → (x.location ≡ l) × (x.second.place ≡ place) × (told ≡ false)
@@ -219,100 +183,3 @@ apart_next (Some x) rs f a = (f x refl, a)
 pub found_from-apart : (s : State) (u : List Placed) → Apart (found_from s u)
 found_from-apart s [] = tt
 found_from-apart s (p ∷ u) = apart_next _ _ (λ x e. not_again (after_record s p.place p.what) u x.location (told_then s p.place p.what x e)) (found_from-apart (after_record s p.place p.what) u)
-
-pairs-from_apart : (rs : List RaceAt) → Apart rs → AllPairs (λ r q. r.location ≢ q.location) rs
-pairs-from_apart [] a = λ i j d h k. absurd (omega arith)
-pairs-from_apart (r ∷ rs) a = AllPairs-cons (λ (r q : RaceAt). r.location ≢ q.location) r rs (All-from_recursion (λ (q : RaceAt). r.location ≢ q.location) rs a.0) (pairs-from_apart rs a.1)
-
--- a location is told at most once
-pub found-apart : (u : List Placed) → AllPairs (λ r q. r.location ≢ q.location) (found u)
-found-apart u = pairs-from_apart (found u) (found_from-apart start u)
-
--- The shape: a race's places lie in order and one of its accesses writes.
-
-abbrev IsWithin : ℕ → Option Named → Type 0
-IsWithin m None = Unit {0}
-IsWithin m (Some n) = (1 ≤ n.place) × (n.place ≤ m)
-
--- the kept names have places from 1 to m
-record CellWithin (m : ℕ) (c : Cell) : Type 0 where
-  writer : IsWithin m c.writer
-  reader : IsWithin m c.reader
-
-IsWithin-later : (m k : ℕ) (o : Option Named) → m ≤ k → IsWithin m o → IsWithin k o
-IsWithin-later m k None h a = tt
-IsWithin-later m k (Some n) h a = let x = a.1 in (a.0, omega arith)
-
-within_touched : (fs : List Active) (k : Kind) (m place : ℕ) (c : Cell) → m < place → CellWithin m c → CellWithin place (touched fs k place c)
-within_touched fs Read m place c h a = record {
-  writer = IsWithin-later m place c.writer (omega arith) a.writer;
-  reader = cond_both (is_parallel fs c.reader) c.reader (name_of fs place) (IsWithin place) (λ e. IsWithin-later m place c.reader (omega arith) a.reader) (λ e. (omega arith, omega arith));
-}
-within_touched fs Write m place c h a = record {
-  writer = (omega arith, omega arith);
-  reader = IsWithin-later m place c.reader (omega arith) a.reader;
-}
-
-within_later : (m place : ℕ) (s : State) → m < place → ((l : ℕ) → CellWithin m (s.kept l)) → (l : ℕ) → CellWithin place (s.kept l)
-within_later m place s h a l = record { writer = IsWithin-later m place _ (omega arith) (a l).writer; reader = IsWithin-later m place _ (omega arith) (a l).reader }
-
-within_access : (s : State) (i : ℕ) (k : Kind) (m place : ℕ) → m < place → ((l : ℕ) → CellWithin m (s.kept l)) → (l : ℕ) → CellWithin place ((after_access s i k place).kept l)
-within_access s i k m place h a l = cond_both (l == i) (touched s.bags.active k place (s.kept i)) (s.kept l) (CellWithin place) (λ e. within_touched s.bags.active k m place (s.kept i) h (a i)) (λ e. within_later m place s h a l)
-
-within_record : (s : State) (m place : ℕ) (r : Record) → m < place → ((l : ℕ) → CellWithin m (s.kept l)) → (l : ℕ) → CellWithin place ((after_record s place r).kept l)
-within_record s m place records.Spawn h a = within_later m place s h a
-within_record s m place records.Return h a = within_later m place s h a
-within_record s m place records.Sync h a = within_later m place s h a
-within_record s m place (records.Read i) h a = within_access s i Read m place h a
-within_record s m place (records.Write i) h a = within_access s i Write m place h a
-
--- a rival is a kept name
-record IsRival (m : ℕ) (k : Kind) (f : Access) : Type 0 where
-  from_one : 1 ≤ f.place
-  to_last : f.place ≤ m
-  one_writes : (writes f.kind || writes k) ≡ true
-
-parallel-within : (fs : List Active) (k q : Kind) (m : ℕ) (o : Option Named) (f : Access) → (writes k || writes q) ≡ true → IsWithin m o → parallel_access fs k o ≡ Some f → IsRival m q f
-parallel-within fs k q m None f h a e = absurd (cc)
-parallel-within fs k q m (Some n) f h a e =
-    let x = (cond_some (in_p fs n.procedure) (record { kind = k; place = n.place }) f e).1 in
-    subst (IsRival m q) x (record { from_one = a.0; to_last = a.1; one_writes = h })
-
-rival-write : (fs : List Active) (m : ℕ) (c : Cell) (o : Option Access) (f : Access) → CellWithin m c → ((f : Access) → o ≡ Some f → IsRival m Write f) → option_or o (parallel_access fs Read c.reader) ≡ Some f → IsRival m Write f
-rival-write fs m c None f a g e = parallel-within fs Read Write m c.reader f refl a.reader e
-rival-write fs m c (Some x) f a g e = g f e
-
-rival-is : (fs : List Active) (k : Kind) (m : ℕ) (c : Cell) (f : Access) → CellWithin m c → rival fs k c ≡ Some f → IsRival m k f
-rival-is fs Read m c f a e = parallel-within fs Write Read m c.writer f refl a.writer e
-rival-is fs Write m c f a e = rival-write fs m c _ f a (λ g q. parallel-within fs Write Write m c.writer g refl a.writer q) e
-
-shape_with : (l : ℕ) (k : Kind) (m place : ℕ) (told : Bool) (o : Option Access) (x : RaceAt) → m < place → place ≤ 2 ^ 48 → ((f : Access) → o ≡ Some f → IsRival m k f) → race_with l k place told o ≡ Some x → IsRaceShape x.first x.second
-shape_with l k m place told None x h b g e = absurd (cc)
-shape_with l k m place true (Some f) x h b g e = absurd (cc)
-shape_with l k m place false (Some f) x h b g e =
-    let q = g f refl in
-    let z = same_Some _ x e in
-    subst (λ (r : RaceAt). IsRaceShape r.first r.second) z (record { from_one = q.from_one; in_order = omega arith; to_limit = b; one_writes = q.one_writes })
-
-shape_of : (s : State) (m place : ℕ) (r : Record) (x : RaceAt) → m < place → place ≤ 2 ^ 48 → ((l : ℕ) → CellWithin m (s.kept l)) → race_of s place r ≡ Some x → IsRaceShape x.first x.second
-shape_of s m place records.Spawn x h b a e = absurd (cc)
-shape_of s m place records.Return x h b a e = absurd (cc)
-shape_of s m place records.Sync x h b a e = absurd (cc)
-shape_of s m place (records.Read l) x h b a e = shape_with l Read m place _ _ x h b (λ f q. rival-is s.bags.active Read m (s.kept l) f (a l) q) e
-shape_of s m place (records.Write l) x h b a e = shape_with l Write m place _ _ x h b (λ f q. rival-is s.bags.active Write m (s.kept l) f (a l) q) e
-
-found_from-shape : (s : State) (m : ℕ) (u : List Placed) → Rising m u → AllByRecursion (λ p. p.place ≤ 2 ^ 48) u → ((l : ℕ) → CellWithin m (s.kept l)) → AllByRecursion (λ r. IsRaceShape r.first r.second) (found_from s u)
-found_from-shape s m [] h b a = tt
-found_from-shape s m (p ∷ u) h b a = all_next (λ r. IsRaceShape r.first r.second) _ _ (λ x e. shape_of s m p.place p.what x h.0 b.0 a e) (found_from-shape (after_record s p.place p.what) p.place u h.1 b.1 (within_record s m p.place p.what h.0 a))
-
--- each race has its shape, where the places rise from 1 to 2^48
-pub found-shape : (u : List Placed) → Rising 0 u → AllByRecursion (λ p. p.place ≤ 2 ^ 48) u → AllByRecursion (λ r. IsRaceShape r.first r.second) (found u)
-found-shape u h b = found_from-shape start 0 u h b (λ l. record { writer = tt; reader = tt })
-
-places-placed_from : (i : ℕ) (w : List Record) (m : ℕ) → i + length w ≤ suc m → AllByRecursion (λ p. p.place ≤ m) (placed_from i w)
-places-placed_from i [] m h = tt
-places-placed_from i (x ∷ w) m h = (omega arith, places-placed_from (suc i) w m (omega arith))
-
--- each race that the rules find in a trace has its shape
-pub found-placed-shape : (w : List Record) → length w ≤ 2 ^ 48 → AllByRecursion (λ r. IsRaceShape r.first r.second) (found (placed w))
-found-placed-shape w h = found-shape (placed w) (Rising-placed_from 0 1 w (omega arith)) (places-placed_from 1 w (2 ^ 48) (omega arith))

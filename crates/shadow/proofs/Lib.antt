@@ -1,7 +1,6 @@
-pub mod CallerLemmas
 pub mod CellLemmas
-pub mod StateLemmas
 pub mod FoundLaws
+pub mod StateLemmas
 pub mod Sharing
 pub mod Listed
 pub mod Cells

@@ -1,5 +1,5 @@
 -- One more record: the state after it, and the races found up to it.
-use Rattle.std.proofs.Common.{◌≡◌, ℕ, ◌≤◌, List, [], ◌∷◌, ◌++◌, Option, None, refl, sym, ap, subst, ◌∙◌, append_assoc, append-nil, Result, Ok, Err, OnOk, IfOk, length, arith}
+use Rattle.std.proofs.Common.{◌≡◌, ℕ, ◌≤◌, List, [], ◌∷◌, ◌++◌, Option, None, refl, sym, ap, subst, ◌∙◌, Result, Ok, Err, OnOk, IfOk, length, arith}
 use Rattle.std.specs.Option.{option_to_list}
 use Rattle.trace.specs.declared.records.Record.{Record}
 use Rattle.trace.specs.declared.records.Record.TheVariants as records
@@ -9,28 +9,19 @@ use Rattle.trace.specs.declared.records.Kind.TheVariants.{Read, Write}
 use Rattle.trace.specs.Accesses.{RaceAt}
 use Rattle.bags.specs.Procedures.{Procedures, Active, event, after_return}
 use Rattle.shadow.specs.Cells.{touched, race_at}
-use Rattle.shadow.specs.Found.{State, start, with_cell, after_access, after_record, race_of, state_from, state_after, found_from, found}
+use Rattle.shadow.specs.Found.{State, with_cell, after_access, after_record, race_of, state_after, found}
 use Rattle.shadow.specs.Memory.{Memory, kept_of, HaveSeen}
+use Rattle.shadow.proofs.FoundLaws.{state_after-push, found-push}
 
-pub state_from-append : (s : State) (u : List Placed) (p : Placed) → state_from s (u ++ p ∷ []) ≡ after_record (state_from s u) p.place p.what
-state_from-append s [] p = refl
-state_from-append s (q ∷ u) p = state_from-append (after_record s q.place q.what) u p
-
-pub found_from-append : (s : State) (u : List Placed) (p : Placed) → found_from s (u ++ p ∷ []) ≡ found_from s u ++ option_to_list (race_of (state_from s u) p.place p.what)
-found_from-append s [] p = append-nil (option_to_list (race_of s p.place p.what))
-found_from-append s (q ∷ u) p =
-    ap (λ rs. option_to_list (race_of s q.place q.what) ++ rs) (found_from-append (after_record s q.place q.what) u p)
-    ∙ sym (append_assoc (option_to_list (race_of s q.place q.what)) _ _)
-
--- the same, from what is known of the state before
+-- the races after one more record, from what is known of the state before
 pub found_next : (u : List Placed) (p : Placed) (o : Option RaceAt) → o ≡ race_of (state_after u) p.place p.what → found (u ++ p ∷ []) ≡ found u ++ option_to_list o
-found_next u p o is = found_from-append start u p ∙ ap (λ r. found u ++ option_to_list r) (sym is)
+found_next u p o is = found-push u p ∙ ap (λ r. found u ++ option_to_list r) (sym is)
 
 -- what the bags and the shadow memory are after one more record
 seen_by : (u : List Placed) (p : Placed) (bags : Procedures) (m : Memory) → bags ≡ (after_record (state_after u) p.place p.what).bags
     → ((l : ℕ) → kept_of m l ≡ (after_record (state_after u) p.place p.what).kept l) → HaveSeen (u ++ p ∷ []) bags m
 seen_by u p bags m bags_are kept_are =
-    let next : after_record (state_after u) p.place p.what ≡ state_after (u ++ p ∷ []) = sym (state_from-append start u p) in
+    let next : after_record (state_after u) p.place p.what ≡ state_after (u ++ p ∷ []) = sym (state_after-push u p) in
     record { bags_are = bags_are ∙ ap (λ s. s.bags) next; kept_are = λ l. kept_are l ∙ ap (λ s. s.kept l) next }
 
 pub seen_spawn : (u : List Placed) (p : Placed) (bags : Procedures) (m : Memory) → p.what ≡ records.Spawn → HaveSeen u bags m → HaveSeen (u ++ p ∷ []) (event bags records.Spawn) m

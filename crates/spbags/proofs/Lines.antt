@@ -2,20 +2,12 @@
 use Rattle.std.proofs.Common.{◌≡◌, ℕ, ◌-◌, ◌^◌, ◌<◌, ◌≤◌, List, [], ◌++◌, length, take, drop, decimal, sym, ap, ◌∙◌, arith, append-nil}
 use Rattle.std.proofs.lemmas.List.{drop_all, drop_at, length-take-le}
 use Rattle.std.proofs.lemmas.Fmt.{length-decimal-le}
-use borrow.Rule.Slice.PartMut.{put_mid, post_of, same_len_mid, mid_len, Post-is}
-
--- a number of 64 bits has at most 20 digits
-pub length-decimal-20 : (n : ℕ) → n < 2 ^ 64 → length (decimal n) ≤ 20
-length-decimal-20 n h = length-decimal-le 20 n (omega arith) (omega arith) h
+use borrow.Rule.Slice.PartMut.{put_mid, same_len_mid, mid_len}
+use Rattle.trace.proofs.SpelledLines.{drop-put_mid-start}
 
 -- a part that is written anew leaves the length
 pub length-put_mid : (a d : ℕ) (xs word : List ℕ) → d ≤ length xs → length word ≡ d - a → length (put_mid a (d - a) xs word) ≡ length xs
 length-put_mid a d xs word high e = same_len_mid a (d - a) xs word (e ∙ sym (mid_len a d xs high))
-
--- what stands from the start of the word on
-pub drop-put_mid-start : (a d : ℕ) (xs word : List ℕ) → a ≤ d → d ≤ length xs → drop a (put_mid a (d - a) xs word) ≡ word ++ drop d xs
-drop-put_mid-start a d xs word low high =
-    drop_at (take a xs) (word ++ post_of a (d - a) xs) a (length-take-le a xs (omega arith)) ∙ ap (λ l. word ++ l) (Post-is a d xs low)
 
 -- a word that is written up to the end
 pub drop-put_mid-end : (a d : ℕ) (xs word : List ℕ) → a ≤ d → d ≡ length xs → drop a (put_mid a (d - a) xs word) ≡ word

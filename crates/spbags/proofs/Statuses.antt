@@ -9,6 +9,7 @@ use Rattle.trace.specs.declared.records.Kind.TheVariants.{Read, Write}
 use Rattle.trace.specs.declared.records.Access.{Access}
 use Rattle.trace.specs.Races.{IsAccess, IsRead, IsWrite}
 use Rattle.trace.specs.Runs.{OfTrace}
+use Rattle.trace.proofs.Lists.{Contains-nil}
 use Rattle.audit.specs.Pairs.{IsPair, ArePairs}
 use Rattle.collect.specs.ReportText.{rtext}
 use Rattle.detect.specs.Dag.{HasRace, HasLocation}
@@ -74,9 +75,6 @@ kind_at : (w : List Record) (l i : ℕ) → IsRead w l i ⊎ IsWrite w l i → (
 kind_at w l i (inl r) = (Read, r)
 kind_at w l i (inr r) = (Write, r)
 
-no_pair : (p : Access × Access) → Contains [] p → ⊥
-no_pair p (k, within, is) = absurd (omega arith)
-
 -- where the status is 0 exactly for no pair of the location, it is 1 exactly where it has a race
 pub pairs_one : (status : ℕ) (w : List Record) (l : ℕ) (pairs : List (Access × Access)) → ArePairs w l pairs → status < 2 → (status ≡ 0) ↔ (pairs ≡ []) → (status ≡ 1) ↔ HasRace w l
 pairs_one status w l pairs are low none = (to pairs (λ p. (are.exactly p).0) none.1, from)
@@ -96,5 +94,5 @@ pairs_one status w l pairs are low none = (to pairs (λ p. (are.exactly p).0) no
             let p : Access × Access = (record { kind = first.0; place = i }, record { kind = second.0; place = j }) in
             let is : IsPair w l p = record { race = race; first_kind = first.1; second_kind = second.1 } in
             let P : List (Access × Access) → Type 0 = λ ps. Contains ps p in
-            absurd (no_pair p (subst P e ((are.exactly p).1 is)))
+            absurd (Contains-nil p (subst P e ((are.exactly p).1 is)))
         go (no more) = omega arith

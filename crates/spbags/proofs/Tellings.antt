@@ -38,12 +38,6 @@ puts_after b u k (Err _) p q = took_into p q
 
 module _ {result status : ℕ} {text : List ℕ} {out out' : Option (List ℕ)} {failed fails : ℕ} {err err' : Option (List ℕ)} {failed' fails' : ℕ}
     (tells : Tells result status text out out' failed fails err err' failed' fails') where
-  pub tells_status : status < 2 → result < 3
-  tells_status low = go tells
-    where
-      go : Tells result status text out out' failed fails err err' failed' fails' → result < 3
-      go (inl t) = omega (arith, t.0)
-      go (inr t) = omega (arith, t.0)
 
   pub tells_whole : result < 2 → (result ≡ status) × Took text out out' failed fails × IsUntouched err err' failed' fails'
   tells_whole low = go tells
@@ -58,9 +52,6 @@ module _ {result status : ℕ} {text : List ℕ} {out out' : Option (List ℕ)} 
       go : Tells result status text out out' failed fails err err' failed' fails' → TookFront text out out' failed fails × WasGiven cannot_write err err' failed' fails'
       go (inl t) = let same = t.0 in absurd (omega arith)
       go (inr t) = (t.1, t.2)
-
-  pub tells_failed : status < 2 → result ≡ 2 → HasRisen failed fails
-  tells_failed low two = (tells_front low two).0.failures
 
 -- the answer to a question over a trace, told of the limits that the program reads within
 pub says_so : {records depths : ℕ} {before after : Option (List ℕ)} {P Q : List Record → Type 0} (limit depth : ℕ) → records ≡ limit → depths ≡ depth

@@ -15,7 +15,8 @@ use Rattle.trace.specs.Faults as faults
 use Rattle.trace.specs.Traces.{IsWellNested}
 use Rattle.trace.specs.Feeding.{Feeding, IsFaultThen, IsFaultFed, IsFed}
 use Rattle.trace.specs.Reading.{Reading, AreBytes, HasRead}
-use Rattle.trace.proofs.Texts.{text-push, AllFit-push}
+use Rattle.trace.proofs.Lists.{all-push}
+use Rattle.trace.proofs.Texts.{text-push}
 use Rattle.trace.proofs.Readability.{GoesOn, same_front, same_record, lines_open, one_line, length_on, open_no_lines, open_no_text, header_judged, behind_good, bad_line_more, bad_place_more, no_truncated, no_fault_of_text, no_fault_in_front}
 
 -- whole lines and an unfinished rest: the same bytes have the same lines
@@ -70,7 +71,7 @@ line_after records u r after more f hu fr first (bad_header body judged other) =
 line_after records u r after more f hu fr first (bad_line w rest body hw le e judged no_spelling) =
     let whole : text (u ++ r ∷ []) ++ (after ++ more) ≡ text w ++ rest =
     ap (λ z. z ++ (after ++ more)) (text-push u r) ∙ append_assoc (text u) (line r) (after ++ more) ∙ ap (λ z. text u ++ z) (sym (append_assoc (line r) after more)) ∙ sym (append_assoc (text u) (line r ++ after) more) ∙ e in
-    omega (arith, behind_good (u ++ r ∷ []) w (after ++ more) rest (AllFit-push u r hu fr) hw judged no_spelling whole, length-append u (r ∷ []))
+    omega (arith, behind_good (u ++ r ∷ []) w (after ++ more) rest (all-push Fits u r hu fr) hw judged no_spelling whole, length-append u (r ∷ []))
 line_after records u r after more f hu fr first (too_many w s rest hw full fs e) = go (same_front u w ((line r ++ after) ++ more) (line s ++ rest) hu hw (sym (append_assoc (text u) (line r ++ after) more) ∙ e))
   where
     go : GoesOn u w ((line r ++ after) ++ more) (line s ++ rest) ⊎ GoesOn w u (line s ++ rest) ((line r ++ after) ++ more) → length u + 2 < length w + 2

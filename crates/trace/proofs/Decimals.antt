@@ -11,18 +11,18 @@ use Rattle.std.proofs.lemmas.Str.Parse.{IsNumeralModel, numerals_by_value, tells
 use Rattle.std.proofs.lemmas.Int.Digits.{digits_value_more, digits_more}
 use Rattle.std.proofs.lemmas.Fmt.{digits_decimal, digits_value-decimal, decimal-digits_value, decimal_nonempty, first_decimal, decimal_digit}
 
-own : IsNumeralModel (AllDigits 10) (digits_value 10)
-own = numerals_by_value _ tells_digits
+pub decimal_numerals : IsNumeralModel (AllDigits 10) (digits_value 10)
+decimal_numerals = numerals_by_value _ tells_digits
 
 module _ (ds : List ℕ) (n : ℕ) (small : n < 2 ^ 64) (e : ds ≡ decimal n) where
   pub decimal_has_digits : 0 < length ds
   decimal_has_digits = let P : List ℕ → Type 0 = λ x. 0 < length x in subst P (sym e) (decimal_nonempty n small)
 
   pub decimal_all_digits : AllDigits 10 ds
-  decimal_all_digits = subst (AllDigits 10) (sym e) (digits_decimal own n small)
+  decimal_all_digits = subst (AllDigits 10) (sym e) (digits_decimal decimal_numerals n small)
 
   pub decimal_value : digits_value 10 ds ≡ n
-  decimal_value = ap (digits_value 10) e ∙ digits_value-decimal own n small
+  decimal_value = ap (digits_value 10) e ∙ digits_value-decimal decimal_numerals n small
 
 -- after one more digit
 pub one_more_digit : (ds : List ℕ) (i value : ℕ) → i < length ds → AllDigits 10 (take i ds) → digits_value 10 (take i ds) ≡ value → IsInRange 48 57 (get_or ds i 0)
@@ -55,7 +55,7 @@ decimal_zero ds one first = one_of ds 48 one first ∙ sym (decimal_digit 0 (ome
 pub decimal_from_value : (ds : List ℕ) (n : ℕ) → n < 2 ^ 64 → AllDigits 10 ds → digits_value 10 ds ≡ n → 0 < length ds → get_or ds 0 0 ≢ 48 → ds ≡ decimal n
 decimal_from_value ds n small all is some first =
     let below : digits_value 10 ds < 2 ^ 64 = omega arith in
-    sym (ap decimal (sym is) ∙ decimal-digits_value own ds all some (λ z. absurd (first z)) below)
+    sym (ap decimal (sym is) ∙ decimal-digits_value decimal_numerals ds all some (λ z. absurd (first z)) below)
 
 -- what a reading of digits in front of which stands no zero gives, whether they have a value or none
 pub found_value : (ds : List ℕ) (r : Option ℕ) → IfSome r (λ _. AllDigits 10 ds) → IfSome r (λ n. digits_value 10 ds ≡ n) → IfSome r (λ n. n < 2 ^ 64) → 0 < length ds → get_or ds 0 0 ≢ 48

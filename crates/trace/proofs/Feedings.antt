@@ -1,6 +1,6 @@
 -- What each step of a feed leaves of `HasFed`, and that the fault that it meets is the first.
 use Rattle.std.proofs.Common.{◌≡◌, ℕ, ◌+◌, ◌-◌, ◌≤◌, Bool, true, false, List, [], ◌∷◌, ◌++◌, length, take, drop, Option, Some, None, arith, refl, sym, ◌∙◌, ap, subst, append_assoc, length-append}
-use Rattle.std.specs.Io.KnownBytes.{Consumes, Keeps}
+use Rattle.std.specs.Io.KnownBytes.{Consumes}
 use Rattle.std.proofs.lemmas.List.{append-nil, take-append-drop, drop-take, drop-drop}
 use Rattle.trace.specs.declared.records.Record.{Record}
 use Rattle.trace.specs.declared.faults.TextFault.{TextFault}
@@ -9,12 +9,13 @@ use Rattle.trace.specs.declared.faults.NestKind.{NestKind}
 use Rattle.trace.specs.declared.faults.NestKind.TheVariants.{Unfinished}
 use Rattle.trace.specs.declared.faults.Fault.{Fault}
 use Rattle.trace.specs.declared.faults.Fault.TheVariants.{Text, Nest}
-use Rattle.trace.specs.Text.{Fits, AllFit, line, text}
+use Rattle.trace.specs.Text.{Fits, line, text}
 use Rattle.trace.specs.Faults.{HasEnded, IsMisplaced, AreNested, IsBadLine, IsBadPlace, bad_place, IsTruncated, IsFirstFault, IsFaultOfAll, truncated, unfinished}
 use Rattle.trace.specs.Faults as faults
 use Rattle.trace.specs.Reading.{Reading, AreBytes, HasRead}
 use Rattle.trace.specs.Nesting.{Nesting, HasNested}
 use Rattle.trace.specs.Feeding.{Feeding, before_all, HasUsed, HasFed}
+use Rattle.trace.proofs.Lists.{all-front, all-last}
 use Rattle.trace.proofs.Readings.{open_nil}
 use Rattle.trace.proofs.Nestings.{nested_none}
 use Rattle.trace.proofs.Texts.{text-push}
@@ -32,10 +33,6 @@ fed_more w bytes came s h =
       has_nested = h.has_nested;
       running = h.running;
     }
-
-pub fits_front : (w : List Record) (r : Record) → AllFit (w ++ r ∷ []) → AllFit w × Fits r
-fits_front [] r all = (tt, all.0)
-fits_front (x ∷ w) r all = let rest = fits_front w r all.1 in ((all.0, rest.0), rest.1)
 
 -- bytes that a reader has used without a fault, whose records are not misplaced, hold no first fault
 pub no_fault_yet : (w : List Record) (bytes : List ℕ) (s : Reading) (n : Nesting) → HasRead w bytes s → HasNested w n → (g : Fault) → IsFirstFault s.limit n.max_depth bytes g → ⊥
@@ -75,9 +72,8 @@ first_place_fault w r bytes s u nested k misplaced = go s.reading.begun u.has_re
     go true e =
         let whole : bytes ≡ text (w ++ r ∷ []) ++ (s.reading.rest ++ s.coming) = u.bytes_are ∙ ap (λ x. x ++ s.coming) e ∙ append_assoc (text (w ++ r ∷ [])) _ _ in
         let split : bytes ≡ text w ++ (line r ++ (s.reading.rest ++ s.coming)) = whole ∙ ap (λ x. x ++ (s.reading.rest ++ s.coming)) (text-push w r) ∙ append_assoc (text w) (line r) _ in
-        let fits = fits_front w r u.has_read.fits in
         let P : TextFault → List ℕ → Type 0 = λ f x. IsBadLine s.reading.limit x f in
-        faults.bad_place (record { place = length w + 1; kind = k }) (bad_place w r _ k fits.0 fits.1 split nested.nested misplaced)
+        faults.bad_place (record { place = length w + 1; kind = k }) (bad_place w r _ k (all-front Fits w (r ∷ []) u.has_read.fits) (all-last Fits w r u.has_read.fits) split nested.nested misplaced)
         (λ f bad. omega (arith, length-append w (r ∷ []), bad_line_after s.reading.limit (w ++ r ∷ []) (s.reading.rest ++ s.coming) f u.has_read.fits u.has_read.within (subst (P f) whole bad)))
 
 -- at the end of the bytes
@@ -93,11 +89,6 @@ fault_of_end w bytes s n h k e running =
 pub consumes_none : (o : Option (List ℕ)) → Consumes o o []
 consumes_none None = tt
 consumes_none (Some xs) = refl
-
-pub consumes_kept : (o n : Option (List ℕ)) → Keeps o n → Consumes o n []
-consumes_kept None n k = tt
-consumes_kept (Some xs) None k = absurd k
-consumes_kept (Some xs) (Some ys) k = sym k
 
 pub consumes_more : (o m n : Option (List ℕ)) (xs ys : List ℕ) → Consumes o m xs → Consumes m n ys → Consumes o n (xs ++ ys)
 consumes_more None m n xs ys a b = tt

@@ -22,10 +22,6 @@ pub holds_from : (w : List Record) (f i : ℕ) → at w f ≡ Some Spawn → f <
 holds_from w zero i s a h = absurd (cc)
 holds_from w (suc f) i s a h = record { opener = s; after = a; inside = h }
 
-holds-opener : (w : List Record) (f i : ℕ) → 1 ≤ f → Holds w f i → at w f ≡ Some Spawn
-holds-opener w zero i a h = absurd (omega arith)
-holds-opener w (suc f) i a h = h.opener
-
 -- at a spawn, the places of the child are deeper
 pub holds-deeper : (w : List Record) (f i : ℕ) → at w f ≡ Some Spawn → Holds w f i → (k : ℕ) → f < k → k ≤ i → suc (depth w f) ≤ depth w k
 holds-deeper w zero i s h k x y = absurd (cc)

@@ -153,7 +153,3 @@ module _ (u : List Record) (n : Nesting) (h : HasNested u n) where
                 no_earlier = λ j lt r. ended_last n.max_depth h.nested j lt (from_one u j r, omega arith) r;
                 not_too_deep = λ j q. depth_limited n.max_depth h.nested j (omega (arith, q.1));
               }
-
--- a well nested trace has ended
-pub well_has_ended : (u : List Record) (records depths : ℕ) → (HasEnded u → ⊥) → IsWellNested u records depths → ⊥
-well_has_ended u records depths running h = running (length u, (h.some, omega arith), h.last)

@@ -36,10 +36,10 @@ kind_once w l i Read Write a b = absurd (cc)
 kind_once w l i Write Read a b = absurd (cc)
 kind_once w l i Write Write a b = refl
 
-same_access : (a b : Access) → a.kind ≡ b.kind → a.place ≡ b.place → a ≡ b
+pub same_access : (a b : Access) → a.kind ≡ b.kind → a.place ≡ b.place → a ≡ b
 same_access a b e f = λ i. record { kind = e i; place = f i }
 
-same_race : (r s : RaceAt) → r.location ≡ s.location → r.first ≡ s.first → r.second ≡ s.second → r ≡ s
+pub same_race : (r s : RaceAt) → r.location ≡ s.location → r.first ≡ s.first → r.second ≡ s.second → r ≡ s
 same_race r s e f g = λ i. record { location = e i; first = f i; second = g i }
 
 -- one race is told of a location

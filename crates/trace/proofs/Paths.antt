@@ -10,9 +10,6 @@ use Rattle.std.proofs.lemmas.Option.{slice_get_within}
 use Rattle.trace.proofs.World.{Pending, Within, returns, decided, sound, not-reach, pending_through, pending_after, way_out, way_from}
 use Rattle.trace.proofs.Traced.{traced, shape_of, leads-reach, reach-leads, leads-le}
 
-pub leads_forward : (w : List Record) (i j : ℕ) → Leads w i j → i ≤ j
-leads_forward w i j l = leads-le w i j l
-
 -- a pending return makes two places parallel
 pub pending-parallel : (w : List Record) {n d : ℕ} (h : IsWellNested w n d) (i j r : ℕ) → i < j → Pending (traced w h) i j r → IsParallel w i j
 pending-parallel w h i j r l p = record {
@@ -46,15 +43,14 @@ parallel_places_after w h i j k l m a c p q =
     let s = parallel-pending w h i k a c (omega arith) q in
     pending-parallel w h j k s.0 m (pending_after (traced w h) i j k s.0 a.0 (omega arith) (omega arith) c.1 (leads-reach w h i j p) s.1)
 
--- accesses stand at places
-
-pub some-place : (w : List Record) (i : ℕ) (r : Record) → at w i ≡ Some r → IsPlace w i
-some-place w zero r e = absurd (cc)
-some-place w (suc i) r e = (omega arith, slice_get_within w i r e)
+-- where a record stands there is a place
+pub IsPlace-at : (w : List Record) (i : ℕ) (r : Record) → at w i ≡ Some r → IsPlace w i
+IsPlace-at w zero r e = absurd (cc)
+IsPlace-at w (suc i) r e = (omega arith, slice_get_within w i r e)
 
 pub access-place : (w : List Record) (i : ℕ) → IsAccessPlace w i → IsPlace w i
-access-place w i (l, inl e) = some-place w i (access Read l) e
-access-place w i (l, inr e) = some-place w i (access Write l) e
+access-place w i (l, inl e) = IsPlace-at w i (access Read l) e
+access-place w i (l, inr e) = IsPlace-at w i (access Write l) e
 
 pub access-not_joins : (w : List Record) (i : ℕ) → IsAccessPlace w i → JoinsAt w i → ⊥
 access-not_joins w i (l, inl e) (inl q) = cc

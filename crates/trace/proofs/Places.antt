@@ -1,7 +1,7 @@
 -- Records, depths and root returns of a list of records that is extended at its end.
-use Rattle.std.proofs.Common.{◌≡◌, ℕ, zero, suc, ◌+◌, ◌-◌, ◌<◌, ◌≤◌, List, [], ◌∷◌, ◌++◌, length, Some, ◌⊎◌, inl, inr, arith, refl, sym, ◌∙◌, ap, length-append}
+use Rattle.std.proofs.Common.{◌≡◌, ℕ, zero, suc, ◌+◌, ◌-◌, ◌≤◌, List, [], ◌∷◌, ◌++◌, length, Some, ◌⊎◌, inl, inr, arith, refl, sym, ◌∙◌, ap, length-append}
 use native.Mathlib.Decide.{dec_le}
-use Rattle.std.specs.List.{sum_by, slice_get}
+use Rattle.std.specs.List.{sum_by}
 use Rattle.std.proofs.lemmas.List.{take-append-le}
 use Rattle.std.proofs.lemmas.List.Sums.{sum_by-append}
 use Rattle.std.proofs.Math.Seq.{take-length}
@@ -9,22 +9,14 @@ use Rattle.trace.specs.declared.records.Record.{Record}
 use Rattle.trace.specs.declared.records.Record.TheVariants.{Return}
 use Rattle.trace.specs.Traces.{at, depth, opens, closes}
 use Rattle.trace.specs.Faults.{HasEnded}
-
-slice_get-front : (u v : List Record) (i : ℕ) → i < length u → slice_get (u ++ v) i ≡ slice_get u i
-slice_get-front [] v i h = absurd (omega arith)
-slice_get-front (x ∷ u) v zero h = refl
-slice_get-front (x ∷ u) v (suc i) h = slice_get-front u v i (omega arith)
-
-slice_get-seam : (u : List Record) (r : Record) → slice_get (u ++ r ∷ []) (length u) ≡ Some r
-slice_get-seam [] r = refl
-slice_get-seam (x ∷ u) r = slice_get-seam u r
+use Rattle.trace.proofs.Lists.{element_at, slice_get-front, slice_get-last}
 
 pub at-front : (u v : List Record) (i : ℕ) → i ≤ length u → at (u ++ v) i ≡ at u i
 at-front u v zero h = refl
-at-front u v (suc i) h = slice_get-front u v i (omega arith)
+at-front u v (suc i) h = let f = element_at u i (omega arith) in slice_get-front u v i f.0 f.1 ∙ sym f.1
 
 pub at-seam : (u : List Record) (r : Record) → at (u ++ r ∷ []) (suc (length u)) ≡ Some r
-at-seam u r = slice_get-seam u r
+at-seam u r = slice_get-last u r
 
 pub depth-front : (u v : List Record) (i : ℕ) → i ≤ suc (length u) → depth (u ++ v) i ≡ depth u i
 depth-front u v zero h = refl

@@ -1,21 +1,15 @@
 -- The kept reader of a location: there is one and only one, and it is parallel to an access where any
 -- read before it is. From this the rules see the first race of a location.
 use Rattle.std.proofs.Common.{◌≡◌, ℕ, zero, suc, ◌<◌, ◌≤◌, List, Option, Some, None, ◌⊎◌, inl, inr, ⊎_elim, refl, sym, ap, subst, ◌∙◌, arith}
-use Rattle.std.proofs.lemmas.Option.{slice_get_within}
 use Rattle.std.proofs.lemmas.Bool.{cases_eq, cases_lt, cases_order}
 use Rattle.trace.specs.declared.records.Record.{Record}
 use Rattle.trace.specs.declared.records.Record.TheVariants as records
 use Rattle.trace.specs.declared.records.Kind.{Kind}
 use Rattle.trace.specs.declared.records.Kind.TheVariants.{Read, Write}
-use Rattle.trace.specs.Traces.{at, IsPlace, IsWellNested}
+use Rattle.trace.specs.Traces.{at, IsWellNested}
 use Rattle.trace.specs.Dag.{Leads, IsParallel}
 use Rattle.trace.specs.Races.{IsAccess, IsAccessPlace, IsRead, IsWrite, IsRace, IsSecond, IsLastWrite, IsKeptReader, IsTold, nothing_yet, no_read, first_read, replaces, stays, last_write, kept_reader}
-use Rattle.trace.proofs.Paths.{leads_or_parallel, parallel_through, parallel_after}
-
--- where a record stands there is a place
-pub IsPlace-at : (w : List Record) (i : ℕ) (r : Record) → at w i ≡ Some r → IsPlace w i
-IsPlace-at w zero r e = absurd (cc)
-IsPlace-at w (suc i) r e = (omega arith, slice_get_within w i r e)
+use Rattle.trace.proofs.Paths.{IsPlace-at, leads_or_parallel, parallel_through, parallel_after}
 
 pub IsAccessPlace-at : (w : List Record) (l i : ℕ) (k : Kind) → IsAccess w l i k → IsAccessPlace w i
 IsAccessPlace-at w l i Read a = (l, inl a)

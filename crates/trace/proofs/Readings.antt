@@ -1,13 +1,12 @@
--- What each step of a reader leaves of `HasRead`, and the fault that it finds.
-use Rattle.std.proofs.Common.{◌≡◌, ◌≢◌, ℕ, ◌+◌, ◌-◌, ◌<◌, ◌≤◌, Bool, true, false, List, [], ◌∷◌, ◌++◌, length, take, drop, get_or, None, arith, refl, sym, ◌∙◌, ap, subst, append_assoc, length-append}
-use Rattle.std.proofs.Math.Seq.{take-length}
-use Rattle.std.proofs.lemmas.List.{append-nil, take-append-drop, length-take}
+-- The fault that a step of a reader finds.
+use Rattle.std.proofs.Common.{◌≡◌, ◌≢◌, ℕ, ◌+◌, ◌-◌, ◌<◌, ◌≤◌, Bool, true, false, List, [], ◌∷◌, ◌++◌, length, take, drop, get_or, arith, sym, ◌∙◌, ap, subst, append_assoc, length-append}
+use Rattle.std.proofs.lemmas.List.{take-append-drop, length-take}
 use Rattle.trace.specs.declared.records.Record.{Record}
 use Rattle.trace.specs.declared.faults.TextKind.TheVariants.{Header, Line, TooMany, Truncated}
 use Rattle.trace.specs.Text.{newline, header, spell, Fits, ended, line, text, IsUnended, IsOpen}
 use Rattle.trace.specs.Faults.{IsJudged, at_end, at_length, IsNoRecord, IsBadLine, bad_header, bad_line, too_many, IsTruncated, no_header, no_line_end}
 use Rattle.trace.specs.Reading.{Reading, AreBytes, HasRead}
-use Rattle.trace.proofs.Texts.{text-push, AllFit-push, length-spell, unended-append, take-ended, split-ended}
+use Rattle.trace.proofs.Texts.{length-spell, unended-append, split-ended}
 
 bytes_begun : (b : Bool) (w : List Record) (rest bytes : List ℕ) → b ≡ true → AreBytes b w rest bytes → bytes ≡ text w ++ rest
 bytes_begun true w rest bytes e h = h
@@ -16,10 +15,6 @@ bytes_begun false w rest bytes e h = absurd (cc)
 bytes_first : (b : Bool) (w : List Record) (rest bytes : List ℕ) → b ≡ false → AreBytes b w rest bytes → (w ≡ []) × (bytes ≡ rest)
 bytes_first true w rest bytes e h = absurd (cc)
 bytes_first false w rest bytes e h = h
-
-are_bytes : (b : Bool) (w : List Record) (rest bytes : List ℕ) → b ≡ true → bytes ≡ text w ++ rest → AreBytes b w rest bytes
-are_bytes true w rest bytes e h = h
-are_bytes false w rest bytes e h = absurd (cc)
 
 pub open_nil : IsOpen []
 open_nil = record { unended = λ k d h. absurd (omega arith); short = omega arith }
@@ -37,36 +32,6 @@ module _ (w : List Record) (bytes : List ℕ) (s : Reading) (h : HasRead w bytes
 
   with_piece : s.begun ≡ true → (piece : List ℕ) → bytes ++ piece ≡ text w ++ (s.rest ++ piece)
   with_piece begun piece = ap (λ x. x ++ piece) (so_far begun) ∙ append_assoc (text w) s.rest piece
-
-  -- a line ends, and spells a record within the limit
-  pub read_record : s.begun ≡ true → (piece : List ℕ) (k : ℕ) (r : Record) → k < length piece → get_or piece k 0 ≡ newline → s.rest ++ take k piece ≡ spell r → Fits r → s.count < s.limit
-      → HasRead (w ++ r ∷ []) (bytes ++ take (k + 1) piece) (record { limit = s.limit; begun = true; count = s.count + 1; rest = []; fault = None })
-  read_record begun piece k r lt nl spelled fits room =
-      record {
-        bytes_are = with_piece begun _ ∙ ap (λ x. text w ++ x) (ap (λ x. s.rest ++ x) (take-ended piece k lt nl) ∙ sym (append_assoc s.rest (take k piece) (newline ∷ [])) ∙ ap ended spelled) ∙ sym (text-push w r) ∙ sym (append-nil _);
-        fits = AllFit-push w r h.fits fits;
-        unfinished = open_nil;
-        count_is = omega (arith, h.count_is, length-append w (r ∷ []));
-        within = omega (arith, h.count_is, length-append w (r ∷ []));
-        no_fault = refl;
-      }
-
-  -- the piece goes on with an unfinished line
-  pub read_more : (piece : List ℕ) → IsUnended piece → length s.rest + length piece ≤ 26
-      → HasRead w (bytes ++ take (length piece) piece) (record { limit = s.limit; begun = s.begun; count = s.count; rest = s.rest ++ piece; fault = None })
-  read_more piece unended short =
-      record {
-        bytes_are = go s.begun h.bytes_are;
-        fits = h.fits;
-        unfinished = record { unended = unended-append s.rest piece h.unfinished.unended unended; short = omega (arith, length-append s.rest piece) };
-        count_is = h.count_is;
-        within = h.within;
-        no_fault = refl;
-      }
-    where
-      go : (b : Bool) → AreBytes b w s.rest bytes → AreBytes b w (s.rest ++ piece) (bytes ++ take (length piece) piece)
-      go true e = ap (λ x. bytes ++ x) (take-length piece) ∙ ap (λ x. x ++ piece) e ∙ append_assoc (text w) s.rest piece
-      go false e = (e.0, ap (λ x. bytes ++ x) (take-length piece) ∙ ap (λ x. x ++ piece) e.1)
 
   judged_end : (piece : List ℕ) (k : ℕ) → k < length piece → get_or piece k 0 ≡ newline → IsUnended (take k piece) → IsJudged (s.rest ++ piece) (s.rest ++ take k piece)
   judged_end piece k lt nl unended =
@@ -108,20 +73,6 @@ module _ (w : List Record) (bytes : List ℕ) (s : Reading) (h : HasRead w bytes
       ap (λ x. s.rest ++ x) (split-ended piece k lt nl) ∙ sym (append_assoc s.rest (ended (take k piece)) _) ∙ ap (λ x. x ++ drop (k + 1) piece) (sym (append_assoc s.rest (take k piece) (newline ∷ [])) ∙ ap ended spelled) in
       subst P (sym h.count_is) (too_many w r (drop (k + 1) piece) h.fits (omega (arith, h.count_is)) fits (with_piece begun piece ∙ ap (λ x. text w ++ x) e))
 
-  -- line 1 ends, and is the header
-  pub read_header : s.begun ≡ false → (piece : List ℕ) (k : ℕ) → k < length piece → get_or piece k 0 ≡ newline → s.rest ++ take k piece ≡ header
-      → HasRead w (bytes ++ take (k + 1) piece) (record { limit = s.limit; begun = true; count = s.count; rest = []; fault = None })
-  read_header begun piece k lt nl is =
-      let first = first_so_far begun in
-      record {
-        bytes_are = ap (λ x. x ++ take (k + 1) piece) first.1 ∙ ap (λ x. s.rest ++ x) (take-ended piece k lt nl) ∙ sym (append_assoc s.rest (take k piece) (newline ∷ [])) ∙ ap ended is ∙ sym (append-nil (ended header)) ∙ ap text (sym first.0) ∙ sym (append-nil _);
-        fits = h.fits;
-        unfinished = open_nil;
-        count_is = h.count_is;
-        within = h.within;
-        no_fault = refl;
-      }
-
   pub header_at_end : s.begun ≡ false → (piece : List ℕ) (k : ℕ) → k < length piece → get_or piece k 0 ≡ newline → IsUnended (take k piece) → s.rest ++ take k piece ≢ header
       → IsBadLine s.limit (bytes ++ piece) (record { line = 1; kind = Header })
   header_at_end begun piece k lt nl unended other =
@@ -134,10 +85,6 @@ module _ (w : List Record) (bytes : List ℕ) (s : Reading) (h : HasRead w bytes
       let P : List ℕ → Type 0 = λ x. IsBadLine s.limit (x ++ piece) (record { line = 1; kind = Header }) in
       let other : s.rest ++ take (27 - length s.rest) piece ≢ header = λ e. let n : length (s.rest ++ take (27 - length s.rest) piece) ≡ 7 = ap length e in absurd (omega (arith, long_length piece long)) in
       subst P (sym ((first_so_far begun).1)) (bad_header _ (judged_long piece long unended) other)
-
-  -- at the end of the bytes
-  pub all_read : s.begun ≡ true → s.rest ≡ [] → bytes ≡ text w
-  all_read begun nothing = so_far begun ∙ ap (λ x. text w ++ x) nothing ∙ append-nil _
 
   pub truncated_header : s.begun ≡ false → IsTruncated s.limit bytes (record { line = 1; kind = Truncated })
   truncated_header begun = no_header (subst IsOpen (sym ((first_so_far begun).1)) h.unfinished)

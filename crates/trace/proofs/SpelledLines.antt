@@ -4,9 +4,9 @@ use Rattle.std.proofs.lemmas.List.{drop_at, drop-drop, length-drop, length-take-
 use Rattle.std.proofs.lemmas.Fmt.{length-decimal-le}
 use borrow.Rule.Slice.PartMut.{put_mid, mid_of, post_of}
 
--- a location has at most 20 digits
-pub length-decimal-location : (n : ℕ) → n < 2 ^ 64 → length (decimal n) ≤ 20
-length-decimal-location n h = length-decimal-le 20 n (omega arith) (omega arith) h
+-- a number of 64 bits has at most 20 digits
+pub length-decimal-20 : (n : ℕ) → n < 2 ^ 64 → length (decimal n) ≤ 20
+length-decimal-20 n h = length-decimal-le 20 n (omega arith) (omega arith) h
 
 -- what follows the word from d on is what the buffer had there
 pub drop-put_mid-start : (a d : ℕ) (xs word : List ℕ) → a ≤ d → d ≤ length xs → drop a (put_mid a (d - a) xs word) ≡ word ++ drop d xs

@@ -2,7 +2,7 @@
 -- a child that returned and wasn't waited for, or serial to a place of that level.
 use Rattle.std.proofs.Common.{◌≡◌, ℕ, suc, ◌<◌, ◌≤◌, true, false, inl, inr, sym, subst, ap, arith}
 use Rattle.std.proofs.lemmas.Bool.{cases_lt, cases_eq}
-use Rattle.trace.proofs.World.{World, spawned_return, called_return, joins, Pending, leaves_by, spawned-returns, spawned-joins, pending-shorter}
+use Rattle.trace.proofs.World.{World, spawned_return, joins, Pending, leaves_by, spawned-returns, spawned-joins, pending-shorter, all_more}
 
 pub record Kept (v : World) (t d i : ℕ) : Type 0 where
   pub closer : ℕ
@@ -22,18 +22,6 @@ pub record Serial (v : World) (t d i : ℕ) : Type 0 where
   pub above : (k : ℕ) → i ≤ k → k ≤ suc t → d ≤ v.depth k
   pub clear : (r : ℕ) → Pending v i spot r → ⊥
 
-one_more : (f : ℕ → ℕ) (d i t : ℕ) → ((k : ℕ) → i < k → k ≤ t → d ≤ f k) → d ≤ f (suc t) → (k : ℕ) → i < k → k ≤ suc t → d ≤ f k
-one_more f d i t h l k x y = elim (cases_eq k (suc t)) [
-  | inl e ↦ (let g : f k ≡ f (suc t) = ap f e in omega arith)
-  | inr n ↦ h k x (omega arith)
-]
-
-one_more_from : (f : ℕ → ℕ) (d i t : ℕ) → ((k : ℕ) → i ≤ k → k ≤ t → d ≤ f k) → d ≤ f (suc t) → (k : ℕ) → i ≤ k → k ≤ suc t → d ≤ f k
-one_more_from f d i t h l k x y = elim (cases_eq k (suc t)) [
-  | inl e ↦ (let g : f k ≡ f (suc t) = ap f e in omega arith)
-  | inr n ↦ h k x (omega arith)
-]
-
 -- one record more, which leaves the level alone
 
 pub kept_stays : (v : World) (t d i : ℕ) → d ≤ v.depth (suc (suc t)) → (v.depth (suc t) ≡ d → joins (v.shape (suc t)) ≡ true → ⊥) → Kept v t d i → Kept v (suc t) d i
@@ -44,7 +32,7 @@ kept_stays v t d i l n h = record {
   a_return = h.a_return;
   level = h.level;
   inside = h.inside;
-  after = one_more v.depth d h.closer (suc t) h.after l;
+  after = all_more v.depth d (suc h.closer) (suc t) h.after l;
   unjoined = λ k x y e s. elim (cases_eq k (suc t)) [
     | inl q ↦ (let f : v.depth k ≡ v.depth (suc t) = ap v.depth q in
         let g : v.shape k ≡ v.shape (suc t) = ap v.shape q in
@@ -59,7 +47,7 @@ serial_stays v t d i l h = record {
   since = h.since;
   upto = omega (arith, h.upto);
   level = h.level;
-  above = one_more_from v.depth d i (suc t) h.above l;
+  above = all_more v.depth d i (suc t) h.above l;
   clear = h.clear;
 }
 
@@ -89,7 +77,7 @@ kept_synced v t d i a b s e l h = record {
   since = omega (arith, h.since, h.upto);
   upto = omega arith;
   level = e;
-  above = one_more_from v.depth d i (suc t) (kept-above v t d i h) l;
+  above = all_more v.depth d i (suc t) (kept-above v t d i h) l;
   clear = λ r p. not_pending_at_sync v t i r a b (subst (λ (z : ℕ). Kept v t z i) (sym e) h) s p;
 }
 
@@ -110,29 +98,6 @@ returned v t d i a s e f h = record {
   where
     between : (k t : ℕ) → suc t < k → k ≤ suc (suc t) → k ≡ suc (suc t)
     between k t x y = omega arith
-
-not_pending_after : (v : World) (t d i r : ℕ) → 1 ≤ i → suc (suc t) ≤ v.size → v.shape (suc t) ≡ called_return → v.depth (suc t) ≡ suc d → joins (v.shape (suc t)) ≡ true
-    → ((k : ℕ) → i ≤ k → k ≤ suc t → suc d ≤ v.depth k) → Pending v i (suc (suc t)) r → ⊥
-not_pending_after v t d i r a b s e j h p = elim (cases_eq r (suc t)) [
-  | inl q ↦ (let f : v.shape r ≡ v.shape (suc t) = ap v.shape q in let g : v.shape r ≡ spawned_return = p.a_return in cc)
-  | inr n ↦ (let l : r < suc t = omega (arith, p.before) in
-      let c : v.depth r ≤ suc (v.depth (suc t)) = p.held (suc t) l (omega arith) in
-      let u : suc (v.depth (suc t)) ≡ v.depth r → ⊥ = λ x. p.unjoined (suc t) l (omega arith) x j in
-      let f : v.depth r ≡ suc (v.depth (suc r)) = leaves_by v r (omega (arith, p.since)) (omega arith) (spawned-returns (v.shape r) p.a_return) in
-      let g : suc d ≤ v.depth (suc r) = h (suc r) (omega (arith, p.since)) l in
-      omega arith)
-]
-
-pub called_returned : (v : World) (t d i : ℕ) → 1 ≤ i → i ≤ suc t → suc (suc t) ≤ v.size → v.shape (suc t) ≡ called_return → v.depth (suc t) ≡ suc d → v.depth (suc (suc t)) ≡ d
-    → ((k : ℕ) → i ≤ k → k ≤ suc t → suc d ≤ v.depth k) → Serial v (suc t) d i
-called_returned v t d i a c b s e f h = record {
-  spot = suc (suc t);
-  since = omega arith;
-  upto = omega arith;
-  level = f;
-  above = one_more_from v.depth d i (suc t) (λ k x y. omega (arith, h k x y)) (omega arith);
-  clear = λ r p. not_pending_after v t d i r a b s e (ap joins s) h p;
-}
 
 -- the place that comes next
 

@@ -8,14 +8,10 @@ use Rattle.std.proofs.lemmas.List.Elements.{All-append}
 use Rattle.std.proofs.lemmas.Fmt.{length-decimal-le}
 use Rattle.trace.specs.declared.records.Record.{Record}
 use Rattle.trace.specs.declared.records.Record.TheVariants.{Spawn, Return, Sync, Read, Write}
-use Rattle.trace.specs.Text.{newline, header, spell, Fits, AllFit, ended, line, text, IsUnended}
+use Rattle.trace.specs.Text.{newline, header, spell, Fits, ended, line, text, IsUnended}
 
 pub text-push : (w : List Record) (r : Record) → text (w ++ r ∷ []) ≡ text w ++ line r
 text-push w r = ap (λ x. ended header ++ x) (flat_map-append line w (r ∷ []) ∙ ap (λ x. flat_map line w ++ x) (append-nil (line r))) ∙ sym (append_assoc (ended header) (flat_map line w) (line r))
-
-pub AllFit-push : (w : List Record) (r : Record) → AllFit w → Fits r → AllFit (w ++ r ∷ [])
-AllFit-push [] r all fits = (fits, tt)
-AllFit-push (x ∷ w) r all fits = (all.0, AllFit-push w r all.1 fits)
 
 -- no line has more than 26 bytes
 pub length-spell : (r : Record) → Fits r → length (spell r) ≤ 26

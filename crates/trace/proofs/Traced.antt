@@ -1,6 +1,7 @@
 -- A well nested trace is a world: its counts give the step law of depth, and its edges and paths are
 -- those of that world.
 use Rattle.std.proofs.Common.{◌≡◌, ◌≢◌, ℕ, zero, suc, ◌+◌, ◌-◌, ◌<◌, ◌≤◌, true, false, List, [], ◌∷◌, length, take, sum_by, get_or, slice_get, Option, Some, None, ◌⊎◌, inl, inr, refl, sym, ◌∙◌, subst, ap, arith, add-one}
+use Rattle.std.proofs.lemmas.Bool.{cases_Bool}
 use Rattle.std.proofs.lemmas.List.Sums.{sum_by_more}
 use Rattle.std.proofs.lemmas.Option.{slice_get_within, get_or_from_slice_get}
 use Rattle.trace.specs.declared.records.Record.{Record}
@@ -10,6 +11,7 @@ use Rattle.trace.specs.Dag as dag
 use Rattle.trace.specs.Dag.{JoinsAt, IsPath, Leads, end_of}
 use Rattle.trace.proofs.World.{World, Shape, access, sync, spawn, call, spawned_return, called_return, Step, Reach, here, next, joins, returns, reach_all}
 use Rattle.trace.proofs.World as world
+use Rattle.trace.proofs.Lists.{element_at}
 
 -- what the record at a place does; the opener of a return is a spawn
 abbrev pub shape_of : Option Record → Shape
@@ -30,11 +32,6 @@ sum-take f w i r e =
     let g : get_or w i r ≡ r = get_or_from_slice_get w i r r e in
     let h : sum_by f (take (i + 1) w) ≡ sum_by f (take i w) + f (get_or w i r) = sum_by_more f w i r l in
     ap (λ (z : ℕ). sum_by f (take z w)) (sym (add-one i)) ∙ (h ∙ ap (λ (x : Record). sum_by f (take i w) + f x) g)
-
-pub has_record : (w : List Record) (i : ℕ) → i < length w → (r : Record) × (slice_get w i ≡ Some r)
-has_record [] i h = absurd (omega arith)
-has_record (r ∷ w) zero h = (r, refl)
-has_record (r ∷ w) (suc i) h = has_record w i (omega arith)
 
 -- what is opened and closed before a place, and after it
 balance_of : (r : Record) (a b c d : ℕ) → b ≤ a → c ≡ a + opens r → d ≡ b + closes r → (r ≡ Return → a - b ≡ 0 → ⊥) → d ≤ c
@@ -58,13 +55,13 @@ not_root w h i r l e s z = h.no_earlier (suc i) l (record { a_return = e ∙ ap 
 pub balanced : (w : List Record) {n d : ℕ} → IsWellNested w n d → (i : ℕ) → i < length w → sum_by closes (take i w) ≤ sum_by opens (take i w)
 balanced w h zero l = omega arith
 balanced w h (suc i) l =
-    let r = has_record w i (omega arith) in
+    let r = element_at w i (omega arith) in
     balance_of r.0 _ _ _ _ (balanced w h i (omega arith)) (sum-take opens w i r.0 r.1) (sum-take closes w i r.0 r.1) (not_root w h i r.0 l r.1)
 
 pub step_at : (w : List Record) {n d : ℕ} → IsWellNested w n d → (i : ℕ) → 1 ≤ i → i < length w → Step (shape_at w i) (depth w i) (depth w (suc i))
 step_at w h zero a b = absurd (omega arith)
 step_at w h (suc i) a b =
-    let r = has_record w i (omega arith) in
+    let r = element_at w i (omega arith) in
     subst (λ (o : Option Record). Step (shape_of o) (depth w (suc i)) (depth w (suc (suc i)))) (sym r.1)
     (step_of r.0 _ _ _ _ (balanced w h i (omega arith)) (sum-take opens w i r.0 r.1) (sum-take closes w i r.0 r.1) (not_root w h i r.0 b r.1))
 
@@ -116,6 +113,9 @@ shape-joins (Some Return) e = inr refl
 shape-joins (Some Sync) e = inl refl
 shape-joins (Some (Read l)) e = absurd (cc)
 shape-joins (Some (Write l)) e = absurd (cc)
+
+pub not_joined : (w : List Record) (i : ℕ) → (JoinsAt w i → ⊥) → joins (shape_at w i) ≡ false
+not_joined w i n = elim (cases_Bool (joins (shape_at w i))) [ inl q ↦ absurd (n (shape-joins (at w i) q)) | inr q ↦ q ]
 
 pub joins-shape : (o : Option Record) → (o ≡ Some Sync) ⊎ (o ≡ Some Return) → joins (shape_of o) ≡ true
 joins-shape o (inl e) = ap (λ (x : Option Record). joins (shape_of x)) e

@@ -9,7 +9,7 @@ use Rattle.trace.specs.declared.records.Record.TheVariants.{Spawn, Return, Sync,
 use Rattle.trace.specs.Traces.{at, depth, IsWellNested}
 use Rattle.trace.specs.Dag.{JoinsAt, IsParallel}
 use Rattle.trace.proofs.World.{World, spawned_return, Step, joins}
-use Rattle.trace.proofs.Traced.{traced, shape_of, shape_at, step_at, shape-joins}
+use Rattle.trace.proofs.Traced.{traced, shape_of, shape_at, step_at, not_joined}
 use Rattle.trace.proofs.Paths.{pending-parallel, parallel-pending}
 use Rattle.trace.proofs.Standing.{Kept, Serial, kept_stays, serial_stays, kept-above, kept_synced, returned, serial_now, kept-pending, serial-not_pending}
 
@@ -113,9 +113,6 @@ walk_write w i t above l pending b e s n d h =
     let z : depth w (suc (suc t)) ≡ depth w (suc t) = step_by w h t (Write l) b e in
     let k = s n d h in
     stays (traced w h) i t above above pending k (omega (arith, k.reached)) (λ x y. not_joins w t (Write l) e refl y)
-
-not_joined : (w : List Record) (i : ℕ) → (JoinsAt w i → ⊥) → joins (shape_at w i) ≡ false
-not_joined w i n = elim (cases_Bool (joins (shape_at w i))) [ inl q ↦ absurd (n (shape-joins (at w i) q)) | inr q ↦ q ]
 
 -- the walk's end
 pub walk_end : (w : List Record) (i t above : ℕ) (pending : Bool) → 1 ≤ i → i < suc t → suc t ≤ length w → Walks w i t above pending

@@ -146,9 +146,6 @@ spawned-returns s e = cc
 pub spawned-joins : (s : Shape) → s ≡ spawned_return → joins s ≡ true
 spawned-joins s e = cc
 
-pub called-returns : (s : Shape) → s ≡ called_return → returns s ≡ true
-called-returns s e = cc
-
 -- the same at a place of a world
 
 pub up : (v : World) (i : ℕ) → 1 ≤ i → i < v.size → v.depth (suc i) ≤ suc (v.depth i)
@@ -280,14 +277,6 @@ pub reach-le : (v : World) (i j : ℕ) → Reach v i j → i ≤ j
 reach-le v i j (here a b) = omega arith
 reach-le v i j (next {j = h} q e) = let g : i ≤ h = reach-le v i h q in omega (arith, e.forth)
 
-pub reach-from : (v : World) (i j : ℕ) → Reach v i j → 1 ≤ i
-reach-from v i j (here a b) = a
-reach-from v i j (next {j = h} q e) = reach-from v i h q
-
-pub reach-to : (v : World) (i j : ℕ) → Reach v i j → j ≤ v.size
-reach-to v i j (here a b) = b
-reach-to v i j (next {j = h} q e) = e.to
-
 pub reach_all : (v : World) (i j k : ℕ) → Reach v i j → Reach v j k → Reach v i k
 reach_all v i j k p (here a b) = p
 reach_all v i j k p (next {j = h} q e) = next (reach_all v i j h p q) e
@@ -312,7 +301,7 @@ pub record LastBelow (v : World) (m i j o : ℕ) : Type 0 where
   pub below : v.depth o < m
   pub after : (k : ℕ) → o < k → k ≤ j → m ≤ v.depth k
 
-all_more : (f : ℕ → ℕ) (m i j : ℕ) → ((k : ℕ) → i ≤ k → k ≤ j → m ≤ f k) → m ≤ f (suc j) → (k : ℕ) → i ≤ k → k ≤ suc j → m ≤ f k
+pub all_more : (f : ℕ → ℕ) (m i j : ℕ) → ((k : ℕ) → i ≤ k → k ≤ j → m ≤ f k) → m ≤ f (suc j) → (k : ℕ) → i ≤ k → k ≤ suc j → m ≤ f k
 all_more f m i j h l k a b = elim (cases_eq k (suc j)) [
   | inl e ↦ (let g : f k ≡ f (suc j) = ap f e in omega arith)
   | inr n ↦ h k a (omega arith)

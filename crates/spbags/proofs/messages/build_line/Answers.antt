@@ -1,6 +1,7 @@
 use Rattle.std.proofs.Common.{◌≡◌, ◌-◌, ◌++◌, length, drop, decimal, arith, sym, ap, ◌∙◌, append_assoc}
 use borrow.Rule.Slice.PartMut.{mid_len}
-use Rattle.spbags.proofs.Lines.{length-decimal-20, length-put_mid, drop-put_mid-start, drop-put_mid-end}
+use Rattle.trace.proofs.SpelledLines.{length-decimal-20, drop-put_mid-start}
+use Rattle.spbags.proofs.Lines.{length-put_mid, drop-put_mid-end}
 use Rattle.spbags.proofs.messages.build_line.Goals as goal
 
 pub write_digits-digits-requires : goal.write_digits-digits-requires

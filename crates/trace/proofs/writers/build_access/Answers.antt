@@ -1,17 +1,17 @@
 use Rattle.std.proofs.Common.{◌≡◌, ◌-◌, [], ◌∷◌, ◌++◌, length, drop, decimal, arith, sym, ap, ◌∙◌, append_assoc}
 use Rattle.trace.specs.Text.{newline}
-use Rattle.trace.proofs.SpelledLines.{length-decimal-location, drop-put_mid-start, length-mid_of}
+use Rattle.trace.proofs.SpelledLines.{length-decimal-20, drop-put_mid-start, length-mid_of}
 use Rattle.trace.proofs.writers.build_access.Goals as goal
 
 pub write_digits-digits-requires : goal.write_digits-digits-requires
-write_digits-digits-requires c = let short = length-decimal-location c.args.location c.ranges.location.fits in (omega arith, omega arith)
+write_digits-digits-requires c = let short = length-decimal-20 c.args.location c.ranges.location.fits in (omega arith, omega arith)
 
 pub overflow_sub-start : goal.overflow_sub-start
-overflow_sub-start c = let short = length-decimal-location c.args.location c.ranges.location.fits in omega arith
+overflow_sub-start c = let short = length-decimal-20 c.args.location c.ranges.location.fits in omega arith
 
 pub copy_from_slice-requires : goal.copy_from_slice-requires
 copy_from_slice-requires c =
-    let short = length-decimal-location c.args.location c.ranges.location.fits in
+    let short = length-decimal-20 c.args.location c.ranges.location.fits in
     let start = c.write_digits-digits.result - length c.args.word.now in
     let same : c.write_digits-digits.result - start ≡ length c.args.word.now = omega arith in
     length-mid_of start c.write_digits-digits.result c.write_digits-digits.new.buf (omega arith) (omega (arith, c.write_digits-digits.auto.buf, c.told-bytes)) ∙ same

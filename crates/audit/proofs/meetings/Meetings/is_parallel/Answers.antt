@@ -2,7 +2,7 @@ use Rattle.std.proofs.Common.{◌≡◌, arith, refl, sym, ◌∙◌, length}
 use Rattle.std.proofs.lemmas.Bool.{lt-ltb, ltb-true}
 use Rattle.std.proofs.lemmas.Option.{slice_get_read}
 use Rattle.audit.proofs.MeetingLemmas.{told_executing, told_waiting, told_none}
-use Rattle.audit.proofs.ListLemmas.{element_at}
+use Rattle.trace.proofs.Lists.{element_at}
 use Rattle.audit.proofs.meetings.Meetings.is_parallel.Goals as goal
 
 pub returns-then-len-depth : goal.returns-then-len-depth
