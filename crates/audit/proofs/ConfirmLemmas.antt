@@ -3,7 +3,7 @@ use Rattle.std.proofs.Common.{◌≡◌, ◌≢◌, ℕ, zero, suc, ◌<◌, ◌
 use Rattle.std.specs.List.{AllByRecursion}
 use Rattle.std.specs.List.Sorted.{IsPartitionedBy, IsPartitionPoint}
 use denote.Enum.Bare.{sameb}
-use Rattle.std.proofs.lemmas.Bool.{cases_lt, cases_eq, and_parts, eqb-true, eq-eqb}
+use Rattle.std.proofs.lemmas.Bool.{cases_lt, cases_eq, and_parts, eqb-true, eq-eqb, ltb-true, ltb-false}
 use Rattle.trace.specs.contracts.records.Kind.{the_type}
 use Rattle.std.proofs.lemmas.List.{append-nil}
 use Rattle.std.proofs.lemmas.List.Sorted.{IsPartitionedBy-ltb}
@@ -35,7 +35,7 @@ use Rattle.audit.specs.Watching.{ComesAfter, WhateverFollows}
 use Rattle.audit.specs.Meetings.{HasMet, TellsParallel, Moves}
 use Rattle.audit.specs.Confirms.{TellsRace, Confirms}
 use Rattle.audit.specs.Confirming.{race_of, races_of, entry_of, AreAscending, HasBegun, Stands, AllStand, Touches, AnswersBy, HasConfirmed}
-use Rattle.audit.proofs.ListLemmas.{record_there, below-true, not-below}
+use Rattle.audit.proofs.ListLemmas.{record_there}
 use Rattle.audit.proofs.MeetingLemmas.{met_next}
 use Rattle.audit.proofs.PairLemmas.{race_by}
 
@@ -389,11 +389,11 @@ nowhere es l n h point other k e s q = by_place (cases_lt k n)
         let b : n < length es = omega (arith, slice_get_within es k e s) in
         let z : nat_lt (get_or es n e).location l ≡ false = point.1 n e (omega arith) b in
         let y : (get_or es n e).location < e.location = h n k (get_or es n e) e (omega arith) (slice_get-get_or es n e b) s in
-        omega (arith, not-below (get_or es n e).location l z)
+        omega (arith, ltb-false (get_or es n e).location l z)
 
     by_place : (k < n) ⊎ (n ≤ k) → ⊥
     by_place (inl c) =
         let z : nat_lt (get_or es k e).location l ≡ true = point.0 k e (omega arith) c in
         let y : (get_or es k e).location ≡ e.location = ap (λ (f : Entry). f.location) at in
-        omega (arith, below-true (get_or es k e).location l z)
+        omega (arith, ltb-true (get_or es k e).location l z)
     by_place (inr c) = at_or_after c (cases_eq n k)

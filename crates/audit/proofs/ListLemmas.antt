@@ -1,6 +1,5 @@
 -- Lists that are longer by one, and the records behind others.
-use Rattle.std.proofs.Common.{◌≡◌, ℕ, Bool, true, false, cond, zero, suc, ◌<◌, ◌≤◌, List, [], ◌∷◌, ◌++◌, length, slice_get, Some, ◌⊎◌, inl, inr, refl, ◌∙◌, ap, arith, length-append, nat_lt}
-use Rattle.std.proofs.lemmas.Bool.{cases_lt, lt-ltb, ltb-true}
+use Rattle.std.proofs.Common.{◌≡◌, ℕ, zero, suc, ◌≤◌, List, [], ◌∷◌, ◌++◌, length, slice_get, Some, ◌⊎◌, inl, inr, refl, ◌∙◌, ap, arith, length-append}
 use Rattle.trace.specs.declared.records.Record.{Record}
 use Rattle.trace.specs.Traces.{at}
 use Rattle.trace.proofs.Places.{at-front, at-seam}
@@ -18,14 +17,3 @@ place_there w u rest r is = omega (arith, ap length is, length-append (u ++ r �
 pub record_there : (w u rest : List Record) (r : Record) → w ≡ (u ++ r ∷ []) ++ rest → at w (suc (length u)) ≡ Some r
 record_there w u rest r is =
     ap (λ (z : List Record). at z (suc (length u))) is ∙ at-front (u ++ r ∷ []) rest (suc (length u)) (omega (arith, length-append u (r ∷ []))) ∙ at-seam u r
-
--- what a test of numbers tells
-
-pub below-true : (a b : ℕ) → nat_lt a b ≡ true → a < b
-below-true a b e = ltb-true a b e
-
-pub not-below : (a b : ℕ) → nat_lt a b ≡ false → b ≤ a
-not-below a b e = elim (cases_lt a b) [
-  | inl q ↦ absurd (let z : nat_lt a b ≡ true = lt-ltb a b q in cc)
-  | inr q ↦ q
-]

@@ -1,6 +1,6 @@
 -- Where an earlier access and the next place meet, by the active procedures, and that these are kept.
 use Rattle.std.proofs.Common.{◌≡◌, ℕ, suc, ◌<◌, ◌≤◌, ◌↔◌, Bool, true, false, List, [], ◌∷◌, ◌++◌, length, slice_get, get_or, nat_lt, Some, ◌⊎◌, inl, inr, refl, sym, ◌∙◌, subst, ap, arith, append_assoc, length-append}
-use Rattle.std.proofs.lemmas.Bool.{cases_lt, cases_eq}
+use Rattle.std.proofs.lemmas.Bool.{cases_lt, cases_eq, ltb-true, ltb-false}
 use Rattle.std.proofs.lemmas.Option.{slice_get_within, slice_get-get_or, get_or_from_slice_get}
 use Rattle.std.specs.List.Sorted.{IsPartitionedBy, IsPartitionPoint}
 use Rattle.std.proofs.lemmas.List.Sorted.{IsPartitionedBy-ltb}
@@ -19,7 +19,7 @@ use Rattle.audit.specs.declared.meetings.Meetings.{Meetings}
 use Rattle.audit.specs.Watching.{ComesAfter}
 use Rattle.audit.specs.Meetings.{IsActive, AreActive, HasMet, TellsParallel, Moves}
 use Rattle.trace.proofs.Lists.{slice_get-front, slice_get-last, element_at}
-use Rattle.audit.proofs.ListLemmas.{slice_get-push, place_there, record_there, below-true, not-below}
+use Rattle.audit.proofs.ListLemmas.{slice_get-push, place_there, record_there}
 
 -- the active procedure at a depth
 data ActiveAt (e : Active) (xs : List Active) (k : ℕ) (f : Active) : Type 0 where
@@ -183,7 +183,7 @@ none_later : (e : Active) (xs : List Active) (place n : ℕ) → place ≤ e.ope
 none_later e xs place n late point l g c (waits i) =
     let z : nat_lt (get_or xs l g).opened place ≡ false = point.1 l g c (slice_get_within xs l g i) in
     let y : (get_or xs l g).opened ≡ g.opened = ap (λ (f : Active). f.opened) (get_or_from_slice_get xs l g g i) in
-    omega (arith, not-below _ _ z)
+    omega (arith, ltb-false _ _ z)
 none_later e xs place n late point l g c (executes i j) = let y : g.opened ≡ e.opened = ap (λ (f : Active). f.opened) j in omega arith
 
 -- a waiting procedure keeps it
@@ -202,7 +202,7 @@ told_waiting m u place deep n k f b met late within count is there s w rest begi
     before =
         let z : nat_lt (get_or m.waiting.items k f).opened place ≡ true = point.0 k f (omega arith) (omega arith) in
         let y : (get_or m.waiting.items k f).opened ≡ f.opened = ap (λ (g : Active). g.opened) (get_or_from_slice_get m.waiting.items k f f there) in
-        omega (arith, below-true _ _ z)
+        omega (arith, ltb-true _ _ z)
 
 -- no procedure keeps it: that doesn't happen
 pub told_none : (m : Meetings) (u : List Record) (place deep n : ℕ) (b : Bool) → HasMet m u → place ≤ m.executing.opened → IsCountBefore m.waiting.items place n → n ≡ 0 → TellsParallel u place deep b

@@ -1,7 +1,6 @@
 -- A line that is built from its end.
-use Rattle.std.proofs.Common.{◌≡◌, ℕ, ◌-◌, ◌^◌, ◌<◌, ◌≤◌, List, [], ◌++◌, length, take, drop, decimal, sym, ap, ◌∙◌, arith, append-nil}
-use Rattle.std.proofs.lemmas.List.{drop_all, drop_at, length-take-le}
-use Rattle.std.proofs.lemmas.Fmt.{length-decimal-le}
+use Rattle.std.proofs.Common.{◌≡◌, ℕ, ◌-◌, ◌≤◌, List, [], ◌++◌, length, drop, sym, ap, ◌∙◌, arith, append-nil}
+use Rattle.std.proofs.lemmas.List.{drop_all}
 use borrow.Rule.Slice.PartMut.{put_mid, same_len_mid, mid_len}
 use Rattle.trace.proofs.SpelledLines.{drop-put_mid-start}
 

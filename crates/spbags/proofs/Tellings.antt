@@ -38,7 +38,6 @@ puts_after b u k (Err _) p q = took_into p q
 
 module _ {result status : ℕ} {text : List ℕ} {out out' : Option (List ℕ)} {failed fails : ℕ} {err err' : Option (List ℕ)} {failed' fails' : ℕ}
     (tells : Tells result status text out out' failed fails err err' failed' fails') where
-
   pub tells_whole : result < 2 → (result ≡ status) × Took text out out' failed fails × IsUntouched err err' failed' fails'
   tells_whole low = go tells
     where
