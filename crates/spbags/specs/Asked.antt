@@ -1,5 +1,5 @@
 -- What the words of a command line may ask for.
-use Rattle.std.specs.Prelude.{◌≡◌, ℕ, ◌<◌, ◌≤◌, Bool, true, false, codes, string_len, string_bytes}
+use Rattle.std.specs.Prelude.{◌≡◌, ℕ, ◌<◌, ◌≤◌, List, [], Bool, true, false, codes, string_len, string_bytes}
 use Rattle.spbags.specs.declared.words.Asked.{Asked}
 use Rattle.spbags.specs.declared.words.Asked.TheVariants.{Check, Pairs, Measure, Confirm}
 
@@ -24,3 +24,17 @@ asks_report (Check c) = false
 asks_report (Pairs p) = false
 asks_report (Measure m) = false
 asks_report (Confirm c) = true
+
+-- the name of the trace's file
+abbrev pub trace_name : Asked → List ℕ
+trace_name (Check c) = string_bytes c.trace
+trace_name (Pairs p) = string_bytes p.trace
+trace_name (Measure m) = string_bytes m.trace
+trace_name (Confirm c) = string_bytes c.trace
+
+-- the name of the report's file; an empty one where none is read
+abbrev pub report_name : Asked → List ℕ
+report_name (Check c) = []
+report_name (Pairs p) = []
+report_name (Measure m) = []
+report_name (Confirm c) = string_bytes c.report

@@ -1,6 +1,6 @@
 //! The command line: what its words ask for.
 ghost use Rattle.std.specs.Prelude.{◌≡◌, ◌<◌, ◌≤◌, string_len, IfOk};
-ghost use Rattle.spbags.specs.Asked.{IsInRange, asks_report};
+ghost use Rattle.spbags.specs.Asked.{IsInRange, asks_report, trace_name, report_name};
 
 use crate::commands::program;
 use clap::error::ErrorKind;
@@ -68,7 +68,9 @@ pub struct Confirm {
 
 impl Asked {
     /// The name of the trace's file.
-    pub fn trace(&self) -> &str {
+    pub fn trace(&self) -> &str
+        ensures { result.now ≡ trace_name self.now }
+    {
         match self {
             Asked::Check(check) => check.trace.as_str(),
             Asked::Pairs(pairs) => pairs.trace.as_str(),
@@ -88,7 +90,9 @@ impl Asked {
     }
 
     /// The name of the report's file; an empty one where none is read.
-    pub fn report(&self) -> &str {
+    pub fn report(&self) -> &str
+        ensures { result.now ≡ report_name self.now }
+    {
         match self {
             Asked::Check(_) | Asked::Pairs(_) | Asked::Measure(_) => "",
             Asked::Confirm(confirm) => confirm.report.as_str(),
