@@ -11,6 +11,7 @@ use crate::telling::close;
 use crate::worker::Worker;
 use lane::{End, Item, Sender, Taker};
 use std::hash::BuildHasher;
+use std::hint::spin_loop;
 use std::sync::Wait;
 use std::thread;
 use trace::Placed;
@@ -46,11 +47,13 @@ pub fn work<R: Wait, S: BuildHasher + Drop, G: Gate>(
         back,
         stopped: false,
     };
+    let mut working = false;
     for _ in rt.forever() {
         match taker.take(rt) {
             Some(Item::One(placed)) => {
                 gate.pass(worker.shard.index(), placed.place);
                 worker.take(rt, placed);
+                working = true;
             }
             Some(Item::Finish) => {
                 let Worker {
@@ -64,8 +67,26 @@ pub fn work<R: Wait, S: BuildHasher + Drop, G: Gate>(
                     shard,
                 };
             }
-            None => thread::yield_now(),
+            None => {
+                rest(working);
+                working = false;
+            }
         }
     }
     unreachable!()
+}
+
+// How often the processor pauses while records gather.
+const PAUSES: u32 = 512;
+
+// Waits at an empty lane. A worker that has just emptied it lets some records gather first: a lane that holds one
+// record at a time passes between two processors at each. Otherwise other threads run.
+fn rest(working: bool) {
+    if working {
+        for _ in 0..PAUSES {
+            spin_loop();
+        }
+    } else {
+        thread::yield_now();
+    }
 }
