@@ -1,7 +1,9 @@
 //! That the rules of SP-bags find just the races of the dag, in every well nested trace.
 
-ghost use Rattle.std.specs.Prelude.{◌≡◌, ℕ, List, [], take, ◌↔◌};
+ghost use Rattle.std.specs.Prelude.{◌≡◌, ◌==◌, ◌%◌, ℕ, List, [], filter, take, ◌↔◌};
 ghost use Rattle.trace.specs.Traces.{placed};
+ghost use Rattle.trace.specs.Shares.{share};
+ghost use Rattle.trace.specs.declared.records.Placed.{Placed};
 ghost use Rattle.trace.specs.Accesses.{RaceAt};
 ghost use Rattle.trace.specs.Races.{IsReport};
 ghost use Rattle.shadow.specs.Found.{found, verdict};
@@ -19,4 +21,10 @@ pub fn dag()
     ensures one_report { OfWellNested (λ w. (rs : List RaceAt) → IsReport w rs → rs ≡ verdict w) }
     ensures racy { OfWellNested (λ w. (l : ℕ) → HasRace w l ↔ HasLocation (verdict w) l) }
     ensures race_free { OfWellNested (λ w. (verdict w ≡ []) ↔ ((l : ℕ) → HasRace w l → ⊥)) }
+{}
+
+/// Of every list of placed records: what is found in a shard's share are the races found in the whole list whose
+/// locations are the shard's.
+pub fn shares()
+    ensures { (k n : ℕ) (u : List Placed) → found (share k n u) ≡ filter (λ r. r.location % n == k) (found u) }
 {}
