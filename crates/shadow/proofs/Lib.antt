@@ -1,3 +1,4 @@
+pub mod BlockLemmas
 pub mod CellLemmas
 pub mod FoundLaws
 pub mod StateLemmas

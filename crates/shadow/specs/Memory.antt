@@ -1,13 +1,12 @@
 -- Shadow memory: what is kept of each location, and how far the run has come.
-use Rattle.std.specs.Prelude.{◌≡◌, ℕ, ◌+◌, ◌<◌, ◌≤◌, List, [], nat_eq, unwrap_or}
-use Rattle.std.specs.Map.{lookup}
+use Rattle.std.specs.Prelude.{◌≡◌, ℕ, ◌+◌, ◌<◌, ◌≤◌, List}
 use Rattle.trace.specs.declared.records.Record.{Record}
 use Rattle.trace.specs.declared.records.Record.TheVariants.{Spawn, Return, Sync, Read, Write}
 use Rattle.trace.specs.declared.records.Placed.{Placed}
 use Rattle.bags.specs.Procedures.{Procedures}
 use Rattle.shadow.specs.Cells.{Cell, untouched}
 use Rattle.shadow.specs.Before.{IsCellBefore}
-use Rattle.shadow.specs.Blocks.{cell_at, page_of, seat_of}
+use Rattle.shadow.specs.Blocks.{block_of, cell_at, page_of, seat_of}
 use Rattle.shadow.specs.Found.{state_after}
 
 -- the blocks of the locations that were touched, the place of the last touch, and the count of its bags
@@ -15,10 +14,6 @@ pub record Memory : Type 0 where
   pub blocks : List (ℕ × List Cell)
   pub last_place : ℕ
   pub least_count : ℕ
-
--- the block of this number, in which nothing is kept where it isn't there
-abbrev pub block_of : List (ℕ × List Cell) → ℕ → List Cell
-block_of blocks page = unwrap_or (lookup (nat_eq page) blocks) []
 
 -- what is kept of a location
 abbrev pub kept_of : Memory → ℕ → Cell

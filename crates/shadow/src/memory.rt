@@ -3,10 +3,10 @@ ghost use Rattle.std.specs.Prelude.{◌≡◌, ℕ, ◌<◌, ◌≤◌, ◌^◌,
 ghost use Rattle.shadow.specs.Cells.{untouched, race_at, touched};
 ghost use Rattle.shadow.specs.Found.{with_cell};
 
-use crate::block::{Block, page_of, seat_of};
+use crate::block::{page_of, seat_of};
+use crate::blocks::Blocks;
 use crate::cell::{Kept, race_at, touched};
 use bags::Bags;
-use indexmap::IndexMap;
 use std::alloc::Global;
 use std::hash::BuildHasher;
 use std::marker::Model;
@@ -15,7 +15,7 @@ use trace::{Kind, NoMemory, Race};
 /// The shadow memory of a serial run: the kept writer and the kept reader of each location.
 #[derive(Drop)]
 pub struct Shadow<S: BuildHasher> {
-    blocks: IndexMap<u64, Block, S>,
+    blocks: Blocks<S>,
     last_place: u64,
     least_count: u64,
 }
@@ -25,9 +25,9 @@ impl<S: BuildHasher> Model for Shadow<S> {
 
     ghost Value = { Memory };
 
-    ghost view = { λ s. record { blocks = s.blocks.entries; last_place = s.last_place; least_count = s.least_count } };
+    ghost view = { λ s. record { blocks = s.blocks; last_place = s.last_place; least_count = s.least_count } };
 
-    ghost invariant = { λ s. IsMemoryBefore (record { blocks = s.blocks.entries; last_place = s.last_place; least_count = s.least_count }) };
+    ghost invariant = { λ s. IsMemoryBefore (record { blocks = s.blocks; last_place = s.last_place; least_count = s.least_count }) };
 }
 
 impl<S: BuildHasher> Shadow<S> {
@@ -40,7 +40,7 @@ impl<S: BuildHasher> Shadow<S> {
         ensures least_count { least_count_of result ≡ 1 }
     {
         Shadow {
-            blocks: IndexMap::with_hasher(alloc, hasher),
+            blocks: Blocks::with_hasher(alloc, hasher),
             last_place: 0,
             least_count: 1,
         }
@@ -83,18 +83,17 @@ impl<S: BuildHasher> Shadow<S> {
     {
         let page = page_of(location);
         let seat = seat_of(location);
-        let race = match self.blocks.get_mut(&page) {
+        let race = match self.blocks.find(page) {
             Some(block) => {
-                let kept = block.cell(seat);
+                let kept = self.blocks.cell(block, page, seat);
                 let race = race_at(bags, location, kind, place, kept);
                 let kept = touched(bags, kind, place, kept, race.is_some());
-                block.put(seat, kept);
+                self.blocks.put(block, page, seat, kept);
                 race
             }
             None => {
-                let mut block = Block::untouched();
-                block.put(seat, touched(bags, kind, place, &Kept::untouched(), false));
-                self.blocks.insert(page, block).map_err(|_| NoMemory)?;
+                let kept = touched(bags, kind, place, &Kept::untouched(), false);
+                self.blocks.add(page, seat, kept)?;
                 None
             }
         };

@@ -1,0 +1,74 @@
+-- Blocks in a list by their numbers: where they stand, and what is kept after one seat was put.
+use Rattle.std.proofs.Common.{◌≡◌, ◌≢◌, ℕ, zero, suc, ◌⊎◌, inl, inr, arith, ⊎_elim, List, [], ◌∷◌, Option, Some, None, Bool, true, false, cond, if◌then◌else◌, ◌==◌, ◌&&◌, nat_eq, unwrap_or, slice_get, option_map, position, get_or, length, ◌<◌, refl, sym, ap, ◌∙◌}
+use Rattle.std.specs.Map.{lookup, keys_of, values_of}
+use Rattle.std.proofs.lemmas.Bool.{eqb-true, eq-eqb, ne_eqb}
+use Rattle.std.proofs.lemmas.Bool.Decides.{eqb_tells}
+use Rattle.std.proofs.lemmas.List.Quantifiers.{position-Some}
+use Rattle.shadow.specs.Cells.{Cell}
+use Rattle.shadow.specs.Blocks.{block_of, cell_at, page_of, seat_of, IsBlockAt, HasPut}
+use Rattle.shadow.specs.Found.{with_cell}
+
+-- a number at the place that its look-up gives
+pub at_its_place : (es : List (ℕ × List Cell)) (i page : ℕ) → position (nat_eq page) (keys_of es) ≡ Some i → IsBlockAt es i page
+at_its_place es i page is =
+    let first = position-Some (nat_eq page) (keys_of es) i 0 is in
+    there es i first.1 first.0 first.2
+  where
+    there : (es : List (ℕ × List Cell)) (i : ℕ) → nat_eq page (get_or (keys_of es) i 0) ≡ true → i < length (keys_of es) → ((k : ℕ) → k < i → nat_eq page (get_or (keys_of es) k 0) ≡ false) → IsBlockAt es i page
+    there [] i at within before = absurd (omega arith)
+    there ((n, b) ∷ es) zero at within before = let same : n ≡ page = sym (eqb-true page n at) in rw at (ap (λ m. Some (m, b)) same)
+    there (e ∷ es) (suc i) at within before = rw (before 0 (omega arith)) (there es i at (omega arith) (λ k lt. before (suc k) (omega arith)))
+
+-- a number that a place has
+pub at_a_place : (es : List (ℕ × List Cell)) (i page : ℕ) (b : List Cell) → slice_get es i ≡ Some (page, b) → lookup (nat_eq page) es ≡ Some b → IsBlockAt es i page
+at_a_place es i page b at looks = at ∙ ap (λ x. Some (page, unwrap_or x [])) (sym looks)
+
+-- the value at a block's place is the block
+pub value_there : (es : List (ℕ × List Cell)) (i page : ℕ) (b : List Cell) → IsBlockAt es i page → Some b ≡ slice_get (values_of es) i → b ≡ block_of es page
+value_there es i page b at is = ap (λ o. unwrap_or o []) (is ∙ go es i (block_of es page) at)
+  where
+    go : (es : List (ℕ × List Cell)) (i : ℕ) (c : List Cell) → slice_get es i ≡ Some (page, c) → slice_get (values_of es) i ≡ Some c
+    go [] i c e = ap (λ (o : Option (ℕ × List Cell)). option_map (λ p. p.1) o) e
+    go ((n, d) ∷ es) zero c e = ap (λ (o : Option (ℕ × List Cell)). option_map (λ p. p.1) o) e
+    go (d ∷ es) (suc i) c e = go es i c e
+
+-- what is kept after one block was changed in one seat, where each look-up tells so
+pub put_changed : (es fs : List (ℕ × List Cell)) (page seat : ℕ) (c : Cell) (b : List Cell)
+    → ((k : ℕ) → cell_at b k ≡ (if k == seat then c else cell_at (block_of es page) k))
+    → ((q : ℕ) → lookup (nat_eq q) fs ≡ cond (nat_eq page q) (Some b) (lookup (nat_eq q) es))
+    → HasPut page seat c es fs
+put_changed es fs page seat c b seats looks q k = rw looks (⊎_elim same other (eqb_tells page q))
+  where
+    Changed : Type 0
+    Changed = cell_at (unwrap_or (cond (nat_eq page q) (Some b) (lookup (nat_eq q) es)) []) k ≡ (if q == page && k == seat then c else cell_at (block_of es q) k)
+
+    same : (nat_eq page q ≡ true) × (page ≡ q) → Changed
+    same (is, e) = rw (is, eq-eqb q page (sym e)) (seats k ∙ ap (λ p. if k == seat then c else cell_at (block_of es p) k) e)
+
+    other : (nat_eq page q ≡ false) × (page ≢ q) → Changed
+    other (is, ne) = rw (is, ne_eqb q page (λ e. ne (sym e))) refl
+
+-- two locations of one block have seats of their own
+one_seat : (l q : ℕ) → page_of l ≡ page_of q → seat_of l ≡ seat_of q → l ≡ q
+one_seat l q pages seats = omega (arith, pages, seats)
+
+-- a location's cell is a seat of its own, so a put there changes what is kept of no other location
+pub put_is_of : (es fs : List (ℕ × List Cell)) (l : ℕ) (c : Cell) → HasPut (page_of l) (seat_of l) c es fs
+    → (q : ℕ) → cell_at (block_of fs (page_of q)) (seat_of q) ≡ with_cell l c (λ n. cell_at (block_of es (page_of n)) (seat_of n)) q
+put_is_of es fs l c put q = put (page_of q) (seat_of q) ∙ ap (λ t. if t then c else cell_at (block_of es (page_of q)) (seat_of q)) (⊎_elim same other (eqb_tells q l))
+  where
+    One : Type 0
+    One = (page_of q == page_of l && seat_of q == seat_of l) ≡ (q == l)
+
+    same : (nat_eq q l ≡ true) × (q ≡ l) → One
+    same (is, e) = rw (is, eq-eqb (page_of q) (page_of l) (ap page_of e), eq-eqb (seat_of q) (seat_of l) (ap seat_of e)) refl
+
+    other : (nat_eq q l ≡ false) × (q ≢ l) → One
+    other (is, ne) = rw is (not_both (eqb_tells (page_of q) (page_of l)) (eqb_tells (seat_of q) (seat_of l)))
+      where
+        not_both : ((nat_eq (page_of q) (page_of l) ≡ true) × (page_of q ≡ page_of l)) ⊎ ((nat_eq (page_of q) (page_of l) ≡ false) × (page_of q ≢ page_of l))
+            → ((nat_eq (seat_of q) (seat_of l) ≡ true) × (seat_of q ≡ seat_of l)) ⊎ ((nat_eq (seat_of q) (seat_of l) ≡ false) × (seat_of q ≢ seat_of l))
+            → (page_of q == page_of l && seat_of q == seat_of l) ≡ false
+        not_both (inl (p, pages)) (inl (s, seats)) = absurd (ne (one_seat q l pages seats))
+        not_both (inl (p, pages)) (inr (s, seats)) = rw (p, s) refl
+        not_both (inr (p, pages)) s = rw p refl

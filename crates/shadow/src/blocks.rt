@@ -1,0 +1,131 @@
+//! The blocks that were touched, by their numbers.
+ghost use Rattle.std.specs.Prelude.{◌≡◌, ◌<◌, [], IfSome, IfNone, IsTrue, OnOk, OnErr};
+ghost use Rattle.shadow.specs.Blocks.{block_of, cell_at, IsBlockAt, HasPut};
+
+use crate::block::Block;
+use crate::cell::Kept;
+use indexmap::IndexMap;
+use std::alloc::Global;
+use std::hash::BuildHasher;
+use std::marker::Model;
+use trace::NoMemory;
+
+/// How many places are remembered.
+const SLOTS: u64 = 256;
+
+/// Blocks by their numbers. Where a late look-up found a block is remembered, and tried first at the next one.
+#[derive(Drop)]
+pub struct Blocks<S: BuildHasher> {
+    map: IndexMap<u64, Block, S>,
+    // Places in the map, one for all numbers of a slot. None of them is trusted.
+    recent: [usize; 256],
+}
+
+impl<S: BuildHasher> Model for Blocks<S> {
+    ghost use Rattle.std.specs.Prelude.{ℕ, List};
+    ghost use Rattle.shadow.specs.Cells.{Cell};
+
+    ghost Value = { List (ℕ × List Cell) };
+
+    ghost view = { λ b. b.map.entries };
+}
+
+impl<S: BuildHasher> Blocks<S> {
+    /// No block. It takes no memory.
+    pub fn with_hasher(alloc: Global, hasher: S) -> Blocks<S>
+        ensures { result ≡ [] }
+    {
+        Blocks {
+            map: IndexMap::with_hasher(alloc, hasher),
+            recent: [0; 256],
+        }
+    }
+
+    /// Where the block of this number stands, if it is there.
+    #[inline(always)]
+    pub fn find(&mut self, page: u64) -> Option<usize>
+        ensures same { self.new ≡ self.old }
+        ensures found { IfSome result (λ i. IsBlockAt self.old i page) }
+        ensures none { IfNone result (block_of self.old page ≡ []) }
+    {
+        let slot = slot_of(page);
+        let place = self.recent[slot];
+        if self.is_at(place, page) {
+            return Some(place);
+        }
+        self.look_up(slot, page)
+    }
+
+    #[inline(always)]
+    fn is_at(&self, place: usize, page: u64) -> bool
+        ensures { IsTrue result → IsBlockAt self.now place page }
+    {
+        match self.map.get_index(place) {
+            Some((found, _)) => *found == page,
+            None => false,
+        }
+    }
+
+    #[inline(never)]
+    fn look_up(&mut self, slot: usize, page: u64) -> Option<usize>
+        requires { slot < 256 }
+        ensures same { self.new ≡ self.old }
+        ensures found { IfSome result (λ i. IsBlockAt self.old i page) }
+        ensures none { IfNone result (block_of self.old page ≡ []) }
+    {
+        let place = self.map.get_index_of(&page)?;
+        self.recent[slot] = place;
+        Some(place)
+    }
+
+    /// What the block that stands here keeps in this seat.
+    #[inline(always)]
+    pub fn cell(&self, place: usize, page: u64, seat: usize) -> &Kept
+        requires there { IsBlockAt self.now place page }
+        requires within { seat < 8 }
+        ensures { result.now ≡ cell_at (block_of self.now page) seat }
+    {
+        match self.map.get_index(place) {
+            Some((_, block)) => block.cell(seat),
+            None => unreachable!(),
+        }
+    }
+
+    /// Keeps this in the seat of the block that stands here.
+    #[inline(always)]
+    pub fn put(&mut self, place: usize, page: u64, seat: usize, kept: Kept)
+        requires there { IsBlockAt self.old place page }
+        requires within { seat < 8 }
+        ensures { HasPut page seat kept self.old self.new }
+    {
+        match self.map.get_index_mut(place) {
+            Some(block) => block.put(seat, kept),
+            None => unreachable!(),
+        }
+    }
+
+    /// Adds the block of this number, and keeps this in its seat.
+    ///
+    /// On an error nothing has changed.
+    #[cold]
+    #[inline(never)]
+    pub fn add(&mut self, page: u64, seat: usize, kept: Kept) -> Result<(), NoMemory>
+        requires new { block_of self.old page ≡ [] }
+        requires within { seat < 8 }
+        ensures ok { OnOk result (HasPut page seat kept self.old self.new) }
+        ensures err { OnErr result (self.new ≡ self.old) }
+    {
+        let mut block = Block::untouched();
+        block.put(seat, kept);
+        self.map.insert(page, block).map_err(|_| NoMemory)?;
+        Ok(())
+    }
+}
+
+// The slot of a block's number. Numbers of blocks that lie side by side have slots of their own.
+#[inline(always)]
+fn slot_of(page: u64) -> usize
+    ensures { result < 256 }
+{
+    ((page / 8 + page % SLOTS) % SLOTS) as usize
+}
