@@ -17,9 +17,9 @@ take_six (u ∷ xs) a b c d e f h p q r s t v = let rest = take_five xs b c d e 
 take_six [] a b c d e f h p q r s t v = absurd (omega arith)
 
 -- a word, and after it digits in front of a line's end
-pub word_and_digits : (piece word digits : List ℕ) (k d n : ℕ) → take k piece ≡ word → digits ≡ take 20 (drop k piece) → d < 20 → k + 20 ≤ length piece → take d digits ≡ decimal n → get_or digits d 0 ≡ newline
+pub word_and_digits : (piece word digits : List ℕ) (k d n : ℕ) → take k piece ≡ word → digits ≡ take 16 (drop k piece) → d < 16 → k + 16 ≤ length piece → take d digits ≡ decimal n → get_or digits d 0 ≡ newline
     → take (k + (d + 1)) piece ≡ word ++ ended (decimal n)
 word_and_digits piece word digits k d n front is few room spelled end =
-    let within : d < length digits = omega (arith, ap length is, length-take 20 (drop k piece), length-drop k piece) in
+    let within : d < length digits = omega (arith, ap length is, length-take 16 (drop k piece), length-drop k piece) in
     take-add k (d + 1) piece ∙ ap (λ x. x ++ take (d + 1) (drop k piece)) front
-    ∙ ap (λ x. word ++ x) (sym (ap (take (d + 1)) is ∙ take-take (d + 1) 20 (drop k piece) (omega arith)) ∙ take_more digits d 0 within ∙ ap (λ x. x ++ get_or digits d 0 ∷ []) spelled ∙ ap (λ x. decimal n ++ x ∷ []) end)
+    ∙ ap (λ x. word ++ x) (sym (ap (take (d + 1)) is ∙ take-take (d + 1) 16 (drop k piece) (omega arith)) ∙ take_more digits d 0 within ∙ ap (λ x. x ++ get_or digits d 0 ∷ []) spelled ∙ ap (λ x. decimal n ++ x ∷ []) end)

@@ -19,4 +19,5 @@ pub mod Parts
 pub mod SpelledLines
 pub mod Cuttings
 pub mod ShareLemmas
+pub mod Sixteens
 pub mod Runs

@@ -7,6 +7,7 @@ pub mod Races
 pub mod Meeting
 pub mod Shares
 pub mod Devices
+pub mod Digits
 pub mod Reading
 pub mod Nesting
 pub mod Cuts

@@ -2,6 +2,7 @@
 #![tactic(auto)]
 
 pub mod devices;
+mod digits;
 pub mod faults;
 pub mod feeding;
 pub mod laws;

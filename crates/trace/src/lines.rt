@@ -105,7 +105,7 @@ fn read_of(piece: &[u8]) -> Option<Front>
     if piece[4] != b' ' {
         return None;
     }
-    let Some(number) = number_of(&piece[5..25]) else {
+    let Some(number) = number_of(&piece[5..21]) else {
         return None;
     };
     Some(Front {
@@ -127,7 +127,7 @@ fn write_of(piece: &[u8]) -> Option<Front>
     if piece[4] != b'e' || piece[5] != b' ' {
         return None;
     }
-    let Some(number) = number_of(&piece[6..26]) else {
+    let Some(number) = number_of(&piece[6..22]) else {
         return None;
     };
     Some(Front {

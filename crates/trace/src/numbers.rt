@@ -2,6 +2,9 @@ ghost use Rattle.std.specs.Prelude.{◌≡◌, ◌≢◌, ℕ, ◌<◌, ◌≤�
 ghost use Rattle.trace.specs.Text.{newline};
 ghost use Rattle.std.specs.Str.Parse.{AllDigits, digits_value};
 
+use crate::digits::{first_other, moved_back, number_from};
+use std::simd::prelude::*;
+
 /// The number below 2^64 that the bytes spell in decimal: `0`, or digits with no zero in front.
 pub fn decimal_of(digits: &[u8]) -> Option<u64>
     ensures found { IfSome result (λ n. digits.now ≡ decimal n) }
@@ -46,36 +49,22 @@ pub struct Number {
     pub digits: usize,
 }
 
-/// The number in front of a line's end, where it is easily told: one of 1 to 19 digits that doesn't
+/// The number in front of a line's end, where it is easily told: one of 1 to 15 digits that doesn't
 /// begin with 0. The answer `None` says nothing.
 #[inline(always)]
 pub fn number_of(bytes: &[u8]) -> Option<Number>
-    requires { length bytes.now ≡ 20 }
-    ensures within { IfSome result (λ n. n.digits < 20) }
+    requires { length bytes.now ≡ 16 }
+    ensures within { IfSome result (λ n. n.digits < 16) }
     ensures spelled { IfSome result (λ n. take n.digits bytes.now ≡ decimal n.value) }
     ensures ended { IfSome result (λ n. slice_index bytes.now n.digits ≡ newline) }
 {
-    if bytes[0] == b'0' || bytes[0] == b'\n' {
+    let values = u8x16::from_slice(bytes) - u8x16::splat(b'0');
+    let digits = first_other(values)?;
+    if digits == 0 || bytes[0] == b'0' || bytes[digits] != b'\n' {
         return None;
     }
-    let mut value: u64 = 0;
-    let mut count: usize = 0;
-    for byte in bytes {
-        if !byte.is_ascii_digit() {
-            return if *byte == b'\n' {
-                Some(Number {
-                    value,
-                    digits: count,
-                })
-            } else {
-                None
-            };
-        }
-        if count == 19 {
-            return None;
-        }
-        value = value * 10 + u64::from(*byte - b'0');
-        count += 1;
-    }
-    None
+    Some(Number {
+        value: number_from(moved_back(values, digits)),
+        digits,
+    })
 }

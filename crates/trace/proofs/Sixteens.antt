@@ -1,0 +1,275 @@
+-- Sixteen digits in a vector: which are digits, how they are moved, and the number that they write.
+use Rattle.std.proofs.Common.{◌≡◌, ◌≢◌, decimal, ℕ, zero, suc, ◌+◌, ◌-◌, ◌*◌, ◌/◌, ◌%◌, ◌^◌, ◌<◌, ◌≤◌, Bool, true, false, not, cond, leb, w8, Fits, take_all, List, [], ◌∷◌, ◌++◌, map, length, take, drop, get_or, replicate, refl, sym, ap, ◌∙◌, arith, length-append, length-take, mod-eq_of_lt, div-lt_iff_lt-mul, div-add-mod', pow-suc, bit_and}
+use native.Mathlib.Decide.{dec_le}
+use Rattle.std.proofs.Math.Seq.{drop-cons}
+use Rattle.std.proofs.Math.Nat.{add-mul-mod_self_left, add-mul-div_left, mul-le-mul_left, div-eq_of_lt}
+use Rattle.std.proofs.lemmas.Bool.{le-leb, lt-leb, leb-false}
+use Rattle.std.proofs.lemmas.List.{length-map, length-replicate, drop_all, get_or-append-add, get_or_append_left, get_or-replicate, get_or-take}
+use Rattle.std.proofs.lemmas.List.Sums.{prefix_len-le-length}
+use Rattle.std.proofs.lemmas.Nat.{and_mask}
+use Rattle.std.proofs.lemmas.Int.Digits.{number_lt}
+use Rattle.trace.proofs.Decimals.{front_is_decimal}
+use Rattle.std.proofs.lemmas.Simd.{zip2_splat, tops_compared, zip2_splat_left, mask_l-mod, trailing_mask_l}
+use Rattle.std.specs.Int.Digits.{number_from_digits, number_from_digits_after, AllBelowBase}
+use Rattle.std.specs.List.{prefix_len}
+use lib.Count.{count_trailing_zeros}
+use Rattle.std.specs.Char.{digit_value}
+use Rattle.std.specs.Str.Parse.{AllDigits, digits_value_after}
+use Rattle.std.proofs.lemmas.Str.{digit_value_digit}
+use lib.Lanes.{Each1, mask_l, top, zip2, number_l, digits_l}
+use Rattle.trace.specs.Digits.{paired}
+
+-- ---- the values that are no digit's
+
+abbrev at_most : ℕ → ℕ → ℕ
+at_most a b = cond (leb a b) 255 0
+
+abbrev marks : List ℕ → ℕ
+marks v = mask_l (map (top 7) (zip2 at_most (replicate 16 10) v)) % 2 ^ 64
+
+marks_are : (v : List ℕ) → length v ≡ 16 → marks v ≡ mask_l (map (leb 10) v)
+marks_are v long = ap (λ ms. mask_l ms % 2 ^ 64) (tops_compared w8 leb (replicate 16 10) v ∙ zip2_splat_left leb 10 16 v long) ∙ mask_l-mod (map (leb 10) v) 64 (omega (arith, length-map v (leb 10)))
+
+abbrev is_digit : ℕ → Bool
+is_digit x = not (leb 10 x)
+
+none_marked : (v : List ℕ) → prefix_len is_digit v ≡ length v → mask_l (map (leb 10) v) ≡ 0
+none_marked [] e = refl
+none_marked (x ∷ xs) e = go (leb 10 x) refl (none_marked xs)
+  where
+    go : (b : Bool) → leb 10 x ≡ b → (prefix_len is_digit xs ≡ length xs → mask_l (map (leb 10) xs) ≡ 0) → mask_l (map (leb 10) (x ∷ xs)) ≡ 0
+    go true is rest = absurd (omega (arith, rw is at e))
+    go false is rest = rw is (omega (arith, rest (omega (arith, rw is at e))))
+
+front_below : (v : List ℕ) → AllBelowBase 10 (take (prefix_len is_digit v) v)
+front_below [] = tt
+front_below (x ∷ xs) = go (leb 10 x) refl (front_below xs)
+  where
+    go : (b : Bool) → leb 10 x ≡ b → AllBelowBase 10 (take (prefix_len is_digit xs) xs) → AllBelowBase 10 (take (prefix_len is_digit (x ∷ xs)) (x ∷ xs))
+    go true is rest = rw is tt
+    go false is rest =
+        let longer : prefix_len is_digit (x ∷ xs) ≡ suc (prefix_len is_digit xs) = rw is (omega arith) in
+        let small : x < 10 = leb-false 10 x is in
+        rw longer (small, rest)
+
+pub first_is : (v : List ℕ) → length v ≡ 16 → (marks v ≡ 0 → ⊥) → (count_trailing_zeros 64 (marks v) < 16) × AllBelowBase 10 (take (count_trailing_zeros 64 (marks v)) v)
+first_is v long some =
+    let is = marks_are v long in
+    let marked : 0 < mask_l (map (leb 10) v) = omega (arith, is, some) in
+    let first : count_trailing_zeros 64 (marks v) ≡ prefix_len is_digit v = ap (count_trailing_zeros 64) is ∙ trailing_mask_l (leb 10) 64 v (omega arith) marked in
+    let most = prefix_len-le-length is_digit v in
+    let less : prefix_len is_digit v < 16 = elim (dec_le 16 (prefix_len is_digit v)) [ yes all ↦ absurd (omega (arith, none_marked v (omega arith))) | no few ↦ omega arith ] in
+    rw first (less, front_below v)
+
+-- ---- the values moved to the back
+
+abbrev moved_at : List ℕ → ℕ → ℕ → ℕ
+moved_at v n j = cond (leb 128 ((j + (240 + n)) % 256)) 0 (get_or v (0 + (j + (240 + n)) % 256) 0)
+
+abbrev from : ℕ → ℕ → List ℕ
+from j zero = []
+from j (suc m) = j ∷ from (suc j) m
+
+abbrev zeros : ℕ → List ℕ
+zeros n = replicate (16 - n) 0
+
+zeros_long : (n : ℕ) → length (zeros n) ≡ 16 - n
+zeros_long n = length-replicate {A = ℕ} (16 - n) 0
+
+abbrev behind : ℕ → List ℕ → List ℕ
+behind n v = zeros n ++ take n v
+
+module _ (v : List ℕ) (n : ℕ) (long : length v ≡ 16) (few : n < 16) where
+  behind_long : length (behind n v) ≡ 16
+  behind_long = omega (arith, length-append (zeros n) (take n v), zeros_long n, length-take n v)
+
+  is_at : (j : ℕ) → j < 16 → moved_at v n j ≡ get_or (behind n v) j 0
+  is_at j within = go (dec_le (suc j) (16 - n))
+    where
+      go : Dec (suc j ≤ 16 - n) → moved_at v n j ≡ get_or (behind n v) j 0
+      go (yes front) =
+          let place : (j + (240 + n)) % 256 ≡ j + (240 + n) = omega arith in
+          let high : leb 128 (j + (240 + n)) ≡ true = le-leb 128 (j + (240 + n)) (omega arith) in
+          rw (place, high) (sym (get_or_append_left (zeros n) (take n v) 0 j (omega (arith, zeros_long n)) ∙ get_or-replicate (16 - n) j 0 0 front))
+      go (no back) =
+          let place : (j + (240 + n)) % 256 ≡ j - (16 - n) = omega arith in
+          let low : leb 128 (j - (16 - n)) ≡ false = lt-leb 128 (j - (16 - n)) (omega arith) in
+          let at : j ≡ length (zeros n) + (j - (16 - n)) = omega (arith, zeros_long n) in
+          rw (place, low, native.Mathlib.Nat.zero-add (j - (16 - n))) (sym (ap (λ i. get_or (behind n v) i 0) at ∙ get_or-append-add (zeros n) (take n v) (j - (16 - n)) 0 ∙ get_or-take n v (j - (16 - n)) 0 (omega arith)))
+
+  pub moved : (m j : ℕ) → j + m ≡ 16 → map (moved_at v n) (from j m) ≡ drop j (behind n v)
+  moved zero j e = sym (drop_all j (behind n v) (omega (arith, behind_long)))
+  moved (suc m) j e = (λ i. is_at j (omega arith) i ∷ moved m (suc j) (omega arith) i) ∙ sym (drop-cons (behind n v) j 0 (omega (arith, behind_long)))
+
+-- ---- the number that they write
+
+abbrev even : ℕ → List ℕ → Type 0
+even n ds = length ds ≡ n + n
+
+pub same_number : (b n k : ℕ) (ds : List ℕ) → length ds ≡ k + k → number_from_digits_after b n ds ≡ number_from_digits_after (b * b) n (paired b ds)
+same_number b n k [] e = refl
+same_number b n k (x ∷ []) e = absurd (omega arith)
+same_number b n zero (x ∷ y ∷ ds) e = absurd (omega arith)
+same_number b n (suc k) (x ∷ y ∷ ds) e =
+    let one : (n * b + x) * b + y ≡ n * (b * b) + (x * b + y) = omega arith in
+    ap (λ m. number_from_digits_after b m ds) one ∙ same_number b (n * (b * b) + (x * b + y)) k ds (omega arith)
+
+-- ---- two digits a lane
+
+-- the two digits of a lane in base b * b, the first one in its lower half
+abbrev joined : ℕ → List ℕ → List ℕ
+joined b (x ∷ y ∷ zs) = (x + b * y) ∷ joined b zs
+joined b (x ∷ []) = x ∷ []
+joined b [] = []
+
+module _ (b : ℕ) (some : 0 < b) where
+  one_lane : (x y r : ℕ) → x < b → y < b → ((x + b * (y + b * r)) % (b * b) ≡ x + b * y) × ((x + b * (y + b * r)) / (b * b) ≡ r)
+  one_lane x y r X Y =
+      let e : x + b * (y + b * r) ≡ x + b * y + b * b * r = omega arith in
+      let fits : x + b * y < b * b = omega (arith, mul-le-mul_left {m = suc y} {n = b} b Y) in
+      let whole : 0 < b * b = omega arith in
+      rw e (add-mul-mod_self_left (x + b * y) (b * b) r ∙ mod-eq_of_lt fits, omega (arith, add-mul-div_left (x + b * y) r whole, div-eq_of_lt fits))
+
+  lanes : (n : ℕ) (zs : List ℕ) → length zs ≡ n + n → AllBelowBase b zs → digits_l (b * b) n (number_l b zs) ≡ joined b zs
+  lanes zero [] e h = refl
+  lanes zero (x ∷ zs) e h = absurd (omega arith)
+  lanes (suc n) [] e h = absurd (omega arith)
+  lanes (suc n) (x ∷ []) e h = absurd (omega arith)
+  lanes (suc n) (x ∷ y ∷ zs) e h =
+      let one = one_lane x y (number_l b zs) h.0 h.1.0 in
+      (λ i. one.0 i ∷ digits_l (b * b) n (one.1 i)) ∙ ap (λ l. (x + b * y) ∷ l) (lanes n zs (omega arith) h.1.1)
+
+below_all : (b c : ℕ) → b ≤ c → (zs : List ℕ) → AllBelowBase b zs → AllBelowBase c zs
+below_all b c le [] h = tt
+below_all b c le (z ∷ zs) h = (omega (arith, h.0), below_all b c le zs h.1)
+
+pub paired_below : (b : ℕ) → 0 < b → (zs : List ℕ) → AllBelowBase b zs → AllBelowBase (b * b) (paired b zs)
+paired_below b some [] h = tt
+paired_below b some (x ∷ []) h = (omega (arith, h.0, mul-le-mul_left {m = 1} {n = b} b some), tt)
+paired_below b some (x ∷ y ∷ zs) h = (omega (arith, h.0, h.1.0, mul-le-mul_left {m = suc x} {n = b} b h.0), paired_below b some zs h.1.1)
+
+module _ (b : ℕ) (base : ℕ) (lane : ℕ → ℕ) (is : (x y : ℕ) → x < base → y < base → lane (x + b * y) ≡ x * base + y) where
+  each_lane : (n : ℕ) (zs : List ℕ) → length zs ≡ n + n → AllBelowBase base zs → map lane (joined b zs) ≡ paired base zs
+  each_lane zero [] e h = refl
+  each_lane zero (x ∷ zs) e h = absurd (omega arith)
+  each_lane (suc n) [] e h = absurd (omega arith)
+  each_lane (suc n) (x ∷ []) e h = absurd (omega arith)
+  each_lane (suc n) (x ∷ y ∷ zs) e h = let one = is x y h.0 h.1.0 in λ i. one i ∷ each_lane n zs (omega arith) h.1.1 i
+
+-- a lane whose lower half has one digit and whose upper half the next, after a multiplication and a shift
+abbrev shifted : ℕ → ℕ → ℕ → ℕ
+shifted b base z = z * (base * b + 1) % (b * b) / b
+
+two_digits : (x y : ℕ) → x < 10 → y < 10 → shifted 256 10 (x + 256 * y) ≡ x * 10 + y
+two_digits x y X Y = omega arith
+
+four_digits : (x y : ℕ) → x < 100 → y < 100 → shifted 65536 100 (x + 65536 * y) ≡ x * 100 + y
+four_digits x y X Y = omega arith
+
+pub twos_are : (ds : List ℕ) → length ds ≡ 16 → AllBelowBase 10 ds → map (shifted 256 10) (digits_l 65536 8 (number_l 256 ds)) ≡ paired 10 ds
+twos_are ds long h = ap (map (shifted 256 10)) (lanes 256 (omega arith) 8 ds long (below_all 10 256 (omega arith) ds h)) ∙ each_lane 256 10 (shifted 256 10) two_digits 8 ds long h
+
+number_of_digits : (p n x : ℕ) → 0 < p → x < p ^ n → number_l p (digits_l p n x) ≡ x
+number_of_digits p zero x P h = omega (arith, native.Mathlib.Nat.pow-zero p)
+number_of_digits p (suc n) x P h =
+    let less : x / p < p ^ n = (div-lt_iff_lt-mul P).1 (rw (← pow-suc p n) h) in
+    rw (number_of_digits p n (x / p) P less) (omega (arith, div-add-mod' x p))
+
+-- lanes seen as bytes, and the bytes as wider lanes
+abbrev regrouped : ℕ → ℕ → ℕ → List ℕ → List ℕ
+regrouped b c n zs = digits_l c n (number_l 256 (digits_l 256 16 (number_l b zs)))
+
+number_below : (b : ℕ) → 0 < b → (zs : List ℕ) → AllBelowBase b zs → number_l b zs < b ^ length zs
+number_below b some [] h = omega (arith, native.Mathlib.Nat.pow-zero b)
+number_below b some (z ∷ zs) h = omega (arith, h.0, pow-suc b (length zs), mul-le-mul_left {m = suc (number_l b zs)} {n = b ^ length zs} b (number_below b some zs h.1))
+
+regrouped_is : (b c n : ℕ) → 0 < b → (zs : List ℕ) → AllBelowBase b zs → b ^ length zs ≡ 256 ^ 16 → regrouped b c n zs ≡ digits_l c n (number_l b zs)
+regrouped_is b c n some zs h e = let below = number_below b some zs h in ap (digits_l c n) (number_of_digits 256 16 (number_l b zs) (omega arith) (rw e at below))
+
+pub fours_are : (zs : List ℕ) → length zs ≡ 8 → AllBelowBase 100 zs → map (shifted 65536 100) (regrouped 65536 4294967296 4 zs) ≡ paired 100 zs
+fours_are zs long h =
+    let wide = below_all 100 65536 (omega arith) zs h in
+    ap (map (shifted 65536 100)) (regrouped_is 65536 4294967296 4 (omega arith) zs wide (ap (λ n. 65536 ^ n) long) ∙ lanes 65536 (omega arith) 4 zs long wide)
+    ∙ each_lane 65536 100 (shifted 65536 100) four_digits 4 zs long h
+
+abbrev added : ℕ → ℕ
+added w = (bit_and w 4294967295 * 10000 % 18446744073709551616 + w / 4294967296) % 18446744073709551616
+
+eight_digits : (x y : ℕ) → x < 10000 → y < 10000 → added (x + 4294967296 * y) ≡ x * 10000 + y
+eight_digits x y X Y = omega (arith, and_mask (x + 4294967296 * y) 32)
+
+pub eights_are : (zs : List ℕ) → length zs ≡ 4 → AllBelowBase 10000 zs → map added (regrouped 4294967296 18446744073709551616 2 zs) ≡ paired 10000 zs
+eights_are zs long h =
+    let wide = below_all 10000 4294967296 (omega arith) zs h in
+    ap (map added) (regrouped_is 4294967296 18446744073709551616 2 (omega arith) zs wide (ap (λ n. 4294967296 ^ n) long) ∙ lanes 4294967296 (omega arith) 2 zs long wide)
+    ∙ each_lane 4294967296 10000 added eight_digits 2 zs long h
+
+paired_long : (b k : ℕ) (ds : List ℕ) → length ds ≡ k + k → length (paired b ds) ≡ k
+paired_long b k [] e = omega arith
+paired_long b k (x ∷ []) e = absurd (omega arith)
+paired_long b zero (x ∷ y ∷ ds) e = absurd (omega arith)
+paired_long b (suc k) (x ∷ y ∷ ds) e = omega (arith, paired_long b k ds (omega arith))
+
+two_written : (r : List ℕ) → length r ≡ 2 → get_or r 0 0 * 100000000 + get_or r 1 0 ≡ number_from_digits 100000000 r
+two_written [] e = absurd (omega arith)
+two_written (x ∷ []) e = absurd (omega arith)
+two_written (x ∷ y ∷ []) e = omega arith
+two_written (x ∷ y ∷ z ∷ r) e = absurd (omega arith)
+
+pub number_is : (ds : List ℕ) → length ds ≡ 16 → let r = paired 10000 (paired 100 (paired 10 ds)) in get_or r 0 0 * 100000000 + get_or r 1 0 ≡ number_from_digits 10 ds
+number_is ds long =
+    let twos = paired 10 ds in
+    let fours = paired 100 twos in
+    let eight = paired_long 10 8 ds long in
+    let four = paired_long 100 4 twos eight in
+    two_written (paired 10000 fours) (paired_long 10000 2 fours four)
+    ∙ sym (same_number 10 0 8 ds long ∙ same_number 100 0 4 twos eight ∙ same_number 10000 0 2 fours four)
+
+-- ---- from the values back to the bytes
+
+abbrev value_of_byte : ℕ → ℕ
+value_of_byte x = (x + (256 - 48)) % 256
+
+zeros_below : (n : ℕ) (xs : List ℕ) → AllBelowBase 10 xs → AllBelowBase 10 (replicate n 0 ++ xs)
+zeros_below zero xs h = h
+zeros_below (suc n) xs h = (omega arith, zeros_below n xs h)
+
+zeros_nothing : (n : ℕ) (xs : List ℕ) → number_from_digits 10 (replicate n 0 ++ xs) ≡ number_from_digits 10 xs
+zeros_nothing zero xs = refl
+zeros_nothing (suc n) xs = zeros_nothing n xs
+
+pub behind_below : (n : ℕ) (v : List ℕ) → AllBelowBase 10 (take n v) → AllBelowBase 10 (behind n v)
+behind_below n v h = zeros_below (16 - n) (take n v) h
+
+pub behind_number : (n : ℕ) (v : List ℕ) → number_from_digits 10 (behind n v) ≡ number_from_digits 10 (take n v)
+behind_number n v = zeros_nothing (16 - n) (take n v)
+
+byte_is_digit : (x : ℕ) → x < 256 → value_of_byte x < 10 → digit_value x ≡ value_of_byte x
+byte_is_digit x fits low = omega (arith, digit_value_digit x (omega arith, omega arith))
+
+pub spelled_from : (n m : ℕ) (bs : List ℕ) → Each1 (λ x. x < 256) bs → AllBelowBase 10 (take n (map value_of_byte bs))
+    → AllDigits 10 (take n bs) × (digits_value_after 10 m (take n bs) ≡ number_from_digits_after 10 m (take n (map value_of_byte bs)))
+spelled_from zero m bs fit h = (tt, refl)
+spelled_from (suc n) m [] fit h = (tt, refl)
+spelled_from (suc n) m (x ∷ bs) fit h =
+    let is = byte_is_digit x fit.0 h.0 in
+    let rest = spelled_from n (m * 10 + value_of_byte x) bs fit.1 h.1 in
+    ((omega (arith, is, h.0), rest.0), ap (λ d. digits_value_after 10 (m * 10 + d) (take n bs)) is ∙ rest.1)
+
+abbrev values : List ℕ → List ℕ
+values bs = zip2 (λ a b. (a + (256 - b)) % 256) (take 16 bs) (replicate 16 48)
+
+each_byte : (bs : List ℕ) → ((i : ℕ) → Fits w8 (get_or bs i 0)) → Each1 (λ x. x < 256) bs
+each_byte [] h = tt
+each_byte (b ∷ bs) h = (omega (arith, h 0), each_byte bs (λ i. h (suc i)))
+
+-- digits in front of which stands no zero are the decimal of the number that their values write
+pub front_spelled : (bs : List ℕ) (n r : ℕ) → length bs ≡ 16 → ((i : ℕ) → Fits w8 (get_or bs i 0)) → n < 16 → AllBelowBase 10 (take n (values bs))
+    → r ≡ number_from_digits 10 (behind n (values bs)) → get_or bs 0 0 ≢ 48 → 0 < n → take n bs ≡ decimal r
+front_spelled bs n r long fit few h is first some =
+    let same : values bs ≡ map value_of_byte bs = ap (λ l. zip2 (λ a b. (a + (256 - b)) % 256) l (replicate 16 48)) (take_all 16 bs (omega arith)) ∙ zip2_splat (λ a b. (a + (256 - b)) % 256) bs 16 48 long in
+    let read = spelled_from n 0 bs (each_byte bs fit) (rw same at h) in
+    let number : r ≡ number_from_digits 10 (take n (map value_of_byte bs)) = is ∙ behind_number n (values bs) ∙ ap (λ v. number_from_digits 10 (take n v)) same in
+    let digits : length (take n (map value_of_byte bs)) ≡ n = omega (arith, length-take n (map value_of_byte bs), length-map bs value_of_byte) in
+    let below = number_lt 10 (take n (map value_of_byte bs)) (rw same at h) in
+    front_is_decimal bs n r (omega arith) (omega arith) read.0 (read.1 ∙ sym number) (omega (arith, number, below, ap (λ k. 10 ^ k) digits)) first some
