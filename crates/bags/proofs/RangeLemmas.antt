@@ -1,5 +1,6 @@
 -- Runs of numbers that lie side by side, and what a sync, a return and a look-up do to ranges.
 use Rattle.std.proofs.Common.{◌≡◌, ℕ, zero, suc, ◌+◌, ◌-◌, ◌<◌, ◌≤◌, Bool, false, ◌||◌, ◌&&◌, eqb, ltb, leb, List, [], ◌∷◌, ◌++◌, reverse, length, set, get_or, Option, Some, None, IsSome, refl, sym, ap, subst, ◌∙◌, arith}
+use Rattle.std.proofs.lemmas.Bool.{lt-leb}
 use Rattle.std.proofs.lemmas.Bool.Decides.{nat_tests}
 use Rattle.std.proofs.lemmas.List.{length-reverse, reverse-append, reverse-reverse, get_or-reverse}
 use Rattle.std.proofs.Math.Seq.{set-append_seam}
@@ -217,6 +218,33 @@ in_p_newest count xs x n p held len some at known kept =
 pub held_some : (count : ℕ) (xs : List Ranges) → AreHeld count xs → 0 < length xs
 held_some count [] held = let none : count ≡ 0 = held.ranges in let some : 1 ≤ count = held.some in absurd (omega arith)
 held_some count (f ∷ fs) held = omega arith
+
+-- what the root's P-bag holds is not below the next active procedure
+root_before : (next : ℕ) (fs : List Ranges) (d : Ranges) → AreRanges next fs → 1 < length fs → (get_or fs (length fs - 1) d).parallel_from ≤ own_at fs (length fs - 2)
+root_before next [] d h more = absurd (omega arith)
+root_before next (f ∷ []) d h more = absurd (omega arith)
+root_before next (f ∷ g ∷ []) d h more = h.2.1
+root_before next (f ∷ g ∷ e ∷ fs) d h more =
+    let rest = root_before f.own (g ∷ e ∷ fs) d h.2 (omega arith) in
+    let last : length (f ∷ g ∷ e ∷ fs) - 1 ≡ suc (length (g ∷ e ∷ fs) - 1) = omega arith in
+    let next_to_last : length (f ∷ g ∷ e ∷ fs) - 2 ≡ suc (length (g ∷ e ∷ fs) - 2) = omega arith in
+    rw (last, next_to_last) rest
+
+-- the root keeps what is below its P-bag, in its S-bag
+pub in_p_root : (count : ℕ) (xs : List Ranges) (x : Ranges) (p : ℕ) → AreHeld count xs → x ≡ get_or xs 0 x → p < count → p < x.parallel_from → false ≡ in_p (procedures_of count xs).active p
+in_p_root count xs x p held at known below =
+    let root = own_at_root count xs held in
+    let len : length (reverse xs) ≡ length xs = length-reverse xs in
+    let next : 0 + 1 < length xs → p < own_at xs (0 + 1)
+    = λ more.
+    let before = root_before count (reverse xs) x held.ranges (omega arith) in
+    let first : length xs - 1 - (length (reverse xs) - 1) ≡ 0 = omega arith in
+    let second : length xs - 1 - (length (reverse xs) - 2) ≡ 0 + 1 = omega arith in
+    let is : get_or (reverse xs) (length (reverse xs) - 1) x ≡ x = get_or-reverse xs (length (reverse xs) - 1) x (omega arith) ∙ ap (λ n. get_or xs n x) first ∙ sym at in
+    let own : own_at (reverse xs) (length (reverse xs) - 2) ≡ own_at xs (0 + 1) = own_at-reverse xs (length (reverse xs) - 2) x (omega arith) ∙ ap (own_at xs) second in
+    let bound : (get_or (reverse xs) (length (reverse xs) - 1) x).parallel_from ≡ x.parallel_from = ap (λ (f : Ranges). f.parallel_from) is in
+    omega arith in
+    sym (lt-leb x.parallel_from p below) ∙ in_p_keeper count xs x 0 p held (held_some count xs held) at known (omega arith) next
 
 pub more_than_root : (count : ℕ) (xs : List Ranges) (p : Procedures) → procedures_of count xs ≡ p → 1 < length p.active → 1 < length xs
 more_than_root count xs p is more =

@@ -130,6 +130,9 @@ impl Bags {
         if executing.own <= procedure {
             return executing.parallel_from <= procedure;
         }
+        if procedure < self.nested[0].parallel_from {
+            return false;
+        }
         let keeper = keeper_of(&self.nested, procedure);
         self.nested[keeper].parallel_from <= procedure
     }

@@ -3,7 +3,7 @@ use Rattle.bags.specs.declared.Ranges.{Ranges}
 use Rattle.bags.specs.Procedures.{Procedures, in_p}
 use Rattle.bags.specs.Search.{own_at}
 use Rattle.bags.proofs.BagPaths.{in_p-tells}
-use Rattle.bags.proofs.RangeLemmas.{in_p_newest, in_p_keeper, own_at_root, held_some}
+use Rattle.bags.proofs.RangeLemmas.{in_p_newest, in_p_root, in_p_keeper, own_at_root, held_some}
 use Rattle.bags.proofs.Bags.in_p.Goals as goal
 
 pub returns-then-executing-procedure-clause-bags : goal.returns-then-executing-procedure-clause-bags
@@ -17,6 +17,15 @@ returns-then-executing-procedure-clause-bags c =
 
 pub returns-then-executing-procedure-clause-paths : goal.returns-then-executing-procedure-clause-paths
 returns-then-executing-procedure-clause-paths c = in_p-tells c.args.self.now c.args.procedure _ (returns-then-executing-procedure-clause-bags c)
+
+pub returns-then-procedure-index-clause-bags : goal.returns-then-procedure-index-clause-bags
+returns-then-procedure-index-clause-bags c =
+    let count : c.self.inside.count ≡ c.args.self.now.count = ap (λ (p : Procedures). p.count) c.self.view_is in
+    in_p_root c.self.inside.count c.self.inside.nested.items c.index.result.now c.args.procedure c.self.invariant c.index.ensures (omega arith) c.if-procedure-index.true
+    ∙ ap (λ (p : Procedures). in_p p.active c.args.procedure) c.self.view_is
+
+pub returns-then-procedure-index-clause-paths : goal.returns-then-procedure-index-clause-paths
+returns-then-procedure-index-clause-paths c = in_p-tells c.args.self.now c.args.procedure _ (returns-then-procedure-index-clause-bags c)
 
 pub keeper_of-keeper-requires-clause-root : goal.keeper_of-keeper-requires-clause-root
 keeper_of-keeper-requires-clause-root c =
@@ -32,7 +41,7 @@ returns-clause-bags c =
     let within : k < length xs = rw same at c.keeper_of-keeper.ensures.within in
     let not_above : own_at xs k ≤ c.args.procedure = rw same at c.keeper_of-keeper.ensures.not_above in
     let next : k + 1 < length xs → c.args.procedure < own_at xs (k + 1) = rw same at c.keeper_of-keeper.ensures.next_above in
-    in_p_keeper c.self.inside.count xs c.index.result.now k c.args.procedure c.self.invariant within c.index.ensures (omega arith) not_above next
+    in_p_keeper c.self.inside.count xs c.index-2.result.now k c.args.procedure c.self.invariant within c.index-2.ensures (omega arith) not_above next
     ∙ ap (λ (p : Procedures). in_p p.active c.args.procedure) c.self.view_is
 
 pub returns-clause-paths : goal.returns-clause-paths
