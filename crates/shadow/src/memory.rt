@@ -61,6 +61,7 @@ impl<S: BuildHasher> Shadow<S> {
     }
 
     /// An access by the executing procedure of the bags: the race that it tells, if any.
+    #[inline(always)]
     pub fn touch(
         &mut self,
         bags: &Bags,

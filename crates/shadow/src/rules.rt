@@ -15,6 +15,7 @@ use trace::{Kind, NoMemory, Placed, Race, Record};
 /// some records, the answer is the race that this record adds to those found.
 ///
 /// On an error the same call may be made again.
+#[inline(always)]
 pub fn apply<S: BuildHasher>(
     bags: &mut Bags,
     shadow: &mut Shadow<S>,
