@@ -1,8 +1,5 @@
 -- Kept names stay earlier than later places, and what an access leaves of each location.
-use Rattle.std.proofs.Common.{◌≡◌, ℕ, ◌+◌, ◌<◌, ◌≤◌, ◌≢◌, ⊎_elim, List, [], Some, Result, Ok, Err, OnOk, OnErr, is_ok, Bool, true, false, cond, if◌then◌else◌, ◌==◌, nat_eq, unwrap_or, refl, sym, ap, subst, ◌∙◌, arith}
-use Rattle.std.specs.Map.{lookup}
-use Rattle.std.proofs.lemmas.Bool.{eqb-true, eq-eqb}
-use Rattle.std.proofs.lemmas.Bool.Decides.{eqb_tells}
+use Rattle.std.proofs.Common.{◌≡◌, ℕ, ◌+◌, ◌<◌, ◌≤◌, List, Result, Ok, Err, OnOk, OnErr, is_ok, Bool, true, false, cond, ◌==◌, arith}
 use Rattle.shadow.specs.Cells.{Named, Cell}
 use Rattle.shadow.specs.Before.{IsNameBefore, IsCellBefore}
 use Rattle.shadow.specs.Blocks.{block_of, cell_at, page_of, seat_of}

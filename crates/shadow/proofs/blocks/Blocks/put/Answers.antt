@@ -1,7 +1,7 @@
-use Rattle.std.proofs.Common.{Some, ap, subst, sym, ◌∙◌, refl}
+use Rattle.std.proofs.Common.{Some, ap, sym, ◌∙◌, refl}
 use Rattle.std.proofs.lemmas.Cmp.{nat_eq_equiv}
 use Rattle.indexmap.proofs.CallerLemmas.{updates-with_value_at}
-use Rattle.shadow.specs.Blocks.{HasPut, IsBlockAt}
+use Rattle.shadow.specs.Blocks.{IsBlockAt}
 use Rattle.shadow.proofs.BlockLemmas.{put_changed, value_there}
 use Rattle.shadow.proofs.blocks.Blocks.put.Goals as goal
 

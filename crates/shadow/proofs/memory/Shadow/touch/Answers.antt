@@ -1,4 +1,4 @@
-use Rattle.std.proofs.Common.{◌≡◌, ◌∙◌, ap, sym, arith}
+use Rattle.std.proofs.Common.{◌≡◌, ◌∙◌, ap, arith}
 use Rattle.shadow.specs.Blocks.{page_of, seat_of, HasPut}
 use Rattle.shadow.specs.Memory.{Memory}
 use Rattle.shadow.proofs.BlockLemmas.{put_is_of}
