@@ -19,10 +19,6 @@ at_its_place es i page is =
     there ((n, b) ∷ es) zero at within before = let same : n ≡ page = sym (eqb-true page n at) in rw at (ap (λ m. Some (m, b)) same)
     there (e ∷ es) (suc i) at within before = rw (before 0 (omega arith)) (there es i at (omega arith) (λ k lt. before (suc k) (omega arith)))
 
--- a number that a place has
-pub at_a_place : (es : List (ℕ × List Cell)) (i page : ℕ) (b : List Cell) → slice_get es i ≡ Some (page, b) → lookup (nat_eq page) es ≡ Some b → IsBlockAt es i page
-at_a_place es i page b at looks = at ∙ ap (λ x. Some (page, unwrap_or x [])) (sym looks)
-
 -- the value at a block's place is the block
 pub value_there : (es : List (ℕ × List Cell)) (i page : ℕ) (b : List Cell) → IsBlockAt es i page → Some b ≡ slice_get (values_of es) i → b ≡ block_of es page
 value_there es i page b at is = ap (λ o. unwrap_or o []) (is ∙ go es i (block_of es page) at)

@@ -1,5 +1,5 @@
 -- Kept names stay earlier than later places, and what an access leaves of each location.
-use Rattle.std.proofs.Common.{◌≡◌, ℕ, ◌+◌, ◌<◌, ◌≤◌, List, Result, Ok, Err, OnOk, OnErr, is_ok, Bool, true, false, cond, ◌==◌, arith}
+use Rattle.std.proofs.Common.{◌≡◌, ℕ, ◌+◌, ◌<◌, ◌≤◌, List, Bool, true, false, cond, ◌==◌, arith}
 use Rattle.shadow.specs.Cells.{Named, Cell}
 use Rattle.shadow.specs.Before.{IsNameBefore, IsCellBefore}
 use Rattle.shadow.specs.Blocks.{block_of, cell_at, page_of, seat_of}
@@ -25,14 +25,6 @@ cells_before m es place count l c before later fewer now is q = rw is (by (q == 
     by : (b : Bool) → IsCellBefore (place + 1) count (cond b c (kept_of m q))
     by true = now
     by false = cell_later (m.last_place + 1) (place + 1) m.least_count count (kept_of m q) (omega arith) fewer (before q)
-
-pub on_ok : {T E : Type 0} (r : Result T E) (P : Type 0) → OnOk r P → is_ok r ≡ true → P
-on_ok (Ok x) P h is = h
-on_ok (Err e) P h is = cc
-
-pub on_err : {T E : Type 0} (r : Result T E) (P : Type 0) → OnErr r P → is_ok r ≡ false → P
-on_err (Ok x) P h is = cc
-on_err (Err e) P h is = h
 
 pub blocks_stay : (m : Memory) (es : List (ℕ × List Cell)) → es ≡ m.blocks → IsMemoryBefore m → IsMemoryBefore (record { blocks = es; last_place = m.last_place; least_count = m.least_count })
 blocks_stay m es is before l = rw is (before l)

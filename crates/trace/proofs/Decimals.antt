@@ -1,6 +1,6 @@
 -- Decimals as the digits of a number, read from the left.
-use Rattle.std.proofs.Common.{◌≡◌, ◌≢◌, ℕ, zero, suc, ◌+◌, ◌-◌, ◌*◌, ◌<◌, ◌≤◌, ◌^◌, List, [], ◌∷◌, length, take, get_or, arith, sym, ◌∙◌, ap, subst, decimal, Option, Some, None, IfSome, IfNone, add-one}
-use Rattle.std.proofs.Math.Nat.{pow-suc, pow-le-pow_right}
+use Rattle.std.proofs.Common.{◌≡◌, ◌≢◌, ℕ, ◌+◌, ◌-◌, ◌*◌, ◌<◌, ◌≤◌, ◌^◌, List, [], ◌∷◌, length, take, get_or, arith, sym, ◌∙◌, ap, subst, decimal, Option, Some, None, IfSome, IfNone}
+use Rattle.std.proofs.Math.Nat.{pow-le-pow_right}
 use Rattle.std.proofs.lemmas.List.{get_or-take, length-take}
 use native.Mathlib.Decide.{dec_le}
 use Rattle.std.specs.Int.{IsInRange}
@@ -67,16 +67,8 @@ pub no_value : (ds : List ℕ) (r : Option ℕ) → IfNone r (AllDigits 10 ds �
 no_value ds (Some v) none = tt
 no_value ds None none = λ n small e. let k : digits_value 10 ds ≡ n = decimal_value ds n small e in absurd (omega (arith, none (decimal_all_digits ds n small e)))
 
--- one more digit takes a number below a power of ten below the next
-pub one_more_below : (value d i : ℕ) → value < 10 ^ i → d < 10 → value * 10 + d < 10 ^ (i + 1)
-one_more_below value d i small low = let e : 10 ^ (i + 1) ≡ 10 ^ i * 10 = rw add-one (pow-suc 10 i) in omega arith
-
 pub below_power : (n i j : ℕ) → n < 10 ^ i → i ≤ j → n < 10 ^ j
 below_power n i j small h = let p : 10 ^ i ≤ 10 ^ j = pow-le-pow_right (omega arith) h in omega arith
-
-pub not_first : (bs : List ℕ) (i x : ℕ) → get_or bs i 0 ≡ x → (get_or bs 0 0 ≡ x → ⊥) → 0 < i
-not_first bs zero x e first = absurd (first e)
-not_first bs (suc i) x e first = omega arith
 
 -- digits in front of which stands no zero, at most 19 of them, are a decimal
 pub front_is_decimal : (bs : List ℕ) (i n : ℕ) → i ≤ 19 → i ≤ length bs → AllDigits 10 (take i bs) → digits_value 10 (take i bs) ≡ n → n < 10 ^ i → get_or bs 0 0 ≢ 48 → 0 < i → take i bs ≡ decimal n
