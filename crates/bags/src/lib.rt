@@ -4,7 +4,7 @@
 //! consecutive numbers, and two numbers for each active procedure say what all the bags hold.
 #![tactic(auto)]
 
-ghost use Rattle.std.specs.Prelude.{◌≡◌, ◌+◌, ◌<◌, ◌≤◌, ◌^◌, length, IfOk, OnOk, OnErr};
+ghost use Rattle.std.specs.Prelude.{◌≡◌, ◌+◌, ◌<◌, ◌≤◌, ◌^◌, length, IfOk, IfSome, OnOk, OnErr};
 ghost use Rattle.bags.specs.Search.{own_at};
 
 use std::alloc::Global;
@@ -138,9 +138,50 @@ impl Bags {
     }
 }
 
+/// How many active procedures are asked one by one, the executing one first.
+const NEAR: usize = 8;
+
 #[tactic(auto, using(crate::proofs::RangeLemmas::own_at_is))]
 /// The place of the active procedure that keeps a procedure: the last one whose number is not above it.
+#[inline(always)]
 fn keeper_of(ranges: &[Ranges], procedure: u64) -> usize
+    requires some { 0 < length ranges.now }
+    requires root { own_at ranges.now 0 ≤ procedure }
+    ensures within { result < length ranges.now }
+    ensures not_above { own_at ranges.now result ≤ procedure }
+    ensures next_above { result + 1 < length ranges.now → procedure < own_at ranges.now (result + 1) }
+{
+    match near_keeper_of(ranges, procedure) {
+        Some(keeper) => keeper,
+        None => far_keeper_of(ranges, procedure),
+    }
+}
+
+#[tactic(auto, using(crate::proofs::RangeLemmas::own_at_is))]
+// The keeper where it is among the newest; the answer `None` says nothing.
+#[inline(always)]
+fn near_keeper_of(ranges: &[Ranges], procedure: u64) -> Option<usize>
+    ensures within { IfSome result (λ k. k < length ranges.now) }
+    ensures not_above { IfSome result (λ k. own_at ranges.now k ≤ procedure) }
+    ensures next_above { IfSome result (λ k. k + 1 < length ranges.now → procedure < own_at ranges.now (k + 1)) }
+{
+    let mut above = ranges.len();
+    for _ in 0..NEAR {
+        if above == 0 {
+            return None;
+        }
+        if ranges[above - 1].own <= procedure {
+            return Some(above - 1);
+        }
+        above -= 1;
+    }
+    None
+}
+
+#[tactic(auto, using(crate::proofs::RangeLemmas::own_at_is))]
+// The keeper, by a search among all.
+#[inline(never)]
+fn far_keeper_of(ranges: &[Ranges], procedure: u64) -> usize
     requires some { 0 < length ranges.now }
     requires root { own_at ranges.now 0 ≤ procedure }
     ensures within { result < length ranges.now }

@@ -1,8 +1,15 @@
 -- Lines at the front of a piece, byte by byte.
-use Rattle.std.proofs.Common.{◌≡◌, ℕ, ◌+◌, ◌<◌, ◌≤◌, List, [], ◌∷◌, ◌++◌, length, take, drop, get_or, arith, sym, ◌∙◌, ap, decimal}
+use Rattle.std.proofs.Common.{◌≡◌, ℕ, ◌+◌, ◌<◌, ◌≤◌, w8, Fits, List, [], ◌∷◌, ◌++◌, length, take, drop, get_or, arith, sym, ◌∙◌, ap, decimal}
 use Rattle.std.proofs.Math.Seq.{take-add}
 use Rattle.std.proofs.lemmas.List.{take_more, take-take, length-take, length-drop}
+use Rattle.std.specs.Int.{w32, from_le_bytes}
 use Rattle.trace.specs.Text.{newline, ended}
+
+-- a piece's first four bytes are told by the number that they hold, the lowest byte first
+pub first_four : (piece : List ℕ) (a b c d : ℕ) → ((i : ℕ) → Fits w8 (get_or piece i 0)) → a < 256 → b < 256 → c < 256 → d < 256 → from_le_bytes w32 piece ≡ from_le_bytes w32 (a ∷ b ∷ c ∷ d ∷ [])
+    → (get_or piece 0 0 ≡ a) × (get_or piece 1 0 ≡ b) × (get_or piece 2 0 ≡ c) × (get_or piece 3 0 ≡ d)
+first_four piece a b c d fits p q r s e =
+    (omega (arith, fits 0, fits 1, fits 2, fits 3), omega (arith, fits 0, fits 1, fits 2, fits 3), omega (arith, fits 0, fits 1, fits 2, fits 3), omega (arith, fits 0, fits 1, fits 2, fits 3))
 
 pub take_five : (xs : List ℕ) (a b c d e : ℕ) → 5 ≤ length xs → get_or xs 0 0 ≡ a → get_or xs 1 0 ≡ b → get_or xs 2 0 ≡ c → get_or xs 3 0 ≡ d → get_or xs 4 0 ≡ e → take 5 xs ≡ a ∷ b ∷ c ∷ d ∷ e ∷ []
 take_five (v ∷ w ∷ x ∷ y ∷ z ∷ xs) a b c d e h p q r s t = cc

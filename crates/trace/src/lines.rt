@@ -1,4 +1,5 @@
 ghost use Rattle.std.specs.Prelude.{◌≡◌, ◌++◌, ◌+◌, ◌≤◌, ◌<◌, length, take, IfSome, IfNone, codes, IsTrue, ◌↔◌};
+ghost use Rattle.std.specs.Int.{w32, from_le_bytes};
 ghost use Rattle.trace.specs.Text.{spell, line, header, Fits};
 ghost use Rattle.trace.specs.Faults.{IsNoRecord};
 ghost use Rattle.trace.specs.Cuts.{IsCut};
@@ -92,6 +93,15 @@ pub fn front_of(piece: &[u8]) -> Option<Front>
     }
 }
 
+// The first four bytes as one number, so that they are compared at once.
+#[inline(always)]
+fn word_of(piece: &[u8]) -> u32
+    requires { 27 ≤ length piece.now }
+    ensures { result ≡ from_le_bytes w32 piece.now }
+{
+    u32::from_le_bytes([piece[0], piece[1], piece[2], piece[3]])
+}
+
 #[inline(always)]
 fn read_of(piece: &[u8]) -> Option<Front>
     requires { 27 ≤ length piece.now }
@@ -99,7 +109,7 @@ fn read_of(piece: &[u8]) -> Option<Front>
     ensures line { IfSome result (λ f. take f.used piece.now ≡ line f.record) }
     ensures fits { IfSome result (λ f. Fits f.record) }
 {
-    if piece[0] != b'r' || piece[1] != b'e' || piece[2] != b'a' || piece[3] != b'd' {
+    if word_of(piece) != u32::from_le_bytes([b'r', b'e', b'a', b'd']) {
         return None;
     }
     if piece[4] != b' ' {
@@ -121,7 +131,7 @@ fn write_of(piece: &[u8]) -> Option<Front>
     ensures line { IfSome result (λ f. take f.used piece.now ≡ line f.record) }
     ensures fits { IfSome result (λ f. Fits f.record) }
 {
-    if piece[0] != b'w' || piece[1] != b'r' || piece[2] != b'i' || piece[3] != b't' {
+    if word_of(piece) != u32::from_le_bytes([b'w', b'r', b'i', b't']) {
         return None;
     }
     if piece[4] != b'e' || piece[5] != b' ' {

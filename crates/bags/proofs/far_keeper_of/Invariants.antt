@@ -1,7 +1,7 @@
 use Rattle.std.proofs.Common.{ℕ, ◌-◌, ◌<◌, ◌≤◌, List, length}
 use Rattle.bags.specs.declared.Ranges.{Ranges}
 use Rattle.bags.specs.Search.{own_at}
-use Rattle.bags.proofs.keeper_of.Given as goal
+use Rattle.bags.proofs.far_keeper_of.Given as goal
 
 -- the keeper's number is not above the procedure's, and that of the first one ruled out is
 pub record Between (ranges : List Ranges) (keeper above procedure : ℕ) : Type 0 where
