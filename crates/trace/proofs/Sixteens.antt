@@ -1,11 +1,11 @@
 -- Sixteen digits in a vector: which are digits, how they are moved, and the number that they write.
-use Rattle.std.proofs.Common.{◌≡◌, ◌≢◌, decimal, ℕ, zero, suc, ◌+◌, ◌-◌, ◌*◌, ◌/◌, ◌%◌, ◌^◌, ◌<◌, ◌≤◌, Bool, true, false, not, cond, leb, w8, Fits, take_all, List, [], ◌∷◌, ◌++◌, map, length, take, drop, get_or, replicate, refl, sym, ap, ◌∙◌, arith, length-append, length-take, mod-eq_of_lt, div-lt_iff_lt-mul, div-add-mod', pow-suc, bit_and}
+use Rattle.std.proofs.Common.{◌≡◌, ◌≢◌, decimal, ℕ, zero, suc, ◌+◌, ◌-◌, ◌*◌, ◌/◌, ◌%◌, ◌^◌, ◌<◌, ◌≤◌, Bool, true, false, true≢false, not, cond, leb, w8, Fits, take_all, List, [], ◌∷◌, ◌++◌, map, length, take, drop, get_or, replicate, refl, sym, ap, ◌∙◌, arith, length-append, length-take, mod-eq_of_lt, div-lt_iff_lt-mul, div-add-mod', pow-suc, bit_and}
 use native.Mathlib.Decide.{dec_le}
 use Rattle.std.proofs.Math.Seq.{drop-cons}
 use Rattle.std.proofs.Math.Nat.{add-mul-mod_self_left, add-mul-div_left, mul-le-mul_left, div-eq_of_lt}
-use Rattle.std.proofs.lemmas.Bool.{le-leb, lt-leb, leb-false}
+use Rattle.std.proofs.lemmas.Bool.{le-leb, leb-true, lt-leb, leb-false}
 use Rattle.std.proofs.lemmas.List.{length-map, length-replicate, drop_all, get_or-append-add, get_or_append_left, get_or-replicate, get_or-take}
-use Rattle.std.proofs.lemmas.List.Sums.{prefix_len-le-length}
+use Rattle.std.proofs.lemmas.List.Sums.{prefix_len-le-length, prefix_len_stops}
 use Rattle.std.proofs.lemmas.Nat.{and_mask}
 use Rattle.std.proofs.lemmas.Int.Digits.{number_lt}
 use Rattle.trace.proofs.Decimals.{front_is_decimal}
@@ -41,6 +41,24 @@ none_marked (x ∷ xs) e = go (leb 10 x) refl (none_marked xs)
     go true is rest = absurd (omega (arith, rw is at e))
     go false is rest = rw is (omega (arith, rest (omega (arith, rw is at e))))
 
+all_unmarked : (v : List ℕ) → mask_l (map (leb 10) v) ≡ 0 → AllBelowBase 10 v
+all_unmarked [] e = tt
+all_unmarked (x ∷ xs) e = go (leb 10 x) refl (all_unmarked xs)
+  where
+    go : (b : Bool) → leb 10 x ≡ b → (mask_l (map (leb 10) xs) ≡ 0 → AllBelowBase 10 xs) → AllBelowBase 10 (x ∷ xs)
+    go true is rest = absurd (omega (arith, rw is at e))
+    go false is rest = (leb-false 10 x is, rest (omega (arith, rw is at e)))
+
+pub none_is : (v : List ℕ) → length v ≡ 16 → marks v ≡ 0 → AllBelowBase 10 v
+none_is v long none = all_unmarked v (sym (marks_are v long) ∙ none)
+
+other_stops : (v : List ℕ) → prefix_len is_digit v < length v → 10 ≤ get_or v (prefix_len is_digit v) 0
+other_stops v h = go (leb 10 (get_or v (prefix_len is_digit v) 0)) refl (prefix_len_stops is_digit v 0 h)
+  where
+    go : (b : Bool) → leb 10 (get_or v (prefix_len is_digit v) 0) ≡ b → not (leb 10 (get_or v (prefix_len is_digit v) 0)) ≡ false → 10 ≤ get_or v (prefix_len is_digit v) 0
+    go true is stops = leb-true 10 (get_or v (prefix_len is_digit v) 0) is
+    go false is stops = absurd (true≢false (rw is at stops))
+
 front_below : (v : List ℕ) → AllBelowBase 10 (take (prefix_len is_digit v) v)
 front_below [] = tt
 front_below (x ∷ xs) = go (leb 10 x) refl (front_below xs)
@@ -52,14 +70,15 @@ front_below (x ∷ xs) = go (leb 10 x) refl (front_below xs)
         let small : x < 10 = leb-false 10 x is in
         rw longer (small, rest)
 
-pub first_is : (v : List ℕ) → length v ≡ 16 → (marks v ≡ 0 → ⊥) → (count_trailing_zeros 64 (marks v) < 16) × AllBelowBase 10 (take (count_trailing_zeros 64 (marks v)) v)
+pub first_is : (v : List ℕ) → length v ≡ 16 → (marks v ≡ 0 → ⊥)
+    → (count_trailing_zeros 64 (marks v) < 16) × AllBelowBase 10 (take (count_trailing_zeros 64 (marks v)) v) × (10 ≤ get_or v (count_trailing_zeros 64 (marks v)) 0)
 first_is v long some =
     let is = marks_are v long in
     let marked : 0 < mask_l (map (leb 10) v) = omega (arith, is, some) in
     let first : count_trailing_zeros 64 (marks v) ≡ prefix_len is_digit v = ap (count_trailing_zeros 64) is ∙ trailing_mask_l (leb 10) 64 v (omega arith) marked in
     let most = prefix_len-le-length is_digit v in
     let less : prefix_len is_digit v < 16 = elim (dec_le 16 (prefix_len is_digit v)) [ yes all ↦ absurd (omega (arith, none_marked v (omega arith))) | no few ↦ omega arith ] in
-    rw first (less, front_below v)
+    rw first (less, front_below v, other_stops v (omega arith))
 
 -- ---- the values moved to the back
 

@@ -1,5 +1,5 @@
 //! Digits of a number, sixteen at a time in a vector.
-ghost use Rattle.std.specs.Prelude.{◌≡◌, ◌-◌, ◌<◌, ◌≤◌, ◌++◌, take, replicate, IfSome};
+ghost use Rattle.std.specs.Prelude.{◌≡◌, ◌-◌, ◌<◌, ◌≤◌, ◌++◌, take, replicate, slice_index, IfSome, IfNone};
 ghost use Rattle.std.specs.Int.Digits.{number_from_digits, AllBelowBase};
 ghost use Rattle.trace.specs.Digits.{paired};
 
@@ -10,6 +10,8 @@ use std::simd::prelude::*;
 pub fn first_other(values: u8x16) -> Option<usize>
     ensures within { IfSome result (λ n. n < 16) }
     ensures digits { IfSome result (λ n. AllBelowBase 10 (take n values)) }
+    ensures other { IfSome result (λ n. 10 ≤ slice_index values n) }
+    ensures none { IfNone result (AllBelowBase 10 values) }
 {
     let others = values.simd_ge(u8x16::splat(10)).to_bitmask();
     if others == 0 {
