@@ -1,5 +1,3 @@
-//! The questions on the worked rows, and against the definitions on every short list of records.
+//! The questions on the worked rows.
 
-mod by_definition;
 mod rows;
-mod short_lists;

@@ -1,4 +1,5 @@
-//! Detection against the definitions on every short list of records, and on the worked rows; the workers at work.
+//! Detection, and the questions, against the definitions on every short list of records; detection on the worked rows;
+//! the workers at work.
 
 mod answers;
 mod by_definition;
@@ -7,6 +8,7 @@ mod reported_rows;
 mod rows;
 mod sharded_rows;
 mod short_lists;
+mod short_questions;
 mod thousand_races;
 mod thousand_runs;
 mod together;

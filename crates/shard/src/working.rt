@@ -14,6 +14,8 @@ use std::hash::BuildHasher;
 use std::hint::spin_loop;
 use std::sync::Wait;
 use std::thread;
+use std::thread::Parker;
+use std::time::Duration;
 use trace::Placed;
 
 /// What a worker answers: its taker, the receipt of its lane back, and its shard.
@@ -47,13 +49,14 @@ pub fn work<R: Wait, S: BuildHasher + Drop, G: Gate>(
         back,
         stopped: false,
     };
-    let mut working = false;
+    let parker = Parker::new();
+    let mut empty_takes: u32 = 0;
     for _ in rt.forever() {
         match taker.take(rt) {
             Some(Item::One(placed)) => {
                 gate.pass(worker.shard.index(), placed.place);
                 worker.take(rt, placed);
-                working = true;
+                empty_takes = 0;
             }
             Some(Item::Finish) => {
                 let Worker {
@@ -68,8 +71,8 @@ pub fn work<R: Wait, S: BuildHasher + Drop, G: Gate>(
                 };
             }
             None => {
-                rest(working);
-                working = false;
+                rest(rt, &parker, empty_takes);
+                empty_takes = empty_takes.saturating_add(1);
             }
         }
     }
@@ -79,14 +82,23 @@ pub fn work<R: Wait, S: BuildHasher + Drop, G: Gate>(
 // How often the processor pauses while records gather.
 const PAUSES: u32 = 512;
 
-// Waits at an empty lane. A worker that has just emptied it lets some records gather first: a lane that holds one
-// record at a time passes between two processors at each. Otherwise other threads run.
-fn rest(working: bool) {
-    if working {
+// How many takes in a row may find the lane empty before the worker naps.
+const AWAKE: u32 = 4;
+
+// How long a nap takes, in microseconds.
+const NAP: u64 = 50;
+
+// Waits at an empty lane, before which so many takes in a row had found it empty. A worker that has just emptied it
+// lets some records gather first: a lane that holds one record at a time passes between two processors at each. Then
+// other threads run. Where still none comes the worker naps, so that it takes no processor from those that work.
+fn rest<R: Wait>(rt: &R, parker: &Parker, empty_takes: u32) {
+    if empty_takes == 0 {
         for _ in 0..PAUSES {
             spin_loop();
         }
-    } else {
+    } else if empty_takes < AWAKE {
         thread::yield_now();
+    } else {
+        parker.park_timeout(rt, Duration::from_micros(NAP));
     }
 }

@@ -1,8 +1,10 @@
-//! The report of a short trace, and the first fault of a list of records that is none, by their definitions: the
-//! edges of the dag are built, and walked from each place. Nothing here knows of bags.
+//! The report of a short trace, its races, its measure, and the first fault of a list of records that is none, by their
+//! definitions: the edges of the dag are built, and walked from each place. Nothing here knows of bags, nor of
+//! procedures that are active.
 //!
 //! Places are counted from 0 here, and told from 1.
 
+use audit::Measure;
 use trace::{Access, Kind, NestFault, NestKind, Record};
 
 /// How many records a list has at most.
@@ -105,6 +107,13 @@ fn access_at(records: &[Record], location: u64, i: usize) -> Option<Kind> {
     }
 }
 
+fn told_access(records: &[Record], location: u64, i: usize) -> Option<Access> {
+    Some(Access {
+        kind: access_at(records, location, i)?,
+        place: told_place(i),
+    })
+}
+
 /// A place that waits for the procedure's children.
 fn joins(records: &[Record], i: usize) -> bool {
     let record = at(records, i);
@@ -204,6 +213,22 @@ fn is_race(records: &[Record], paths: &Between, location: u64, i: usize, j: usiz
     i < j && first.is_some() && second.is_some() && one_writes && are_parallel(paths, i, j)
 }
 
+/// The accesses at two places, if they race on the location.
+pub fn race_at(
+    records: &[Record],
+    paths: &Between,
+    location: u64,
+    i: usize,
+    j: usize,
+) -> Option<(Access, Access)> {
+    if !is_race(records, paths, location, i, j) {
+        return None;
+    }
+    let first = told_access(records, location, i)?;
+    let second = told_access(records, location, j)?;
+    Some((first, second))
+}
+
 /// The least place at which a race on the location ends.
 pub fn second_place(records: &[Record], paths: &Between, location: u64) -> Option<usize> {
     for j in 0..records.len() {
@@ -252,17 +277,46 @@ pub fn race_ending_at(
         Some(writer) if are_parallel(paths, writer, j) => writer,
         _ => kept_reader(records, paths, location, j)?,
     };
-    let first = Access {
-        kind: access_at(records, location, i)?,
-        place: told_place(i),
-    };
-    let second = Access {
-        kind: access_at(records, location, j)?,
-        place: told_place(j),
-    };
     Some(Told {
         location,
-        first,
-        second,
+        first: told_access(records, location, i)?,
+        second: told_access(records, location, j)?,
     })
+}
+
+/// The greatest number of places on a path that ends at each place.
+fn longest(records: &[Record]) -> [u64; MOST] {
+    let edges = edges(records);
+    let mut longest = [0u64; MOST];
+    for j in 0..MOST {
+        let mut before = 0;
+        for i in 0..j {
+            if edges[i][j] {
+                before = longest[i].max(before);
+            }
+        }
+        if j < records.len() {
+            longest[j] = before.saturating_add(1);
+        }
+    }
+    longest
+}
+
+pub fn measure(records: &[Record]) -> Measure {
+    let mut measure = Measure {
+        work: records.len() as u64,
+        span: 0,
+        spawns: 0,
+        depth: 0,
+    };
+    for length in longest(records) {
+        measure.span = measure.span.max(length);
+    }
+    for i in 0..records.len() {
+        if at(records, i) == Some(Record::Spawn) {
+            measure.spawns = measure.spawns.saturating_add(1);
+        }
+        measure.depth = measure.depth.max(depth(records, i).min(MOST) as u32);
+    }
+    measure
 }

@@ -24,7 +24,7 @@ const LETTERS: [Record; 5] = [
 ];
 
 /// How many lists there are of each length.
-const COUNTS: [usize; MOST] = [5, 25, 125, 625, 3125, 15625, 78125];
+pub const COUNTS: [usize; MOST] = [5, 25, 125, 625, 3125, 15625, 78125];
 
 /// How many lists were read, and with which answers.
 #[derive(Clone, Copy, Debug, PartialEq, Eq)]
@@ -49,7 +49,7 @@ impl Tally {
 }
 
 /// The list whose letters are the digits of the number.
-fn list_of(number: usize) -> [Record; MOST] {
+pub fn list_of(number: usize) -> [Record; MOST] {
     let mut list = [Record::Sync; MOST];
     let mut rest = number;
     for i in 0..MOST {
@@ -59,7 +59,8 @@ fn list_of(number: usize) -> [Record; MOST] {
     list
 }
 
-fn write_list(records: &[Record], text: &mut Vec<u8>) -> Result<(), WriteFault> {
+/// Writes the text of a list, in place of what was there.
+pub fn write_list(records: &[Record], text: &mut Vec<u8>) -> Result<(), WriteFault> {
     text.clear();
     let mut sink = Counted::new(text);
     write_header(&mut sink)?;

@@ -1,6 +1,7 @@
 //! A run with 64 shards over the thousand races, 1,000 times: each ends, and reports the same.
 //!
-//! The runs are shared out among four tests, since a test's time is limited.
+//! The runs are shared out among ten tests, since a test's time is limited, and threads that wait for each other take
+//! twenty times as long on a busy machine.
 
 use super::answers::{Pieces, run_from, text_of};
 use super::thousand_races::{LIMITS, report_text, trace_text};
@@ -11,7 +12,7 @@ use std::sync::Wait;
 use std::test::Fail;
 use std::thread::Threads;
 
-const RUNS: u32 = 250;
+const RUNS: u32 = 100;
 
 fn run_often<T: Threads + Wait + Sync + Abort>(rt: &T, alloc: Global) -> Result<(), Fail> {
     let trace = trace_text(alloc)?;
@@ -28,21 +29,51 @@ fn run_often<T: Threads + Wait + Sync + Abort>(rt: &T, alloc: Global) -> Result<
 }
 
 #[test]
-fn first_quarter(rt: HostRuntime) -> Result<(), Fail> {
+fn first_hundred(rt: HostRuntime) -> Result<(), Fail> {
     run_often(&rt, rt.alloc())
 }
 
 #[test]
-fn second_quarter(rt: HostRuntime) -> Result<(), Fail> {
+fn second_hundred(rt: HostRuntime) -> Result<(), Fail> {
     run_often(&rt, rt.alloc())
 }
 
 #[test]
-fn third_quarter(rt: HostRuntime) -> Result<(), Fail> {
+fn third_hundred(rt: HostRuntime) -> Result<(), Fail> {
     run_often(&rt, rt.alloc())
 }
 
 #[test]
-fn fourth_quarter(rt: HostRuntime) -> Result<(), Fail> {
+fn fourth_hundred(rt: HostRuntime) -> Result<(), Fail> {
+    run_often(&rt, rt.alloc())
+}
+
+#[test]
+fn fifth_hundred(rt: HostRuntime) -> Result<(), Fail> {
+    run_often(&rt, rt.alloc())
+}
+
+#[test]
+fn sixth_hundred(rt: HostRuntime) -> Result<(), Fail> {
+    run_often(&rt, rt.alloc())
+}
+
+#[test]
+fn seventh_hundred(rt: HostRuntime) -> Result<(), Fail> {
+    run_often(&rt, rt.alloc())
+}
+
+#[test]
+fn eighth_hundred(rt: HostRuntime) -> Result<(), Fail> {
+    run_often(&rt, rt.alloc())
+}
+
+#[test]
+fn ninth_hundred(rt: HostRuntime) -> Result<(), Fail> {
+    run_often(&rt, rt.alloc())
+}
+
+#[test]
+fn last_hundred(rt: HostRuntime) -> Result<(), Fail> {
     run_often(&rt, rt.alloc())
 }
