@@ -1,7 +1,7 @@
 //! A run with 64 shards over the thousand races, 1,000 times: each ends, and reports the same.
 //!
-//! The runs are shared out among ten tests, since a test's time is limited, and threads that wait for each other take
-//! twenty times as long on a busy machine.
+//! The runs are shared out among twenty tests, since a test's time is limited: with lanes of capacity 1 each record waits
+//! for a thread's turn, and beside eight busy processes a run takes more than fifty times as long.
 
 use super::answers::{Pieces, run_from, text_of};
 use super::thousand_races::{LIMITS, report_text, trace_text};
@@ -12,7 +12,7 @@ use std::sync::Wait;
 use std::test::Fail;
 use std::thread::Threads;
 
-const RUNS: u32 = 100;
+const RUNS: u32 = 50;
 
 fn run_often<T: Threads + Wait + Sync + Abort>(rt: &T, alloc: Global) -> Result<(), Fail> {
     let trace = trace_text(alloc)?;
@@ -29,51 +29,101 @@ fn run_often<T: Threads + Wait + Sync + Abort>(rt: &T, alloc: Global) -> Result<
 }
 
 #[test]
-fn first_hundred(rt: HostRuntime) -> Result<(), Fail> {
+fn first_fifty(rt: HostRuntime) -> Result<(), Fail> {
     run_often(&rt, rt.alloc())
 }
 
 #[test]
-fn second_hundred(rt: HostRuntime) -> Result<(), Fail> {
+fn second_fifty(rt: HostRuntime) -> Result<(), Fail> {
     run_often(&rt, rt.alloc())
 }
 
 #[test]
-fn third_hundred(rt: HostRuntime) -> Result<(), Fail> {
+fn third_fifty(rt: HostRuntime) -> Result<(), Fail> {
     run_often(&rt, rt.alloc())
 }
 
 #[test]
-fn fourth_hundred(rt: HostRuntime) -> Result<(), Fail> {
+fn fourth_fifty(rt: HostRuntime) -> Result<(), Fail> {
     run_often(&rt, rt.alloc())
 }
 
 #[test]
-fn fifth_hundred(rt: HostRuntime) -> Result<(), Fail> {
+fn fifth_fifty(rt: HostRuntime) -> Result<(), Fail> {
     run_often(&rt, rt.alloc())
 }
 
 #[test]
-fn sixth_hundred(rt: HostRuntime) -> Result<(), Fail> {
+fn sixth_fifty(rt: HostRuntime) -> Result<(), Fail> {
     run_often(&rt, rt.alloc())
 }
 
 #[test]
-fn seventh_hundred(rt: HostRuntime) -> Result<(), Fail> {
+fn seventh_fifty(rt: HostRuntime) -> Result<(), Fail> {
     run_often(&rt, rt.alloc())
 }
 
 #[test]
-fn eighth_hundred(rt: HostRuntime) -> Result<(), Fail> {
+fn eighth_fifty(rt: HostRuntime) -> Result<(), Fail> {
     run_often(&rt, rt.alloc())
 }
 
 #[test]
-fn ninth_hundred(rt: HostRuntime) -> Result<(), Fail> {
+fn ninth_fifty(rt: HostRuntime) -> Result<(), Fail> {
     run_often(&rt, rt.alloc())
 }
 
 #[test]
-fn last_hundred(rt: HostRuntime) -> Result<(), Fail> {
+fn tenth_fifty(rt: HostRuntime) -> Result<(), Fail> {
+    run_often(&rt, rt.alloc())
+}
+
+#[test]
+fn eleventh_fifty(rt: HostRuntime) -> Result<(), Fail> {
+    run_often(&rt, rt.alloc())
+}
+
+#[test]
+fn twelfth_fifty(rt: HostRuntime) -> Result<(), Fail> {
+    run_often(&rt, rt.alloc())
+}
+
+#[test]
+fn thirteenth_fifty(rt: HostRuntime) -> Result<(), Fail> {
+    run_often(&rt, rt.alloc())
+}
+
+#[test]
+fn fourteenth_fifty(rt: HostRuntime) -> Result<(), Fail> {
+    run_often(&rt, rt.alloc())
+}
+
+#[test]
+fn fifteenth_fifty(rt: HostRuntime) -> Result<(), Fail> {
+    run_often(&rt, rt.alloc())
+}
+
+#[test]
+fn sixteenth_fifty(rt: HostRuntime) -> Result<(), Fail> {
+    run_often(&rt, rt.alloc())
+}
+
+#[test]
+fn seventeenth_fifty(rt: HostRuntime) -> Result<(), Fail> {
+    run_often(&rt, rt.alloc())
+}
+
+#[test]
+fn eighteenth_fifty(rt: HostRuntime) -> Result<(), Fail> {
+    run_often(&rt, rt.alloc())
+}
+
+#[test]
+fn nineteenth_fifty(rt: HostRuntime) -> Result<(), Fail> {
+    run_often(&rt, rt.alloc())
+}
+
+#[test]
+fn last_fifty(rt: HostRuntime) -> Result<(), Fail> {
     run_often(&rt, rt.alloc())
 }
