@@ -25,11 +25,11 @@ pub(crate) struct Gathering {
 
 impl Gathering {
     /// Takes a turn of each lane, of what is there.
-    pub(crate) fn take_turns<R: Wait>(&mut self, rt: &R)
+    pub(crate) fn take_turns(&mut self)
         ensures { IsFurther self.old self.new }
     {
         for shard in 0..self.backs.len() {
-            self.take_turn(rt, shard);
+            self.take_turn(shard);
         }
     }
 
@@ -53,30 +53,30 @@ impl Gathering {
             if self.backs[shard].ended() {
                 return;
             }
-            if !self.take_from(rt, shard) {
+            if !self.take_from(shard) {
                 thread::yield_now();
             }
         }
         unreachable!()
     }
 
-    fn take_turn<R: Wait>(&mut self, rt: &R, shard: usize)
+    fn take_turn(&mut self, shard: usize)
         requires { shard < vec_len self.old.backs }
         ensures { IsFurther self.old self.new }
     {
         for _ in 0..TURN {
-            if !self.take_from(rt, shard) {
+            if !self.take_from(shard) {
                 return;
             }
         }
     }
 
     // Takes the next item of a lane; false where none was there.
-    fn take_from<R: Wait>(&mut self, rt: &R, shard: usize) -> bool
+    fn take_from(&mut self, shard: usize) -> bool
         requires { shard < vec_len self.old.backs }
         ensures { IsFurther self.old self.new }
     {
-        match self.backs[shard].take(rt) {
+        match self.backs[shard].take() {
             None => false,
             Some(Item::Finish) => true,
             Some(Item::One(back)) => {

@@ -50,10 +50,10 @@ pub(crate) fn mark_all<T: Wait>(rt: &T, router: &mut Router, gathering: &mut Gat
     ensures further { IsFurther gathering.old gathering.new }
 {
     for _ in rt.forever() {
-        match router.mark_all_step(rt) {
+        match router.mark_all_step() {
             Progress::Idle => return,
             Progress::Moved => {}
-            Progress::Blocked(_) => wait(rt, gathering),
+            Progress::Blocked(_) => wait(gathering),
         }
     }
     unreachable!()
@@ -71,19 +71,19 @@ fn send<T: Wait>(rt: &T, router: &mut Router, gathering: &mut Gathering, placed:
 {
     router.offer(placed);
     for _ in rt.forever() {
-        match router.step(rt) {
+        match router.step() {
             Progress::Idle => return,
             Progress::Moved => {}
-            Progress::Blocked(_) => wait(rt, gathering),
+            Progress::Blocked(_) => wait(gathering),
         }
     }
     unreachable!()
 }
 
 // A lane is full: its shard may be waiting for room on its lane back.
-fn wait<T: Wait>(rt: &T, gathering: &mut Gathering)
+fn wait(gathering: &mut Gathering)
     ensures { IsFurther gathering.old gathering.new }
 {
-    gathering.take_turns(rt);
+    gathering.take_turns();
     thread::yield_now();
 }

@@ -1,21 +1,23 @@
 -- The mark in a list that grows at its end.
-use Rattle.std.proofs.Common.{◌≡◌, true, false, true≢false, List, [], ◌∷◌, ◌++◌, sym, refl, ap, ◌∙◌, append-nil}
+use Rattle.std.proofs.Common.{◌≡◌, ℕ, suc, ◌+◌, arith, ◌-◌, ◌<◌, ◌≤◌, true, false, true≢false, List, [], ◌∷◌, ◌++◌, length, map, take, slice_index_or, sym, refl, ap, subst, ◌∙◌, append-nil, append_assoc}
+use Rattle.std.proofs.Math.Seq.{take-suc}
+use Rattle.rtrb.specs.Fifo.{Allowed}
 use Rattle.lane.specs.declared.item.Item.{Item}
 use Rattle.lane.specs.declared.item.Item.TheVariants.{One, Finish}
-use Rattle.lane.specs.Items.{is_finish, has_mark, mark_last, records, IsBeginning}
+use Rattle.lane.specs.Items.{is_finish, has_mark, mark_last, AllowsAfter, records, IsBeginning}
 
 module _ {T : Type 0} where
-  pub has_mark-snoc : (xs : List (Item T)) (x : Item T) → has_mark xs ≡ false → has_mark (xs ++ x ∷ []) ≡ is_finish x
-  has_mark-snoc [] (One x) h = refl
-  has_mark-snoc [] Finish h = refl
-  has_mark-snoc (One y ∷ ys) x h = has_mark-snoc ys x h
-  has_mark-snoc (Finish ∷ ys) x h = absurd (true≢false h)
+  pub has_mark_more : (xs : List (Item T)) (x : Item T) → has_mark xs ≡ false → has_mark (xs ++ x ∷ []) ≡ is_finish x
+  has_mark_more [] (One x) h = refl
+  has_mark_more [] Finish h = refl
+  has_mark_more (One y ∷ ys) x h = has_mark_more ys x h
+  has_mark_more (Finish ∷ ys) x h = absurd (true≢false h)
 
-  pub mark_last-snoc : (xs : List (Item T)) (x : Item T) → has_mark xs ≡ false → mark_last (xs ++ x ∷ []) ≡ true
-  mark_last-snoc [] (One x) h = refl
-  mark_last-snoc [] Finish h = refl
-  mark_last-snoc (One y ∷ ys) x h = mark_last-snoc ys x h
-  mark_last-snoc (Finish ∷ ys) x h = absurd (true≢false h)
+  pub mark_last_more : (xs : List (Item T)) (x : Item T) → has_mark xs ≡ false → mark_last (xs ++ x ∷ []) ≡ true
+  mark_last_more [] (One x) h = refl
+  mark_last_more [] Finish h = refl
+  mark_last_more (One y ∷ ys) x h = mark_last_more ys x h
+  mark_last_more (Finish ∷ ys) x h = absurd (true≢false h)
 
   pub no_mark_before : (xs : List (Item T)) (x : Item T) (rest : List (Item T)) → mark_last (xs ++ x ∷ rest) ≡ true → has_mark xs ≡ false
   no_mark_before [] x rest h = refl
@@ -38,3 +40,45 @@ module _ {T : Type 0} where
   records-finish [] = refl
   records-finish (One y ∷ ys) = ap (λ l. y ∷ l) (records-finish ys)
   records-finish (Finish ∷ ys) = records-finish ys
+
+  pub records-append : (xs ys : List (Item T)) → records (xs ++ ys) ≡ records xs ++ records ys
+  records-append [] ys = refl
+  records-append (One x ∷ xs) ys = ap (λ l. x ∷ l) (records-append xs ys)
+  records-append (Finish ∷ xs) ys = records-append xs ys
+
+  -- the values in one item more of a block
+  pub records_next : (xs : List (Item T)) (i : ℕ) (d : Item T) → i < length xs → records (take (i + 1) xs) ≡ records (take i xs) ++ records (slice_index_or xs i d ∷ [])
+  records_next xs i d lt =
+      let is : i + 1 ≡ suc i = omega arith in
+      ap (λ k. records (take k xs)) is ∙ ap records (take-suc xs i d lt) ∙ records-append (take i xs) (slice_index_or xs i d ∷ [])
+
+  -- with the mark a list is its values and the mark
+  pub all_to_mark : (xs : List (Item T)) → mark_last xs ≡ true → has_mark xs ≡ true → xs ≡ map One (records xs) ++ Finish ∷ []
+  all_to_mark [] last h = absurd (true≢false (sym h))
+  all_to_mark (One x ∷ xs) last h = ap (λ l. One x ∷ l) (all_to_mark xs last h)
+  all_to_mark (Finish ∷ []) last h = refl
+  all_to_mark (Finish ∷ x ∷ xs) last h = absurd (true≢false (sym last))
+
+  -- a block that may follow: before its last item stands no mark
+  allowed_last : (before ys : List (Item T)) (x : Item T) → Allowed AllowsAfter before (ys ++ x ∷ []) → has_mark (before ++ ys) ≡ false
+  allowed_last before [] x h = ap has_mark (append-nil before) ∙ h.0
+  allowed_last before (y ∷ ys) x h = ap has_mark (sym (append_assoc before (y ∷ []) ys)) ∙ allowed_last (before ++ y ∷ []) ys x h.1
+
+  ended_at : (before xs : List (Item T)) (m : ℕ) (d : Item T) → m < length xs → Allowed AllowsAfter before (take (suc m) xs) → has_mark (before ++ take (suc m) xs) ≡ is_finish (slice_index_or xs m d)
+  ended_at before xs m d lt h =
+      let cut = take-suc xs m d lt in
+      let P : List (Item T) → Type 0 = Allowed AllowsAfter before in
+      let none = allowed_last before (take m xs) (slice_index_or xs m d) (subst P cut h) in
+      ap (λ l. has_mark (before ++ l)) cut ∙ ap has_mark (sym (append_assoc before (take m xs) (slice_index_or xs m d ∷ []))) ∙ has_mark_more (before ++ take m xs) (slice_index_or xs m d) none
+
+  -- the mark stands in a block where it is the block's last item
+  pub ended_by : (before xs : List (Item T)) (n : ℕ) (d : Item T) → Allowed AllowsAfter before (take n xs) → 0 < n → n ≤ length xs → has_mark (before ++ take n xs) ≡ is_finish (slice_index_or xs (n - 1) d)
+  ended_by before xs n d h pos le =
+      let is : n ≡ suc (n - 1) = omega (arith, pos) in
+      let P : ℕ → Type 0 = λ k. Allowed AllowsAfter before (take k xs) in
+      ap (λ k. has_mark (before ++ take k xs)) is ∙ ended_at before xs (n - 1) d (omega (arith, pos, le)) (subst P is h)
+
+  -- and behind it stands nothing
+  pub mark_last_block : (before ys : List (Item T)) → mark_last before ≡ true → Allowed AllowsAfter before ys → mark_last (before ++ ys) ≡ true
+  mark_last_block before [] last h = ap mark_last (append-nil before) ∙ last
+  mark_last_block before (y ∷ ys) last h = ap mark_last (sym (append_assoc before (y ∷ []) ys)) ∙ mark_last_block (before ++ y ∷ []) ys (mark_last_more before y h.0) h.1

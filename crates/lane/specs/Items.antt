@@ -21,6 +21,10 @@ module _ {T : Type 0} where
   mark_last (Finish ∷ []) = true
   mark_last (Finish ∷ x ∷ xs) = false
 
+  -- an item may follow these
+  abbrev pub AllowsAfter : List (Item T) → Item T → Type 0
+  AllowsAfter before x = has_mark before ≡ false
+
   -- the values, without the mark
   abbrev pub records : List (Item T) → List T
   records [] = []

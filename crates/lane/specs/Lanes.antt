@@ -1,30 +1,31 @@
 -- What the ends of a lane say: which lane they are of, what was put, and what was taken.
 use Rattle.std.specs.Prelude.{ℕ, List}
-use Rattle.std.specs.Arc.{arc_value}
-use Rattle.atomic_table.specs.Seated.{TableId}
-use Rattle.crossbeam_queue.specs.Passes.{view, ruled_capacity}
+use Rattle.std.specs.declared.alloc.Global.{Global}
+use Rattle.rtrb.specs.Shared.{Names}
+use Rattle.rtrb.specs.Ring.{sent, received, producer_capacity, known_free, known_items}
+use denote.RawPtr.{Ptr}
 use Rattle.lane.specs.declared.item.Item.{Item}
 use Rattle.lane.specs.declared.ends.Sender.{Sender}
 use Rattle.lane.specs.declared.ends.Taker.{Taker}
 use Rattle.lane.specs.declared.ends.End.{End}
 
--- a lane, as a value that tells it from each other lane
+-- a lane, as a value that tells it from each other lane: where its ring lies, and the ring's names
 abbrev pub LaneId : Type 0
-LaneId = TableId
+LaneId = (Ptr × Ptr) × (Names × Global)
 
 module _ {T : Type 0} where
   abbrev pub lane_of : Sender T → LaneId
-  lane_of s = s.pass.table_id
+  lane_of s = ((s.ring.end.words, s.ring.end.slots), (s.ring.end.names, s.ring.end.heap))
 
   abbrev pub taker_lane : Taker T → LaneId
-  taker_lane t = t.pass.table_id
+  taker_lane t = ((t.ring.end.words, t.ring.end.slots), (t.ring.end.names, t.ring.end.heap))
 
   abbrev pub end_lane : End T → LaneId
   end_lane e = lane_of e.sender
 
   -- what was put, the mark included
   abbrev pub put_of : Sender T → List (Item T)
-  put_of s = (view s.pass).put
+  put_of s = sent s.ring
 
   -- what was put in all
   abbrev pub all_put : End T → List (Item T)
@@ -32,8 +33,16 @@ module _ {T : Type 0} where
 
   -- what was taken, the mark included
   abbrev pub taken_of : Taker T → List (Item T)
-  taken_of t = (view t.pass).taken
+  taken_of t = received t.ring
+
+  -- how many items the sender knows to have room
+  abbrev pub room_of : Sender T → ℕ
+  room_of s = known_free s.ring
+
+  -- the items that the taker knows to wait
+  abbrev pub waiting_of : Taker T → List (Item T)
+  waiting_of t = known_items t.ring
 
   -- how many items the lane holds at most
   abbrev pub capacity_of : Sender T → ℕ
-  capacity_of s = ruled_capacity (arc_value s.queue)
+  capacity_of s = producer_capacity s.ring

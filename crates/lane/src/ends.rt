@@ -1,38 +1,33 @@
 //! The ends of a lane.
 ghost use Rattle.std.specs.Prelude.{◌≡◌, true};
-ghost use Rattle.std.specs.Arc.{arc_value};
-ghost use Rattle.crossbeam_queue.specs.Passes.{view, IsPassOf};
-ghost use Rattle.lane.specs.Items.{has_mark};
+ghost use Rattle.rtrb.specs.Ring.{sent, received};
+ghost use Rattle.lane.specs.Items.{has_mark, mark_last};
 
 mod making;
 mod sending;
 mod taking;
 
-use crate::rule::{Line, LinePass};
+use crate::item::{Item, MarkLast};
 pub use making::lane;
+use rtrb::{Consumer, Producer};
 use std::alloc::Global;
-use std::sync::Arc;
 
 /// The end that puts.
 #[derive(Drop)]
 pub struct Sender<T> {
-    queue: Arc<Line<T>, Global>,
-    pass: LinePass<T>,
+    ring: Producer<Item<T>, Global, MarkLast>,
     marked: bool,
-    ghost tied: { IsPassOf (arc_value queue) pass },
-    ghost puts: { (view pass).puts ≡ true },
-    ghost known: { has_mark (view pass).put ≡ marked },
+    ghost known: { has_mark (sent ring) ≡ marked },
+    ghost last: { mark_last (sent ring) ≡ true },
 }
 
 /// The end that takes.
 #[derive(Drop)]
 pub struct Taker<T> {
-    queue: Arc<Line<T>, Global>,
-    pass: LinePass<T>,
+    ring: Consumer<Item<T>, Global, MarkLast>,
     ended: bool,
-    ghost tied: { IsPassOf (arc_value queue) pass },
-    ghost takes: { (view pass).takes ≡ true },
-    ghost known: { has_mark (view pass).taken ≡ ended },
+    ghost known: { has_mark (received ring) ≡ ended },
+    ghost last: { mark_last (received ring) ≡ true },
 }
 
 /// The receipt of a sender that puts nothing more: what was put in all.

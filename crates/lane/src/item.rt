@@ -1,6 +1,29 @@
+//! What stands in a lane.
+ghost use Rattle.std.specs.Prelude.{◌≡◌};
+ghost use Rattle.lane.specs.Items.{is_finish};
+
+use rtrb::Protocol;
+
 /// What stands in a lane: a value, or the mark behind the last one.
 #[derive(Clone, Copy, Debug, PartialEq, Eq)]
 pub enum Item<T> {
     One(T),
     Finish,
+}
+
+impl<T> Item<T> {
+    pub(crate) fn is_finish(&self) -> bool
+        ensures { result ≡ is_finish self.now }
+    {
+        matches!(self, Item::Finish)
+    }
+}
+
+/// Nothing follows the mark.
+pub struct MarkLast;
+
+impl<T> Protocol<Item<T>> for MarkLast {
+    ghost use Rattle.lane.specs.Items.{AllowsAfter};
+
+    ghost allows = { AllowsAfter };
 }

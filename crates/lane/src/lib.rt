@@ -3,7 +3,6 @@
 
 mod ends;
 mod item;
-mod rule;
 #[cfg(test)]
 mod tests;
 

@@ -16,21 +16,21 @@ use trace::NoMemory;
 #[test]
 fn lane_of_two(rt: HostRuntime) -> Result<(), Fail> {
     let (mut sender, mut taker) = lane::<u32>(rt.alloc(), 2)?;
-    assert_eq!(rt; sender.put(&rt, 1), Ok(()));
-    assert_eq!(rt; sender.put(&rt, 2), Ok(()));
-    assert_eq!(rt; sender.put(&rt, 3), Err(3));
-    assert_eq!(rt; taker.take(&rt), Some(Item::One(1)));
-    assert_eq!(rt; sender.put(&rt, 3), Ok(()));
-    assert!(rt; !sender.mark(&rt));
+    assert_eq!(rt; sender.put(1), Ok(()));
+    assert_eq!(rt; sender.put(2), Ok(()));
+    assert_eq!(rt; sender.put(3), Err(3));
+    assert_eq!(rt; taker.take(), Some(Item::One(1)));
+    assert_eq!(rt; sender.put(3), Ok(()));
+    assert!(rt; !sender.mark());
     assert!(rt; !sender.marked());
-    assert_eq!(rt; taker.take(&rt), Some(Item::One(2)));
-    assert!(rt; sender.mark(&rt));
+    assert_eq!(rt; taker.take(), Some(Item::One(2)));
+    assert!(rt; sender.mark());
     assert!(rt; sender.marked());
-    assert_eq!(rt; taker.take(&rt), Some(Item::One(3)));
+    assert_eq!(rt; taker.take(), Some(Item::One(3)));
     assert!(rt; !taker.ended());
-    assert_eq!(rt; taker.take(&rt), Some(Item::Finish));
+    assert_eq!(rt; taker.take(), Some(Item::Finish));
     assert!(rt; taker.ended());
-    assert_eq!(rt; taker.take(&rt), None);
+    assert_eq!(rt; taker.take(), None);
     Ok(())
 }
 
@@ -40,15 +40,58 @@ fn fill<R: Wait + Abort>(rt: &R, alloc: Global, capacity: usize) -> Result<(), N
 {
     let (mut sender, mut taker) = lane::<usize>(alloc, capacity)?;
     for value in 0..capacity {
-        assert_eq!(rt; sender.put(rt, value), Ok(()));
+        assert_eq!(rt; sender.put(value), Ok(()));
     }
-    assert_eq!(rt; sender.put(rt, capacity), Err(capacity));
+    assert_eq!(rt; sender.put(capacity), Err(capacity));
     for value in 0..capacity {
-        assert_eq!(rt; taker.take(rt), Some(Item::One(value)));
+        assert_eq!(rt; taker.take(), Some(Item::One(value)));
     }
-    assert_eq!(rt; taker.take(rt), None);
-    assert!(rt; sender.mark(rt));
-    assert_eq!(rt; taker.take(rt), Some(Item::Finish));
+    assert_eq!(rt; taker.take(), None);
+    assert!(rt; sender.mark());
+    assert_eq!(rt; taker.take(), Some(Item::Finish));
+    Ok(())
+}
+
+#[test]
+fn looks_at_the_other_end(rt: HostRuntime) -> Result<(), Fail> {
+    let (mut sender, mut taker) = lane::<u32>(rt.alloc(), 4)?;
+    assert_eq!(rt; sender.room(), 4);
+    assert_eq!(rt; sender.put(7), Ok(()));
+    assert_eq!(rt; sender.put(8), Ok(()));
+    assert_eq!(rt; sender.put(9), Ok(()));
+    assert_eq!(rt; sender.room(), 1);
+    taker.beside(&mut sender);
+    assert_eq!(rt; taker.ready(), 3);
+    assert_eq!(rt; taker.take(), Some(Item::One(7)));
+    assert_eq!(rt; taker.take(), Some(Item::One(8)));
+    assert!(rt; sender.mark());
+    taker.settle(&mut sender.end());
+    assert_eq!(rt; taker.ready(), 2);
+    assert_eq!(rt; taker.take(), Some(Item::One(9)));
+    assert_eq!(rt; taker.take(), Some(Item::Finish));
+    assert_eq!(rt; taker.take(), None);
+    Ok(())
+}
+
+#[test]
+fn takes_blocks(rt: HostRuntime) -> Result<(), Fail> {
+    let (mut sender, mut taker) = lane::<u32>(rt.alloc(), 4)?;
+    assert_eq!(rt; sender.put(1), Ok(()));
+    assert_eq!(rt; sender.put(2), Ok(()));
+    assert_eq!(rt; sender.put(3), Ok(()));
+    assert_eq!(rt; sender.put(4), Ok(()));
+    let mut two = [Item::Finish; 2];
+    assert_eq!(rt; taker.take_block(&mut two), 2);
+    assert_eq!(rt; two.as_slice(), [Item::One(1), Item::One(2)].as_slice());
+    assert!(rt; sender.mark());
+    let mut many = [Item::Finish; 64];
+    assert_eq!(rt; taker.take_block(&mut many), 3);
+    let (front, _) = many.split_at(3);
+    assert_eq!(rt;
+        front,
+        [Item::One(3), Item::One(4), Item::Finish].as_slice()
+    );
+    assert_eq!(rt; taker.take_block(&mut many), 0);
     Ok(())
 }
 
@@ -78,7 +121,7 @@ fn put_waiting<R: Wait>(rt: &R, sender: &mut Sender<u32>, value: u32)
     ensures unmarked { has_mark (put_of sender.new) ≡ false }
 {
     for _ in rt.forever() {
-        if sender.put(rt, value).is_ok() {
+        if sender.put(value).is_ok() {
             return;
         }
         thread::yield_now();
@@ -91,7 +134,7 @@ fn mark_waiting<R: Wait>(rt: &R, mut sender: Sender<u32>) -> End<u32>
     ensures { end_lane result ≡ lane_of sender }
 {
     for _ in rt.forever() {
-        if sender.mark(rt) {
+        if sender.mark() {
             return sender.end();
         }
         thread::yield_now();
@@ -119,7 +162,7 @@ fn two_threads(rt: HostRuntime) -> Result<(), Fail> {
     let child = thread::spawn_with(&rt, promise, move || send(&rt, sender, 10_000))?;
     let mut next = 1u64;
     for _ in rt.forever() {
-        match taker.take(&rt) {
+        match taker.take() {
             Some(Item::One(value)) => {
                 assert_eq!(rt; u64::from(value), next);
                 next = next.saturating_add(1);
@@ -131,6 +174,6 @@ fn two_threads(rt: HostRuntime) -> Result<(), Fail> {
     assert_eq!(rt; next, 10_001);
     let mut end = child.join(&rt);
     taker.settle(&mut end);
-    assert_eq!(rt; taker.take(&rt), None);
+    assert_eq!(rt; taker.take(), None);
     Ok(())
 }

@@ -5,7 +5,7 @@ use Rattle.std.proofs.lemmas.List.{length-set, get_or-set_same, get_or-set_other
 use Rattle.lane.specs.declared.item.Item.{Item}
 use Rattle.lane.specs.declared.item.Item.TheVariants.{One, Finish}
 use Rattle.lane.specs.Items.{has_mark}
-use Rattle.lane.proofs.Marks.{has_mark-snoc}
+use Rattle.lane.proofs.Marks.{has_mark_more}
 use Rattle.trace.specs.declared.records.Placed.{Placed}
 use Rattle.trace.specs.Shares.{goes_placed, share}
 use Rattle.trace.proofs.ShareLemmas.{share-push}
@@ -89,12 +89,12 @@ sent-last puts w i p m none h goes last all =
 pub marks-one : (puts : List Items) (i : ℕ) (p : Placed) (m : ℕ) → i < length puts → has_mark (put_on puts i) ≡ false → HaveMarks m puts → HaveMarks m (with_put puts i (One p))
 marks-one puts i p m h none all =
     let P : ℕ → Items → Type 0 = λ k l. has_mark l ≡ nat_lt k m in
-    each_after P puts i (One p) h (has_mark-snoc (put_on puts i) (One p) none ∙ sym none ∙ all i h) (λ k e l. all k l)
+    each_after P puts i (One p) h (has_mark_more (put_on puts i) (One p) none ∙ sym none ∙ all i h) (λ k e l. all k l)
 
 pub marks-finish : (puts : List Items) (m : ℕ) → m < length puts → HaveMarks m puts → HaveMarks (m + 1) (with_put puts m Finish)
 marks-finish puts m h all =
     let P : ℕ → Items → Type 0 = λ k l. has_mark l ≡ nat_lt k (m + 1) in
-    each_after P puts m Finish h (has_mark-snoc (put_on puts m) Finish (all m h ∙ le-ltb m m (omega arith)) ∙ sym (lt-ltb m (m + 1) (omega arith)))
+    each_after P puts m Finish h (has_mark_more (put_on puts m) Finish (all m h ∙ le-ltb m m (omega arith)) ∙ sym (lt-ltb m (m + 1) (omega arith)))
     (λ k e l. all k l ∙ ⊎_elim (λ (x : k < m). lt-ltb k m x ∙ sym (lt-ltb k (m + 1) (omega arith))) (λ (x : m < k). le-ltb k m (omega arith) ∙ sym (le-ltb k (m + 1) (omega arith))) (apart k m e))
 
 pub unmarked_at : (puts : List Items) (m k : ℕ) → m ≤ k → k < length puts → HaveMarks m puts → has_mark (put_on puts k) ≡ false

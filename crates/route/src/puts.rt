@@ -6,16 +6,10 @@ ghost use Rattle.route.specs.Senders.{lanes, puts, capacities};
 ghost use Rattle.route.specs.Sending.{put_on, with_put};
 
 use lane::Sender;
-use std::sync::Wait;
 use trace::Placed;
 
 /// Puts the record on the lane; false where the lane was full.
-pub fn put_on<R: Wait>(
-    rt: &R,
-    senders: &mut Vec<Sender<Placed>>,
-    lane: usize,
-    placed: Placed,
-) -> bool
+pub fn put_on(senders: &mut Vec<Sender<Placed>>, lane: usize, placed: Placed) -> bool
     requires within { lane < vec_len senders.old }
     requires unmarked { has_mark (put_on (puts senders.old.items) lane) ≡ false }
     ensures puts { puts senders.new.items
@@ -27,11 +21,11 @@ pub fn put_on<R: Wait>(
     ensures full { IsFalse result → slice_index_or (capacities senders.old.items) lane 0
         ≤ length (put_on (puts senders.old.items) lane) }
 {
-    senders[lane].put(rt, placed).is_ok()
+    senders[lane].put(placed).is_ok()
 }
 
 /// Puts the mark on the lane; false where the lane was full.
-pub fn mark_on<R: Wait>(rt: &R, senders: &mut Vec<Sender<Placed>>, lane: usize) -> bool
+pub fn mark_on(senders: &mut Vec<Sender<Placed>>, lane: usize) -> bool
     requires within { lane < vec_len senders.old }
     requires unmarked { has_mark (put_on (puts senders.old.items) lane) ≡ false }
     ensures puts { puts senders.new.items
@@ -43,5 +37,5 @@ pub fn mark_on<R: Wait>(rt: &R, senders: &mut Vec<Sender<Placed>>, lane: usize) 
     ensures full { IsFalse result → slice_index_or (capacities senders.old.items) lane 0
         ≤ length (put_on (puts senders.old.items) lane) }
 {
-    senders[lane].mark(rt)
+    senders[lane].mark()
 }

@@ -29,29 +29,29 @@ fn two_lanes(rt: HostRuntime) -> Result<(), Fail> {
     let mut router = Router::new(rt.alloc(), senders)?;
     router.offer(at(1, Record::Spawn));
     assert!(rt; router.pending());
-    assert_eq!(rt; router.step(&rt), Progress::Moved);
-    assert_eq!(rt; router.step(&rt), Progress::Moved);
-    assert_eq!(rt; router.step(&rt), Progress::Idle);
+    assert_eq!(rt; router.step(), Progress::Moved);
+    assert_eq!(rt; router.step(), Progress::Moved);
+    assert_eq!(rt; router.step(), Progress::Idle);
     assert!(rt; !router.pending());
     router.offer(at(2, Record::Write(5)));
-    assert_eq!(rt; router.step(&rt), Progress::Blocked(1));
-    assert_eq!(rt; other.take(&rt), one(1, Record::Spawn));
-    assert_eq!(rt; router.step(&rt), Progress::Moved);
-    assert_eq!(rt; router.step(&rt), Progress::Idle);
+    assert_eq!(rt; router.step(), Progress::Blocked(1));
+    assert_eq!(rt; other.take(), one(1, Record::Spawn));
+    assert_eq!(rt; router.step(), Progress::Moved);
+    assert_eq!(rt; router.step(), Progress::Idle);
     router.offer(at(3, Record::Return));
-    assert_eq!(rt; router.step(&rt), Progress::Blocked(0));
-    assert_eq!(rt; taker.take(&rt), one(1, Record::Spawn));
-    assert_eq!(rt; router.step(&rt), Progress::Moved);
-    assert_eq!(rt; router.step(&rt), Progress::Blocked(1));
-    assert_eq!(rt; other.take(&rt), one(2, Record::Write(5)));
-    assert_eq!(rt; router.step(&rt), Progress::Moved);
+    assert_eq!(rt; router.step(), Progress::Blocked(0));
+    assert_eq!(rt; taker.take(), one(1, Record::Spawn));
+    assert_eq!(rt; router.step(), Progress::Moved);
+    assert_eq!(rt; router.step(), Progress::Blocked(1));
+    assert_eq!(rt; other.take(), one(2, Record::Write(5)));
+    assert_eq!(rt; router.step(), Progress::Moved);
     assert!(rt; !router.pending());
     mark_two(&rt, router, taker, other);
     Ok(())
 }
 
 // The marks, after which both lanes are settled.
-fn mark_two<R: Wait + Abort>(
+fn mark_two<R: Abort>(
     rt: &R,
     mut router: Router,
     mut taker: Taker<Placed>,
@@ -60,15 +60,15 @@ fn mark_two<R: Wait + Abort>(
     requires idle { pending_of router ≡ None }
     requires lanes { lanes_of router ≡ taker_lane taker ∷ taker_lane other ∷ [] }
 {
-    assert_eq!(rt; router.mark_all_step(rt), Progress::Blocked(0));
-    assert_eq!(rt; taker.take(rt), one(3, Record::Return));
-    assert_eq!(rt; router.mark_all_step(rt), Progress::Moved);
-    assert_eq!(rt; router.mark_all_step(rt), Progress::Blocked(1));
-    assert_eq!(rt; other.take(rt), one(3, Record::Return));
-    assert_eq!(rt; router.mark_all_step(rt), Progress::Moved);
-    assert_eq!(rt; router.mark_all_step(rt), Progress::Idle);
-    assert_eq!(rt; taker.take(rt), Some(Item::Finish));
-    assert_eq!(rt; other.take(rt), Some(Item::Finish));
+    assert_eq!(rt; router.mark_all_step(), Progress::Blocked(0));
+    assert_eq!(rt; taker.take(), one(3, Record::Return));
+    assert_eq!(rt; router.mark_all_step(), Progress::Moved);
+    assert_eq!(rt; router.mark_all_step(), Progress::Blocked(1));
+    assert_eq!(rt; other.take(), one(3, Record::Return));
+    assert_eq!(rt; router.mark_all_step(), Progress::Moved);
+    assert_eq!(rt; router.mark_all_step(), Progress::Idle);
+    assert_eq!(rt; taker.take(), Some(Item::Finish));
+    assert_eq!(rt; other.take(), Some(Item::Finish));
     settle_two(router.into_ends(), taker, other);
 }
 
@@ -91,8 +91,8 @@ struct Watched {
 
 impl Watched {
     // Takes the item that is there, and tells whether there was one.
-    fn take<R: Wait>(&mut self, rt: &R) -> Result<bool, NoMemory> {
-        match self.taker.take(rt) {
+    fn take(&mut self) -> Result<bool, NoMemory> {
+        match self.taker.take() {
             Some(Item::One(placed)) => self.given.push(placed).map_err(|_| NoMemory)?,
             Some(Item::Finish) => self.marks = self.marks.saturating_add(1),
             None => return Ok(false),
@@ -161,10 +161,10 @@ fn is_share(given: &[Placed], lane: u64, count: u64, last: u64) -> bool
 }
 
 // Takes from each lane: one of them has an item.
-fn take_one<R: Wait + Abort>(rt: &R, watched: &mut Vec<Watched>) -> Result<(), NoMemory> {
+fn take_one<R: Abort>(rt: &R, watched: &mut Vec<Watched>) -> Result<(), NoMemory> {
     let mut taken = 0u64;
     for one in watched.iter_mut() {
-        if one.take(rt)? {
+        if one.take()? {
             taken = taken.saturating_add(1);
         }
     }
@@ -196,7 +196,7 @@ fn send<R: Wait + Abort>(
     ensures unmarked { OnOk result (marked_of router.new ≡ 0) }
 {
     for _ in rt.forever() {
-        match router.step(rt) {
+        match router.step() {
             Progress::Idle => return Ok(()),
             progress => {
                 assert_eq!(rt; progress, Progress::Moved);
@@ -217,7 +217,7 @@ fn mark<R: Wait + Abort>(
     requires { pending_of router ≡ None }
 {
     for _ in rt.forever() {
-        match router.mark_all_step(rt) {
+        match router.mark_all_step() {
             Progress::Idle => break,
             progress => {
                 assert_eq!(rt; progress, Progress::Moved);

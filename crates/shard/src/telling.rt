@@ -18,7 +18,7 @@ pub fn tell<R: Wait>(rt: &R, back: &mut Sender<Back>, value: Back)
 {
     let mut waiting = value;
     for _ in rt.forever() {
-        match back.put(rt, waiting) {
+        match back.put(waiting) {
             Ok(()) => return,
             Err(value) => waiting = value,
         }
@@ -34,7 +34,7 @@ pub fn close<R: Wait>(rt: &R, mut back: Sender<Back>) -> End<Back>
     ensures put { all_put result ≡ put_of back ++ Finish ∷ [] }
 {
     for _ in rt.forever() {
-        if back.mark(rt) {
+        if back.mark() {
             return back.end();
         }
         thread::yield_now();

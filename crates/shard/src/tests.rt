@@ -272,15 +272,15 @@ fn after_the_roots_return(rt: HostRuntime) -> Result<(), Fail> {
 }
 
 /// Puts the records with the places from 1 on, and the mark.
-fn fill<R: Wait + Abort>(rt: &R, mut sender: Sender<Placed>, records: &[Record])
+fn fill<R: Abort>(rt: &R, mut sender: Sender<Placed>, records: &[Record])
     requires { has_mark (put_of sender) ≡ false }
 {
     for (index, what) in records.iter().enumerate() {
         let place = index as u64 + 1;
         let what = *what;
-        assert_eq!(rt; sender.put(rt, Placed { place, what }), Ok(()));
+        assert_eq!(rt; sender.put(Placed { place, what }), Ok(()));
     }
-    assert!(rt; sender.mark(rt));
+    assert!(rt; sender.mark());
 }
 
 /// A gate that counts the passes, and adds up the shards' numbers and the places.
@@ -322,7 +322,7 @@ fn worked<R: Wait + Abort>(
     assert!(rt; worked.taker.ended());
     let mut items = Vec::new(alloc);
     for _ in 0..16 {
-        if let Some(item) = back_taker.take(rt) {
+        if let Some(item) = back_taker.take() {
             items.push(item)?;
         }
     }
@@ -381,14 +381,14 @@ fn exchange<R: Wait>(
     for _ in rt.forever() {
         if !sender.marked() {
             if next >= records.len() {
-                sender.mark(rt);
+                sender.mark();
             } else {
                 let place = next as u64 + 1;
                 let what = records[next];
-                next += usize::from(sender.put(rt, Placed { place, what }).is_ok());
+                next += usize::from(sender.put(Placed { place, what }).is_ok());
             }
         }
-        match back.take(rt) {
+        match back.take() {
             Some(Item::One(_)) => count = count.saturating_add(1),
             Some(Item::Finish) => return count,
             None => thread::yield_now(),

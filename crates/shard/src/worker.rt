@@ -1,15 +1,17 @@
 //! A worker: a shard, and its lane back.
 ghost use Rattle.std.specs.Prelude.{◌≡◌, true, false, List, [], ◌∷◌, ◌++◌};
 ghost use Rattle.trace.specs.declared.records.Placed.{Placed};
-ghost use Rattle.lane.specs.Items.{has_mark};
+ghost use Rattle.lane.specs.declared.item.Item.{Item};
+ghost use Rattle.lane.specs.Items.{has_mark, records};
 ghost use Rattle.lane.specs.Lanes.{lane_of, put_of};
 ghost use Rattle.shard.specs.Shards.{capped_count};
 ghost use Rattle.shard.specs.Working.{HasWorked, IsGoing, HasStopped};
 
 use crate::Back;
+use crate::gate::Gate;
 use crate::state::Shard;
 use crate::telling::tell;
-use lane::Sender;
+use lane::{Item, Sender};
 use std::hash::BuildHasher;
 use std::sync::Wait;
 use trace::Placed;
@@ -23,6 +25,35 @@ pub struct Worker<S: BuildHasher + Drop> {
 }
 
 impl<S: BuildHasher + Drop> Worker<S> {
+    /// Takes each record of a block, once it has passed the gate.
+    pub fn take_block<R: Wait, G: Gate>(&mut self, rt: &R, gate: &G, block: &[Item<Placed>])
+        requires { has_mark (put_of self.old.back) ≡ false }
+        ensures worked { (u : List Placed) → HasWorked u self.old.shard (put_of self.old.back) self.old.stopped →
+            HasWorked (u ++ records block.now) self.new.shard (put_of self.new.back) self.new.stopped }
+        ensures lane { lane_of self.new.back ≡ lane_of self.old.back }
+        ensures unmarked { has_mark (put_of self.new.back) ≡ false }
+    {
+        for item in block {
+            self.take_item(rt, gate, *item);
+        }
+    }
+
+    fn take_item<R: Wait, G: Gate>(&mut self, rt: &R, gate: &G, item: Item<Placed>)
+        requires { has_mark (put_of self.old.back) ≡ false }
+        ensures worked { (u : List Placed) → HasWorked u self.old.shard (put_of self.old.back) self.old.stopped →
+            HasWorked (u ++ records (item ∷ [])) self.new.shard (put_of self.new.back) self.new.stopped }
+        ensures lane { lane_of self.new.back ≡ lane_of self.old.back }
+        ensures unmarked { has_mark (put_of self.new.back) ≡ false }
+    {
+        match item {
+            Item::One(placed) => {
+                gate.pass(self.shard.index(), placed.place);
+                self.take(rt, placed);
+            }
+            Item::Finish => {}
+        }
+    }
+
     /// Takes a record: applies it and tells its race. After a refused growth, which is told once, and after
     /// a record out of order it only counts.
     pub fn take<R: Wait>(&mut self, rt: &R, placed: Placed)

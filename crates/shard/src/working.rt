@@ -50,53 +50,60 @@ pub fn work<R: Wait, S: BuildHasher + Drop, G: Gate>(
         stopped: false,
     };
     let parker = Parker::new();
+    let mut block = [Item::Finish; BLOCK];
     let mut empty_takes: u32 = 0;
     for _ in rt.forever() {
-        match taker.take(rt) {
-            Some(Item::One(placed)) => {
-                gate.pass(worker.shard.index(), placed.place);
-                worker.take(rt, placed);
-                empty_takes = 0;
-            }
-            Some(Item::Finish) => {
-                let Worker {
-                    shard,
-                    back,
-                    stopped: _,
-                } = worker;
-                return Worked {
-                    taker,
-                    back: close(rt, back),
-                    shard,
-                };
-            }
-            None => {
-                rest(rt, &parker, empty_takes);
-                empty_takes = empty_takes.saturating_add(1);
-            }
+        if taker.ready() == 0 {
+            gather();
+        }
+        let count = taker.take_block(&mut block);
+        worker.take_block(rt, gate, &block[..count]);
+        if taker.ended() {
+            let Worker {
+                shard,
+                back,
+                stopped: _,
+            } = worker;
+            return Worked {
+                taker,
+                back: close(rt, back),
+                shard,
+            };
+        }
+        if count == 0 {
+            rest(rt, &parker, empty_takes);
+            empty_takes = empty_takes.saturating_add(1);
+        } else {
+            empty_takes = 0;
         }
     }
     unreachable!()
 }
 
-// How often the processor pauses while records gather.
-const PAUSES: u32 = 512;
+// How many items are taken in one step at most.
+const BLOCK: usize = 64;
+
+// How often the processor pauses before a look at the other end of the lane.
+const PAUSES: u32 = 128;
+
+// Lets some records gather before a look at the other end. A lane that holds a record or two at a time passes between
+// two processors at each.
+fn gather() {
+    for _ in 0..PAUSES {
+        spin_loop();
+    }
+}
 
 // How many takes in a row may find the lane empty before the worker naps.
-const AWAKE: u32 = 4;
+const AWAKE: u32 = 3;
 
 // How long a nap takes, in microseconds.
 const NAP: u64 = 50;
 
-// Waits at an empty lane, before which so many takes in a row had found it empty. A worker that has just emptied it
-// lets some records gather first: a lane that holds one record at a time passes between two processors at each. Then
-// other threads run. Where still none comes the worker naps, so that it takes no processor from those that work.
+// Waits at an empty lane, before which so many takes in a row had found it empty. First other threads run. Where still
+// none comes the worker naps, so that it takes no processor from those that work.
 fn rest<R: Wait>(rt: &R, parker: &Parker, empty_takes: u32) {
-    if empty_takes == 0 {
-        for _ in 0..PAUSES {
-            spin_loop();
-        }
-    } else if empty_takes < AWAKE {
+    if empty_takes < AWAKE {
         thread::yield_now();
     } else {
         parker.park_timeout(rt, Duration::from_micros(NAP));

@@ -1,40 +1,55 @@
 //! What a sender does.
-ghost use Rattle.std.specs.Prelude.{◌≡◌, ◌≤◌, false, [], ◌∷◌, ◌++◌, length, IsTrue, IsFalse, IfErr, OnOk};
+ghost use Rattle.std.specs.Prelude.{◌≡◌, ◌+◌, ◌<◌, ◌≤◌, false, [], ◌∷◌, ◌++◌, length, IsTrue, IsFalse, IfErr, OnOk, IsOk};
 ghost use Rattle.lane.specs.declared.item.Item.TheVariants.{One, Finish};
 ghost use Rattle.lane.specs.Items.{has_mark};
-ghost use Rattle.lane.specs.Lanes.{lane_of, end_lane, put_of, all_put, capacity_of};
+ghost use Rattle.lane.specs.Lanes.{lane_of, end_lane, put_of, all_put, capacity_of, room_of};
 
 use super::{End, Sender};
 use crate::item::Item;
-use crate::rule::push;
-use std::sync::Wait;
 
 impl<T: Copy + Send> Sender<T> {
     /// Adds the value at the end of what was put, or hands it back because the lane was full.
-    pub fn put<R: Wait>(&mut self, rt: &R, value: T) -> Result<(), T>
+    #[tactic(auto, using(crate::proofs::Marks::has_mark_more, crate::proofs::Marks::mark_last_more))]
+    pub fn put(&mut self, value: T) -> Result<(), T>
         requires { has_mark (put_of self.old) ≡ false }
         ensures lane { (lane_of self.new ≡ lane_of self.old) × (capacity_of self.new ≡ capacity_of self.old) }
         ensures ok { OnOk result (put_of self.new ≡ put_of self.old ++ One value ∷ []) }
         ensures full { IfErr result (λ x. (x ≡ value) × (put_of self.new ≡ put_of self.old) × (capacity_of self.old ≤ length (put_of self.old))) }
+        ensures no_room { IfErr result (λ _. (room_of self.old ≡ 0) × (room_of self.new ≡ 0)) }
+        ensures room { room_of self.old ≤ room_of self.new + 1 }
         ensures unmarked { has_mark (put_of self.new) ≡ false }
     {
-        if push(rt, &self.queue, &mut self.pass, Item::One(value)) {
-            Ok(())
-        } else {
-            Err(value)
+        if self.ring.is_full() {
+            return Err(value);
         }
+        self.ring.push_reserved(Item::One(value));
+        Ok(())
     }
 
     /// Puts the mark, which takes a place too; false where the lane was full.
-    pub fn mark<R: Wait>(&mut self, rt: &R) -> bool
+    #[tactic(auto, using(crate::proofs::Marks::has_mark_more, crate::proofs::Marks::mark_last_more))]
+    pub fn mark(&mut self) -> bool
         requires { has_mark (put_of self.old) ≡ false }
         ensures lane { (lane_of self.new ≡ lane_of self.old) × (capacity_of self.new ≡ capacity_of self.old) }
         ensures put { IsTrue result → put_of self.new ≡ put_of self.old ++ Finish ∷ [] }
         ensures full { IsFalse result → (put_of self.new ≡ put_of self.old) × (capacity_of self.old ≤ length (put_of self.old)) }
+        ensures no_room { IsFalse result → (room_of self.old ≡ 0) × (room_of self.new ≡ 0) }
         ensures marked { has_mark (put_of self.new) ≡ result }
     {
-        self.marked = push(rt, &self.queue, &mut self.pass, Item::Finish);
-        self.marked
+        if self.ring.is_full() {
+            return false;
+        }
+        self.ring.push_reserved(Item::Finish);
+        self.marked = true;
+        true
+    }
+
+    /// How many items the sender knows to have room, without a look at the other end. While that is above 0 neither `put`
+    /// nor `mark` is refused.
+    pub fn room(&self) -> usize
+        ensures { result ≡ room_of self.now }
+    {
+        self.ring.cached_slots()
     }
 
     /// Whether the mark was put.

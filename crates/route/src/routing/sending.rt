@@ -10,7 +10,6 @@ use super::Router;
 use crate::progress::Progress;
 use crate::puts::{mark_on, put_on};
 use crate::turns::{first_lane, lane_after};
-use std::sync::Wait;
 use trace::Placed;
 
 impl Router {
@@ -38,7 +37,7 @@ impl Router {
 
     /// Puts the pending record on the next lane that it goes to: a structure record on all lanes in their
     /// order, an access of location l on lane l mod n.
-    pub fn step<R: Wait>(&mut self, rt: &R) -> Progress
+    pub fn step(&mut self) -> Progress
         // w is what was sent whole before
         ensures sent { (w : List Placed) → HasSent w self.old
             → HasSent (sent_whole w (pending_of self.old) (pending_of self.new)) self.new }
@@ -61,12 +60,12 @@ impl Router {
             × IsUnchanged self.old self.new) }
     {
         match self.pending {
-            Some(placed) => self.put_pending(rt, placed),
+            Some(placed) => self.put_pending(placed),
             None => Progress::Idle,
         }
     }
 
-    fn put_pending<R: Wait>(&mut self, rt: &R, placed: Placed) -> Progress
+    fn put_pending(&mut self, placed: Placed) -> Progress
         requires { pending_of self.old ≡ Some placed }
         ensures sent { (w : List Placed) → HasSent w self.old
             → HasSent (sent_whole w (pending_of self.old) (pending_of self.new)) self.new }
@@ -82,7 +81,7 @@ impl Router {
         ensures blocked { IfBlocked result (λ k. (k ≡ turn_of self.old) × IsFull self.old k
             × IsUnchanged self.old self.new) }
     {
-        if !put_on(rt, &mut self.senders, self.next, placed) {
+        if !put_on(&mut self.senders, self.next, placed) {
             return Progress::Blocked(self.next as u32);
         }
         match lane_after(placed.what, self.next, self.senders.len()) {
@@ -93,7 +92,7 @@ impl Router {
     }
 
     /// Puts the mark on the next lane that has none.
-    pub fn mark_all_step<R: Wait>(&mut self, rt: &R) -> Progress
+    pub fn mark_all_step(&mut self) -> Progress
         requires { pending_of self.old ≡ None }
         ensures sent { (w : List Placed) → HasSent w self.old → HasSent w self.new }
         ensures lanes { IsOnLanes self.old self.new }
@@ -111,7 +110,7 @@ impl Router {
         if self.marked == self.senders.len() {
             return Progress::Idle;
         }
-        if !mark_on(rt, &mut self.senders, self.marked) {
+        if !mark_on(&mut self.senders, self.marked) {
             return Progress::Blocked(self.marked as u32);
         }
         self.marked += 1;

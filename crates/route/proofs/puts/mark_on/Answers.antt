@@ -5,11 +5,11 @@ use Rattle.route.proofs.Lists.{map-set_like, puts_after}
 use Rattle.route.proofs.puts.mark_on.Goals as goal
 
 pub returns-clause-puts : goal.returns-clause-puts
-returns-clause-puts g c =
+returns-clause-puts c =
     puts_after c.args.senders.now.items c.args.lane _ c.mark.new.self Finish c.mark.result (search rules) c.index_mut.ensures.value c.mark.ensures.put (λ h. (c.mark.ensures.full h).0)
 
 pub returns-clause-lanes : goal.returns-clause-lanes
-returns-clause-lanes g c = map-set_like lane_of _ _ _ _ c.index_mut.ensures.value c.mark.ensures.lane.0
+returns-clause-lanes c = map-set_like lane_of _ _ _ _ c.index_mut.ensures.value c.mark.ensures.lane.0
 
 pub returns-clause-capacities : goal.returns-clause-capacities
-returns-clause-capacities g c = map-set_like capacity_of _ _ _ _ c.index_mut.ensures.value c.mark.ensures.lane.1
+returns-clause-capacities c = map-set_like capacity_of _ _ _ _ c.index_mut.ensures.value c.mark.ensures.lane.1

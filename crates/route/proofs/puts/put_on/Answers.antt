@@ -5,13 +5,13 @@ use Rattle.route.proofs.Lists.{map-set_like, puts_after, on_true, on_false}
 use Rattle.route.proofs.puts.put_on.Goals as goal
 
 pub returns-clause-puts : goal.returns-clause-puts
-returns-clause-puts g c =
+returns-clause-puts c =
     puts_after c.args.senders.now.items c.args.lane _ c.put.new.self (One c.args.placed) c.is_ok.result (search rules) c.index_mut.ensures.value
     (on_true _ c.put.result c.is_ok.result c.is_ok.ensures.value c.put.ensures.ok)
     (on_false _ _ c.put.result c.is_ok.result c.is_ok.ensures.value c.put.ensures.full (λ x h. h.1))
 
 pub returns-clause-lanes : goal.returns-clause-lanes
-returns-clause-lanes g c = map-set_like lane_of _ _ _ _ c.index_mut.ensures.value c.put.ensures.lane.0
+returns-clause-lanes c = map-set_like lane_of _ _ _ _ c.index_mut.ensures.value c.put.ensures.lane.0
 
 pub returns-clause-capacities : goal.returns-clause-capacities
-returns-clause-capacities g c = map-set_like capacity_of _ _ _ _ c.index_mut.ensures.value c.put.ensures.lane.1
+returns-clause-capacities c = map-set_like capacity_of _ _ _ _ c.index_mut.ensures.value c.put.ensures.lane.1

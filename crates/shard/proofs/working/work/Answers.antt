@@ -1,14 +1,12 @@
-use Rattle.std.proofs.Common.{◌≡◌, List, [], ◌∷◌, ◌++◌, length, map, false, refl, sym, ap, subst, ◌∙◌}
+use Rattle.std.proofs.Common.{rules, ◌≡◌, List, [], ◌++◌, length, take, false, refl, sym, ap, subst, ◌∙◌}
 use Rattle.trace.specs.declared.records.Placed.{Placed}
 use Rattle.lane.specs.declared.item.Item.{Item}
-use Rattle.lane.specs.declared.item.Item.TheVariants.{One, Finish}
 use Rattle.lane.specs.Items.{has_mark, records}
 use Rattle.lane.specs.Lanes.{put_of, taken_of}
-use Rattle.lane.proofs.Marks.{has_mark-snoc, records-one, records-finish}
+use Rattle.lane.proofs.Marks.{records-append, all_to_mark}
 use Rattle.shard.specs.declared.Back.{Back}
-use Rattle.shard.specs.Shards.{capped_count}
-use Rattle.shard.specs.Working.{Answers, HasWorked, IsOfShare, TellsFound}
-use Rattle.shard.proofs.Works.{worked_new, answers, tells_share, all_records}
+use Rattle.shard.specs.Working.{HasWorked, IsOfShare, TellsFound}
+use Rattle.shard.proofs.Works.{worked_new, answers, tells_share}
 use Rattle.shard.proofs.working.work.Goals as goal
 
 pub loop-init : goal.loop-init
@@ -23,33 +21,33 @@ loop-init g c =
       worked = subst P (sym c.requires.none_taken) (subst Q (sym c.requires.none_put) (worked_new c.args.shard c.requires.new));
     }
 
-pub loop-preserved-in-Some-One : goal.loop-preserved-in-Some-One
-loop-preserved-in-Some-One g c =
+pub loop-preserved : goal.loop-preserved
+loop-preserved g c =
     let i = c.loop.invariant in
-    let more : taken_of c.take.new.self ≡ taken_of c.loop.taker ++ One c.in-Some-One.placed ∷ [] = c.in-Some-One.ensures.some.0 ∙ ap (λ (x : Item Placed). taken_of c.loop.taker ++ x ∷ []) c.in-Some-One.field-0-is in
-    let same : records (taken_of c.take.new.self) ≡ records (taken_of c.loop.taker) ++ c.in-Some-One.placed ∷ [] = ap records more ∙ records-one (taken_of c.loop.taker) c.in-Some-One.placed in
-    let P : List Placed → Type 0 = λ u. HasWorked u c.take-in-Some-One.new.self.shard (put_of c.take-in-Some-One.new.self.back) c.take-in-Some-One.new.self.stopped in
+    let same : records (taken_of c.take_block-count.new.self) ≡ records (taken_of c.loop.taker) ++ records (take c.take_block-count.result c.take_block-count.new.items) = ap records c.take_block-count.ensures.taken ∙ records-append (taken_of c.loop.taker) _ in
+    let P : List Placed → Type 0 = λ u. HasWorked u c.take_block.new.self.shard (put_of c.take_block.new.self.back) c.take_block.new.self.stopped in
     record {
-      same_taker = c.take.ensures.lane ∙ i.same_taker;
-      same_back = c.take-in-Some-One.ensures.lane ∙ i.same_back;
-      before_mark = ap has_mark more ∙ has_mark-snoc (taken_of c.loop.taker) (One c.in-Some-One.placed) i.before_mark;
-      unmarked = c.take-in-Some-One.ensures.unmarked;
-      worked = subst P (sym same) (c.take-in-Some-One.ensures.worked (records (taken_of c.loop.taker)) i.worked);
+      same_taker = c.take_block-count.ensures.lane ∙ i.same_taker;
+      same_back = c.take_block.ensures.lane ∙ i.same_back;
+      before_mark = search rules;
+      unmarked = c.take_block.ensures.unmarked;
+      worked = subst P (sym same) (c.take_block.ensures.worked (records (taken_of c.loop.taker)) i.worked);
     }
 
-pub returns-in-Some-Finish : goal.returns-in-Some-Finish
-returns-in-Some-Finish g c =
+pub returns-then-ended : goal.returns-then-ended
+returns-then-ended g c =
     let i = c.loop.invariant in
-    let put = put_of c.loop.worker.back in
-    let more : taken_of c.take.new.self ≡ taken_of c.loop.taker ++ Finish ∷ [] = c.in-Some-Finish.ensures.some.0 ∙ ap (λ (x : Item Placed). taken_of c.loop.taker ++ x ∷ []) c.in-Some-Finish.field-0-is in
-    let same : records (taken_of c.take.new.self) ≡ records (taken_of c.loop.taker) = ap records more ∙ records-finish (taken_of c.loop.taker) in
-    let P : List Placed → Type 0 = λ u. Answers u put in
-    let Q : List (Item Back) → List Placed → Type 0 = λ all u. IsOfShare u → (c.loop.worker.shard.taken ≡ length u) × TellsFound u all in
+    let taken = taken_of c.take_block-count.new.self in
+    let put = put_of c.take_block.new.self.back in
+    let same : records taken ≡ records (taken_of c.loop.taker) ++ records (take c.take_block-count.result c.take_block-count.new.items) = ap records c.take_block-count.ensures.taken ∙ records-append (taken_of c.loop.taker) _ in
+    let P : List Placed → Type 0 = λ u. HasWorked u c.take_block.new.self.shard put c.take_block.new.self.stopped in
+    let worked = subst P (sym same) (c.take_block.ensures.worked (records (taken_of c.loop.taker)) i.worked) in
+    let Q : List (Item Back) → Type 0 = λ all. IsOfShare (records taken) → (c.take_block.new.self.shard.taken ≡ length (records taken)) × TellsFound (records taken) all in
     record {
-      same_taker = c.take.ensures.lane ∙ i.same_taker;
-      same_back = c.close.ensures.lane ∙ i.same_back;
-      to_mark = more ∙ ap (λ (x : List (Item Placed)). x ++ Finish ∷ []) (all_records (taken_of c.loop.taker) i.before_mark ∙ ap (λ (u : List Placed). map One u) (sym same));
-      count = i.worked.taken ∙ ap (λ (u : List Placed). capped_count (length u)) (sym same);
-      answers = (put, c.close.ensures.put, subst P (sym same) (answers _ _ put _ i.worked));
-      of_share = subst (Q _) (sym same) (subst (λ (all : List (Item Back)). Q all (records (taken_of c.loop.taker))) (sym c.close.ensures.put) (tells_share _ _ put _ i.worked));
+      same_taker = c.take_block-count.ensures.lane ∙ i.same_taker;
+      same_back = c.close.ensures.lane ∙ c.take_block.ensures.lane ∙ i.same_back;
+      to_mark = all_to_mark taken c.take_block-count.ensures.last (search rules);
+      count = worked.taken;
+      answers = (put, c.close.ensures.put, answers _ _ put _ worked);
+      of_share = subst Q (sym c.close.ensures.put) (tells_share _ _ put _ worked);
     }

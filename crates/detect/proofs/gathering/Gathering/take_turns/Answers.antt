@@ -2,10 +2,10 @@ use Rattle.detect.proofs.Gatherings.{further_refl, further_trans}
 use Rattle.detect.proofs.gathering.Gathering.take_turns.Goals as goal
 
 pub loop-shard-init : goal.loop-shard-init
-loop-shard-init g c = further_refl _
+loop-shard-init c = further_refl _
 
 pub loop-shard-preserved : goal.loop-shard-preserved
-loop-shard-preserved g c = further_trans _ _ _ c.loop-shard.invariant c.take_turn.ensures
+loop-shard-preserved c = further_trans _ _ _ c.loop-shard.invariant c.take_turn.ensures
 
 pub returns : goal.returns
-returns g c = c.loop-shard.invariant
+returns c = c.loop-shard.invariant

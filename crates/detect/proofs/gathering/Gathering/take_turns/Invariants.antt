@@ -2,4 +2,4 @@ use Rattle.detect.specs.Gatherings.{IsFurther}
 use Rattle.detect.proofs.gathering.Gathering.take_turns.Given as goal
 
 abbrev pub invariant-loop-shard : goal.invariant-loop-shard
-invariant-loop-shard g l = IsFurther l.fn.self l.self
+invariant-loop-shard l = IsFurther l.fn.self l.self

@@ -11,7 +11,7 @@ use Rattle.route.proofs.Sent.{step-next, step-last, marks-one, unmarked_at}
 use Rattle.route.proofs.routing.Router.put_pending.Goals as goal
 
 pub invariant_of-self-in-Some-clause-marks : goal.invariant_of-self-in-Some-clause-marks
-invariant_of-self-in-Some-clause-marks g c =
+invariant_of-self-in-Some-clause-marks c =
     let s = c.args.self.now in
     let e : puts c.put_on.new.senders.items ≡ with_put (puts s.senders.items) s.next (One c.args.placed) = chosen _ _ _ c.put_on.result c.if-not-put_on.false c.put_on.ensures.puts in
     let within : s.next < length (puts s.senders.items) = omega (arith, length-map s.senders.items put_of, s.senders.ok.0, s.turn) in
@@ -19,7 +19,7 @@ invariant_of-self-in-Some-clause-marks g c =
     subst (HaveMarks s.marked) (sym e) (marks-one (puts s.senders.items) s.next c.args.placed s.marked within none s.marks)
 
 pub invariant_of-self-in-None-clause-marks : goal.invariant_of-self-in-None-clause-marks
-invariant_of-self-in-None-clause-marks g c =
+invariant_of-self-in-None-clause-marks c =
     let s = c.args.self.now in
     let e : puts c.put_on.new.senders.items ≡ with_put (puts s.senders.items) s.next (One c.args.placed) = chosen _ _ _ c.put_on.result c.if-not-put_on.false c.put_on.ensures.puts in
     let within : s.next < length (puts s.senders.items) = omega (arith, length-map s.senders.items put_of, s.senders.ok.0, s.turn) in
@@ -27,7 +27,7 @@ invariant_of-self-in-None-clause-marks g c =
     subst (HaveMarks s.marked) (sym e) (marks-one (puts s.senders.items) s.next c.args.placed s.marked within none s.marks)
 
 pub returns-in-Some-clause-sent : goal.returns-in-Some-clause-sent
-returns-in-Some-clause-sent g c =
+returns-in-Some-clause-sent c =
     let s = c.args.self.now in
     let e : puts c.put_on.new.senders.items ≡ with_put (puts s.senders.items) s.next (One c.args.placed) = chosen _ _ _ c.put_on.result c.if-not-put_on.false c.put_on.ensures.puts in
     let count : vec_len s.senders ≡ length (puts s.senders.items) = omega (arith, length-map s.senders.items put_of, s.senders.ok.0) in
@@ -35,7 +35,7 @@ returns-in-Some-clause-sent g c =
     c.requires e count c.in-Some.ensures.some.0 (s.unmarked c.args.placed c.requires) s.turn (s.aimed c.args.placed c.requires) h
 
 pub returns-in-None-clause-sent : goal.returns-in-None-clause-sent
-returns-in-None-clause-sent g c =
+returns-in-None-clause-sent c =
     let s = c.args.self.now in
     let e : puts c.put_on.new.senders.items ≡ with_put (puts s.senders.items) s.next (One c.args.placed) = chosen _ _ _ c.put_on.result c.if-not-put_on.false c.put_on.ensures.puts in
     let count : vec_len s.senders ≡ length (puts s.senders.items) = omega (arith, length-map s.senders.items put_of, s.senders.ok.0) in
