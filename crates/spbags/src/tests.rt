@@ -10,9 +10,11 @@ mod words;
 use crate::answers::{answer, refuse};
 use crate::confirms::answer_confirm;
 use crate::words::{Asked, read_words};
-use devices::Slow;
+use devices::{Full, Slow};
 use std::alloc::{AllocError, Global};
+use std::process::Abort;
 use std::sync::Wait;
+use std::test::*;
 use std::thread::Threads;
 use trace::{Counted, Sink, Source};
 
@@ -44,32 +46,43 @@ pub fn run_with_report<T: Threads + Wait + Sync>(
     report: &[u8],
     step: usize,
 ) -> Result<Ran, AllocError> {
+    let mut trace = Counted::new(Slow::new(trace, step));
+    let mut report = Counted::new(Slow::new(report, step));
+    run_on(rt, alloc, line, &mut trace, &mut report, usize::MAX)
+}
+
+/// Runs the program on these devices, with so much room on standard output.
+pub fn run_on<T: Threads + Wait + Sync, R: Source, Q: Source>(
+    rt: &T,
+    alloc: Global,
+    line: &str,
+    trace: &mut R,
+    report: &mut Q,
+    room: usize,
+) -> Result<Ran, AllocError> {
     let mut out = Vec::new(alloc);
     let mut err = Vec::new(alloc);
     let words = words_of(alloc, line)?;
     let status = {
-        let mut trace = Counted::new(Slow::new(trace, step));
-        let mut report = Counted::new(Slow::new(report, step));
-        let mut answers = Counted::new(&mut out);
+        let mut answers = Counted::new(Full::new(&mut out, room));
         let mut faults = Counted::new(&mut err);
         match read_words(alloc, words.as_slice()) {
-            Ok(asked) => answer_any(
-                rt,
-                alloc,
-                &asked,
-                &mut trace,
-                &mut report,
-                &mut answers,
-                &mut faults,
-            ),
+            Ok(asked) => answer_any(rt, alloc, &asked, trace, report, &mut answers, &mut faults),
             Err(fault) => refuse(&fault, &mut answers, &mut faults),
         }
     };
     Ok(Ran { status, out, err })
 }
 
+/// Asserts what a run of a case left.
+pub fn assert_left<R: Abort>(rt: &R, ran: &Ran, status: u8, out: &[u8], err: &[u8], case: &str) {
+    assert_eq!(rt; ran.status, status, "{case}");
+    assert_eq!(rt; ran.out.as_slice(), out, "{case}");
+    assert_eq!(rt; ran.err.as_slice(), err, "{case}");
+}
+
 /// Answers what is asked; the report is read only where it is asked for.
-pub fn answer_any<T: Threads + Wait + Sync, R: Source, Q: Source, W: Sink, E: Sink>(
+fn answer_any<T: Threads + Wait + Sync, R: Source, Q: Source, W: Sink, E: Sink>(
     rt: &T,
     alloc: Global,
     asked: &Asked,

@@ -4,7 +4,7 @@ mod others;
 mod sorts;
 mod sums;
 
-use super::{run, run_with_report};
+use super::{assert_left, run, run_with_report};
 use std::test::Fail;
 
 #[derive(Clone, Copy)]
@@ -40,14 +40,14 @@ fn checks_examples(rt: HostRuntime) -> Result<(), Fail> {
         let status = if example.report == "races 0\n" { 0 } else { 1 };
         for (line, step) in [("check -", 4096), ("check --shards 3 --capacity 1 -", 1)] {
             let ran = run(&rt, rt.alloc(), line, trace, step)?;
-            assert_eq!(rt;
-                ran.out.as_slice(),
+            assert_left(
+                &rt,
+                &ran,
+                status,
                 example.report.as_bytes(),
-                "{}",
-                example.name
+                b"",
+                example.name,
             );
-            assert_eq!(rt; ran.status, status, "{}", example.name);
-            assert!(rt; ran.err.is_empty(), "{}", example.name);
         }
     }
     Ok(())
@@ -59,8 +59,7 @@ fn confirms_examples(rt: HostRuntime) -> Result<(), Fail> {
         let trace = example.trace.as_bytes();
         let report = example.report.as_bytes();
         let ran = run_with_report(&rt, rt.alloc(), "confirm - report", trace, report, 4096)?;
-        assert_eq!(rt; ran.out.as_slice(), b"yes\n".as_slice(), "{}", example.name);
-        assert_eq!(rt; ran.status, 0, "{}", example.name);
+        assert_left(&rt, &ran, 0, b"yes\n", b"", example.name);
     }
     Ok(())
 }
@@ -70,18 +69,16 @@ fn answers_about_examples(rt: HostRuntime) -> Result<(), Fail> {
     for example in EXAMPLES {
         let trace = example.trace.as_bytes();
         let ran = run(&rt, rt.alloc(), "measure -", trace, 4096)?;
-        assert_eq!(rt;
-            ran.out.as_slice(),
-            example.measure.as_bytes(),
-            "{}",
-            example.name
-        );
+        assert_left(&rt, &ran, 0, example.measure.as_bytes(), b"", example.name);
         let ran = run(&rt, rt.alloc(), example.asked, trace, 4096)?;
-        assert_eq!(rt;
-            ran.out.as_slice(),
+        let status = if example.pairs == "pairs 0\n" { 0 } else { 1 };
+        assert_left(
+            &rt,
+            &ran,
+            status,
             example.pairs.as_bytes(),
-            "{}",
-            example.name
+            b"",
+            example.name,
         );
     }
     Ok(())

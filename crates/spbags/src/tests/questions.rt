@@ -1,12 +1,8 @@
 //! Worked rows of `pairs`, `measure` and `confirm`.
-ghost use Rattle.std.specs.Prelude.{IfOk};
-ghost use Rattle.spbags.specs.Asked.{IsInRange};
-
-use super::devices::{Broken, Full, Large, Slow};
-use super::{Ran, answer_any, flood, run, run_with_report, trace_of, words_of};
+use super::devices::{Broken, Large, Slow};
+use super::{Ran, assert_left, flood, run, run_on, run_with_report, trace_of};
 use crate::reports::MOST_BYTES;
-use crate::words::{Asked, read_words};
-use std::alloc::Global;
+use std::alloc::{AllocError, Global};
 use std::io::ErrorKind;
 use std::sync::Wait;
 use std::test::Fail;
@@ -119,9 +115,8 @@ fn answers_questions(rt: HostRuntime) -> Result<(), Fail> {
         let trace = trace_of(rt.alloc(), records)?;
         for step in [1, 4096] {
             let ran = run(&rt, rt.alloc(), line, trace.as_slice(), step)?;
-            assert_eq!(rt; ran.status, status, "{line}: {records}");
-            assert_eq!(rt; ran.out.as_slice(), answer.as_bytes(), "{line}: {records}");
-            assert!(rt; ran.err.is_empty(), "{line}: {records}");
+            let case = format!(in rt.alloc(); "{line}: {records}")?;
+            assert_left(&rt, &ran, status, answer.as_bytes(), b"", case.as_str());
         }
     }
     Ok(())
@@ -131,28 +126,18 @@ fn answers_questions(rt: HostRuntime) -> Result<(), Fail> {
 fn questions_of_a_thousand_races(rt: HostRuntime) -> Result<(), Fail> {
     let text = flood(rt.alloc())?;
     let ran = run(&rt, rt.alloc(), "measure -", text.as_slice(), 4096)?;
-    assert_eq!(rt;
-        ran.out.as_slice(),
-        b"work 2003\nspan 1003\nspawns 1\ndepth 1\n".as_slice()
-    );
+    let numbers = b"work 2003\nspan 1003\nspawns 1\ndepth 1\n";
+    assert_left(&rt, &ran, 0, numbers, b"", "measure");
     let ran = run(&rt, rt.alloc(), "pairs - 1998", text.as_slice(), 4096)?;
-    assert_eq!(rt;
-        ran.out.as_slice(),
-        b"pairs 1\npair write 1001 write 2002\n".as_slice()
-    );
+    let pairs = b"pairs 1\npair write 1001 write 2002\n";
+    assert_left(&rt, &ran, 1, pairs, b"", "pairs");
 
     // A fault at the end leaves nothing of an answer.
     let (text, _) = text.split_at(text.len() - b"return\n".len().min(text.len()));
     for line in ["measure -", "pairs - 0", "confirm - b"] {
         let report = b"races 1\nrace 0 write 2 write 1003\n";
         let ran = run_with_report(&rt, rt.alloc(), line, text, report, 4096)?;
-        assert_eq!(rt; ran.status, 2, "{line}");
-        assert!(rt; ran.out.is_empty(), "{line}");
-        assert_eq!(rt;
-            ran.err.as_slice(),
-            b"spbags: place 2003: unfinished\n".as_slice(),
-            "{line}"
-        );
+        assert_left(&rt, &ran, 2, b"", b"spbags: place 2003: unfinished\n", line);
     }
     Ok(())
 }
@@ -191,13 +176,8 @@ fn confirms_reports(rt: HostRuntime) -> Result<(), Fail> {
                 step,
             )?;
             let status = if answer == "yes\n" { 0 } else { 1 };
-            assert_eq!(rt; ran.status, status, "{records}: {report}");
-            assert_eq!(rt;
-                ran.out.as_slice(),
-                answer.as_bytes(),
-                "{records}: {report}"
-            );
-            assert!(rt; ran.err.is_empty(), "{records}: {report}");
+            let case = format!(in rt.alloc(); "{records}: {report}")?;
+            assert_left(&rt, &ran, status, answer.as_bytes(), b"", case.as_str());
         }
     }
     Ok(())
@@ -232,50 +212,22 @@ fn refuses_bad_reports_first(rt: HostRuntime) -> Result<(), Fail> {
                 report.as_bytes(),
                 4096,
             )?;
-            assert_eq!(rt; ran.status, 2, "{report}");
-            assert!(rt; ran.out.is_empty(), "{report}");
-            assert_eq!(rt; ran.err.as_slice(), want.as_bytes(), "{report}");
+            assert_left(&rt, &ran, 2, b"", want.as_bytes(), report);
         }
     }
     let ran = run_with_report(&rt, rt.alloc(), "confirm - b", b"x\n", b"races 0\n", 4096)?;
-    assert_eq!(rt; ran.err.as_slice(), b"spbags: line 1: header\n".as_slice());
+    assert_left(&rt, &ran, 2, b"", b"spbags: line 1: header\n", "races 0");
     Ok(())
 }
 
-// What `confirm` leaves of a report from this source.
+// Confirms a report from this source, of what is no trace.
 fn confirm_from<T: Threads + Wait + Sync, Q: Source>(
     rt: &T,
     alloc: Global,
     report: &mut Q,
-) -> Result<Ran, Fail> {
-    let mut out = Vec::new(alloc);
-    let mut err = Vec::new(alloc);
-    let asked = asked_by(alloc, "confirm a b")?;
-    let status = {
-        let mut trace = Counted::new(Slow::new(b"x\n", 1));
-        let mut answers = Counted::new(&mut out);
-        let mut faults = Counted::new(&mut err);
-        answer_any(
-            rt,
-            alloc,
-            &asked,
-            &mut trace,
-            report,
-            &mut answers,
-            &mut faults,
-        )
-    };
-    Ok(Ran { status, out, err })
-}
-
-fn asked_by(alloc: Global, line: &str) -> Result<Asked, Fail>
-    ensures { IfOk result IsInRange }
-{
-    let words = words_of(alloc, line)?;
-    match read_words(alloc, words.as_slice()) {
-        Ok(asked) => Ok(asked),
-        Err(_) => Err(Fail::from(line)),
-    }
+) -> Result<Ran, AllocError> {
+    let mut trace = Counted::new(Slow::new(b"x\n", 1));
+    run_on(rt, alloc, "confirm a b", &mut trace, report, usize::MAX)
 }
 
 #[test]
@@ -289,19 +241,15 @@ fn limits_the_bytes_of_a_report(rt: HostRuntime) -> Result<(), Fail> {
     ];
     for (size, want) in table {
         let ran = confirm_from(&rt, rt.alloc(), &mut Counted::new(Large::new(size, true)))?;
-        assert_eq!(rt; ran.status, 2, "{size}");
-        assert!(rt; ran.out.is_empty(), "{size}");
-        assert_eq!(rt; ran.err.as_slice(), want.as_bytes(), "{size}");
+        let case = format!(in rt.alloc(); "{size}")?;
+        assert_left(&rt, &ran, 2, b"", want.as_bytes(), case.as_str());
     }
     let most = confirm_from(
         &rt,
         rt.alloc(),
         &mut Counted::new(Large::new(MOST_BYTES, false)),
     )?;
-    assert_eq!(rt;
-        most.err.as_slice(),
-        b"spbags: report line 1: bad\n".as_slice()
-    );
+    assert_left(&rt, &most, 2, b"", b"spbags: report line 1: bad\n", "most");
     Ok(())
 }
 
@@ -312,21 +260,17 @@ fn tells_a_failed_report(rt: HostRuntime) -> Result<(), Fail> {
         let (front, _) = report.split_at(cut);
         let mut source = Counted::new(Broken::new(front, ErrorKind::Other));
         let ran = confirm_from(&rt, rt.alloc(), &mut source)?;
-        assert_eq!(rt; ran.status, 2, "at {cut}");
-        assert!(rt; ran.out.is_empty(), "at {cut}");
-        assert_eq!(rt;
-            ran.err.as_slice(),
-            b"spbags: cannot read\n".as_slice(),
-            "at {cut}"
-        );
+        let case = format!(in rt.alloc(); "at {cut}")?;
+        assert_left(&rt, &ran, 2, b"", b"spbags: cannot read\n", case.as_str());
     }
     Ok(())
 }
 
 #[test]
-fn tells_a_full_output_of_each_question(rt: HostRuntime) -> Result<(), Fail> {
+fn tells_a_full_output(rt: HostRuntime) -> Result<(), Fail> {
     let trace = trace_of(rt.alloc(), THREE_WRITES)?;
     let table = [
+        ("check -", "races 1\nrace 3 write 2 write 5\n"),
         (
             "pairs - 3",
             "pairs 3\npair write 2 write 5\npair write 2 write 7\npair write 5 write 7\n",
@@ -337,44 +281,19 @@ fn tells_a_full_output_of_each_question(rt: HostRuntime) -> Result<(), Fail> {
     for (line, answer) in table {
         for room in 0..=answer.len() {
             let (front, _) = answer.as_bytes().split_at(room);
-            let ran = answer_into(&rt, rt.alloc(), line, trace.as_slice(), room)?;
-            assert_eq!(rt; ran.status, 2, "{line}: room for {room}");
-            assert_eq!(rt; ran.out.as_slice(), front, "{line}: room for {room}");
-            assert_eq!(rt;
-                ran.err.as_slice(),
-                b"spbags: cannot write\n".as_slice(),
-                "{line}: room for {room}"
+            let mut source = Counted::new(Slow::new(trace.as_slice(), 4096));
+            let mut report = Counted::new(Slow::new(b"races 1\nrace 4 write 5 write 7\n", 1));
+            let ran = run_on(&rt, rt.alloc(), line, &mut source, &mut report, room)?;
+            let case = format!(in rt.alloc(); "{line}: room for {room}")?;
+            assert_left(
+                &rt,
+                &ran,
+                2,
+                front,
+                b"spbags: cannot write\n",
+                case.as_str(),
             );
         }
     }
     Ok(())
-}
-
-// What an answer leaves in a writer with so much room; `confirm` is asked of a race that isn't there.
-fn answer_into<T: Threads + Wait + Sync>(
-    rt: &T,
-    alloc: Global,
-    line: &str,
-    trace: &[u8],
-    room: usize,
-) -> Result<Ran, Fail> {
-    let mut out = Vec::new(alloc);
-    let mut err = Vec::new(alloc);
-    let asked = asked_by(alloc, line)?;
-    let status = {
-        let mut trace = Counted::new(Slow::new(trace, 4096));
-        let mut report = Counted::new(Slow::new(b"races 1\nrace 4 write 5 write 7\n", 1));
-        let mut answers = Counted::new(Full::new(&mut out, room));
-        let mut faults = Counted::new(&mut err);
-        answer_any(
-            rt,
-            alloc,
-            &asked,
-            &mut trace,
-            &mut report,
-            &mut answers,
-            &mut faults,
-        )
-    };
-    Ok(Ran { status, out, err })
 }

@@ -1,8 +1,8 @@
 //! Worked rows: traces, and what `check` says of them.
 use super::devices::{Broken, Full, Slow};
-use super::{answer_any, flood, run, trace_of, words_of};
+use super::{Ran, assert_left, flood, run, run_on, trace_of};
 use crate::answers::refuse;
-use crate::words::{WordsFault, read_words};
+use crate::words::WordsFault;
 use std::alloc::{AllocError, Global};
 use std::io::ErrorKind;
 use std::sync::Wait;
@@ -81,13 +81,9 @@ fn checks_rows(rt: HostRuntime) -> Result<(), Fail> {
         for (options, step) in WAYS {
             let line = format!(in rt.alloc(); "check - {options}")?;
             let ran = run(&rt, rt.alloc(), line.as_str(), trace.as_slice(), step)?;
-            assert_eq!(rt;
-                ran.status,
-                if count == 0 { 0 } else { 1 },
-                "{line}: {records}"
-            );
-            assert_eq!(rt; ran.out.as_slice(), report.as_bytes(), "{line}: {records}");
-            assert!(rt; ran.err.is_empty(), "{line}: {records}");
+            let status = if count == 0 { 0 } else { 1 };
+            let case = format!(in rt.alloc(); "{line}: {records}")?;
+            assert_left(&rt, &ran, status, report.as_bytes(), b"", case.as_str());
         }
     }
     Ok(())
@@ -98,9 +94,7 @@ fn checks_with_the_most_shards(rt: HostRuntime) -> Result<(), Fail> {
     let trace = trace_of(rt.alloc(), "spawn, write 5, return, sync, write 5, return")?;
     let line = "check --shards 64 --capacity 1 -";
     let ran = run(&rt, rt.alloc(), line, trace.as_slice(), 4096)?;
-    assert_eq!(rt; ran.status, 0);
-    assert_eq!(rt; ran.out.as_slice(), b"races 0\n".as_slice());
-    assert!(rt; ran.err.is_empty());
+    assert_left(&rt, &ran, 0, b"races 0\n", b"", line);
     Ok(())
 }
 
@@ -169,16 +163,12 @@ fn names_faults(rt: HostRuntime) -> Result<(), Fail> {
         for (options, step) in WAYS {
             let line = format!(in rt.alloc(); "{line} {options}")?;
             let ran = run(&rt, rt.alloc(), line.as_str(), trace.as_bytes(), step)?;
-            assert_eq!(rt; ran.status, 2, "{line}: {trace}");
-            assert!(rt; ran.out.is_empty(), "{line}: {trace}");
-            assert_eq!(rt; ran.err.as_slice(), want.as_bytes(), "{line}: {trace}");
+            let case = format!(in rt.alloc(); "{line}: {trace}")?;
+            assert_left(&rt, &ran, 2, b"", want.as_bytes(), case.as_str());
         }
     }
     let ran = run(&rt, rt.alloc(), "check -", b"trace 1\n\xff\n", 1)?;
-    assert_eq!(rt;
-        ran.err.as_slice(),
-        b"spbags: line 2: bad line\n".as_slice()
-    );
+    assert_left(&rt, &ran, 2, b"", b"spbags: line 2: bad line\n", "ff");
     Ok(())
 }
 
@@ -206,9 +196,7 @@ fn tells_a_thousand_races(rt: HostRuntime) -> Result<(), Fail> {
     }
     for line in FLOODED {
         let ran = run(&rt, rt.alloc(), line, text.as_slice(), 4096)?;
-        assert_eq!(rt; ran.status, 1, "{line}");
-        assert!(rt; ran.out.as_slice() == want.as_bytes(), "{line}");
-        assert!(rt; ran.err.is_empty(), "{line}");
+        assert_left(&rt, &ran, 1, want.as_bytes(), b"", line);
     }
     Ok(())
 }
@@ -219,13 +207,7 @@ fn tells_nothing_of_races_before_a_fault(rt: HostRuntime) -> Result<(), Fail> {
     let (text, _) = text.split_at(text.len() - b"return\n".len().min(text.len()));
     for line in FLOODED {
         let ran = run(&rt, rt.alloc(), line, text, 4096)?;
-        assert_eq!(rt; ran.status, 2, "{line}");
-        assert!(rt; ran.out.is_empty(), "{line}");
-        assert_eq!(rt;
-            ran.err.as_slice(),
-            b"spbags: place 2003: unfinished\n".as_slice(),
-            "{line}"
-        );
+        assert_left(&rt, &ran, 2, b"", b"spbags: place 2003: unfinished\n", line);
     }
     Ok(())
 }
@@ -248,11 +230,11 @@ fn keeps_to_its_depth(rt: HostRuntime) -> Result<(), Fail> {
     for (line, depth) in [("check -", 65536), ("check --depth 0 -", 0)] {
         let text = nested(rt.alloc(), depth)?;
         let ran = run(&rt, rt.alloc(), line, text.as_slice(), 4096)?;
-        assert_eq!(rt; ran.out.as_slice(), b"races 0\n".as_slice(), "{line}");
+        assert_left(&rt, &ran, 0, b"races 0\n", b"", line);
         let text = nested(rt.alloc(), depth + 1)?;
         let ran = run(&rt, rt.alloc(), line, text.as_slice(), 4096)?;
         let want = format!(in rt.alloc(); "spbags: place {}: too deep\n", depth + 1)?;
-        assert_eq!(rt; ran.err.as_slice(), want.as_bytes(), "{line}");
+        assert_left(&rt, &ran, 2, b"", want.as_bytes(), line);
     }
     Ok(())
 }
@@ -268,97 +250,35 @@ fn tells_a_failed_reader(rt: HostRuntime) -> Result<(), Fail> {
         ("", "spbags: cannot read\n"),
     ];
     for (trace, want) in table {
-        let err = read_from(&rt, rt.alloc(), trace.as_bytes(), ErrorKind::Other)?;
-        assert_eq!(rt; err.as_slice(), want.as_bytes(), "{trace}");
+        let ran = run_broken(&rt, rt.alloc(), trace.as_bytes(), ErrorKind::Other)?;
+        assert_left(&rt, &ran, 2, b"", want.as_bytes(), trace);
     }
     for cut in 0..whole.len() {
         let (front, _) = whole.split_at(cut);
+        let case = format!(in rt.alloc(); "at {cut}")?;
         for kind in [ErrorKind::Interrupted, ErrorKind::Other] {
-            let err = read_from(&rt, rt.alloc(), front, kind)?;
-            assert_eq!(rt;
-                err.as_slice(),
-                b"spbags: cannot read\n".as_slice(),
-                "at {cut}"
-            );
+            let ran = run_broken(&rt, rt.alloc(), front, kind)?;
+            assert_left(&rt, &ran, 2, b"", b"spbags: cannot read\n", case.as_str());
         }
     }
     Ok(())
 }
 
-// What standard error gets where the reader fails after these bytes.
-fn read_from<T: Threads + Wait + Sync>(
+// Checks a trace whose reader fails after these bytes.
+fn run_broken<T: Threads + Wait + Sync>(
     rt: &T,
     alloc: Global,
     bytes: &[u8],
     kind: ErrorKind,
-) -> Result<Vec<u8>, Fail> {
-    let mut out = Vec::new(alloc);
-    let mut err = Vec::new(alloc);
-    let words = words_of(alloc, "check -")?;
-    let Ok(asked) = read_words(alloc, words.as_slice()) else {
-        return Err(Fail::from("check -"));
-    };
-    {
-        let mut reader = Counted::new(Broken::new(bytes, kind));
-        let mut answers = Counted::new(&mut out);
-        let mut faults = Counted::new(&mut err);
-        let mut report = Counted::new(Slow::new(b"", 1));
-        if answer_any(
-            rt,
-            alloc,
-            &asked,
-            &mut reader,
-            &mut report,
-            &mut answers,
-            &mut faults,
-        ) != 2
-        {
-            return Err(Fail::from("a fault has status 2"));
-        }
-    }
-    if !out.is_empty() {
-        return Err(Fail::from("a fault has no answer"));
-    }
-    Ok(err)
+) -> Result<Ran, AllocError> {
+    let mut trace = Counted::new(Broken::new(bytes, kind));
+    let mut report = Counted::new(Slow::new(b"", 1));
+    run_on(rt, alloc, "check -", &mut trace, &mut report, usize::MAX)
 }
 
+// A full standard error changes nothing else, and help may fail too.
 #[test]
-fn tells_a_full_output(rt: HostRuntime) -> Result<(), Fail> {
-    let report = b"races 1\nrace 5 write 2 write 4\n";
-    let trace = trace_of(rt.alloc(), "spawn, write 5, return, write 5, return")?;
-    let words = words_of(rt.alloc(), "check -")?;
-    let Ok(asked) = read_words(rt.alloc(), words.as_slice()) else {
-        return Err(Fail::from("check -"));
-    };
-    for room in 0..=report.len() {
-        let mut out = Vec::new(rt.alloc());
-        let mut err = Vec::new(rt.alloc());
-        let status = {
-            let mut reader = Counted::new(Slow::new(trace.as_slice(), 4096));
-            let mut answers = Counted::new(Full::new(&mut out, room));
-            let mut faults = Counted::new(&mut err);
-            let mut report = Counted::new(Slow::new(b"", 1));
-            answer_any(
-                &rt,
-                rt.alloc(),
-                &asked,
-                &mut reader,
-                &mut report,
-                &mut answers,
-                &mut faults,
-            )
-        };
-        assert_eq!(rt; status, 2, "room for {room}");
-        let (front, _) = report.split_at(room);
-        assert_eq!(rt; out.as_slice(), front, "room for {room}");
-        assert_eq!(rt;
-            err.as_slice(),
-            b"spbags: cannot write\n".as_slice(),
-            "room for {room}"
-        );
-    }
-
-    // A full standard error changes nothing else, and help may fail too.
+fn tells_a_full_output_of_help(rt: HostRuntime) -> Result<(), Fail> {
     let mut out = Vec::new(rt.alloc());
     let mut err = Vec::new(rt.alloc());
     let fault = WordsFault::Help(String::from_str(rt.alloc(), "a text")?);
@@ -367,8 +287,7 @@ fn tells_a_full_output(rt: HostRuntime) -> Result<(), Fail> {
         &mut Counted::new(Full::new(&mut out, 3)),
         &mut Counted::new(Full::new(&mut err, 6)),
     );
-    assert_eq!(rt; status, 2);
-    assert_eq!(rt; out.as_slice(), b"a t".as_slice());
-    assert_eq!(rt; err.as_slice(), b"spbags".as_slice());
+    let ran = Ran { status, out, err };
+    assert_left(&rt, &ran, 2, b"a t", b"spbags", "help");
     Ok(())
 }

@@ -1,5 +1,5 @@
 //! Command lines.
-use super::{run, words_of};
+use super::{assert_left, run, words_of};
 use crate::words::{Asked, WordsFault, read_words};
 use std::string::ToString;
 use std::test::Fail;
@@ -168,13 +168,7 @@ fn refuses_command_lines(rt: HostRuntime) -> Result<(), Fail> {
     ];
     for line in table {
         let ran = run(&rt, rt.alloc(), line, b"trace 1\nreturn\n", 1)?;
-        assert_eq!(rt; ran.status, 2, "{line}");
-        assert!(rt; ran.out.is_empty(), "{line}");
-        assert_eq!(rt;
-            ran.err.as_slice(),
-            b"spbags: bad command line\n".as_slice(),
-            "{line}"
-        );
+        assert_left(&rt, &ran, 2, b"", b"spbags: bad command line\n", line);
     }
     let none = [String::new(rt.alloc())];
     assert!(rt;
@@ -206,7 +200,7 @@ fn helps(rt: HostRuntime) -> Result<(), Fail> {
         assert!(rt; !ran.out.is_empty(), "{line}");
     }
     let version = run(&rt, rt.alloc(), "--version", b"", 1)?;
-    assert_eq!(rt; version.out.as_slice(), b"spbags 0.1.0\n".as_slice());
+    assert_left(&rt, &version, 0, b"spbags 0.1.0\n", b"", "--version");
     Ok(())
 }
 
