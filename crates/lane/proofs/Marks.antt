@@ -1,7 +1,7 @@
 -- The mark in a list that grows at its end.
-use Rattle.std.proofs.Common.{◌≡◌, ℕ, suc, ◌+◌, arith, ◌-◌, ◌<◌, ◌≤◌, true, false, true≢false, List, [], ◌∷◌, ◌++◌, length, map, take, slice_index_or, sym, refl, ap, subst, ◌∙◌, append-nil, append_assoc}
+use Rattle.std.proofs.Common.{◌≡◌, ℕ, zero, suc, ◌+◌, arith, ◌-◌, ◌<◌, ◌≤◌, true, false, true≢false, List, [], ◌∷◌, ◌++◌, length, map, take, slice_index_or, sym, refl, ap, subst, ◌∙◌, append-nil, append_assoc}
 use Rattle.std.proofs.Math.Seq.{take-suc}
-use Rattle.rtrb.specs.Fifo.{Allowed}
+use Rattle.rtrb.specs.Fifo.{Allowed, EachAllowed}
 use Rattle.lane.specs.declared.item.Item.{Item}
 use Rattle.lane.specs.declared.item.Item.TheVariants.{One, Finish}
 use Rattle.lane.specs.Items.{is_finish, has_mark, mark_last, AllowsAfter, records, IsBeginning}
@@ -82,3 +82,33 @@ module _ {T : Type 0} where
   pub mark_last_block : (before ys : List (Item T)) → mark_last before ≡ true → Allowed AllowsAfter before ys → mark_last (before ++ ys) ≡ true
   mark_last_block before [] last h = ap mark_last (append-nil before) ∙ last
   mark_last_block before (y ∷ ys) last h = ap mark_last (sym (append_assoc before (y ∷ []) ys)) ∙ mark_last_block (before ++ y ∷ []) ys (mark_last_more before y h.0) h.1
+
+  -- a block of values alone may follow where no mark stands, and leaves none
+  pub has_mark_block : (before xs : List (Item T)) → has_mark before ≡ false → has_mark xs ≡ false → has_mark (before ++ xs) ≡ false
+  has_mark_block [] xs h none = none
+  has_mark_block (One y ∷ ys) xs h none = has_mark_block ys xs h none
+  has_mark_block (Finish ∷ ys) xs h none = absurd (true≢false h)
+
+  pub mark_last_values : (xs : List (Item T)) → has_mark xs ≡ false → mark_last xs ≡ true
+  mark_last_values [] h = refl
+  mark_last_values (One x ∷ xs) h = mark_last_values xs h
+  mark_last_values (Finish ∷ xs) h = absurd (true≢false h)
+
+  -- such a block is its values
+  pub all_values : (xs : List (Item T)) → has_mark xs ≡ false → xs ≡ map One (records xs)
+  all_values [] h = refl
+  all_values (One x ∷ xs) h = ap (λ l. One x ∷ l) (all_values xs h)
+  all_values (Finish ∷ xs) h = absurd (true≢false h)
+
+  pub no_mark_in : (xs : List T) → has_mark (map One xs) ≡ false
+  no_mark_in [] = refl
+  no_mark_in (x ∷ xs) = no_mark_in xs
+
+  take_values : (xs : List (Item T)) (i : ℕ) → has_mark xs ≡ false → has_mark (take i xs) ≡ false
+  take_values xs zero h = refl
+  take_values [] (suc i) h = refl
+  take_values (One x ∷ xs) (suc i) h = take_values xs i h
+  take_values (Finish ∷ xs) (suc i) h = absurd (true≢false h)
+
+  pub each_allowed : (before xs : List (Item T)) → has_mark before ≡ false → has_mark xs ≡ false → EachAllowed AllowsAfter before xs
+  each_allowed before xs h none i d lt = has_mark_block before (take i xs) h (take_values xs i none)

@@ -55,6 +55,7 @@ fn fill<R: Wait + Abort>(rt: &R, alloc: Global, capacity: usize) -> Result<(), N
 #[test]
 fn looks_at_the_other_end(rt: HostRuntime) -> Result<(), Fail> {
     let (mut sender, mut taker) = lane::<u32>(rt.alloc(), 4)?;
+    assert_eq!(rt; sender.capacity(), 4);
     assert_eq!(rt; sender.room(), 4);
     assert_eq!(rt; sender.put(7), Ok(()));
     assert_eq!(rt; sender.put(8), Ok(()));
@@ -74,11 +75,11 @@ fn looks_at_the_other_end(rt: HostRuntime) -> Result<(), Fail> {
 }
 
 #[test]
-fn takes_blocks(rt: HostRuntime) -> Result<(), Fail> {
+fn blocks(rt: HostRuntime) -> Result<(), Fail> {
     let (mut sender, mut taker) = lane::<u32>(rt.alloc(), 4)?;
-    assert_eq!(rt; sender.put(1), Ok(()));
-    assert_eq!(rt; sender.put(2), Ok(()));
-    assert_eq!(rt; sender.put(3), Ok(()));
+    let three = [Item::One(1), Item::One(2), Item::One(3)];
+    assert!(rt; sender.put_block(three.as_slice()));
+    assert!(rt; !sender.put_block([Item::One(4), Item::One(5)].as_slice()));
     assert_eq!(rt; sender.put(4), Ok(()));
     let mut two = [Item::Finish; 2];
     assert_eq!(rt; taker.take_block(&mut two), 2);

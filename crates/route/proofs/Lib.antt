@@ -1,4 +1,5 @@
 pub mod Lists
+pub mod Blocks
 pub mod Sent
 pub mod Rising
 pub mod LaneShares

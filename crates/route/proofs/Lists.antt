@@ -1,28 +1,32 @@
 -- Lists of senders after one of them has put an item.
-use Rattle.std.proofs.Common.{◌≡◌, ℕ, ◌<◌, Bool, true, false, cond, List, [], ◌∷◌, ◌++◌, length, get_or, set, map, sym, refl, ap, ◌∙◌, Result, Ok, Err, OnOk, IfErr, is_ok, IsTrue, IsFalse}
-use Rattle.std.proofs.lemmas.List.{map-set, get_or-map}
+use Rattle.std.proofs.Common.{◌≡◌, ℕ, ◌<◌, arith, slice_index_or, Bool, true, false, cond, List, [], ◌++◌, length, get_or, set, map, sym, refl, ap, ◌∙◌, Result, Ok, Err, OnOk, IfErr, is_ok, IsTrue, IsFalse}
+use Rattle.std.proofs.lemmas.List.{map-set, get_or-map, get_or-set_same, length-map}
 use Rattle.std.proofs.Math.Seq.{map-set_same}
 use Rattle.lane.specs.declared.item.Item.{Item}
 use Rattle.lane.specs.declared.ends.Sender.{Sender}
-use Rattle.lane.specs.Lanes.{put_of}
+use Rattle.lane.specs.Lanes.{put_of, room_of}
 use Rattle.trace.specs.declared.records.Placed.{Placed}
-use Rattle.route.specs.Senders.{puts}
-use Rattle.route.specs.Sending.{with_put}
+use Rattle.route.specs.Senders.{puts, rooms}
+use Rattle.route.specs.Sending.{with_puts}
 
 -- the place holds s, and t comes there, which f can't tell from s
 pub map-set_like : {L : Type 0} (f : Sender Placed → L) (ss : List (Sender Placed)) (k : ℕ) (s t : Sender Placed) → s ≡ get_or ss k s → f t ≡ f s → map f (set ss k t) ≡ map f ss
 map-set_like f ss k s t at same = map-set_same f ss k t s (same ∙ ap f at)
 
-puts-set : (ss : List (Sender Placed)) (k : ℕ) (s t : Sender Placed) (x : Item Placed) → k < length ss → s ≡ get_or ss k s → put_of t ≡ put_of s ++ x ∷ [] → puts (set ss k t) ≡ with_put (puts ss) k x
-puts-set ss k s t x h at more =
+puts-set : (ss : List (Sender Placed)) (k : ℕ) (s t : Sender Placed) (xs : List (Item Placed)) → k < length ss → s ≡ get_or ss k s → put_of t ≡ put_of s ++ xs → puts (set ss k t) ≡ with_puts (puts ss) k xs
+puts-set ss k s t xs h at more =
     map-set put_of ss k t
-    ∙ ap (λ (l : List (Item Placed)). set (puts ss) k l) (more ∙ ap (λ (l : List (Item Placed)). l ++ x ∷ []) (ap put_of at ∙ sym (get_or-map put_of ss k s [] h)))
+    ∙ ap (λ (l : List (Item Placed)). set (puts ss) k l) (more ∙ ap (λ (l : List (Item Placed)). l ++ xs) (ap put_of at ∙ sym (get_or-map put_of ss k s [] h)))
 
 -- after a put
-pub puts_after : (ss : List (Sender Placed)) (k : ℕ) (s t : Sender Placed) (x : Item Placed) (b : Bool) → k < length ss → s ≡ get_or ss k s → (IsTrue b → put_of t ≡ put_of s ++ x ∷ []) → (IsFalse b → put_of t ≡ put_of s)
-    → puts (set ss k t) ≡ cond b (with_put (puts ss) k x) (puts ss)
-puts_after ss k s t x true h at more same = puts-set ss k s t x h at (more refl)
-puts_after ss k s t x false h at more same = map-set_like put_of ss k s t at (same refl)
+pub puts_after : (ss : List (Sender Placed)) (k : ℕ) (s t : Sender Placed) (xs : List (Item Placed)) (b : Bool) → k < length ss → s ≡ get_or ss k s → (IsTrue b → put_of t ≡ put_of s ++ xs) → (IsFalse b → put_of t ≡ put_of s)
+    → puts (set ss k t) ≡ cond b (with_puts (puts ss) k xs) (puts ss)
+puts_after ss k s t xs true h at more same = puts-set ss k s t xs h at (more refl)
+puts_after ss k s t xs false h at more same = map-set_like put_of ss k s t at (same refl)
+
+-- the room that the sender at the place knows
+pub room_set : (ss : List (Sender Placed)) (k : ℕ) (t : Sender Placed) → k < length ss → slice_index_or (rooms (set ss k t)) k 0 ≡ room_of t
+room_set ss k t h = ap (λ (l : List ℕ). slice_index_or l k 0) (map-set room_of ss k t) ∙ get_or-set_same (rooms ss) k (room_of t) 0 (omega (arith, h, length-map ss room_of))
 
 pub on_true : (P : Type 0) (r : Result (Unit {0}) Placed) (b : Bool) → b ≡ is_ok r → OnOk r P → IsTrue b → P
 on_true P (Ok v) b e h t = h

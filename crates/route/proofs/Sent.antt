@@ -1,15 +1,16 @@
 -- What stands on the lanes after a put.
-use Rattle.std.proofs.Common.{◌≡◌, ℕ, ◌+◌, ◌<◌, ◌≤◌, Bool, true, false, cond, ◌&&◌, nat_lt, List, [], ◌∷◌, ◌++◌, length, map, sym, ap, subst, ◌∙◌, Option, Some, None, append-nil, ◌⊎◌, ⊎_elim, arith}
-use Rattle.std.proofs.lemmas.Bool.{cases_eq, cases_order, lt-ltb, le-ltb, cond-true, cond-false, and_left}
+use Rattle.std.proofs.Common.{◌≡◌, ℕ, ◌+◌, ◌<◌, ◌≤◌, Bool, true, false, cond, ◌&&◌, nat_lt, ◌==◌, List, [], ◌∷◌, ◌++◌, length, map, refl, sym, ap, subst, ◌∙◌, Option, Some, None, append-nil, ◌⊎◌, ⊎_elim, arith}
+use Rattle.std.proofs.lemmas.Bool.{cases_eq, cases_order, lt-ltb, le-ltb, eq-eqb, ne_eqb, cond-true, cond-false, and_left}
 use Rattle.std.proofs.lemmas.List.{length-set, get_or-set_same, get_or-set_other, map-append}
 use Rattle.lane.specs.declared.item.Item.{Item}
 use Rattle.lane.specs.declared.item.Item.TheVariants.{One, Finish}
 use Rattle.lane.specs.Items.{has_mark}
-use Rattle.lane.proofs.Marks.{has_mark_more}
+use Rattle.lane.proofs.Marks.{has_mark_more, has_mark_block, no_mark_in}
 use Rattle.trace.specs.declared.records.Placed.{Placed}
 use Rattle.trace.specs.Shares.{goes_placed, share}
-use Rattle.trace.proofs.ShareLemmas.{share-push}
-use Rattle.route.specs.Sending.{put_on, with_put, part, mark_of, AllSent, sent_whole, HaveMarks}
+use Rattle.trace.proofs.ShareLemmas.{share-append, share-push}
+use Rattle.route.proofs.Blocks.{IsOfLane}
+use Rattle.route.specs.Sending.{put_on, with_put, with_puts, part, mark_of, AllSent, sent_whole, HaveMarks}
 
 abbrev pub Items : Type 0
 Items = List (Item Placed)
@@ -22,15 +23,15 @@ OnPuts w turn pending marked puts = AllSent (length puts) w turn pending marked 
 apart : (k i : ℕ) → (k ≡ i → ⊥) → (k < i) ⊎ (i < k)
 apart k i e = ⊎_elim (λ (x : k ≡ i). absurd (e x)) (λ (x : (k < i) ⊎ (i < k)). x) (cases_order k i)
 
--- every lane holds some fact after an item more on one of them
-each_after : (P : ℕ → Items → Type 0) (puts : List Items) (i : ℕ) (x : Item Placed) → i < length puts → P i (put_on puts i ++ x ∷ [])
-    → ((k : ℕ) → (k ≡ i → ⊥) → k < length puts → P k (put_on puts k)) → (k : ℕ) → k < length (with_put puts i x) → P k (put_on (with_put puts i x) k)
-each_after P puts i x h here others k l =
-    let within : k < length puts = omega (arith, length-set puts i (put_on puts i ++ x ∷ [])) in
+-- every lane holds some fact after more items on one of them
+each_after : (P : ℕ → Items → Type 0) (puts : List Items) (i : ℕ) (xs : Items) → i < length puts → P i (put_on puts i ++ xs)
+    → ((k : ℕ) → (k ≡ i → ⊥) → k < length puts → P k (put_on puts k)) → (k : ℕ) → k < length (with_puts puts i xs) → P k (put_on (with_puts puts i xs) k)
+each_after P puts i xs h here others k l =
+    let within : k < length puts = omega (arith, length-set puts i (put_on puts i ++ xs)) in
     ⊎_elim
-    (λ (e : k ≡ i). let Q : ℕ → Type 0 = λ j. P j (put_on (with_put puts i x) j) in
-    subst Q (sym e) (subst (P i) (sym (get_or-set_same puts i (put_on puts i ++ x ∷ []) [] h)) here))
-    (λ (e : k ≡ i → ⊥). subst (P k) (sym (get_or-set_other puts i k (put_on puts i ++ x ∷ []) [] e)) (others k e within)) (cases_eq k i)
+    (λ (e : k ≡ i). let Q : ℕ → Type 0 = λ j. P j (put_on (with_puts puts i xs) j) in
+    subst Q (sym e) (subst (P i) (sym (get_or-set_same puts i (put_on puts i ++ xs) [] h)) here))
+    (λ (e : k ≡ i → ⊥). subst (P k) (sym (get_or-set_other puts i k (put_on puts i ++ xs) [] e)) (others k e within)) (cases_eq k i)
 
 -- what a lane has of the pending record
 part-before : (k n i : ℕ) (p : Placed) → k < i → part k n i (Some p) ≡ cond (goes_placed k n p) (p ∷ []) []
@@ -42,11 +43,11 @@ part-from k n i p h = cond-false (nat_lt k i && goes_placed k n p) (p ∷ []) []
 mark_of-from : (k m : ℕ) → m ≤ k → mark_of k m ≡ []
 mark_of-from k m h = cond-false (nat_lt k m) (Finish ∷ []) [] (le-ltb k m h)
 
--- a record joins the records where no mark stands
-add_one : (xs ys : List Placed) (marks : Items) (p : Placed) → marks ≡ [] → xs ++ p ∷ [] ≡ ys → (map One xs ++ marks) ++ One p ∷ [] ≡ map One ys ++ marks
-add_one xs ys marks p none e =
-    let P : Items → Type 0 = λ ms. (map One xs ++ ms) ++ One p ∷ [] ≡ map One ys ++ ms in
-    subst P (sym none) (ap (λ (l : Items). l ++ One p ∷ []) (append-nil (map One xs)) ∙ sym (map-append One xs (p ∷ [])) ∙ ap (map One) e ∙ sym (append-nil (map One ys)))
+-- records join the records where no mark stands
+add_all : (xs ys us : List Placed) (marks : Items) → marks ≡ [] → xs ++ us ≡ ys → (map One xs ++ marks) ++ map One us ≡ map One ys ++ marks
+add_all xs ys us marks none e =
+    let P : Items → Type 0 = λ ms. (map One xs ++ ms) ++ map One us ≡ map One ys ++ ms in
+    subst P (sym none) (ap (λ (l : Items). l ++ map One us) (append-nil (map One xs)) ∙ sym (map-append One xs us) ∙ ap (map One) e ∙ sym (append-nil (map One ys)))
 
 same_records : (xs ys : List Placed) (marks : Items) (l : Items) → l ≡ map One xs ++ marks → xs ≡ ys → l ≡ map One ys ++ marks
 same_records xs ys marks l h e = h ∙ ap (λ (zs : List Placed). map One zs ++ marks) e
@@ -58,14 +59,14 @@ sent-next puts w i p m none h goes all =
     let P : ℕ → Items → Type 0 = λ k l. l ≡ map One (share k n w ++ part k n (i + 1) (Some p)) ++ mark_of k m in
     let here : P i (put_on puts i ++ One p ∷ []) =
     ap (λ (l : Items). l ++ One p ∷ []) (all i h)
-    ∙ add_one (share i n w ++ part i n i (Some p)) (share i n w ++ part i n (i + 1) (Some p)) (mark_of i m) p (mark_of-from i m (omega arith))
+    ∙ add_all (share i n w ++ part i n i (Some p)) (share i n w ++ part i n (i + 1) (Some p)) (p ∷ []) (mark_of i m) (mark_of-from i m (omega arith))
     (ap (λ (l : List Placed). (share i n w ++ l) ++ p ∷ []) (part-from i n i p (omega arith)) ∙ ap (λ (l : List Placed). l ++ p ∷ []) (append-nil (share i n w))
     ∙ ap (λ (l : List Placed). share i n w ++ l) (sym (part-before i n (i + 1) p (omega arith) ∙ cond-true (goes_placed i n p) (p ∷ []) [] goes))) in
     let others : (k : ℕ) → (k ≡ i → ⊥) → k < n → P k (put_on puts k) =
     λ k e l. same_records _ _ _ _ (all k l) (ap (λ (x : List Placed). share k n w ++ x) (⊎_elim (λ (x : k < i). part-before k n i p x ∙ sym (part-before k n (i + 1) p (omega arith)))
     (λ (x : i < k). part-from k n i p (omega arith) ∙ sym (part-from k n (i + 1) p (omega arith))) (apart k i e))) in
     let Q : ℕ → Type 0 = λ j. (k : ℕ) → k < length (with_put puts i (One p)) → put_on (with_put puts i (One p)) k ≡ map One (share k j w ++ part k j (i + 1) (Some p)) ++ mark_of k m in
-    subst Q (sym (length-set puts i (put_on puts i ++ One p ∷ []))) (each_after P puts i (One p) h here others)
+    subst Q (sym (length-set puts i (put_on puts i ++ One p ∷ []))) (each_after P puts i (One p ∷ []) h here others)
 
 -- it was put on the last lane that it goes to
 pub sent-last : (puts : List Items) (w : List Placed) (i : ℕ) (p : Placed) (m : ℕ) → m ≡ 0 → i < length puts → goes_placed i (length puts) p ≡ true → ((k : ℕ) → i < k → k < length puts → goes_placed k (length puts) p ≡ false)
@@ -76,25 +77,56 @@ sent-last puts w i p m none h goes last all =
     let whole : (k : ℕ) → share k n w ++ cond (goes_placed k n p) (p ∷ []) [] ≡ share k n (w ++ p ∷ []) ++ [] = λ k. sym (append-nil (share k n (w ++ p ∷ [])) ∙ share-push k n w p) in
     let here : P i (put_on puts i ++ One p ∷ []) =
     ap (λ (l : Items). l ++ One p ∷ []) (all i h)
-    ∙ add_one (share i n w ++ part i n i (Some p)) (share i n (w ++ p ∷ []) ++ []) (mark_of i m) p (mark_of-from i m (omega arith))
+    ∙ add_all (share i n w ++ part i n i (Some p)) (share i n (w ++ p ∷ []) ++ []) (p ∷ []) (mark_of i m) (mark_of-from i m (omega arith))
     (ap (λ (l : List Placed). (share i n w ++ l) ++ p ∷ []) (part-from i n i p (omega arith)) ∙ ap (λ (l : List Placed). l ++ p ∷ []) (append-nil (share i n w))
     ∙ ap (λ (l : List Placed). share i n w ++ l) (sym (cond-true (goes_placed i n p) (p ∷ []) [] goes)) ∙ whole i) in
     let others : (k : ℕ) → (k ≡ i → ⊥) → k < n → P k (put_on puts k) =
     λ k e l. same_records _ _ _ _ (all k l) (ap (λ (x : List Placed). share k n w ++ x) (⊎_elim (λ (x : k < i). part-before k n i p x)
     (λ (x : i < k). part-from k n i p (omega arith) ∙ sym (cond-false (goes_placed k n p) (p ∷ []) [] (last k x l))) (apart k i e)) ∙ whole k) in
     let Q : ℕ → Type 0 = λ j. (k : ℕ) → k < length (with_put puts i (One p)) → put_on (with_put puts i (One p)) k ≡ map One (share k j (w ++ p ∷ []) ++ []) ++ mark_of k m in
-    subst Q (sym (length-set puts i (put_on puts i ++ One p ∷ []))) (each_after P puts i (One p) h here others)
+    subst Q (sym (length-set puts i (put_on puts i ++ One p ∷ []))) (each_after P puts i (One p ∷ []) h here others)
+
+-- records that all go to one lane were put there
+sent_idle : (puts : List Items) (w us : List Placed) (i j m : ℕ) → m ≡ 0 → j < length puts → IsOfLane (length puts) j us → OnPuts w i None m puts → OnPuts (w ++ us) i None m (with_puts puts j (map One us))
+sent_idle puts w us i j m none h of_lane all =
+    let n : ℕ = length puts in
+    let P : ℕ → Items → Type 0 = λ k l. l ≡ map One (share k n (w ++ us) ++ []) ++ mark_of k m in
+    let more : (k : ℕ) → share k n w ++ cond (j == k) us [] ≡ share k n (w ++ us) ++ [] = λ k. ap (λ (l : List Placed). share k n w ++ l) (sym (of_lane k)) ∙ sym (share-append k n w us) ∙ sym (append-nil (share k n (w ++ us))) in
+    let here : P j (put_on puts j ++ map One us) =
+    ap (λ (l : Items). l ++ map One us) (all j h)
+    ∙ add_all (share j n w ++ []) (share j n (w ++ us) ++ []) us (mark_of j m) (mark_of-from j m (omega arith))
+    (ap (λ (l : List Placed). l ++ us) (append-nil (share j n w)) ∙ ap (λ (l : List Placed). share j n w ++ l) (sym (cond-true (j == j) us [] (eq-eqb j j refl))) ∙ more j) in
+    let others : (k : ℕ) → (k ≡ j → ⊥) → k < n → P k (put_on puts k) =
+    λ k e l. same_records _ _ _ _ (all k l) (ap (λ (x : List Placed). share k n w ++ x) (sym (cond-false (j == k) us [] (ne_eqb j k (λ x. e (sym x))))) ∙ more k) in
+    let Q : ℕ → Type 0 = λ x. (k : ℕ) → k < length (with_puts puts j (map One us)) → put_on (with_puts puts j (map One us)) k ≡ map One (share k x (w ++ us) ++ []) ++ mark_of k m in
+    subst Q (sym (length-set puts j (put_on puts j ++ map One us))) (each_after P puts j (map One us) h here others)
+
+pub sent_block : (puts : List Items) (w us : List Placed) (i j m : ℕ) (pending : Option Placed) → m ≡ 0 → pending ≡ None → j < length puts → IsOfLane (length puts) j us → OnPuts w i pending m puts → OnPuts (w ++ us) i pending m (with_puts puts j (map One us))
+sent_block puts w us i j m pending none idle h of_lane =
+    let P : Option Placed → Type 0 = λ o. OnPuts w i o m puts → OnPuts (w ++ us) i o m (with_puts puts j (map One us)) in
+    subst P (sym idle) (sent_idle puts w us i j m none h of_lane)
+
+marks_block : (puts : List Items) (j m : ℕ) (us : List Placed) → j < length puts → has_mark (put_on puts j) ≡ false → HaveMarks m puts → HaveMarks m (with_puts puts j (map One us))
+marks_block puts j m us h none all =
+    let P : ℕ → Items → Type 0 = λ k l. has_mark l ≡ nat_lt k m in
+    each_after P puts j (map One us) h (has_mark_block (put_on puts j) (map One us) none (no_mark_in us) ∙ sym none ∙ all j h) (λ k e l. all k l)
+
+pub marks_either : (b : Bool) (old new : List Items) (j m : ℕ) (xs : Items) (us : List Placed) → new ≡ cond b (with_puts old j xs) old → xs ≡ map One us → j < length old → has_mark (put_on old j) ≡ false → HaveMarks m old → HaveMarks m new
+marks_either true old new j m xs us e values h none all =
+    let more : new ≡ with_puts old j (map One us) = e ∙ ap (with_puts old j) values in
+    subst (HaveMarks m) (sym more) (marks_block old j m us h none all)
+marks_either false old new j m xs us e values h none all = subst (HaveMarks m) (sym e) all
 
 -- the marks after a record was put, and after a mark was
 pub marks-one : (puts : List Items) (i : ℕ) (p : Placed) (m : ℕ) → i < length puts → has_mark (put_on puts i) ≡ false → HaveMarks m puts → HaveMarks m (with_put puts i (One p))
 marks-one puts i p m h none all =
     let P : ℕ → Items → Type 0 = λ k l. has_mark l ≡ nat_lt k m in
-    each_after P puts i (One p) h (has_mark_more (put_on puts i) (One p) none ∙ sym none ∙ all i h) (λ k e l. all k l)
+    each_after P puts i (One p ∷ []) h (has_mark_more (put_on puts i) (One p) none ∙ sym none ∙ all i h) (λ k e l. all k l)
 
 pub marks-finish : (puts : List Items) (m : ℕ) → m < length puts → HaveMarks m puts → HaveMarks (m + 1) (with_put puts m Finish)
 marks-finish puts m h all =
     let P : ℕ → Items → Type 0 = λ k l. has_mark l ≡ nat_lt k (m + 1) in
-    each_after P puts m Finish h (has_mark_more (put_on puts m) Finish (all m h ∙ le-ltb m m (omega arith)) ∙ sym (lt-ltb m (m + 1) (omega arith)))
+    each_after P puts m (Finish ∷ []) h (has_mark_more (put_on puts m) Finish (all m h ∙ le-ltb m m (omega arith)) ∙ sym (lt-ltb m (m + 1) (omega arith)))
     (λ k e l. all k l ∙ ⊎_elim (λ (x : k < m). lt-ltb k m x ∙ sym (lt-ltb k (m + 1) (omega arith))) (λ (x : m < k). le-ltb k m (omega arith) ∙ sym (le-ltb k (m + 1) (omega arith))) (apart k m e))
 
 pub unmarked_at : (puts : List Items) (m k : ℕ) → m ≤ k → k < length puts → HaveMarks m puts → has_mark (put_on puts k) ≡ false

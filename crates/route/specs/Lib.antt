@@ -1,4 +1,5 @@
 pub mod Senders
+pub mod Blocks
 pub mod Sending
 pub mod Progresses
 pub mod Routers

@@ -5,7 +5,7 @@ use Rattle.lane.specs.Lanes.{LaneId}
 use Rattle.trace.specs.declared.records.Placed.{Placed}
 use Rattle.trace.specs.Shares.{goes_placed}
 use Rattle.route.specs.declared.routing.Router.{Router}
-use Rattle.route.specs.Senders.{lanes, puts, capacities}
+use Rattle.route.specs.Senders.{lanes, puts, capacities, rooms}
 use Rattle.route.specs.Sending.{put_on, AllSent}
 
 abbrev pub lanes_of : Router → List LaneId
@@ -56,3 +56,7 @@ IsLastLane n k p = (j : ℕ) → k < j → j < n → goes_placed j n p ≡ false
 -- lane k holds as many items as it can, for all that the sender knows
 abbrev pub IsFull : Router → ℕ → Type 0
 IsFull r k = slice_index_or (capacities_of r) k 0 ≤ length (put_on (puts_of r) k)
+
+-- lane k hasn't room for so many items
+abbrev pub LacksRoom : Router → ℕ → ℕ → Type 0
+LacksRoom r k count = slice_index_or (rooms r.senders.items) k 0 < count

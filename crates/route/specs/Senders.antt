@@ -1,8 +1,9 @@
--- Of a list of senders: their lanes, what was put on each, and how many items each lane holds at most.
+-- Of a list of senders: their lanes, what was put on each, how many items each lane holds at most, and for how many its
+-- sender knows to have room.
 use Rattle.std.specs.Prelude.{ℕ, List, map}
 use Rattle.lane.specs.declared.item.Item.{Item}
 use Rattle.lane.specs.declared.ends.Sender.{Sender}
-use Rattle.lane.specs.Lanes.{LaneId, lane_of, put_of, capacity_of}
+use Rattle.lane.specs.Lanes.{LaneId, lane_of, put_of, capacity_of, room_of}
 use Rattle.trace.specs.declared.records.Placed.{Placed}
 
 abbrev pub lanes : List (Sender Placed) → List LaneId
@@ -13,3 +14,6 @@ puts senders = map put_of senders
 
 abbrev pub capacities : List (Sender Placed) → List ℕ
 capacities senders = map capacity_of senders
+
+abbrev pub rooms : List (Sender Placed) → List ℕ
+rooms senders = map room_of senders

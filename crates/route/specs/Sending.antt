@@ -12,9 +12,13 @@ use Rattle.trace.specs.Shares.{goes_placed, share}
 abbrev pub put_on : List (List (Item Placed)) → ℕ → List (Item Placed)
 put_on puts k = slice_index_or puts k []
 
--- one more item on lane k
+-- more items on lane k
+abbrev pub with_puts : List (List (Item Placed)) → ℕ → List (Item Placed) → List (List (Item Placed))
+with_puts puts k xs = slice_set puts k (put_on puts k ++ xs)
+
+-- one more
 abbrev pub with_put : List (List (Item Placed)) → ℕ → Item Placed → List (List (Item Placed))
-with_put puts k x = slice_set puts k (put_on puts k ++ x ∷ [])
+with_put puts k x = with_puts puts k (x ∷ [])
 
 -- the first lane of n that a record goes to
 abbrev pub first_lane : ℕ → Record → ℕ

@@ -2,6 +2,7 @@
 //! stops it and loses nothing.
 #![tactic(auto)]
 
+mod block;
 pub mod laws;
 mod progress;
 mod puts;
@@ -10,5 +11,6 @@ mod routing;
 mod tests;
 mod turns;
 
+pub use block::{BLOCK, Block};
 pub use progress::Progress;
 pub use routing::Router;

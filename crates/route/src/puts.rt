@@ -2,10 +2,10 @@
 ghost use Rattle.std.specs.Prelude.{◌≡◌, ◌<◌, ◌≤◌, false, length, slice_index_or, vec_len, if◌then◌else◌, IsFalse};
 ghost use Rattle.lane.specs.declared.item.Item.TheVariants.{One, Finish};
 ghost use Rattle.lane.specs.Items.{has_mark};
-ghost use Rattle.route.specs.Senders.{lanes, puts, capacities};
-ghost use Rattle.route.specs.Sending.{put_on, with_put};
+ghost use Rattle.route.specs.Senders.{lanes, puts, capacities, rooms};
+ghost use Rattle.route.specs.Sending.{put_on, with_put, with_puts};
 
-use lane::Sender;
+use lane::{Item, Sender};
 use trace::Placed;
 
 /// Puts the record on the lane; false where the lane was full.
@@ -22,6 +22,23 @@ pub fn put_on(senders: &mut Vec<Sender<Placed>>, lane: usize, placed: Placed) ->
         ≤ length (put_on (puts senders.old.items) lane) }
 {
     senders[lane].put(placed).is_ok()
+}
+
+/// Puts the items on the lane; false where it hadn't room for all.
+pub fn put_block_on(senders: &mut Vec<Sender<Placed>>, lane: usize, items: &[Item<Placed>]) -> bool
+    requires within { lane < vec_len senders.old }
+    requires unmarked { has_mark (put_on (puts senders.old.items) lane) ≡ false }
+    requires values { has_mark items.now ≡ false }
+    requires most { length items.now ≤ 64 }
+    ensures puts { puts senders.new.items
+        ≡ (if result then with_puts (puts senders.old.items) lane items.now
+        else puts senders.old.items) }
+    ensures lanes { lanes senders.new.items ≡ lanes senders.old.items }
+    ensures capacities { capacities senders.new.items ≡ capacities senders.old.items }
+    ensures len { vec_len senders.new ≡ vec_len senders.old }
+    ensures full { IsFalse result → slice_index_or (rooms senders.new.items) lane 0 < length items.now }
+{
+    senders[lane].put_block(items)
 }
 
 /// Puts the mark on the lane; false where the lane was full.

@@ -81,6 +81,33 @@ fn settle_two(mut ends: Vec<End<Placed>>, mut taker: Taker<Placed>, mut other: T
     other.settle(&mut ends[1]);
 }
 
+#[test]
+fn block_of_accesses(rt: HostRuntime) -> Result<(), Fail> {
+    let (first, _) = lane::<Placed>(rt.alloc(), 2)?;
+    let (second, mut taker) = lane::<Placed>(rt.alloc(), 3)?;
+    let mut senders = Vec::new(rt.alloc());
+    senders.push(first)?;
+    senders.push(second)?;
+    let mut router = Router::new(rt.alloc(), senders)?;
+    let mut block = router.block();
+    assert!(rt; block.is_empty());
+    assert!(rt; !block.add(at(1, Record::Spawn)));
+    assert!(rt; block.add(at(2, Record::Write(5))));
+    assert!(rt; !block.add(at(3, Record::Read(4))));
+    assert!(rt; block.add(at(3, Record::Read(7))));
+    assert!(rt; !block.add(at(4, Record::Read(7))));
+    assert_eq!(rt; block.lane(), 1);
+    assert!(rt; router.put_block(&block));
+    assert!(rt; !router.put_block(&block));
+    assert_eq!(rt; taker.take(), one(2, Record::Write(5)));
+    assert!(rt; router.put_block(&block));
+    assert_eq!(rt; taker.take(), one(3, Record::Read(7)));
+    block.clear();
+    assert!(rt; block.add(at(4, Record::Read(4))));
+    assert_eq!(rt; block.lane(), 0);
+    Ok(())
+}
+
 // A lane's taker, and what it gave.
 #[derive(Drop)]
 struct Watched {

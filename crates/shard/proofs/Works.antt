@@ -1,5 +1,5 @@
 -- What a worker has done after one more record, and when it answers.
-use Rattle.std.proofs.Common.{◌≡◌, ℕ, ◌+◌, ◌-◌, ◌^◌, min, Bool, true, false, List, [], ◌∷◌, ◌++◌, length, map, Option, inl, inr, ⊎_elim, refl, sym, ap, subst, ◌∙◌, arith, append_assoc, append-nil, length-append}
+use Rattle.std.proofs.Common.{◌≡◌, ℕ, ◌+◌, ◌-◌, ◌^◌, min, Bool, true, false, List, [], ◌∷◌, ◌++◌, length, Option, inl, inr, ⊎_elim, refl, sym, ap, subst, ◌∙◌, arith, append_assoc, append-nil, length-append}
 use Rattle.std.proofs.lemmas.List.{map-append}
 use Rattle.std.specs.Option.{option_to_list}
 use Rattle.std.proofs.lemmas.Bool.{cases_Bool}
@@ -9,7 +9,7 @@ use Rattle.shadow.specs.Found.{start, state_from, found_from, found}
 use Rattle.shadow.proofs.FoundLaws.{found_from-append}
 use Rattle.lane.specs.declared.item.Item.{Item}
 use Rattle.lane.specs.declared.item.Item.TheVariants.{One, Finish}
-use Rattle.lane.specs.Items.{has_mark, records, IsBeginning}
+use Rattle.lane.specs.Items.{IsBeginning}
 use Rattle.shard.specs.declared.Back.{Back}
 use Rattle.shard.specs.declared.Back.TheVariants.{Race, NoMemory}
 use Rattle.shard.specs.Shards.{ShardState, Accepts, HasApplied, IsNew, is_root_return, capped_count}
@@ -103,9 +103,3 @@ tells_share u s put stopped h of =
       h.taken ∙ omega arith,
       tells u put (in_order u of) (answers u s put stopped h),
     )
-
--- a list without the mark is its records
-pub all_records : {T : Type 0} (xs : List (Item T)) → has_mark xs ≡ false → xs ≡ map One (records xs)
-all_records [] e = refl
-all_records (One x ∷ xs) e = ap (λ (l : List (Item _)). One x ∷ l) (all_records xs e)
-all_records (Finish ∷ xs) e = absurd (cc)

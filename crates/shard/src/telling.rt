@@ -8,9 +8,34 @@ use crate::Back;
 use lane::{End, Sender};
 use std::sync::Wait;
 use std::thread;
+use trace::Race;
 
-/// Puts the value, once there is room.
-pub fn tell<R: Wait>(rt: &R, back: &mut Sender<Back>, value: Back)
+/// Puts the race, once there is room.
+#[cold]
+#[inline(never)]
+pub fn tell_race<R: Wait>(rt: &R, back: &mut Sender<Back>, race: Race)
+    requires { has_mark (put_of back.old) ≡ false }
+    ensures lane { lane_of back.new ≡ lane_of back.old }
+    ensures put { put_of back.new ≡ put_of back.old ++ One (Back.Race race) ∷ [] }
+    ensures unmarked { has_mark (put_of back.new) ≡ false }
+{
+    tell(rt, back, Back::Race(race));
+}
+
+/// Puts that memory was refused, once there is room.
+#[cold]
+#[inline(never)]
+pub fn tell_refusal<R: Wait>(rt: &R, back: &mut Sender<Back>)
+    requires { has_mark (put_of back.old) ≡ false }
+    ensures lane { lane_of back.new ≡ lane_of back.old }
+    ensures put { put_of back.new ≡ put_of back.old ++ One Back.NoMemory ∷ [] }
+    ensures unmarked { has_mark (put_of back.new) ≡ false }
+{
+    tell(rt, back, Back::NoMemory);
+}
+
+// Puts the value, once there is room.
+fn tell<R: Wait>(rt: &R, back: &mut Sender<Back>, value: Back)
     requires { has_mark (put_of back.old) ≡ false }
     ensures lane { lane_of back.new ≡ lane_of back.old }
     ensures put { put_of back.new ≡ put_of back.old ++ One value ∷ [] }

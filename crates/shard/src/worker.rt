@@ -10,7 +10,7 @@ ghost use Rattle.shard.specs.Working.{HasWorked, IsGoing, HasStopped};
 use crate::Back;
 use crate::gate::Gate;
 use crate::state::Shard;
-use crate::telling::tell;
+use crate::telling::{tell_race, tell_refusal};
 use lane::{Item, Sender};
 use std::hash::BuildHasher;
 use std::sync::Wait;
@@ -70,11 +70,11 @@ impl<S: BuildHasher + Drop> Worker<S> {
         }
         match self.shard.apply(placed) {
             Ok(None) => {}
-            Ok(Some(race)) => tell(rt, &mut self.back, Back::Race(race)),
+            Ok(Some(race)) => tell_race(rt, &mut self.back, race),
             Err(_) => {
                 self.stopped = true;
                 self.shard.count_one();
-                tell(rt, &mut self.back, Back::NoMemory);
+                tell_refusal(rt, &mut self.back);
             }
         }
     }

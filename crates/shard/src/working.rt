@@ -51,9 +51,9 @@ pub fn work<R: Wait, S: BuildHasher + Drop, G: Gate>(
     };
     let parker = Parker::new();
     let mut block = [Item::Finish; BLOCK];
-    let mut empty_takes: u32 = 0;
+    let mut tired: u32 = 0;
     for _ in rt.forever() {
-        if taker.ready() == 0 {
+        if taker.ready() == 0 && tired < AWAKE {
             gather();
         }
         let count = taker.take_block(&mut block);
@@ -71,11 +71,9 @@ pub fn work<R: Wait, S: BuildHasher + Drop, G: Gate>(
             };
         }
         if count == 0 {
-            rest(rt, &parker, empty_takes);
-            empty_takes = empty_takes.saturating_add(1);
-        } else {
-            empty_takes = 0;
+            rest(rt, &parker, tired);
         }
+        tired = tired_after(tired, count);
     }
     unreachable!()
 }
@@ -94,16 +92,25 @@ fn gather() {
     }
 }
 
-// How many takes in a row may find the lane empty before the worker naps.
-const AWAKE: u32 = 3;
+// How tired a worker is that naps. A take that finds the lane empty tires it by one, and one that finds some records wakes
+// it by one; after a whole block it is wide awake. So the worker of a busy lane looks again for some fifty microseconds,
+// and that of a lane with a record now and then takes hardly any time from the processors.
+const AWAKE: u32 = 8;
+
+fn tired_after(tired: u32, count: usize) -> u32 {
+    match count {
+        0 => tired.saturating_add(1).min(AWAKE),
+        BLOCK => 0,
+        _ => tired.saturating_sub(1),
+    }
+}
 
 // How long a nap takes, in microseconds.
 const NAP: u64 = 50;
 
-// Waits at an empty lane, before which so many takes in a row had found it empty. First other threads run. Where still
-// none comes the worker naps, so that it takes no processor from those that work.
-fn rest<R: Wait>(rt: &R, parker: &Parker, empty_takes: u32) {
-    if empty_takes < AWAKE {
+// Waits at an empty lane. Other threads run first; a tired worker naps.
+fn rest<R: Wait>(rt: &R, parker: &Parker, tired: u32) {
+    if tired < AWAKE {
         thread::yield_now();
     } else {
         parker.park_timeout(rt, Duration::from_micros(NAP));

@@ -1,4 +1,4 @@
-ghost use Rattle.std.specs.Prelude.{◌≡◌, ◌≢◌, ℕ, ◌+◌, ◌≤◌, ◌<◌, ◌^◌, List, [], ◌++◌, ◌∷◌, length, take, Option, Ok, Err, Some, None, IfOk, IfErr, OnErr, true, false};
+ghost use Rattle.std.specs.Prelude.{◌≡◌, ◌≢◌, ℕ, ◌+◌, ◌≤◌, ◌<◌, ◌^◌, List, [], ◌++◌, ◌∷◌, length, take, Option, Ok, Err, Some, None, IfOk, IfErr, OnErr, true, false, IfSome};
 ghost use Rattle.std.specs.Option.{option_to_list};
 ghost use Rattle.std.specs.Io.KnownBytes.{Consumes, IsAtEnd, Keeps};
 ghost use Rattle.trace.specs.declared.records.Record.{Record};
@@ -79,6 +79,31 @@ impl Intake {
             Ending::Running => self.read_on(source),
             Ending::Good => Ok(None),
             Ending::Bad(fault) => Err(fault),
+        }
+    }
+
+    /// The next placed record, where the bytes that have come tell it easily. The answer `None` says nothing and changes
+    /// nothing; `next_from` tells then.
+    #[inline(always)]
+    pub fn next_known(&mut self) -> Option<Placed>
+        ensures fed { (w : List Record) (bytes : List ℕ) → HasFed w bytes self.old →
+            IfSome result (λ p. (p.place ≡ length w + 1) × HasFed (w ++ p.what ∷ []) bytes self.new) }
+        ensures none { result ≡ None → self.new ≡ self.old }
+        ensures ended { self.old.ending ≢ Running → result ≡ None }
+        ensures limits { (self.new.reading.limit ≡ self.old.reading.limit) × (self.new.nesting.max_depth ≡ self.old.nesting.max_depth) }
+    {
+        let Ending::Running = self.ending else {
+            return None;
+        };
+        let bytes: &[u8] = &self.buffer;
+        let front = self.reader.front(&bytes[self.start..self.end])?;
+        match self.nest.accept(front.record) {
+            Err(_) => None,
+            Ok(placed) => {
+                self.reader.count_one();
+                self.start += front.used;
+                Some(placed)
+            }
         }
     }
 

@@ -5,7 +5,7 @@ ghost use Rattle.trace.specs.Text.{text, header, spell, Fits};
 ghost use Rattle.trace.specs.Faults.{IsBadLine, IsTruncated, IsNoRecord};
 
 use crate::faults::{TextFault, TextKind};
-use crate::lines::{Cut, LONGEST, cut_of, front_of, is_header, record_of};
+use crate::lines::{Cut, Front, LONGEST, cut_of, front_of, is_header, record_of};
 use crate::records::Record;
 use std::marker::Model;
 
@@ -157,18 +157,43 @@ impl Reader {
         ensures fault_count { IfErr result (λ _. self.new.count ≡ self.old.count) }
         ensures most { self.new.count ≤ 2 ^ 48 }
     {
-        if self.begun && self.fault.is_none() && self.count < self.limit && self.held.len() == 0 {
-            if piece.len() > LONGEST {
-                if let Some(front) = front_of(piece) {
-                    self.count += 1;
-                    return Ok(Taken {
-                        used: front.used,
-                        what: Some(front.record),
-                    });
-                }
-            }
+        if let Some(front) = self.front(piece) {
+            self.count_one();
+            return Ok(Taken {
+                used: front.used,
+                what: Some(front.record),
+            });
         }
         self.any_step(piece)
+    }
+
+    /// The next record, where its line stands whole at the front of the piece and is easily told; the answer `None` says
+    /// nothing. It is taken by `count_one`, and by leaving out the bytes of its line.
+    #[inline(always)]
+    pub(crate) fn front(&self, piece: &[u8]) -> Option<Front>
+        ensures used { IfSome result (λ f. f.used ≤ length piece.now) }
+        ensures taken { (w : List Record) (bytes : List ℕ) → HasRead w bytes self.now →
+            IfSome result (λ f. HasRead (w ++ f.record ∷ []) (bytes ++ take f.used piece.now) (record self.now { count = self.now.count + 1 })) }
+        ensures below { IfSome result (λ _. self.now.count < self.now.limit) }
+        ensures no_fault { IfSome result (λ _. self.now.fault ≡ None) }
+        ensures limit { self.now.limit ≤ 2 ^ 48 }
+        ensures short { length self.now.rest ≤ 26 }
+    {
+        if self.begun && self.fault.is_none() && self.count < self.limit && self.held.len() == 0 {
+            if piece.len() > LONGEST {
+                return front_of(piece);
+            }
+        }
+        None
+    }
+
+    /// One record more was given.
+    #[inline(always)]
+    pub(crate) fn count_one(&mut self)
+        requires { self.old.count < self.old.limit }
+        ensures { self.new ≡ record self.old { count = self.old.count + 1 } }
+    {
+        self.count += 1;
     }
 
     #[cold]

@@ -26,6 +26,21 @@ impl<T: Copy + Send> Sender<T> {
         Ok(())
     }
 
+    /// Adds a block of up to 64 values, the mark not among them, or none of them because the lane had no room for all.
+    #[tactic(auto, using(crate::proofs::Marks::has_mark_block, crate::proofs::Marks::mark_last_values))]
+    pub fn put_block(&mut self, items: &[Item<T>]) -> bool
+        requires unmarked { has_mark (put_of self.old) ≡ false }
+        requires values { has_mark items.now ≡ false }
+        requires most { length items.now ≤ 64 }
+        ensures lane { (lane_of self.new ≡ lane_of self.old) × (capacity_of self.new ≡ capacity_of self.old) }
+        ensures put { IsTrue result → put_of self.new ≡ put_of self.old ++ items.now }
+        ensures full { IsFalse result → (put_of self.new ≡ put_of self.old) × (room_of self.new < length items.now) }
+        ensures succeeds { length items.now ≤ room_of self.old → IsTrue result }
+        ensures unmarked { has_mark (put_of self.new) ≡ false }
+    {
+        self.ring.push_entire_slice(items).is_ok()
+    }
+
     /// Puts the mark, which takes a place too; false where the lane was full.
     #[tactic(auto, using(crate::proofs::Marks::has_mark_more, crate::proofs::Marks::mark_last_more))]
     pub fn mark(&mut self) -> bool
@@ -50,6 +65,13 @@ impl<T: Copy + Send> Sender<T> {
         ensures { result ≡ room_of self.now }
     {
         self.ring.cached_slots()
+    }
+
+    /// How many items the lane holds at most.
+    pub fn capacity(&self) -> usize
+        ensures { result ≡ capacity_of self.now }
+    {
+        self.ring.capacity()
     }
 
     /// Whether the mark was put.

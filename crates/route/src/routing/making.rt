@@ -2,9 +2,11 @@
 ghost use Rattle.std.specs.Prelude.{◌≡◌, ◌≤◌, [], All, IfOk, vec_len};
 ghost use Rattle.lane.specs.Lanes.{put_of};
 ghost use Rattle.route.specs.Senders.{lanes, capacities};
+ghost use Rattle.route.specs.Blocks.{records_in, block_lanes};
 ghost use Rattle.route.specs.Routers.{lanes_of, capacities_of, lane_count, pending_of, marked_of, HasSent};
 
 use super::Router;
+use crate::block::{BLOCK, Block};
 use lane::Sender;
 use std::alloc::Global;
 use trace::{NoMemory, Placed};
@@ -31,5 +33,17 @@ impl Router {
             next: 0,
             marked: 0,
         })
+    }
+
+    /// An empty block for these lanes, full at no more records than each of them holds, so that there is room for it in the end.
+    pub fn block(&self) -> Block
+        ensures empty { records_in result ≡ [] }
+        ensures lanes { block_lanes result ≡ lane_count self.now }
+    {
+        let mut most = BLOCK;
+        for sender in &self.senders {
+            most = most.min(sender.capacity());
+        }
+        Block::new(self.senders.len(), most.max(1))
     }
 }

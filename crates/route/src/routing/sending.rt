@@ -1,14 +1,16 @@
 //! What a router does.
-ghost use Rattle.std.specs.Prelude.{◌≡◌, ℕ, ◌<◌, ◌+◌, ◌↔◌, ◌≢◌, List, is_some};
+ghost use Rattle.std.specs.Prelude.{◌≡◌, ℕ, ◌<◌, ◌+◌, ◌++◌, ◌↔◌, ◌≢◌, List, length, is_some, IsTrue, IsFalse};
 ghost use Rattle.lane.specs.declared.item.Item.TheVariants.{One, Finish};
 ghost use Rattle.trace.specs.declared.records.Placed.{Placed};
 ghost use Rattle.route.specs.Sending.{first_lane, with_put, sent_whole, HaveMarks};
+ghost use Rattle.route.specs.Blocks.{records_in, block_lane, block_lanes};
 ghost use Rattle.route.specs.Progresses.{OnIdle, OnMoved, IfBlocked};
-ghost use Rattle.route.specs.Routers.{puts_of, lane_count, pending_of, turn_of, marked_of, HasSent, IsOnLanes, IsUnchanged, IsLastLane, IsFull};
+ghost use Rattle.route.specs.Routers.{puts_of, lane_count, pending_of, turn_of, marked_of, HasSent, IsOnLanes, IsUnchanged, IsLastLane, IsFull, LacksRoom};
 
 use super::Router;
+use crate::block::Block;
 use crate::progress::Progress;
-use crate::puts::{mark_on, put_on};
+use crate::puts::{mark_on, put_block_on, put_on};
 use crate::turns::{first_lane, lane_after};
 use trace::Placed;
 
@@ -89,6 +91,22 @@ impl Router {
             None => self.pending = None,
         }
         Progress::Moved
+    }
+
+    /// Puts all records of the block on their lane, or none of them because that had no room for all.
+    pub fn put_block(&mut self, block: &Block) -> bool
+        requires idle { pending_of self.old ≡ None }
+        requires unmarked { marked_of self.old ≡ 0 }
+        requires lanes { block_lanes block.now ≡ lane_count self.old }
+        ensures sent { IsTrue result → (w : List Placed) → HasSent w self.old
+            → HasSent (w ++ records_in block.now) self.new }
+        ensures full { IsFalse result → IsUnchanged self.old self.new
+            × LacksRoom self.new (block_lane block.now) (length (records_in block.now)) }
+        ensures pending { pending_of self.new ≡ None }
+        ensures marked { marked_of self.new ≡ 0 }
+        ensures lanes { IsOnLanes self.old self.new }
+    {
+        put_block_on(&mut self.senders, block.lane(), block.items())
     }
 
     /// Puts the mark on the next lane that has none.

@@ -3,7 +3,9 @@ use Rattle.std.specs.Io.KnownBytes.{Consumes}
 use Rattle.trace.specs.declared.records.Record.{Record}
 use Rattle.trace.specs.Traces.{placed}
 use Rattle.trace.specs.Feeding.{HasFed}
-use Rattle.route.specs.Routers.{pending_of, marked_of, HasSent, IsOnLanes}
+use Rattle.route.specs.Routers.{lane_count, pending_of, marked_of, IsOnLanes}
+use Rattle.route.specs.Blocks.{block_lanes}
+use Rattle.detect.specs.Sent.{HasSentBut}
 use Rattle.detect.specs.Gatherings.{IsFurther}
 use Rattle.detect.proofs.sending.send_all.Given as goal
 
@@ -13,7 +15,8 @@ invariant-records g l = record {
   came : List ℕ;
   consumed : Consumes (g.R.Source.rest l.fn.reader) (g.R.Source.rest l.reader) came;
   fed : HasFed trace came l.intake;
-  sent : HasSent (placed trace) l.router;
+  sent : HasSentBut l.block (placed trace) l.router;
+  block : block_lanes l.block ≡ lane_count l.router;
   idle : pending_of l.router ≡ None;
   unmarked : marked_of l.router ≡ 0;
   lanes : IsOnLanes l.fn.router l.router;

@@ -1,4 +1,4 @@
-use Rattle.std.proofs.Common.{rules}
+use Rattle.std.proofs.Common.{rules, [], ◌∷◌}
 use Rattle.lane.specs.declared.item.Item.TheVariants.{Finish}
 use Rattle.lane.specs.Lanes.{lane_of, capacity_of}
 use Rattle.route.proofs.Lists.{map-set_like, puts_after}
@@ -6,7 +6,7 @@ use Rattle.route.proofs.puts.mark_on.Goals as goal
 
 pub returns-clause-puts : goal.returns-clause-puts
 returns-clause-puts c =
-    puts_after c.args.senders.now.items c.args.lane _ c.mark.new.self Finish c.mark.result (search rules) c.index_mut.ensures.value c.mark.ensures.put (λ h. (c.mark.ensures.full h).0)
+    puts_after c.args.senders.now.items c.args.lane _ c.mark.new.self (Finish ∷ []) c.mark.result (search rules) c.index_mut.ensures.value c.mark.ensures.put (λ h. (c.mark.ensures.full h).0)
 
 pub returns-clause-lanes : goal.returns-clause-lanes
 returns-clause-lanes c = map-set_like lane_of _ _ _ _ c.index_mut.ensures.value c.mark.ensures.lane.0

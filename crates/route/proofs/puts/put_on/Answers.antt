@@ -1,4 +1,4 @@
-use Rattle.std.proofs.Common.{rules}
+use Rattle.std.proofs.Common.{rules, [], ◌∷◌}
 use Rattle.lane.specs.declared.item.Item.TheVariants.{One}
 use Rattle.lane.specs.Lanes.{lane_of, capacity_of}
 use Rattle.route.proofs.Lists.{map-set_like, puts_after, on_true, on_false}
@@ -6,7 +6,7 @@ use Rattle.route.proofs.puts.put_on.Goals as goal
 
 pub returns-clause-puts : goal.returns-clause-puts
 returns-clause-puts c =
-    puts_after c.args.senders.now.items c.args.lane _ c.put.new.self (One c.args.placed) c.is_ok.result (search rules) c.index_mut.ensures.value
+    puts_after c.args.senders.now.items c.args.lane _ c.put.new.self (One c.args.placed ∷ []) c.is_ok.result (search rules) c.index_mut.ensures.value
     (on_true _ c.put.result c.is_ok.result c.is_ok.ensures.value c.put.ensures.ok)
     (on_false _ _ c.put.result c.is_ok.result c.is_ok.ensures.value c.put.ensures.full (λ x h. h.1))
 

@@ -3,7 +3,7 @@ use Rattle.trace.specs.declared.records.Placed.{Placed}
 use Rattle.route.specs.Sending.{sent_whole}
 use Rattle.route.specs.Routers.{pending_of, marked_of, HasSent, IsOnLanes}
 use Rattle.detect.specs.Gatherings.{IsFurther}
-use Rattle.detect.proofs.sending.send.Given as goal
+use Rattle.detect.proofs.sending.put_one.Given as goal
 
 abbrev pub invariant-loop : goal.invariant-loop
 invariant-loop g l = record {

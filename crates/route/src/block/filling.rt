@@ -1,0 +1,97 @@
+//! How a block is filled.
+ghost use Rattle.std.specs.Prelude.{◌≡◌, ℕ, ◌<◌, ◌≤◌, ◌==◌, ◌%◌, [], ◌∷◌, ◌++◌, length, map, if◌then◌else◌, IfSome, IsTrue, IsFalse};
+ghost use Rattle.lane.specs.declared.item.Item.TheVariants.{One};
+ghost use Rattle.trace.specs.Shares.{goes, share};
+ghost use Rattle.route.specs.Blocks.{records_in, block_lane, block_lanes, most_of};
+
+use super::{BLOCK, Block};
+use crate::turns::lane_of;
+use lane::Item;
+use trace::{Placed, Record};
+
+impl Block {
+    /// Nothing yet, to be sent over so many lanes. It is full at so many accesses, so that a lane that holds as many has
+    /// room for it in the end.
+    pub fn new(lanes: usize, most: usize) -> Block
+        requires { (1 ≤ lanes) × (1 ≤ most) × (most ≤ BLOCK) }
+        ensures empty { records_in result ≡ [] }
+        ensures lanes { block_lanes result ≡ lanes }
+        ensures most { most_of result ≡ most }
+    {
+        Block {
+            items: [Item::Finish; 64],
+            len: 0,
+            most,
+            lane: 0,
+            lanes,
+        }
+    }
+
+    /// Whether nothing stands in it.
+    #[inline(always)]
+    pub fn is_empty(&self) -> bool
+        ensures { IsTrue result → records_in self.now ≡ [] }
+    {
+        self.len == 0
+    }
+
+    /// Adds the record behind the others. False where it is no access, or one of another lane, or the block is full; then
+    /// nothing changes.
+    #[inline(always)]
+    pub fn add(&mut self, placed: Placed) -> bool
+        ensures joined { IsTrue result → records_in self.new ≡ records_in self.old ++ placed ∷ [] }
+        ensures refused { IsFalse result → self.new ≡ self.old }
+        ensures lanes { block_lanes self.new ≡ block_lanes self.old }
+        ensures most { most_of self.new ≡ most_of self.old }
+    {
+        let Some(location) = location_of(placed.what) else {
+            return false;
+        };
+        let lane = lane_of(location, self.lanes);
+        if self.len == self.most || self.len > 0 && lane != self.lane {
+            return false;
+        }
+        self.items[self.len] = Item::One(placed);
+        self.len += 1;
+        self.lane = lane;
+        true
+    }
+
+    /// The lane that they go to.
+    pub fn lane(&self) -> usize
+        ensures value { result ≡ block_lane self.now }
+        ensures within { result < block_lanes self.now }
+        ensures one_lane { (k : ℕ) → share k (block_lanes self.now) (records_in self.now)
+            ≡ (if result == k then records_in self.now else []) }
+    {
+        self.lane
+    }
+
+    // They, as they stand on a lane.
+    pub(crate) fn items(&self) -> &[Item<Placed>]
+        ensures values { result.now ≡ map One (records_in self.now) }
+        ensures most { length result.now ≤ 64 }
+    {
+        &self.items[..self.len]
+    }
+
+    /// Leaves nothing in it.
+    pub fn clear(&mut self)
+        ensures empty { records_in self.new ≡ [] }
+        ensures lanes { block_lanes self.new ≡ block_lanes self.old }
+        ensures most { most_of self.new ≡ most_of self.old }
+    {
+        self.len = 0;
+    }
+}
+
+// The location of an access.
+#[inline(always)]
+fn location_of(what: Record) -> Option<u64>
+    ensures goes { IfSome result (λ l. (k n : ℕ) → goes k n what ≡ (l % n == k)) }
+{
+    match what {
+        Record::Read(location) | Record::Write(location) => Some(location),
+        Record::Spawn | Record::Return | Record::Sync => None,
+    }
+}
