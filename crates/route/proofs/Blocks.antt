@@ -1,23 +1,27 @@
 -- A block after one access more.
-use Rattle.std.proofs.Common.{◌≡◌, ℕ, zero, suc, ◌+◌, ◌<◌, ◌==◌, Bool, true, false, cond, List, [], ◌∷◌, ◌++◌, length, take, set, sym, refl, ap, subst, ◌∙◌, arith}
+use Rattle.std.proofs.Common.{◌≡◌, ℕ, zero, suc, ◌+◌, ◌<◌, ◌≤◌, ◌==◌, Bool, true, false, cond, List, [], ◌∷◌, ◌++◌, length, take, set, sym, refl, ap, subst, ◌∙◌, arith}
 use Rattle.std.proofs.lemmas.List.{take_more_set}
 use Rattle.lane.specs.declared.item.Item.{Item}
-use Rattle.lane.specs.declared.item.Item.TheVariants.{One}
+use Rattle.lane.specs.declared.item.Item.TheVariants.{One, Finish}
 use Rattle.lane.specs.Items.{has_mark, records}
 use Rattle.lane.proofs.Marks.{has_mark_more, records-one}
 use Rattle.trace.specs.declared.records.Placed.{Placed}
-use Rattle.trace.specs.Shares.{goes_placed, share}
+use Rattle.trace.specs.Shares.{goes, goes_placed}
 use Rattle.trace.proofs.ShareLemmas.{share-push}
+use Rattle.route.specs.Sending.{AreOfLane}
+
+-- how many records the values are
+pub count_of_values : (xs : List (Item Placed)) (len : ℕ) → len ≤ length xs → has_mark (take len xs) ≡ false → length (records (take len xs)) ≡ len
+count_of_values xs zero most none = refl
+count_of_values [] (suc len) most none = absurd (omega arith)
+count_of_values (One x ∷ xs) (suc len) most none = ap suc (count_of_values xs len (omega arith) none)
+count_of_values (Finish ∷ xs) (suc len) most none = absurd (cc)
 
 pub records_more : (xs : List (Item Placed)) (len : ℕ) (p : Placed) → len < length xs → records (take (len + 1) (set xs len (One p))) ≡ records (take len xs) ++ p ∷ []
 records_more xs len p h = ap records (take_more_set xs len (One p) h) ∙ records-one (take len xs) p
 
 pub values_more : (xs : List (Item Placed)) (len : ℕ) (p : Placed) → len < length xs → has_mark (take len xs) ≡ false → has_mark (take (len + 1) (set xs len (One p))) ≡ false
 values_more xs len p h none = ap has_mark (take_more_set xs len (One p) h) ∙ has_mark_more (take len xs) (One p) none
-
--- all of u is of lane j of n
-abbrev pub IsOfLane : ℕ → ℕ → List Placed → Type 0
-IsOfLane n j u = (k : ℕ) → share k n u ≡ cond (j == k) u []
 
 both : (b : Bool) (u v : List Placed) → cond b u [] ++ cond b v [] ≡ cond b (u ++ v) []
 both true u v = refl
@@ -27,12 +31,12 @@ either : (b : Bool) (u : List Placed) → u ≡ cond b u u
 either true u = refl
 either false u = refl
 
-pub of_lane_more : (n j : ℕ) (u : List Placed) (p : Placed) → ((k : ℕ) → goes_placed k n p ≡ (j == k)) → IsOfLane n j u → IsOfLane n j (u ++ p ∷ [])
+pub of_lane_more : (n j : ℕ) (u : List Placed) (p : Placed) → ((k : ℕ) → goes_placed k n p ≡ (j == k)) → AreOfLane n j u → AreOfLane n j (u ++ p ∷ [])
 of_lane_more n j u p goes h k = share-push k n u p ∙ ap (λ (l : List Placed). l ++ cond (goes_placed k n p) (p ∷ []) []) (h k) ∙ ap (λ (b : Bool). cond (j == k) u [] ++ cond b (p ∷ []) []) (goes k) ∙ both (j == k) u (p ∷ [])
 
 -- the lane of an empty block doesn't matter
-pub of_lane_then : (n i j len : ℕ) (xs : List (Item Placed)) → (0 < len → j ≡ i) → IsOfLane n i (records (take len xs)) → IsOfLane n j (records (take len xs))
+pub of_lane_then : (n i j len : ℕ) (xs : List (Item Placed)) → (0 < len → j ≡ i) → AreOfLane n i (records (take len xs)) → AreOfLane n j (records (take len xs))
 of_lane_then n i j zero xs same h = λ k. either (j == k) []
 of_lane_then n i j (suc len) xs same h =
-    let P : ℕ → Type 0 = λ x. IsOfLane n x (records (take (suc len) xs)) in
+    let P : ℕ → Type 0 = λ x. AreOfLane n x (records (take (suc len) xs)) in
     subst P (sym (same (omega arith))) h

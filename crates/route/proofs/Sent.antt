@@ -9,7 +9,7 @@ use Rattle.lane.proofs.Marks.{has_mark_more, has_mark_block, no_mark_in}
 use Rattle.trace.specs.declared.records.Placed.{Placed}
 use Rattle.trace.specs.Shares.{goes_placed, share}
 use Rattle.trace.proofs.ShareLemmas.{share-append, share-push}
-use Rattle.route.proofs.Blocks.{IsOfLane}
+use Rattle.route.specs.Sending.{AreOfLane}
 use Rattle.route.specs.Sending.{put_on, with_put, with_puts, part, mark_of, AllSent, sent_whole, HaveMarks}
 
 abbrev pub Items : Type 0
@@ -87,7 +87,7 @@ sent-last puts w i p m none h goes last all =
     subst Q (sym (length-set puts i (put_on puts i ++ One p ∷ []))) (each_after P puts i (One p ∷ []) h here others)
 
 -- records that all go to one lane were put there
-sent_idle : (puts : List Items) (w us : List Placed) (i j m : ℕ) → m ≡ 0 → j < length puts → IsOfLane (length puts) j us → OnPuts w i None m puts → OnPuts (w ++ us) i None m (with_puts puts j (map One us))
+sent_idle : (puts : List Items) (w us : List Placed) (i j m : ℕ) → m ≡ 0 → j < length puts → AreOfLane (length puts) j us → OnPuts w i None m puts → OnPuts (w ++ us) i None m (with_puts puts j (map One us))
 sent_idle puts w us i j m none h of_lane all =
     let n : ℕ = length puts in
     let P : ℕ → Items → Type 0 = λ k l. l ≡ map One (share k n (w ++ us) ++ []) ++ mark_of k m in
@@ -101,7 +101,7 @@ sent_idle puts w us i j m none h of_lane all =
     let Q : ℕ → Type 0 = λ x. (k : ℕ) → k < length (with_puts puts j (map One us)) → put_on (with_puts puts j (map One us)) k ≡ map One (share k x (w ++ us) ++ []) ++ mark_of k m in
     subst Q (sym (length-set puts j (put_on puts j ++ map One us))) (each_after P puts j (map One us) h here others)
 
-pub sent_block : (puts : List Items) (w us : List Placed) (i j m : ℕ) (pending : Option Placed) → m ≡ 0 → pending ≡ None → j < length puts → IsOfLane (length puts) j us → OnPuts w i pending m puts → OnPuts (w ++ us) i pending m (with_puts puts j (map One us))
+pub sent_block : (puts : List Items) (w us : List Placed) (i j m : ℕ) (pending : Option Placed) → m ≡ 0 → pending ≡ None → j < length puts → AreOfLane (length puts) j us → OnPuts w i pending m puts → OnPuts (w ++ us) i pending m (with_puts puts j (map One us))
 sent_block puts w us i j m pending none idle h of_lane =
     let P : Option Placed → Type 0 = λ o. OnPuts w i o m puts → OnPuts (w ++ us) i o m (with_puts puts j (map One us)) in
     subst P (sym idle) (sent_idle puts w us i j m none h of_lane)

@@ -1,7 +1,9 @@
 -- What a block says.
-use Rattle.std.specs.Prelude.{ℕ, List, take}
+use Rattle.std.specs.Prelude.{◌≡◌, ℕ, ◌<◌, ◌%◌, List, length, take, Some}
 use Rattle.lane.specs.Items.{records}
+use Rattle.trace.specs.declared.records.Record.{Record}
 use Rattle.trace.specs.declared.records.Placed.{Placed}
+use Rattle.route.specs.Sending.{location_of}
 use Rattle.route.specs.declared.block.Block.{Block}
 
 abbrev pub records_in : Block → List Placed
@@ -17,3 +19,10 @@ block_lanes b = b.lanes
 -- at how many records it is full
 abbrev pub most_of : Block → ℕ
 most_of b = b.most
+
+-- A record may join a block: it is an access, the block isn't full, and the block's records, if any, are of the same lane.
+pub record MayJoin (b : Block) (what : Record) : Type 0 where
+  pub location : ℕ
+  pub access : location_of what ≡ Some location
+  pub room : length (records_in b) < most_of b
+  pub same_lane : 0 < length (records_in b) → location % block_lanes b ≡ block_lane b

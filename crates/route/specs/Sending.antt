@@ -1,5 +1,5 @@
 -- What stands on each lane while records are sent, and the lanes that a record goes to.
-use Rattle.std.specs.Prelude.{◌≡◌, ℕ, ◌<◌, ◌%◌, ◌&&◌, nat_lt, if◌then◌else◌, List, [], ◌∷◌, ◌++◌, length, map, slice_index_or, slice_set, Option, Some, None}
+use Rattle.std.specs.Prelude.{◌≡◌, ℕ, ◌<◌, ◌%◌, ◌==◌, ◌&&◌, nat_lt, if◌then◌else◌, List, [], ◌∷◌, ◌++◌, length, map, slice_index_or, slice_set, Option, Some, None}
 use Rattle.lane.specs.declared.item.Item.{Item}
 use Rattle.lane.specs.declared.item.Item.TheVariants.{One, Finish}
 use Rattle.lane.specs.Items.{has_mark}
@@ -19,6 +19,18 @@ with_puts puts k xs = slice_set puts k (put_on puts k ++ xs)
 -- one more
 abbrev pub with_put : List (List (Item Placed)) → ℕ → Item Placed → List (List (Item Placed))
 with_put puts k x = with_puts puts k (x ∷ [])
+
+-- the location of an access
+abbrev pub location_of : Record → Option ℕ
+location_of Spawn = None
+location_of Return = None
+location_of Sync = None
+location_of (Read l) = Some l
+location_of (Write l) = Some l
+
+-- all of u go to lane j of n, and to no other
+abbrev pub AreOfLane : ℕ → ℕ → List Placed → Type 0
+AreOfLane n j u = (k : ℕ) → share k n u ≡ (if j == k then u else [])
 
 -- the first lane of n that a record goes to
 abbrev pub first_lane : ℕ → Record → ℕ

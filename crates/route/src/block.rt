@@ -1,7 +1,7 @@
 //! Accesses that are sent at once.
-ghost use Rattle.std.specs.Prelude.{◌≡◌, ℕ, ◌<◌, ◌≤◌, ◌==◌, false, [], take, if◌then◌else◌};
+ghost use Rattle.std.specs.Prelude.{◌≡◌, ◌<◌, ◌≤◌, false, take};
 ghost use Rattle.lane.specs.Items.{has_mark, records};
-ghost use Rattle.trace.specs.Shares.{share};
+ghost use Rattle.route.specs.Sending.{AreOfLane};
 
 mod filling;
 
@@ -24,5 +24,5 @@ pub struct Block {
     ghost some: { 1 ≤ most },
     ghost of_lanes: { lane < lanes },
     ghost values: { has_mark (take len items) ≡ false },
-    ghost one_lane: { (k : ℕ) → share k lanes (records (take len items)) ≡ (if lane == k then records (take len items) else []) },
+    ghost one_lane: { AreOfLane lanes lane (records (take len items)) },
 }

@@ -1,5 +1,5 @@
 -- Blocks in a list by their numbers: where they stand, and what is kept after one seat was put.
-use Rattle.std.proofs.Common.{◌≡◌, ◌≢◌, ℕ, zero, suc, ◌⊎◌, inl, inr, arith, ⊎_elim, List, [], ◌∷◌, Option, Some, true, false, cond, if◌then◌else◌, ◌==◌, ◌&&◌, nat_eq, unwrap_or, slice_get, option_map, position, get_or, length, ◌<◌, refl, sym, ap, ◌∙◌}
+use Rattle.std.proofs.Common.{◌≡◌, ◌≢◌, ℕ, zero, suc, ◌⊎◌, inl, inr, arith, ⊎_elim, List, [], ◌∷◌, Option, None, Some, true, false, cond, if◌then◌else◌, ◌==◌, ◌&&◌, nat_eq, unwrap_or, slice_get, option_map, position, get_or, length, ◌<◌, refl, sym, ap, ◌∙◌}
 use Rattle.std.specs.Map.{lookup, keys_of, values_of}
 use Rattle.std.proofs.lemmas.Bool.{eqb-true, eq-eqb, ne_eqb}
 use Rattle.std.proofs.lemmas.Bool.Decides.{eqb_tells}
@@ -19,14 +19,19 @@ at_its_place es i page is =
     there ((n, b) ∷ es) zero at within before = let same : n ≡ page = sym (eqb-true page n at) in rw at (ap (λ m. Some (m, b)) same)
     there (e ∷ es) (suc i) at within before = rw (before 0 (omega arith)) (there es i at (omega arith) (λ k lt. before (suc k) (omega arith)))
 
+-- a block's place has a value
+pub value_at : (es : List (ℕ × List Cell)) (i page : ℕ) (c : List Cell) → slice_get es i ≡ Some (page, c) → slice_get (values_of es) i ≡ Some c
+value_at [] i page c e = ap (λ (o : Option (ℕ × List Cell)). option_map (λ p. p.1) o) e
+value_at ((n, d) ∷ es) zero page c e = ap (λ (o : Option (ℕ × List Cell)). option_map (λ p. p.1) o) e
+value_at (d ∷ es) (suc i) page c e = value_at es i page c e
+
+-- at a block's place there is a value
+pub some_value : (es : List (ℕ × List Cell)) (i page : ℕ) (o : Option (List Cell)) → IsBlockAt es i page → o ≡ slice_get (values_of es) i → o ≡ None → ⊥
+some_value es i page o at is none = let e : None ≡ Some (block_of es page) = sym none ∙ is ∙ value_at es i page (block_of es page) at in absurd (cc)
+
 -- the value at a block's place is the block
 pub value_there : (es : List (ℕ × List Cell)) (i page : ℕ) (b : List Cell) → IsBlockAt es i page → Some b ≡ slice_get (values_of es) i → b ≡ block_of es page
-value_there es i page b at is = ap (λ o. unwrap_or o []) (is ∙ go es i (block_of es page) at)
-  where
-    go : (es : List (ℕ × List Cell)) (i : ℕ) (c : List Cell) → slice_get es i ≡ Some (page, c) → slice_get (values_of es) i ≡ Some c
-    go [] i c e = ap (λ (o : Option (ℕ × List Cell)). option_map (λ p. p.1) o) e
-    go ((n, d) ∷ es) zero c e = ap (λ (o : Option (ℕ × List Cell)). option_map (λ p. p.1) o) e
-    go (d ∷ es) (suc i) c e = go es i c e
+value_there es i page b at is = ap (λ o. unwrap_or o []) (is ∙ value_at es i page (block_of es page) at)
 
 -- what is kept after one block was changed in one seat, where each look-up tells so
 pub put_changed : (es fs : List (ℕ × List Cell)) (page seat : ℕ) (c : Cell) (b : List Cell)

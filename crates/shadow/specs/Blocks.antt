@@ -19,6 +19,10 @@ seat_of l = l / 8 % 8
 abbrev pub block_of : List (ℕ × List Cell) → ℕ → List Cell
 block_of blocks page = unwrap_or (lookup (nat_eq page) blocks) []
 
+-- what is kept of a location
+abbrev pub cell_of : List (ℕ × List Cell) → ℕ → Cell
+cell_of blocks l = cell_at (block_of blocks (page_of l)) (seat_of l)
+
 -- the block of this number stands at this place of the list
 abbrev pub IsBlockAt : List (ℕ × List Cell) → ℕ → ℕ → Type 0
 IsBlockAt blocks place page = slice_get blocks place ≡ Some (page, block_of blocks page)

@@ -6,7 +6,7 @@ use Rattle.trace.specs.declared.records.Placed.{Placed}
 use Rattle.bags.specs.Procedures.{Procedures}
 use Rattle.shadow.specs.Cells.{Cell, untouched}
 use Rattle.shadow.specs.Before.{IsCellBefore}
-use Rattle.shadow.specs.Blocks.{block_of, cell_at, page_of, seat_of}
+use Rattle.shadow.specs.Blocks.{cell_of}
 use Rattle.shadow.specs.Found.{state_after}
 
 -- the blocks of the locations that were touched, the place of the last touch, and the count of its bags
@@ -17,7 +17,7 @@ pub record Memory : Type 0 where
 
 -- what is kept of a location
 abbrev pub kept_of : Memory → ℕ → Cell
-kept_of m l = cell_at (block_of m.blocks (page_of l)) (seat_of l)
+kept_of m l = cell_of m.blocks l
 
 abbrev pub last_place_of : Memory → ℕ
 last_place_of m = m.last_place

@@ -1,10 +1,13 @@
 //! Blocks of cells: what is kept of eight locations that lie side by side.
-ghost use Rattle.std.specs.Prelude.{◌≡◌, ◌==◌, ◌<◌, ℕ, if◌then◌else◌};
+ghost use Rattle.std.specs.Prelude.{◌≡◌, ◌==◌, ◌<◌, ◌≤◌, ◌+◌, ◌^◌, ℕ, if◌then◌else◌};
+ghost use Rattle.shadow.specs.Before.{IsCellBefore};
 ghost use Rattle.shadow.specs.Blocks.{cell_at, page_of, seat_of};
-ghost use Rattle.shadow.specs.Cells.{untouched};
+ghost use Rattle.shadow.specs.Cells.{untouched, race_at, touched};
 
 use crate::cell::Kept;
+use bags::Bags;
 use std::marker::Model;
+use trace::{Kind, Race};
 
 /// How many cells a block has.
 const SEATS: u64 = 8;
@@ -43,13 +46,26 @@ impl Block {
         }
     }
 
-    /// What is kept in this seat.
+    /// An access of the location that is kept in this seat: the race that it tells, if any. The others are left.
     #[inline(always)]
-    pub fn cell(&self, seat: usize) -> &Kept
-        requires { seat < 8 }
-        ensures { result.now ≡ cell_at self.now seat }
+    pub fn touch(
+        &mut self,
+        seat: usize,
+        bags: &Bags,
+        location: u64,
+        kind: Kind,
+        place: u64,
+    ) -> Option<Race>
+        requires within { seat < 8 }
+        requires earlier { IsCellBefore place bags.now.count (cell_at self.old seat) }
+        requires from_one { 1 ≤ place }
+        requires to_limit { place ≤ 2 ^ 48 }
+        ensures race { result ≡ race_at bags.now.active location kind place (cell_at self.old seat) }
+        ensures kept { (k : ℕ) → cell_at self.new k
+            ≡ (if k == seat then touched bags.now.active kind place (cell_at self.old seat) else cell_at self.old k) }
+        ensures earlier { IsCellBefore (place + 1) bags.now.count (touched bags.now.active kind place (cell_at self.old seat)) }
     {
-        &self.cells[seat]
+        self.cells[seat].touch(bags, location, kind, place)
     }
 
     /// Keeps this in the seat, and leaves the others.

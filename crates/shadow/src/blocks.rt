@@ -1,14 +1,17 @@
 //! The blocks that were touched, by their numbers.
-ghost use Rattle.std.specs.Prelude.{◌≡◌, ◌<◌, [], IfSome, IfNone, IsTrue, OnOk, OnErr};
-ghost use Rattle.shadow.specs.Blocks.{block_of, cell_at, IsBlockAt, HasPut};
+ghost use Rattle.std.specs.Prelude.{◌≡◌, ◌<◌, ◌≤◌, ◌+◌, ◌^◌, [], IfSome, IfNone, IsTrue, OnOk, OnErr};
+ghost use Rattle.shadow.specs.Before.{IsCellBefore};
+ghost use Rattle.shadow.specs.Blocks.{block_of, cell_of, page_of, seat_of, IsBlockAt, HasPut};
+ghost use Rattle.shadow.specs.Cells.{race_at, touched};
 
-use crate::block::Block;
+use crate::block::{Block, seat_of};
 use crate::cell::Kept;
+use bags::Bags;
 use indexmap::IndexMap;
 use std::alloc::Global;
 use std::hash::BuildHasher;
 use std::marker::Model;
-use trace::NoMemory;
+use trace::{Kind, NoMemory, Race};
 
 /// How many places are remembered.
 const SLOTS: u64 = 256;
@@ -78,28 +81,26 @@ impl<S: BuildHasher> Blocks<S> {
         Some(place)
     }
 
-    /// What the block that stands here keeps in this seat.
+    /// An access of a location whose block stands here: the race that it tells, if any.
     #[inline(always)]
-    pub fn cell(&self, place: usize, page: u64, seat: usize) -> &Kept
-        requires there { IsBlockAt self.now place page }
-        requires within { seat < 8 }
-        ensures { result.now ≡ cell_at (block_of self.now page) seat }
+    pub fn touch(
+        &mut self,
+        at: usize,
+        bags: &Bags,
+        location: u64,
+        kind: Kind,
+        place: u64,
+    ) -> Option<Race>
+        requires there { IsBlockAt self.old at (page_of location) }
+        requires earlier { IsCellBefore place bags.now.count (cell_of self.old location) }
+        requires from_one { 1 ≤ place }
+        requires to_limit { place ≤ 2 ^ 48 }
+        ensures race { result ≡ race_at bags.now.active location kind place (cell_of self.old location) }
+        ensures kept { HasPut (page_of location) (seat_of location) (touched bags.now.active kind place (cell_of self.old location)) self.old self.new }
+        ensures earlier { IsCellBefore (place + 1) bags.now.count (touched bags.now.active kind place (cell_of self.old location)) }
     {
-        match self.map.get_index(place) {
-            Some((_, block)) => block.cell(seat),
-            None => unreachable!(),
-        }
-    }
-
-    /// Keeps this in the seat of the block that stands here.
-    #[inline(always)]
-    pub fn put(&mut self, place: usize, page: u64, seat: usize, kept: Kept)
-        requires there { IsBlockAt self.old place page }
-        requires within { seat < 8 }
-        ensures { HasPut page seat kept self.old self.new }
-    {
-        match self.map.get_index_mut(place) {
-            Some(block) => block.put(seat, kept),
+        match self.map.get_index_mut(at) {
+            Some(block) => block.touch(seat_of(location), bags, location, kind, place),
             None => unreachable!(),
         }
     }

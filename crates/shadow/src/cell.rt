@@ -1,5 +1,5 @@
 //! What is kept of one location, and what an access does to it.
-ghost use Rattle.std.specs.Prelude.{◌≡◌, ◌+◌, ◌<◌, ◌≤◌, ◌^◌, None, is_some};
+ghost use Rattle.std.specs.Prelude.{◌≡◌, ◌+◌, ◌<◌, ◌≤◌, ◌^◌, None, true, false, IsTrue, ◌↔◌};
 ghost use Rattle.std.specs.Option.{ForSome};
 ghost use Rattle.shadow.specs.Cells.{untouched, race_at, race_with, touched, rival, parallel_access, reader_after, name_of};
 ghost use Rattle.shadow.specs.Before.{IsNameBefore, IsCellBefore, CanRace};
@@ -54,21 +54,6 @@ impl Slot {
         }
     }
 
-    /// This name is kept.
-    #[inline(always)]
-    fn of(kept: Option<Name>) -> Slot
-        requires { ForSome kept (λ name. 1 ≤ name.place) }
-        ensures { result ≡ kept }
-    {
-        match kept {
-            None => Slot::empty(),
-            Some(name) => Slot {
-                procedure: name.procedure,
-                place: name.place,
-            },
-        }
-    }
-
     /// The name that is kept.
     #[inline(always)]
     fn name(&self) -> Option<Name>
@@ -81,6 +66,31 @@ impl Slot {
             procedure: self.procedure,
             place: self.place,
         })
+    }
+
+    /// Keeps the name of an access by the executing procedure.
+    #[inline(always)]
+    fn keep(&mut self, bags: &Bags, place: u64)
+        requires { 1 ≤ place }
+        ensures name { self.new ≡ name_of bags.now.active place }
+        ensures earlier { ForSome self.new (IsNameBefore (place + 1) bags.now.count) }
+    {
+        self.procedure = bags.current();
+        self.place = place;
+    }
+
+    /// Keeps the name of a read, unless the kept one stands in a P-bag.
+    #[inline(always)]
+    fn keep_reader(&mut self, bags: &Bags, place: u64)
+        requires earlier { ForSome self.old (IsNameBefore place bags.now.count) }
+        requires from_one { 1 ≤ place }
+        ensures reader { self.new ≡ reader_after bags.now.active place self.old }
+        ensures earlier { ForSome self.new (IsNameBefore (place + 1) bags.now.count) }
+    {
+        match self.name() {
+            Some(name) if bags.in_p(name.procedure) => {}
+            _ => self.keep(bags, place),
+        }
     }
 }
 
@@ -111,49 +121,47 @@ impl Kept {
             told: false,
         }
     }
-}
 
-/// The race that is told at an access of a location.
-pub fn race_at(bags: &Bags, location: u64, kind: Kind, place: u64, kept: &Kept) -> Option<Race>
-    requires earlier { IsCellBefore place bags.now.count kept.now }
-    requires to_limit { place ≤ 2 ^ 48 }
-    ensures { result ≡ race_at bags.now.active location kind place kept.now }
-{
-    if kept.told {
-        return None;
+    /// An access of the location by the executing procedure: the race that it tells, if any.
+    #[inline(always)]
+    pub fn touch(&mut self, bags: &Bags, location: u64, kind: Kind, place: u64) -> Option<Race>
+        requires earlier { IsCellBefore place bags.now.count self.old }
+        requires from_one { 1 ≤ place }
+        requires to_limit { place ≤ 2 ^ 48 }
+        ensures race { result ≡ race_at bags.now.active location kind place self.old }
+        ensures kept { self.new ≡ touched bags.now.active kind place self.old }
+        ensures earlier { IsCellBefore (place + 1) bags.now.count self.new }
+    {
+        let first = rival(bags, kind, place, self);
+        match kind {
+            Kind::Read => self.reader.keep_reader(bags, place),
+            Kind::Write => self.writer.keep(bags, place),
+        }
+        match first {
+            Some(first) if self.tell() => Some(Race {
+                location,
+                first,
+                second: Access { kind, place },
+            }),
+            _ => None,
+        }
     }
-    let first = rival(bags, kind, place, kept)?;
-    Some(Race {
-        location,
-        first,
-        second: Access { kind, place },
-    })
-}
 
-/// What is kept of a location after an access of it, at which its race is told or not.
-pub fn touched(bags: &Bags, kind: Kind, place: u64, kept: &Kept, told: bool) -> Kept
-    requires earlier { IsCellBefore place bags.now.count kept.now }
-    requires from_one { 1 ≤ place }
-    requires race { told ≡ is_some (race_with 0 kind place kept.now.told (rival bags.now.active kind kept.now)) }
-    ensures kept { result ≡ touched bags.now.active kind place kept.now }
-    ensures earlier { IsCellBefore (place + 1) bags.now.count result }
-{
-    let told = kept.told || told;
-    match kind {
-        Kind::Read => Kept {
-            writer: Slot::of(kept.writer.name()),
-            reader: Slot::of(reader_after(bags, place, kept.reader.name())),
-            told,
-        },
-        Kind::Write => Kept {
-            writer: Slot::of(name_of(bags, place)),
-            reader: Slot::of(kept.reader.name()),
-            told,
-        },
+    // The location's race is told from here on. Whether it wasn't told before.
+    #[cold]
+    #[inline(never)]
+    fn tell(&mut self) -> bool
+        ensures new { IsTrue result ↔ (self.old.told ≡ false) }
+        ensures told { self.new ≡ record self.old { told = true } }
+    {
+        let new = !self.told;
+        self.told = true;
+        new
     }
 }
 
 /// The first access of a race with an access by the executing procedure.
+#[inline(always)]
 fn rival(bags: &Bags, kind: Kind, place: u64, kept: &Kept) -> Option<Access>
     requires { IsCellBefore place bags.now.count kept.now }
     ensures first { result ≡ rival bags.now.active kind kept.now }
@@ -167,6 +175,7 @@ fn rival(bags: &Bags, kind: Kind, place: u64, kept: &Kept) -> Option<Access>
 }
 
 /// The kept access, where it stands in a P-bag.
+#[inline(always)]
 fn parallel_access(bags: &Bags, kind: Kind, place: u64, kept: Option<Name>) -> Option<Access>
     requires { ForSome kept (IsNameBefore place bags.now.count) }
     ensures access { result ≡ parallel_access bags.now.active kind kept }
@@ -181,29 +190,4 @@ fn parallel_access(bags: &Bags, kind: Kind, place: u64, kept: Option<Name>) -> O
         }),
         _ => None,
     }
-}
-
-/// The kept reader after a read: the executing procedure, unless the kept one stands in a P-bag.
-fn reader_after(bags: &Bags, place: u64, kept: Option<Name>) -> Option<Name>
-    requires earlier { ForSome kept (IsNameBefore place bags.now.count) }
-    requires from_one { 1 ≤ place }
-    ensures reader { result ≡ reader_after bags.now.active place kept }
-    ensures earlier { ForSome result (IsNameBefore (place + 1) bags.now.count) }
-{
-    match kept {
-        Some(name) if bags.in_p(name.procedure) => kept,
-        _ => name_of(bags, place),
-    }
-}
-
-/// The name of an access by the executing procedure.
-fn name_of(bags: &Bags, place: u64) -> Option<Name>
-    requires { 1 ≤ place }
-    ensures name { result ≡ name_of bags.now.active place }
-    ensures earlier { ForSome result (IsNameBefore (place + 1) bags.now.count) }
-{
-    Some(Name {
-        procedure: bags.current(),
-        place,
-    })
 }

@@ -5,7 +5,7 @@ ghost use Rattle.shadow.specs.Found.{with_cell};
 
 use crate::block::{page_of, seat_of};
 use crate::blocks::Blocks;
-use crate::cell::{Kept, race_at, touched};
+use crate::cell::Kept;
 use bags::Bags;
 use std::alloc::Global;
 use std::hash::BuildHasher;
@@ -83,19 +83,13 @@ impl<S: BuildHasher> Shadow<S> {
         ensures not_there { OnErr result (kept_of self.old location ≡ untouched) }
     {
         let page = page_of(location);
-        let seat = seat_of(location);
         let race = match self.blocks.find(page) {
-            Some(block) => {
-                let kept = self.blocks.cell(block, page, seat);
-                let race = race_at(bags, location, kind, place, kept);
-                let kept = touched(bags, kind, place, kept, race.is_some());
-                self.blocks.put(block, page, seat, kept);
-                race
-            }
+            Some(at) => self.blocks.touch(at, bags, location, kind, place),
             None => {
-                let kept = touched(bags, kind, place, &Kept::untouched(), false);
-                self.blocks.add(page, seat, kept)?;
-                None
+                let mut kept = Kept::untouched();
+                let race = kept.touch(bags, location, kind, place);
+                self.blocks.add(page, seat_of(location), kept)?;
+                race
             }
         };
         self.last_place = place;

@@ -20,7 +20,7 @@ use answers::{answer, refuse};
 use confirms::answer_confirm;
 use input::Input;
 use std::env;
-use std::io::{BufWriter, ErrorKind};
+use std::io::{BufReader, BufWriter, ErrorKind};
 use std::process::ExitCode;
 use std::sync::Wait;
 use std::thread::Threads;
@@ -61,8 +61,11 @@ fn read_arguments(rt: &HostRuntime) -> Result<Asked, WordsFault>
     }
 }
 
+// How many bytes are read ahead of a trace, so that a long one takes few calls of the system.
+const AHEAD: usize = 1 << 16;
+
 // Opens all files that are asked for, and then answers. Where the trace of a report can't be opened the report isn't
-// read either.
+// read either. Without memory to read ahead nothing is read.
 fn answer_from_files<T: Threads + Wait + Sync, W: Sink, E: Sink>(
     threads: &T,
     rt: &HostRuntime,
@@ -72,6 +75,7 @@ fn answer_from_files<T: Threads + Wait + Sync, W: Sink, E: Sink>(
 ) -> u8
     requires { IsInRange asked.now }
 {
+    let alloc = rt.alloc();
     let trace = Input::open(rt, asked.trace());
     if asked.asks_report() {
         let report = match trace {
@@ -79,10 +83,14 @@ fn answer_from_files<T: Threads + Wait + Sync, W: Sink, E: Sink>(
             Input::File(_) | Input::Standard(_) => Input::open(rt, asked.report()),
         };
         let mut report = Counted::new(report);
-        let mut trace = Counted::new(trace);
-        answer_confirm(rt.alloc(), asked, &mut trace, &mut report, out, err)
+        match BufReader::with_capacity(alloc, AHEAD, trace) {
+            Ok(ahead) => answer_confirm(alloc, asked, &mut Counted::new(ahead), &mut report, out, err),
+            Err(_) => refuse(&WordsFault::NoMemory, out, err),
+        }
     } else {
-        let mut trace = Counted::new(trace);
-        answer(threads, rt.alloc(), asked, &mut trace, out, err)
+        match BufReader::with_capacity(alloc, AHEAD, trace) {
+            Ok(ahead) => answer(threads, alloc, asked, &mut Counted::new(ahead), out, err),
+            Err(_) => refuse(&WordsFault::NoMemory, out, err),
+        }
     }
 }

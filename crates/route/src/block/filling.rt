@@ -1,8 +1,8 @@
 //! How a block is filled.
-ghost use Rattle.std.specs.Prelude.{◌≡◌, ℕ, ◌<◌, ◌≤◌, ◌==◌, ◌%◌, [], ◌∷◌, ◌++◌, length, map, if◌then◌else◌, IfSome, IsTrue, IsFalse};
+ghost use Rattle.std.specs.Prelude.{◌≡◌, ◌↔◌, ◌<◌, ◌≤◌, [], ◌∷◌, ◌++◌, length, map, IsTrue, IsFalse};
 ghost use Rattle.lane.specs.declared.item.Item.TheVariants.{One};
-ghost use Rattle.trace.specs.Shares.{goes, share};
-ghost use Rattle.route.specs.Blocks.{records_in, block_lane, block_lanes, most_of};
+ghost use Rattle.route.specs.Sending.{AreOfLane, location_of};
+ghost use Rattle.route.specs.Blocks.{records_in, block_lane, block_lanes, most_of, MayJoin};
 
 use super::{BLOCK, Block};
 use crate::turns::lane_of;
@@ -30,7 +30,7 @@ impl Block {
     /// Whether nothing stands in it.
     #[inline(always)]
     pub fn is_empty(&self) -> bool
-        ensures { IsTrue result → records_in self.now ≡ [] }
+        ensures { IsTrue result ↔ (records_in self.now ≡ []) }
     {
         self.len == 0
     }
@@ -39,6 +39,7 @@ impl Block {
     /// nothing changes.
     #[inline(always)]
     pub fn add(&mut self, placed: Placed) -> bool
+        ensures joins { IsTrue result ↔ MayJoin self.old placed.what }
         ensures joined { IsTrue result → records_in self.new ≡ records_in self.old ++ placed ∷ [] }
         ensures refused { IsFalse result → self.new ≡ self.old }
         ensures lanes { block_lanes self.new ≡ block_lanes self.old }
@@ -61,8 +62,7 @@ impl Block {
     pub fn lane(&self) -> usize
         ensures value { result ≡ block_lane self.now }
         ensures within { result < block_lanes self.now }
-        ensures one_lane { (k : ℕ) → share k (block_lanes self.now) (records_in self.now)
-            ≡ (if result == k then records_in self.now else []) }
+        ensures one_lane { AreOfLane (block_lanes self.now) result (records_in self.now) }
     {
         self.lane
     }
@@ -88,7 +88,7 @@ impl Block {
 // The location of an access.
 #[inline(always)]
 fn location_of(what: Record) -> Option<u64>
-    ensures goes { IfSome result (λ l. (k n : ℕ) → goes k n what ≡ (l % n == k)) }
+    ensures { result ≡ location_of what }
 {
     match what {
         Record::Read(location) | Record::Write(location) => Some(location),

@@ -1,9 +1,15 @@
-use Rattle.std.proofs.Common.{rules, ◌≡◌, ℕ, ◌==◌, ◌<◌, length, List, sym, subst, take}
+use Rattle.std.proofs.Common.{rules, ◌≡◌, ℕ, ◌==◌, ◌<◌, ◌%◌, Some, length, List, sym, ap, refl, ◌∙◌, subst, take, arith}
 use Rattle.lane.specs.Items.{records}
 use Rattle.trace.specs.declared.records.Placed.{Placed}
 use Rattle.trace.specs.Shares.{goes_placed}
-use Rattle.route.proofs.Blocks.{records_more, values_more, IsOfLane, of_lane_more, of_lane_then}
+use Rattle.route.specs.Sending.{AreOfLane}
+use Rattle.route.specs.Blocks.{records_in}
+use Rattle.route.proofs.Blocks.{count_of_values, records_more, values_more, of_lane_more, of_lane_then}
 use Rattle.route.proofs.block.Block.add.Goals as goal
+use Rattle.route.proofs.block.Block.add.Goals.{then-self-via-then-self, then-self-via-else-self+then-lane-self, then-self-gt0, else-self-gt0}
+
+same_some : {a b : ℕ} → Some a ≡ Some b → a ≡ b
+same_some e = cc
 
 pub invariant_of-self-clause-values : goal.invariant_of-self-clause-values
 invariant_of-self-clause-values c = values_more c.args.self.now.items c.args.self.now.len c.args.placed (search rules) c.args.self.now.values
@@ -14,10 +20,37 @@ invariant_of-self-clause-one_lane c =
     let goes : (k : ℕ) → goes_placed k b.lanes c.args.placed ≡ (c.lane_of-lane.result == k) = λ k. search rules in
     let same : 0 < b.len → c.lane_of-lane.result ≡ b.lane = search rules in
     let within : b.len < length b.items = search rules in
-    let P : List Placed → Type 0 = IsOfLane b.lanes c.lane_of-lane.result in
+    let P : List Placed → Type 0 = AreOfLane b.lanes c.lane_of-lane.result in
     subst P (sym (records_more b.items b.len c.args.placed within))
     (of_lane_more b.lanes c.lane_of-lane.result (records (take b.len b.items)) c.args.placed goes
     (of_lane_then b.lanes b.lane c.lane_of-lane.result b.len b.items same b.one_lane))
 
 pub returns-clause-joined : goal.returns-clause-joined
 returns-clause-joined c t = records_more c.args.self.now.items c.args.self.now.len c.args.placed (search rules)
+
+pub returns-then-self-clause-joins : goal.returns-then-self-clause-joins
+returns-then-self-clause-joins c = (λ t. absurd (cc), λ may.
+    let b = c.args.self.now in
+    let count : length (records_in b) ≡ b.len = count_of_values b.items b.len (search rules) b.values in
+    let room : b.len < b.most = rw count at may.room in
+    let location : may.location ≡ c.in-Some.location = same_some (sym may.access ∙ sym c.location_of.ensures ∙ c.in-Some.is) in
+    let lane : 0 < b.len → c.lane_of-lane.result ≡ b.lane = λ some. c.lane_of-lane.ensures.value ∙ sym (ap (λ (l : ℕ). l % b.lanes) location) ∙ may.same_lane (rw count some) in
+    elim c.then-self.branch [
+      | then-self-via-then-self w ↦ let full : b.len ≡ b.most = w.if-self.true in absurd (omega arith)
+      | then-self-via-else-self+then-lane-self w ↦ elim w.if-self-gt0.branch [
+          | then-self-gt0 w' ↦ let same : c.lane_of-lane.result ≡ b.lane = lane w'.if-self-gt0.true in search rules
+          | else-self-gt0 w' ↦ search rules
+        ]
+    ])
+
+pub returns-clause-joins : goal.returns-clause-joins
+returns-clause-joins c =
+    let b = c.args.self.now in
+    let count : length (records_in b) ≡ b.len = count_of_values b.items b.len (search rules) b.values in
+    let same : 0 < b.len → c.lane_of-lane.result ≡ b.lane = search rules in
+    (λ t. record {
+      location = c.in-Some.location;
+      access = sym c.location_of.ensures ∙ c.in-Some.is;
+      room = rw count (search rules);
+      same_lane = λ some. sym c.lane_of-lane.ensures.value ∙ same (rw count at some);
+    }, λ may. refl)

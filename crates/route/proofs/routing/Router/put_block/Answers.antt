@@ -5,7 +5,7 @@ use Rattle.lane.proofs.Marks.{no_mark_in}
 use Rattle.route.specs.Blocks.{records_in}
 use Rattle.route.specs.Senders.{puts}
 use Rattle.route.specs.Sending.{put_on, with_puts}
-use Rattle.route.proofs.Blocks.{IsOfLane}
+use Rattle.route.specs.Sending.{AreOfLane}
 use Rattle.route.proofs.Lists.{chosen}
 use Rattle.route.proofs.Sent.{Items, OnPuts, sent_block, marks_either, unmarked_at}
 use Rattle.route.proofs.routing.Router.put_block.Goals as goal
@@ -28,6 +28,6 @@ returns-clause-sent c t w h =
     let us = records_in c.args.block.now in
     let within : c.lane.result < length old = omega (arith, c.lane.ensures.within, c.requires.lanes) in
     let e : puts c.put_block_on.new.senders.items ≡ with_puts old c.lane.result (map One us) = chosen _ _ _ c.put_block_on.result t c.put_block_on.ensures.puts ∙ ap (with_puts old c.lane.result) c.items.ensures.values in
-    let O : ℕ → Type 0 = λ n. IsOfLane n c.lane.result us in
+    let O : ℕ → Type 0 = λ n. AreOfLane n c.lane.result us in
     let N : List Items → Type 0 = OnPuts (w ++ us) s.next s.pending s.marked in
     subst N (sym e) (sent_block old w us s.next c.lane.result s.marked s.pending c.requires.unmarked c.requires.idle within (subst O c.requires.lanes c.lane.ensures.one_lane) h)
