@@ -109,7 +109,10 @@ fn answer_check<T: Threads + Wait + Sync, R: Source, W: Sink, E: Sink>(
         ⊎ HasRisen (W.failures out.old) (W.failures out.new) }
 {
     match run_on(rt, alloc, check, trace) {
-        Ok(ran) => tell(&ran.report, out, err),
+        Ok(ran) => {
+            let put = put_report(&ran.report, out);
+            finish(put, status_of_found(ran.report.races()), out, err)
+        }
         Err(fault) => {
             say_fault(&fault, err);
             2
@@ -163,45 +166,19 @@ pub fn limits_of(depth: u32) -> Limits
     }
 }
 
-// Writes a report, and gives the status.
-fn tell<W: Sink, E: Sink>(report: &Report, out: &mut W, err: &mut E) -> u8
-    ensures status { result ≤ 2 }
-    ensures told { result < 2
-        → Took (rtext report.now) (W.held out.old) (W.held out.new) (W.failures out.old) (W.failures out.new)
-        × ((result ≡ 0) ↔ (report.now ≡ []))
-        × IsUntouched (E.held err.old) (E.held err.new) (E.failures err.old) (E.failures err.new) }
-    ensures failed { result ≡ 2
-        → TookFront (rtext report.now) (W.held out.old) (W.held out.new) (W.failures out.old) (W.failures out.new)
-        × WasGiven cannot_write (E.held err.old) (E.held err.new) (E.failures err.old) (E.failures err.new) }
-{
-    match put_report(report, out) {
-        Ok(()) if report.races().is_empty() => 0,
-        Ok(()) => 1,
-        Err(WriteFault) => {
-            say(b"spbags: cannot write\n", err);
-            2
-        }
-    }
-}
-
+// Puts a report into a sink.
 fn put_report<W: Sink>(report: &Report, out: &mut W) -> Result<(), WriteFault>
-    ensures { Puts result (rtext report.now) (W.held out.old) (W.held out.new) (W.failures out.old) (W.failures out.new) }
-{
-    put_lines(report, out)?;
-    flush(out)
-}
-
-fn put_lines<W: Sink>(report: &Report, out: &mut W) -> Result<(), WriteFault>
     ensures { Puts result (rtext report.now) (W.held out.old) (W.held out.new) (W.failures out.old) (W.failures out.new) }
 {
     write_report(report, out)
 }
 
-fn put_text<W: Sink>(text: &[u8], out: &mut W) -> Result<(), WriteFault>
-    ensures { Puts result text.now (W.held out.old) (W.held out.new) (W.failures out.old) (W.failures out.new) }
+// The exit status of races that were found: 0 where there is none.
+pub(crate) fn status_of_found<X>(found: &[X]) -> u8
+    ensures low { result < 2 }
+    ensures zero { (result ≡ 0) ↔ (found.now ≡ []) }
 {
-    put(text, out)?;
-    flush(out)
+    if found.is_empty() { 0 } else { 1 }
 }
 
 // Ends an answer that was put into `out`: passes it on, and gives its status, or 2 where writing it failed.
@@ -248,25 +225,18 @@ pub fn refuse<W: Sink, E: Sink>(fault: &WordsFault, out: &mut W, err: &mut E) ->
     ensures refused { IfNone (help_of fault.now) ((result ≡ 2)
         × IsUntouched (W.held out.old) (W.held out.new) (W.failures out.old) (W.failures out.new)
         × WasGiven (refusal fault.now) (E.held err.old) (E.held err.new) (E.failures err.old) (E.failures err.new)) }
-    ensures helped { IfSome (help_of fault.now) (λ text. ((result ≡ 0)
-        × Took text (W.held out.old) (W.held out.new) (W.failures out.old) (W.failures out.new)
-        × IsUntouched (E.held err.old) (E.held err.new) (E.failures err.old) (E.failures err.new))
-        ⊎ ((result ≡ 2)
-        × TookFront text (W.held out.old) (W.held out.new) (W.failures out.old) (W.failures out.new)
-        × WasGiven cannot_write (E.held err.old) (E.held err.new) (E.failures err.old) (E.failures err.new))) }
+    ensures helped { IfSome (help_of fault.now) (λ text. Tells result 0 text (W.held out.old) (W.held out.new) (W.failures out.old) (W.failures out.new)
+        (E.held err.old) (E.held err.new) (E.failures err.old) (E.failures err.new)) }
 {
     match fault {
         WordsFault::Bad => {
             say(b"spbags: bad command line\n", err);
             2
         }
-        WordsFault::Help(text) => match put_text(text.as_bytes(), out) {
-            Ok(()) => 0,
-            Err(WriteFault) => {
-                say(b"spbags: cannot write\n", err);
-                2
-            }
-        },
+        WordsFault::Help(text) => {
+            let put = put(text.as_bytes(), out);
+            finish(put, 0, out, err)
+        }
         WordsFault::NoMemory => {
             say(b"spbags: out of memory\n", err);
             2

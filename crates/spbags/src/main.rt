@@ -84,7 +84,14 @@ fn answer_from_files<T: Threads + Wait + Sync, W: Sink, E: Sink>(
         };
         let mut report = Counted::new(report);
         match BufReader::with_capacity(alloc, AHEAD, trace) {
-            Ok(ahead) => answer_confirm(alloc, asked, &mut Counted::new(ahead), &mut report, out, err),
+            Ok(ahead) => answer_confirm(
+                alloc,
+                asked,
+                &mut Counted::new(ahead),
+                &mut report,
+                out,
+                err,
+            ),
             Err(_) => refuse(&WordsFault::NoMemory, out, err),
         }
     } else {

@@ -11,7 +11,7 @@ ghost use Rattle.spbags.specs.Answers.{IsUntouched, Took, TookFront, WasGiven};
 ghost use Rattle.spbags.specs.Messages.{message, cannot_write};
 ghost use Rattle.spbags.specs.Questions.{AnswersPairs, AnswersMeasure};
 
-use crate::answers::{finish, limits_of};
+use crate::answers::{finish, limits_of, status_of_found};
 use crate::messages::say_fault;
 use crate::texts::{put_measure, put_pairs};
 use audit::{measure, pairs};
@@ -49,20 +49,13 @@ pub(crate) fn answer_pairs<R: Source, W: Sink, E: Sink>(
         Ok(pairs) => {
             let found = pairs.as_slice();
             let put = put_pairs(found, out);
-            finish(put, status_of_pairs(found), out, err)
+            finish(put, status_of_found(found), out, err)
         }
         Err(fault) => {
             say_fault(&fault, err);
             2
         }
     }
-}
-
-fn status_of_pairs(pairs: &[(Access, Access)]) -> u8
-    ensures low { result < 2 }
-    ensures zero { (result ≡ 0) ↔ (pairs.now ≡ []) }
-{
-    if pairs.is_empty() { 0 } else { 1 }
 }
 
 // The numbers of a trace, and the exit status.

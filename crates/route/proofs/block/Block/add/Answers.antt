@@ -29,28 +29,33 @@ pub returns-clause-joined : goal.returns-clause-joined
 returns-clause-joined c t = records_more c.args.self.now.items c.args.self.now.len c.args.placed (search rules)
 
 pub returns-then-self-clause-joins : goal.returns-then-self-clause-joins
-returns-then-self-clause-joins c = (λ t. absurd (cc), λ may.
-    let b = c.args.self.now in
-    let count : length (records_in b) ≡ b.len = count_of_values b.items b.len (search rules) b.values in
-    let room : b.len < b.most = rw count at may.room in
-    let location : may.location ≡ c.in-Some.location = same_some (sym may.access ∙ sym c.location_of.ensures ∙ c.in-Some.is) in
-    let lane : 0 < b.len → c.lane_of-lane.result ≡ b.lane = λ some. c.lane_of-lane.ensures.value ∙ sym (ap (λ (l : ℕ). l % b.lanes) location) ∙ may.same_lane (rw count some) in
-    elim c.then-self.branch [
-      | then-self-via-then-self w ↦ let full : b.len ≡ b.most = w.if-self.true in absurd (omega arith)
-      | then-self-via-else-self+then-lane-self w ↦ elim w.if-self-gt0.branch [
+returns-then-self-clause-joins c = (
+  λ t. absurd (cc),
+  λ may.
+      let b = c.args.self.now in
+      let count : length (records_in b) ≡ b.len = count_of_values b.items b.len (search rules) b.values in
+      let room : b.len < b.most = rw count at may.room in
+      let location : may.location ≡ c.in-Some.location = same_some (sym may.access ∙ sym c.location_of.ensures ∙ c.in-Some.is) in
+      let lane : 0 < b.len → c.lane_of-lane.result ≡ b.lane = λ some. c.lane_of-lane.ensures.value ∙ sym (ap (λ (l : ℕ). l % b.lanes) location) ∙ may.same_lane (rw count some) in
+      elim c.then-self.branch [
+        | then-self-via-then-self w ↦ let full : b.len ≡ b.most = w.if-self.true in absurd (omega arith)
+        | then-self-via-else-self+then-lane-self w ↦ elim w.if-self-gt0.branch [
           | then-self-gt0 w' ↦ let same : c.lane_of-lane.result ≡ b.lane = lane w'.if-self-gt0.true in search rules
           | else-self-gt0 w' ↦ search rules
         ]
-    ])
+      ],
+)
 
 pub returns-clause-joins : goal.returns-clause-joins
 returns-clause-joins c =
     let b = c.args.self.now in
     let count : length (records_in b) ≡ b.len = count_of_values b.items b.len (search rules) b.values in
-    let same : 0 < b.len → c.lane_of-lane.result ≡ b.lane = search rules in
-    (λ t. record {
-      location = c.in-Some.location;
-      access = sym c.location_of.ensures ∙ c.in-Some.is;
-      room = rw count (search rules);
-      same_lane = λ some. sym c.lane_of-lane.ensures.value ∙ same (rw count at some);
-    }, λ may. refl)
+    let same : 0 < b.len → c.lane_of-lane.result ≡ b.lane = search rules in (
+      λ t. record {
+        location = c.in-Some.location;
+        access = sym c.location_of.ensures ∙ c.in-Some.is;
+        room = rw count (search rules);
+        same_lane = λ some. sym c.lane_of-lane.ensures.value ∙ same (rw count at some);
+      },
+      λ may. refl,
+    )

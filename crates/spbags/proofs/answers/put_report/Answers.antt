@@ -1,5 +1,0 @@
-use Rattle.spbags.proofs.Sinks.{puts_flushed}
-use Rattle.spbags.proofs.answers.put_report.Goals as goal
-
-pub returns : goal.returns
-returns g c = puts_flushed _ _ c.flush.result c.in_ok-put_lines.ensures c.flush.ensures
