@@ -1,13 +1,12 @@
 //! What the paths of a trace do at a completed procedure.
 
-ghost use Rattle.std.specs.Prelude.{ℕ, ◌<◌, ◌↔◌, List};
+ghost use Rattle.std.specs.Prelude.{ℕ, List};
 ghost use Rattle.trace.specs.declared.records.Record.{Record};
-ghost use Rattle.trace.specs.Traces.{IsPlace, IsWellNested};
-ghost use Rattle.trace.specs.Dag.{IsInPart, Leads};
+ghost use Rattle.trace.specs.Traces.{IsWellNested};
+ghost use Rattle.trace.specs.Dag.{OneWayOut};
 
 /// One way out: from a place in the part of a completed procedure to a later place outside that part a
 /// path leads exactly where one leads from the procedure's return.
 pub fn out()
-    ensures one_way { (w : List Record) (records depths i r j : ℕ) → IsWellNested w records depths
-        → IsPlace w i → IsPlace w j → IsInPart w i r → r < j → Leads w i j ↔ Leads w r j }
+    ensures one_way { (w : List Record) (records depths : ℕ) → IsWellNested w records depths → OneWayOut w }
 {}

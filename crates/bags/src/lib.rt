@@ -1,7 +1,7 @@
 //! S-bags and P-bags: which completed procedures are parallel to the one that executes.
 //!
-//! Procedures are numbered by their spawns. So in a trace whose procedures are all spawned a bag holds
-//! consecutive numbers, and two numbers for each active procedure say what all the bags hold.
+//! Procedures are numbered by their spawns. So a bag holds consecutive numbers, and two numbers for each
+//! active procedure say what all the bags hold.
 #![tactic(auto)]
 
 ghost use Rattle.std.specs.Prelude.{◌≡◌, ◌+◌, ◌<◌, ◌≤◌, ◌^◌, length, IfOk, IfSome, OnOk, OnErr};

@@ -1,4 +1,4 @@
-// The races of all shards, kept by location.
+//! The races of all shards, kept by location.
 ghost use Rattle.std.specs.Prelude.{◌≡◌, List, [], ◌∷◌, ◌++◌, true, OnOk, OnErr, IfOk, IsErr};
 ghost use Rattle.shard.specs.declared.Back.{Back};
 ghost use Rattle.collect.specs.Collected.{Holds, IsCollected, IsNew, fails, has_better};

@@ -1,4 +1,4 @@
-// Laws of reports that belong to no value.
+//! Laws of reports that belong to no value.
 ghost use Rattle.collect.specs.ReportFaults.{OneFault, NoFault, OneList};
 
 /// One text belongs to one list of races.

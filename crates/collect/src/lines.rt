@@ -1,4 +1,4 @@
-// A line of text that is built from its end, in a buffer on the stack.
+//! A line of text that is built from its end, in a buffer on the stack.
 ghost use Rattle.std.specs.Prelude.{◌≡◌, ◌+◌, ◌<◌, ◌≤◌, ◌^◌, [], ◌∷◌, ◌++◌, length, decimal};
 ghost use Rattle.trace.specs.Text.{newline};
 ghost use Rattle.collect.specs.ReportText.{told};
@@ -7,7 +7,7 @@ use itoa::write_digits;
 use std::marker::Model;
 use trace::{Access, Kind};
 
-// The longest line is that of a race: three words, a location of 20 digits, two places of 15, four
+// The longest line is that of a race: three words, a location of 20 digits, two places of 15, five
 // spaces and the line end.
 const ROOM: usize = 70;
 

@@ -1,4 +1,4 @@
-// A report: the races of a trace.
+//! A report: the races of a trace.
 ghost use Rattle.std.specs.Prelude.{◌≡◌};
 ghost use Rattle.collect.specs.Reports.{IsReportList};
 

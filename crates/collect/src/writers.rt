@@ -1,4 +1,4 @@
-// The writer of a report's text. On a fault a beginning of the text was written.
+//! The writer of a report's text. On a fault a beginning of the text was written.
 ghost use Rattle.std.specs.Prelude.{◌≡◌, OnOk, OnErr};
 ghost use Rattle.std.specs.Io.KnownBytes.{Appends};
 ghost use Rattle.trace.specs.Devices.{Counts};

@@ -1,5 +1,5 @@
 -- What a collector was given, lane by lane: an item more of one lane, and the best race of a location.
-use Rattle.std.proofs.Common.{◌≡◌, ℕ, zero, suc, ◌+◌, ◌%◌, ◌<◌, Bool, true, false, eqb, fold, List, [], ◌∷◌, ◌++◌, length, set, get_or, Option, None, ⊎_elim, length-set, refl, sym, ap, subst, ◌∙◌, arith}
+use Rattle.std.proofs.Common.{◌≡◌, ℕ, zero, suc, ◌+◌, ◌%◌, ◌<◌, Bool, true, false, eqb, fold, List, [], ◌∷◌, ◌++◌, length, set, get_or, slice_index_or, Option, None, ⊎_elim, length-set, refl, sym, ap, subst, ◌∙◌, arith}
 use Rattle.std.specs.List.{AllByRecursion}
 use Rattle.std.proofs.lemmas.Bool.{cases_eq, cases_Bool, cond-false, eqb-true}
 use Rattle.std.proofs.lemmas.List.Sums.{fold-append}
@@ -14,7 +14,11 @@ use Rattle.trace.specs.Accesses.{RaceAt}
 use Rattle.trace.proofs.Lists.{all-front, all-last}
 use Rattle.collect.specs.Collected.{Kept, Holds, races_of, fails, kept_after, best}
 use Rattle.collect.proofs.Best.{races_of-append, fails-push_race, best-push}
-use Rattle.detect.specs.Gathered.{on_lane, all_given, AreAtHomeFrom, AreAtHome, Gathers}
+use Rattle.detect.specs.Gathered.{all_given, AreAtHomeFrom, AreAtHome, Gathers}
+
+-- what a lane gave, without the mark
+abbrev pub on_lane : List (List (Item Back)) → ℕ → List Back
+on_lane lists k = records (slice_index_or lists k [])
 
 -- ---- an item more
 

@@ -14,10 +14,10 @@ use Rattle.shard.specs.declared.working.Worked.{Worked}
 use Rattle.shard.specs.Backs.{races_of, fails}
 use Rattle.shard.specs.Working.{IsOfShare, TellsFound}
 use Rattle.shard.proofs.Answered.{answered}
-use Rattle.detect.specs.Gathered.{on_lane, all_given}
+use Rattle.detect.specs.Gathered.{all_given}
 use Rattle.detect.specs.Working.{AllDid}
 use Rattle.detect.specs.Closing.{taken_by, told_by, counts_of, taker_lanes, told_lanes, IsSettled}
-use Rattle.detect.proofs.Gathered.{fails_on}
+use Rattle.detect.proofs.Gathered.{on_lane, fails_on}
 
 -- ---- what the workers have done, shard by shard
 

@@ -14,8 +14,8 @@ use Rattle.shadow.proofs.FoundLaws.{found_from-apart}
 use Rattle.shadow.proofs.Sharing.{of_shard, found-share}
 use Rattle.collect.specs.Collected.{Kept, Holds, IsCollected, races_of, kept_after, best}
 use Rattle.collect.proofs.Sorted.{collected_is_sorted}
-use Rattle.detect.specs.Gathered.{on_lane, all_given, AreAtHomeFrom, AreAtHome, Gathers}
-use Rattle.detect.proofs.Gathered.{best_of_lane, other_location}
+use Rattle.detect.specs.Gathered.{all_given, AreAtHomeFrom, AreAtHome, Gathers}
+use Rattle.detect.proofs.Gathered.{on_lane, best_of_lane, other_location}
 use Rattle.detect.proofs.Runs.{apart}
 
 home-filter : (n k : ℕ) (rs : List RaceAt) → AllByRecursion (λ r. r.location % n ≡ k) (filter (of_shard k n) rs)

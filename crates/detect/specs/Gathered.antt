@@ -1,5 +1,5 @@
 -- What the shards have handed back, lane by lane, and what a collector holds of it.
-use Rattle.std.specs.Prelude.{◌≡◌, ℕ, ◌+◌, ◌%◌, Bool, false, List, [], ◌∷◌, ◌++◌, length, map, slice_index_or, ⊤}
+use Rattle.std.specs.Prelude.{◌≡◌, ℕ, ◌+◌, ◌%◌, Bool, false, List, [], ◌∷◌, ◌++◌, length, map, ⊤}
 use Rattle.std.specs.List.{AllByRecursion}
 use Rattle.shard.specs.declared.Back.{Back}
 use Rattle.lane.specs.declared.item.Item.{Item}
@@ -12,10 +12,6 @@ use Rattle.collect.specs.Collected.{Kept, Holds}
 -- the items that each lane gave, lane after lane
 abbrev pub given_by : List (Taker Back) → List (List (Item Back))
 given_by backs = map taken_of backs
-
--- what a lane gave, without the mark
-abbrev pub on_lane : List (List (Item Back)) → ℕ → List Back
-on_lane lists k = records (slice_index_or lists k [])
 
 abbrev pub all_given : List (List (Item Back)) → List Back
 all_given [] = []

@@ -1,4 +1,4 @@
--- What a run over the records of a trace has found, what it reports, and how it fails.
+-- What a run over the records of a trace has found, and what it reports.
 use Rattle.std.specs.Prelude.{◌≡◌, ℕ, false, List, Option, ◌↔◌}
 use Rattle.std.specs.Io.KnownBytes.{Consumes}
 use Rattle.shard.specs.declared.Back.{Back}

@@ -1,4 +1,4 @@
-//! The ends in one thread and in two, and the least and the greatest capacity.
+//! The ends in one thread and in two, the least and the greatest capacity, what an end knows of the other, and blocks.
 ghost use Rattle.std.specs.Prelude.{◌≡◌, ◌≤◌, false};
 ghost use Rattle.lane.specs.Items.{has_mark};
 ghost use Rattle.lane.specs.Lanes.{lane_of, end_lane, put_of};

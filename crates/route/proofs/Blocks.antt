@@ -1,14 +1,20 @@
--- A block after one access more.
-use Rattle.std.proofs.Common.{◌≡◌, ℕ, zero, suc, ◌+◌, ◌<◌, ◌≤◌, ◌==◌, Bool, true, false, cond, List, [], ◌∷◌, ◌++◌, length, take, set, sym, refl, ap, subst, ◌∙◌, arith}
+-- A block after one access more, and how long it may become.
+use Rattle.std.proofs.Common.{◌≡◌, ℕ, zero, suc, ◌+◌, ◌<◌, ◌≤◌, ◌==◌, Bool, true, false, cond, List, [], ◌∷◌, ◌++◌, length, take, set, slice_get, slice_index_or, max, Some, sym, refl, ap, subst, ◌∙◌, arith}
 use Rattle.std.proofs.lemmas.List.{take_more_set}
+use Rattle.std.proofs.lemmas.List.Elements.{All-map}
+use Rattle.std.proofs.lemmas.Option.{slice_get-get_or}
 use Rattle.lane.specs.declared.item.Item.{Item}
 use Rattle.lane.specs.declared.item.Item.TheVariants.{One, Finish}
+use Rattle.lane.specs.declared.ends.Sender.{Sender}
 use Rattle.lane.specs.Items.{has_mark, records}
+use Rattle.lane.specs.Lanes.{capacity_of}
 use Rattle.lane.proofs.Marks.{has_mark_more, records-one}
 use Rattle.trace.specs.declared.records.Placed.{Placed}
 use Rattle.trace.specs.Shares.{goes, goes_placed}
 use Rattle.trace.proofs.ShareLemmas.{share-push}
+use Rattle.route.specs.Senders.{capacities}
 use Rattle.route.specs.Sending.{AreOfLane}
+use Rattle.route.specs.Blocks.{FitsAll}
 
 -- how many records the values are
 pub count_of_values : (xs : List (Item Placed)) (len : ℕ) → len ≤ length xs → has_mark (take len xs) ≡ false → length (records (take len xs)) ≡ len
@@ -40,3 +46,7 @@ of_lane_then n i j zero xs same h = λ k. either (j == k) []
 of_lane_then n i j (suc len) xs same h =
     let P : ℕ → Type 0 = λ x. AreOfLane n x (records (take (suc len) xs)) in
     subst P (sym (same (omega arith))) h
+
+-- as many records as the shortest lane holds, or one where that holds none
+pub fits_all : (senders : List (Sender Placed)) (least most : ℕ) → most ≡ max least 1 → ((k : ℕ) (s : Sender Placed) → k < length senders → slice_get senders k ≡ Some s → 1 ≤ capacity_of s → least ≤ capacity_of s) → FitsAll most (capacities senders)
+fits_all senders least most e fits = All-map (λ (capacity : ℕ). 1 ≤ capacity → most ≤ capacity) capacity_of senders (λ k d within some. omega (arith, some, e, fits k (slice_index_or senders k d) within (slice_get-get_or senders k d within) some))

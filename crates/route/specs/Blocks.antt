@@ -1,5 +1,5 @@
 -- What a block says.
-use Rattle.std.specs.Prelude.{◌≡◌, ℕ, ◌<◌, ◌%◌, List, length, take, Some}
+use Rattle.std.specs.Prelude.{◌≡◌, ℕ, ◌<◌, ◌≤◌, ◌%◌, List, length, take, All, Some}
 use Rattle.lane.specs.Items.{records}
 use Rattle.trace.specs.declared.records.Record.{Record}
 use Rattle.trace.specs.declared.records.Placed.{Placed}
@@ -19,6 +19,10 @@ block_lanes b = b.lanes
 -- at how many records it is full
 abbrev pub most_of : Block → ℕ
 most_of b = b.most
+
+-- a block of so many records has room on each lane that holds anything
+abbrev pub FitsAll : ℕ → List ℕ → Type 0
+FitsAll most capacities = All (λ capacity. 1 ≤ capacity → most ≤ capacity) capacities
 
 -- A record may join a block: it is an access, the block isn't full, and the block's records, if any, are of the same lane.
 pub record MayJoin (b : Block) (what : Record) : Type 0 where

@@ -36,13 +36,13 @@ marked_of r = r.marked
 abbrev pub HasSent : List Placed → Router → Type 0
 HasSent w r = AllSent (lane_count r) w (turn_of r) (pending_of r) (marked_of r) (put_on (puts_of r))
 
--- the same lanes, in the same order
+-- the same lanes with the same capacities, in the same order
 pub record IsOnLanes (old new : Router) : Type 0 where
   pub lanes : lanes_of new ≡ lanes_of old
   pub capacities : capacities_of new ≡ capacities_of old
   pub count : lane_count new ≡ lane_count old
 
--- nothing was put, and nothing else changed either
+-- nothing was put, and the pending record, the turn and the marks are the same
 pub record IsUnchanged (old new : Router) : Type 0 where
   pub puts : puts_of new ≡ puts_of old
   pub pending : pending_of new ≡ pending_of old
@@ -53,10 +53,10 @@ pub record IsUnchanged (old new : Router) : Type 0 where
 abbrev pub IsLastLane : ℕ → ℕ → Placed → Type 0
 IsLastLane n k p = (j : ℕ) → k < j → j < n → goes_placed j n p ≡ false
 
--- lane k holds as many items as it can, for all that the sender knows
+-- on lane k no fewer items were put than it can hold
 abbrev pub IsFull : Router → ℕ → Type 0
 IsFull r k = slice_index_or (capacities_of r) k 0 ≤ length (put_on (puts_of r) k)
 
--- lane k hasn't room for so many items
+-- the sender of lane k knows of room for fewer items
 abbrev pub LacksRoom : Router → ℕ → ℕ → Type 0
 LacksRoom r k count = slice_index_or (rooms r.senders.items) k 0 < count

@@ -20,7 +20,7 @@ at_its_place es i page is =
     there (e ∷ es) (suc i) at within before = rw (before 0 (omega arith)) (there es i at (omega arith) (λ k lt. before (suc k) (omega arith)))
 
 -- a block's place has a value
-pub value_at : (es : List (ℕ × List Cell)) (i page : ℕ) (c : List Cell) → slice_get es i ≡ Some (page, c) → slice_get (values_of es) i ≡ Some c
+value_at : (es : List (ℕ × List Cell)) (i page : ℕ) (c : List Cell) → slice_get es i ≡ Some (page, c) → slice_get (values_of es) i ≡ Some c
 value_at [] i page c e = ap (λ (o : Option (ℕ × List Cell)). option_map (λ p. p.1) o) e
 value_at ((n, d) ∷ es) zero page c e = ap (λ (o : Option (ℕ × List Cell)). option_map (λ p. p.1) o) e
 value_at (d ∷ es) (suc i) page c e = value_at es i page c e

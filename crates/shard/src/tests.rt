@@ -319,6 +319,10 @@ fn worked<R: Wait + Abort>(
     let count = records.len() as u64;
     assert_eq!(rt; gate.count.load(Ordering::SeqCst), count);
     assert_eq!(rt; gate.shards.load(Ordering::SeqCst), count.saturating_mul(7));
+    assert_eq!(rt;
+        gate.places.load(Ordering::SeqCst),
+        count.saturating_mul(count.saturating_add(1)) / 2
+    );
     assert!(rt; worked.taker.ended());
     let mut items = Vec::new(alloc);
     for _ in 0..16 {

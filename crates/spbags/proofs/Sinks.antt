@@ -33,6 +33,3 @@ puts_flushed u k (Err _) p q = took_then_failed p q
 -- a text that is spelled in another way
 pub given_as : {a b : List ℕ} {s t : Option (List ℕ)} {m n : ℕ} → a ≡ b → WasGiven a s t m n → WasGiven b s t m n
 given_as {a} {b} {s} {t} {m} {n} e p = subst (λ l. WasGiven l s t m n) e p
-
-pub front_as : {a b : List ℕ} {s t : Option (List ℕ)} {m n : ℕ} → a ≡ b → TookFront a s t m n → TookFront b s t m n
-front_as {a} {b} {s} {t} {m} {n} e p = subst (λ l. TookFront l s t m n) e p

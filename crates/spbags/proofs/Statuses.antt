@@ -58,19 +58,6 @@ check_answered {shards} {records} {depths} {before} {after} {run} status reports
   };
 }
 
--- the status of a list that was found
-abbrev pub found_status : {X : Type 0} → List X → ℕ
-found_status [] = 0
-found_status (x ∷ xs) = 1
-
-pub found_low : {X : Type 0} (xs : List X) → found_status xs < 2
-found_low [] = omega arith
-found_low (x ∷ xs) = omega arith
-
-pub found_zero : {X : Type 0} (xs : List X) → (found_status xs ≡ 0) ↔ (xs ≡ [])
-found_zero [] = (λ e. refl, λ e. refl)
-found_zero (x ∷ xs) = (λ e. absurd (omega (arith, e)), λ e. let bad : suc (length xs) ≡ 0 = ap length e in absurd (omega arith))
-
 kind_at : (w : List Record) (l i : ℕ) → IsRead w l i ⊎ IsWrite w l i → (k : Kind) × IsAccess w l i k
 kind_at w l i (inl r) = (Read, r)
 kind_at w l i (inr r) = (Write, r)

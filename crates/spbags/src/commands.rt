@@ -13,7 +13,7 @@ Examples:
   spbags confirm run.trace run.report
 
 Exit status:
-  0  no race, or the question was answered, or yes
+  0  no race, or the trace was measured, or yes, or help
   1  a race, or no
   2  no answer; standard error says why
 

@@ -64,8 +64,8 @@ fn read_arguments(rt: &HostRuntime) -> Result<Asked, WordsFault>
 // How many bytes are read ahead of a trace, so that a long one takes few calls of the system.
 const AHEAD: usize = 1 << 16;
 
-// Opens all files that are asked for, and then answers. Where the trace of a report can't be opened the report isn't
-// read either. Without memory to read ahead nothing is read.
+// Opens the trace, then the report where one is asked for, and then answers. Where the trace of a report can't be opened
+// the report isn't opened either. Without memory to read ahead nothing is read.
 fn answer_from_files<T: Threads + Wait + Sync, W: Sink, E: Sink>(
     threads: &T,
     rt: &HostRuntime,

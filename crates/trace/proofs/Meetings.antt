@@ -231,22 +231,19 @@ block_same w m s (suc e) l n = elim (cases_eq s (suc e)) [
     sum_to : (a b c d : ℕ) → a ≡ b → c ≡ 0 → d ≡ b + c → a ≡ d
     sum_to a b c d x y z = omega arith
 
+le_of : (f : ℕ → ℕ) (x y : ℕ) → x ≡ y → f x ≤ f y
+le_of f x y q = let g : f x ≡ f y = ap f q in omega arith
+
 block_le : (w : List Record) (m s e : ℕ) → s ≤ e → block w m s ≤ block w m e
 block_le w m s zero l = le_of (block w m) s zero (only s l)
   where
     only : (s : ℕ) → s ≤ 0 → s ≡ zero
     only s l = omega arith
-
-    le_of : (f : ℕ → ℕ) (x y : ℕ) → x ≡ y → f x ≤ f y
-    le_of f x y q = let g : f x ≡ f y = ap f q in omega arith
 block_le w m s (suc e) l = elim (cases_eq s (suc e)) [
   | inl q ↦ le_of (block w m) s (suc e) q
   | inr q ↦ sum_le _ _ _ _ (block_le w m s e (omega arith)) (block-more w m e)
 ]
   where
-    le_of : (f : ℕ → ℕ) (x y : ℕ) → x ≡ y → f x ≤ f y
-    le_of f x y q = let g : f x ≡ f y = ap f q in omega arith
-
     sum_le : (a b c d : ℕ) → a ≤ b → d ≡ b + c → a ≤ d
     sum_le a b c d x z = omega arith
 

@@ -19,6 +19,7 @@ use Rattle.trace.specs.Traces.{at, depth, opens, closes, IsWellNested}
 use Rattle.trace.specs.Text.{newline, header, spell, Fits, AllFit, ended, line, text, IsUnended, IsOpen}
 use Rattle.trace.specs.Faults.{IsJudged, at_end, at_length, IsNoRecord, IsBadLine, bad_header, bad_line, too_many, IsTruncated, no_header, no_line_end, HasEnded, IsMisplaced, after_end, too_deep, AreNested, none, next, IsBadPlace, bad_place, IsFirstFault, IsFaultOfAll, before_end, truncated, unfinished}
 use Rattle.trace.proofs.Texts.{length-spell, unended-append}
+use Rattle.trace.proofs.Readings.{open_nil}
 use Rattle.trace.proofs.Places.{at-front, at-seam, depth-front, depth-next, depth-pushed}
 use Rattle.trace.proofs.Nestings.{balanced}
 
@@ -323,9 +324,6 @@ no_truncated records w f hw (no_line_end u rest hu le e h some) = go (same_front
     go (inl (r ∷ v, on, fit, is)) = open_no_lines rest r v [] h is
     go (inr ([], on, fit, is)) = some (sym is)
     go (inr (r ∷ v, on, fit, is)) = no_bytes r v rest is
-
-open_nil : IsOpen []
-open_nil = record { unended = All-nil (λ b. b ≢ newline); short = omega arith }
 
 no_first_fault_of_text : (records depths : ℕ) (w : List Record) (bytes : List ℕ) (g : Fault) → AllFit w → length w ≤ records → AreNested depths w → bytes ≡ text w → IsFirstFault records depths bytes g → ⊥
 no_first_fault_of_text records depths w bytes g hw le nested e fault =

@@ -122,9 +122,6 @@ module _ (v : List ℕ) (n : ℕ) (long : length v ≡ 16) (few : n < 16) where
 
 -- ---- the number that they write
 
-abbrev even : ℕ → List ℕ → Type 0
-even n ds = length ds ≡ n + n
-
 pub same_number : (b n k : ℕ) (ds : List ℕ) → length ds ≡ k + k → number_from_digits_after b n ds ≡ number_from_digits_after (b * b) n (paired b ds)
 same_number b n k [] e = refl
 same_number b n k (x ∷ []) e = absurd (omega arith)
@@ -249,16 +246,9 @@ number_is ds long =
 abbrev value_of_byte : ℕ → ℕ
 value_of_byte x = (x + (256 - 48)) % 256
 
-zeros_below : (n : ℕ) (xs : List ℕ) → AllBelowBase 10 xs → AllBelowBase 10 (replicate n 0 ++ xs)
-zeros_below zero xs h = h
-zeros_below (suc n) xs h = (omega arith, zeros_below n xs h)
-
 zeros_nothing : (n : ℕ) (xs : List ℕ) → number_from_digits 10 (replicate n 0 ++ xs) ≡ number_from_digits 10 xs
 zeros_nothing zero xs = refl
 zeros_nothing (suc n) xs = zeros_nothing n xs
-
-pub behind_below : (n : ℕ) (v : List ℕ) → AllBelowBase 10 (take n v) → AllBelowBase 10 (behind n v)
-behind_below n v h = zeros_below (16 - n) (take n v) h
 
 pub behind_number : (n : ℕ) (v : List ℕ) → number_from_digits 10 (behind n v) ≡ number_from_digits 10 (take n v)
 behind_number n v = zeros_nothing (16 - n) (take n v)

@@ -1,4 +1,4 @@
--- Where a line ends to which the bytes of a piece are added, and a number in front of a line's end.
+-- Where a line ends to which the bytes of a piece are added.
 use Rattle.std.specs.Prelude.{◌≡◌, ℕ, ◌+◌, ◌-◌, ◌<◌, ◌≤◌, List, length, take, slice_index}
 use Rattle.trace.specs.declared.lines.Cut.{Cut}
 use Rattle.trace.specs.declared.lines.Cut.TheVariants.{End, Long, Open}

@@ -4,7 +4,7 @@ use Rattle.trace.specs.declared.records.Record.{Record}
 use Rattle.trace.specs.declared.records.Record.TheVariants.{Spawn, Return, Sync, Read, Write}
 use Rattle.trace.specs.declared.records.Placed.{Placed}
 
--- whether shard k of n gets a record: each gets the structure records, and location l is of shard l mod n
+-- whether shard k of n gets a record: each gets the spawns, returns and syncs, and location l is of shard l mod n
 abbrev pub goes : ℕ → ℕ → Record → Bool
 goes k n Spawn = true
 goes k n Return = true

@@ -243,9 +243,7 @@ impl<R: Source> Feed<R> {
         }
     }
 
-    /// The next placed record, or `None` at a good end of the input. Bytes that came before a failed
-    /// read are judged before it, and nothing is tried again: after a fault every call answers that
-    /// fault, and after `None` every call answers `None`.
+    /// As `Intake::next_from`, from its own source.
     pub fn next(&mut self) -> Result<Option<Placed>, Fault>
         ensures fed { (w : List Record) (bytes : List ℕ) → HasFed w bytes self.old.intake →
             (came : List ℕ) × Consumes (R.rest self.old.reader) (R.rest self.new.reader) came

@@ -89,7 +89,7 @@ pub fn front_of(piece: &[u8]) -> Option<Front>
     } else if piece[0] == b'w' {
         write_of(piece)
     } else {
-        structure_of(piece)
+        spawn_or_sync_of(piece)
     }
 }
 
@@ -163,7 +163,7 @@ fn return_of(piece: &[u8]) -> Option<Front>
 }
 
 #[inline(always)]
-fn structure_of(piece: &[u8]) -> Option<Front>
+fn spawn_or_sync_of(piece: &[u8]) -> Option<Front>
     requires { 27 ≤ length piece.now }
     ensures within { IfSome result (λ f. f.used ≤ length piece.now) }
     ensures line { IfSome result (λ f. take f.used piece.now ≡ line f.record) }

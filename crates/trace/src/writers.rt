@@ -1,4 +1,4 @@
-// The writers of a trace's text. On a fault a beginning of the text was written.
+//! The writers of a trace's text. On a fault a beginning of the text was written.
 ghost use Rattle.std.specs.Prelude.{◌≡◌, ◌≤◌, [], ◌∷◌, ◌++◌, length, drop, decimal, OnOk, OnErr};
 ghost use Rattle.std.specs.Io.KnownBytes.{Appends};
 ghost use Rattle.trace.specs.Devices.{Counts};

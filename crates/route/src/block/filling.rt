@@ -58,7 +58,7 @@ impl Block {
         true
     }
 
-    /// The lane that they go to.
+    /// The lane that its records go to.
     pub fn lane(&self) -> usize
         ensures value { result ≡ block_lane self.now }
         ensures within { result < block_lanes self.now }
@@ -67,7 +67,7 @@ impl Block {
         self.lane
     }
 
-    // They, as they stand on a lane.
+    // Its records, as items of a lane.
     pub(crate) fn items(&self) -> &[Item<Placed>]
         ensures values { result.now ≡ map One (records_in self.now) }
         ensures most { length result.now ≤ 64 }

@@ -2,7 +2,7 @@
 ghost use Rattle.std.specs.Prelude.{◌≡◌, ◌≤◌, [], All, IfOk, vec_len};
 ghost use Rattle.lane.specs.Lanes.{put_of};
 ghost use Rattle.route.specs.Senders.{lanes, capacities};
-ghost use Rattle.route.specs.Blocks.{records_in, block_lanes};
+ghost use Rattle.route.specs.Blocks.{records_in, block_lanes, most_of, FitsAll};
 ghost use Rattle.route.specs.Routers.{lanes_of, capacities_of, lane_count, pending_of, marked_of, HasSent};
 
 use super::Router;
@@ -39,6 +39,7 @@ impl Router {
     pub fn block(&self) -> Block
         ensures empty { records_in result ≡ [] }
         ensures lanes { block_lanes result ≡ lane_count self.now }
+        ensures most { FitsAll (most_of result) (capacities_of self.now) }
     {
         let mut most = BLOCK;
         for sender in &self.senders {

@@ -2,4 +2,4 @@ use Rattle.trace.proofs.Paths.{one_way_out}
 use Rattle.bags.proofs.laws.out.Goals as goal
 
 pub returns : goal.returns
-returns c = record { one_way = λ w records depths i r j h a b p l. one_way_out w h i r j a b p l }
+returns c = record { one_way = λ w records depths h. one_way_out w h }
