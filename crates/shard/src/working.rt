@@ -93,9 +93,9 @@ fn gather() {
 }
 
 // How tired a worker is that naps. A take that finds the lane empty tires it by one, and one that finds some records wakes
-// it by one; after a whole block it is wide awake. A look with its pauses takes some half of a microsecond or some seven, as
-// processors differ. So the worker of a busy lane looks on for longer than the router takes to read ahead, and that of a
-// lane with a record now and then takes hardly any time from the processors.
+// it by one; after a whole block it is wide awake. A look with its pauses took less than a microsecond where it
+// was measured, and processors differ in that. So the worker of a busy lane looks on for longer than the router takes to
+// read ahead, and that of a lane with a record now and then naps nearly always.
 const AWAKE: u32 = 64;
 
 fn tired_after(tired: u32, count: usize) -> u32 {
