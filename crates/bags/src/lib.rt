@@ -139,7 +139,7 @@ impl Bags {
 }
 
 /// How many active procedures are asked one by one, the executing one first.
-const NEAR: usize = 8;
+const NEAR: usize = 16;
 
 #[tactic(auto, using(crate::proofs::RangeLemmas::own_at_is))]
 /// The place of the active procedure that keeps a procedure: the last one whose number is not above it.

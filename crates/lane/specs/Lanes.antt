@@ -2,7 +2,7 @@
 use Rattle.std.specs.Prelude.{ℕ, List}
 use Rattle.std.specs.declared.alloc.Global.{Global}
 use Rattle.rtrb.specs.Shared.{Names}
-use Rattle.rtrb.specs.Ring.{sent, received, producer_capacity, known_free, known_items}
+use Rattle.rtrb.specs.Ring.{sent, received, producer_capacity, consumer_capacity, known_free, known_items}
 use denote.RawPtr.{Ptr}
 use Rattle.lane.specs.declared.item.Item.{Item}
 use Rattle.lane.specs.declared.ends.Sender.{Sender}
@@ -46,3 +46,7 @@ module _ {T : Type 0} where
   -- how many items the lane holds at most
   abbrev pub capacity_of : Sender T → ℕ
   capacity_of s = producer_capacity s.ring
+
+  -- the same, as the taker knows it
+  abbrev pub taker_capacity : Taker T → ℕ
+  taker_capacity t = consumer_capacity t.ring

@@ -50,6 +50,7 @@ pub fn work<R: Wait, S: BuildHasher + Drop, G: Gate>(
         stopped: false,
     };
     let parker = Parker::new();
+    let few = few_of(taker.capacity());
     let mut block = [Item::Finish; BLOCK];
     let mut tired: u32 = 0;
     for _ in rt.forever() {
@@ -73,7 +74,7 @@ pub fn work<R: Wait, S: BuildHasher + Drop, G: Gate>(
         if count == 0 {
             rest(rt, &parker, tired);
         }
-        tired = tired_after(tired, count);
+        tired = tired_after(tired, count, few);
     }
     unreachable!()
 }
@@ -92,24 +93,32 @@ fn gather() {
     }
 }
 
-// How tired a worker is that naps. A take that finds the lane empty tires it by one, and one that finds some records wakes
-// it by one; after a whole block it is wide awake. A look with its pauses took less than a microsecond where it
-// was measured, and processors differ in that. So the worker of a busy lane looks on for longer than the router takes to
-// read ahead, and that of a lane with a record now and then naps nearly always.
+// How tired a worker is that naps. A take of few items tires it by one, and one of more wakes it by one; after a whole
+// block it is wide awake. A look with its pauses took less than a microsecond where it was measured, and processors differ
+// in that. So the worker of a busy lane looks on for longer than the router takes to read ahead, and that of a lane to
+// which little comes naps nearly always, and takes at once what came meanwhile.
 const AWAKE: u32 = 64;
 
-fn tired_after(tired: u32, count: usize) -> u32 {
+fn tired_after(tired: u32, count: usize, few: usize) -> u32 {
     match count {
-        0 => tired.saturating_add(1).min(AWAKE),
         BLOCK => 0,
+        _ if count < few => tired.saturating_add(1).min(AWAKE),
         _ => tired.saturating_sub(1),
     }
+}
+
+// Fewer items than these are few, on a lane that holds so many. What may come during a nap has room on a lane of the
+// usual capacity; on a smaller one the router would have to wait, so there only an empty lane tires.
+const FEW: usize = 16;
+
+fn few_of(capacity: usize) -> usize {
+    (capacity / BLOCK).min(FEW).max(1)
 }
 
 // How long a nap takes, in microseconds.
 const NAP: u64 = 50;
 
-// Waits at an empty lane. Other threads run first; a tired worker naps.
+// Waits where the lane was empty. Other threads run first; a tired worker naps.
 fn rest<R: Wait>(rt: &R, parker: &Parker, tired: u32) {
     if tired < AWAKE {
         thread::yield_now();

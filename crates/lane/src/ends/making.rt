@@ -1,6 +1,6 @@
 //! How a lane is made.
 ghost use Rattle.std.specs.Prelude.{◌≡◌, ◌≤◌, [], IfOk};
-ghost use Rattle.lane.specs.Lanes.{lane_of, taker_lane, put_of, taken_of, capacity_of};
+ghost use Rattle.lane.specs.Lanes.{lane_of, taker_lane, put_of, taken_of, capacity_of, taker_capacity};
 
 use super::{Sender, Taker};
 use crate::item::MarkLast;
@@ -16,7 +16,7 @@ pub fn lane<T: Copy + Send>(
     requires { (1 ≤ capacity) × (capacity ≤ 65536) }
     ensures lane { IfOk result (λ r. lane_of r.0 ≡ taker_lane r.1) }
     ensures empty { IfOk result (λ r. (put_of r.0 ≡ []) × (taken_of r.1 ≡ [])) }
-    ensures capacity { IfOk result (λ r. capacity_of r.0 ≡ capacity) }
+    ensures capacity { IfOk result (λ r. (capacity_of r.0 ≡ capacity) × (taker_capacity r.1 ≡ capacity)) }
 {
     let Ok((sending, taking)) = RingBuffer::with_protocol::<Global, MarkLast>(alloc, capacity)
     else {

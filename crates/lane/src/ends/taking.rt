@@ -1,7 +1,7 @@
 //! What a taker does.
 ghost use Rattle.std.specs.Prelude.{◌≡◌, ◌<◌, ◌≤◌, min, true, false, [], ◌∷◌, ◌++◌, length, take, IfSome, IfNone, IsSome};
 ghost use Rattle.lane.specs.Items.{has_mark, mark_last, IsBeginning};
-ghost use Rattle.lane.specs.Lanes.{lane_of, taker_lane, end_lane, put_of, all_put, taken_of, waiting_of};
+ghost use Rattle.lane.specs.Lanes.{lane_of, taker_lane, end_lane, put_of, all_put, taken_of, waiting_of, taker_capacity};
 
 use super::{End, Sender, Taker};
 use crate::item::Item;
@@ -11,6 +11,7 @@ impl<T: Copy + Send> Taker<T> {
     #[tactic(auto, using(crate::proofs::Marks::has_mark_more, crate::proofs::Marks::mark_last_more))]
     pub fn take(&mut self) -> Option<Item<T>>
         ensures lane { taker_lane self.new ≡ taker_lane self.old }
+        ensures capacity { taker_capacity self.new ≡ taker_capacity self.old }
         ensures some { IfSome result (λ x. (taken_of self.new ≡ taken_of self.old ++ x ∷ []) × (has_mark (taken_of self.old) ≡ false)) }
         ensures none { IfNone result (taken_of self.new ≡ taken_of self.old) }
         ensures succeeds { 0 < length (waiting_of self.old) → has_mark (taken_of self.old) ≡ false → IsSome result }
@@ -29,6 +30,7 @@ impl<T: Copy + Send> Taker<T> {
     #[tactic(auto, using(crate::proofs::Marks::ended_by, crate::proofs::Marks::mark_last_block))]
     pub fn take_block(&mut self, items: &mut [Item<T>]) -> usize
         ensures lane { taker_lane self.new ≡ taker_lane self.old }
+        ensures capacity { taker_capacity self.new ≡ taker_capacity self.old }
         ensures within { result ≤ length items.old }
         ensures least { has_mark (taken_of self.old) ≡ false → min (length (waiting_of self.old)) (length items.old) ≤ result }
         ensures taken { taken_of self.new ≡ taken_of self.old ++ take result items.new }
@@ -53,6 +55,13 @@ impl<T: Copy + Send> Taker<T> {
         self.ring.cached_slots()
     }
 
+    /// How many items the lane holds at most.
+    pub fn capacity(&self) -> usize
+        ensures { result ≡ taker_capacity self.now }
+    {
+        self.ring.capacity()
+    }
+
     /// Whether the mark was taken.
     pub fn ended(&self) -> bool
         ensures { result ≡ has_mark (taken_of self.now) }
@@ -64,6 +73,7 @@ impl<T: Copy + Send> Taker<T> {
     pub fn beside(&mut self, sender: &mut Sender<T>)
         requires { lane_of sender.old ≡ taker_lane self.old }
         ensures lane { (taker_lane self.new ≡ taker_lane self.old) × (lane_of sender.new ≡ lane_of sender.old) }
+        ensures capacity { taker_capacity self.new ≡ taker_capacity self.old }
         ensures taken { taken_of self.new ≡ taken_of self.old }
         ensures put { put_of sender.new ≡ put_of sender.old }
         ensures waiting { taken_of self.new ++ waiting_of self.new ≡ put_of sender.new }
@@ -78,6 +88,7 @@ impl<T: Copy + Send> Taker<T> {
     pub fn settle(&mut self, end: &mut End<T>)
         requires { end_lane end.old ≡ taker_lane self.old }
         ensures lane { (taker_lane self.new ≡ taker_lane self.old) × (end_lane end.new ≡ end_lane end.old) }
+        ensures capacity { taker_capacity self.new ≡ taker_capacity self.old }
         ensures taken { taken_of self.new ≡ taken_of self.old }
         ensures put { all_put end.new ≡ all_put end.old }
         ensures waiting { taken_of self.new ++ waiting_of self.new ≡ all_put end.new }
