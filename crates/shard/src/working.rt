@@ -93,19 +93,26 @@ fn gather() {
     }
 }
 
-// How tired a worker is that naps. A take of few items tires it by one, and one of more wakes it by one; after a whole
-// block it is wide awake. A look with its pauses took less than a microsecond where it was measured, and processors differ
-// in that. So the worker of a busy lane looks on for longer than the router takes to read ahead, and that of a lane to
-// which little comes naps nearly always, and takes at once what came meanwhile.
+// How tired a worker is that naps. An empty lane tires it by one, so that the worker of a busy lane looks on for longer
+// than the router takes to read ahead: a look with its pauses took less than a microsecond where it was measured, and
+// processors differ in that. A take of few items tires it by more, since more are to be had at once after a nap. A take of
+// many wakes it by one, and a whole block by more; but what came during a nap doesn't keep it awake for long.
 const AWAKE: u32 = 64;
 
 fn tired_after(tired: u32, count: usize, few: usize) -> u32 {
     match count {
-        BLOCK => 0,
-        _ if count < few => tired.saturating_add(1).min(AWAKE),
+        0 => tired.saturating_add(1).min(AWAKE),
+        _ if count < few => tired.saturating_add(BY_FEW).min(AWAKE),
+        BLOCK => tired.saturating_sub(BY_BLOCK),
         _ => tired.saturating_sub(1),
     }
 }
+
+// By how much a take of few items tires.
+const BY_FEW: u32 = 8;
+
+// By how much a take of a whole block wakes.
+const BY_BLOCK: u32 = 16;
 
 // Fewer items than these are few, on a lane that holds so many. What may come during a nap has room on a lane of the
 // usual capacity; on a smaller one the router would have to wait, so there only an empty lane tires.
