@@ -1,6 +1,7 @@
 //! The ends of a lane.
-ghost use Rattle.std.specs.Prelude.{◌≡◌, true};
+ghost use Rattle.std.specs.Prelude.{◌≡◌, ◌≤◌, true, vec_capacity};
 ghost use Rattle.rtrb.specs.Ring.{sent, received};
+ghost use Rattle.lane.specs.declared.ends.TheConstants.{BLOCK};
 ghost use Rattle.lane.specs.Items.{has_mark, mark_last};
 
 mod making;
@@ -12,11 +13,17 @@ pub use making::lane;
 use rtrb::{Consumer, Producer};
 use std::alloc::Global;
 
+/// How many values a block has at most.
+pub const BLOCK: usize = 64;
+
 /// The end that puts.
 #[derive(Drop)]
 pub struct Sender<T> {
     ring: Producer<Item<T>, Global, MarkLast>,
     marked: bool,
+    // the items of a block, while it is put
+    block: Vec<Item<T>>,
+    ghost room: { BLOCK ≤ vec_capacity block },
     ghost known: { has_mark (sent ring) ≡ marked },
     ghost last: { mark_last (sent ring) ≡ true },
 }

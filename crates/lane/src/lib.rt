@@ -6,5 +6,5 @@ mod item;
 #[cfg(test)]
 mod tests;
 
-pub use ends::{End, Sender, Taker, lane};
+pub use ends::{BLOCK, End, Sender, Taker, lane};
 pub use item::Item;

@@ -77,9 +77,8 @@ fn looks_at_the_other_end(rt: HostRuntime) -> Result<(), Fail> {
 #[test]
 fn blocks(rt: HostRuntime) -> Result<(), Fail> {
     let (mut sender, mut taker) = lane::<u32>(rt.alloc(), 4)?;
-    let three = [Item::One(1), Item::One(2), Item::One(3)];
-    assert!(rt; sender.put_block(three.as_slice()));
-    assert!(rt; !sender.put_block([Item::One(4), Item::One(5)].as_slice()));
+    assert!(rt; sender.put_block([1, 2, 3].as_slice()));
+    assert!(rt; !sender.put_block([4, 5].as_slice()));
     assert_eq!(rt; sender.put(4), Ok(()));
     let mut two = [Item::Finish; 2];
     assert_eq!(rt; taker.take_block(&mut two), 2);

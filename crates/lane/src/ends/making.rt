@@ -2,7 +2,7 @@
 ghost use Rattle.std.specs.Prelude.{◌≡◌, ◌≤◌, [], IfOk};
 ghost use Rattle.lane.specs.Lanes.{lane_of, taker_lane, put_of, taken_of, capacity_of, taker_capacity};
 
-use super::{Sender, Taker};
+use super::{BLOCK, Sender, Taker};
 use crate::item::MarkLast;
 use rtrb::RingBuffer;
 use std::alloc::Global;
@@ -18,6 +18,7 @@ pub fn lane<T: Copy + Send>(
     ensures empty { IfOk result (λ r. (put_of r.0 ≡ []) × (taken_of r.1 ≡ [])) }
     ensures capacity { IfOk result (λ r. (capacity_of r.0 ≡ capacity) × (taker_capacity r.1 ≡ capacity)) }
 {
+    let block = Vec::with_capacity(alloc, BLOCK).map_err(|_| NoMemory)?;
     let Ok((sending, taking)) = RingBuffer::with_protocol::<Global, MarkLast>(alloc, capacity)
     else {
         return Err(NoMemory);
@@ -25,6 +26,7 @@ pub fn lane<T: Copy + Send>(
     let sender = Sender {
         ring: sending,
         marked: false,
+        block,
     };
     let taker = Taker {
         ring: taking,

@@ -1,10 +1,10 @@
 //! What a sender does.
-ghost use Rattle.std.specs.Prelude.{◌≡◌, ◌+◌, ◌<◌, ◌≤◌, false, [], ◌∷◌, ◌++◌, length, IsTrue, IsFalse, IfErr, OnOk, IsOk};
+ghost use Rattle.std.specs.Prelude.{◌≡◌, ◌+◌, ◌<◌, ◌≤◌, false, [], ◌∷◌, ◌++◌, length, map, vec_capacity, IsTrue, IsFalse, IfErr, OnOk, IsOk};
 ghost use Rattle.lane.specs.declared.item.Item.TheVariants.{One, Finish};
 ghost use Rattle.lane.specs.Items.{has_mark};
 ghost use Rattle.lane.specs.Lanes.{lane_of, end_lane, put_of, all_put, capacity_of, room_of};
 
-use super::{End, Sender};
+use super::{BLOCK, End, Sender};
 use crate::item::Item;
 
 impl<T: Copy + Send> Sender<T> {
@@ -26,19 +26,19 @@ impl<T: Copy + Send> Sender<T> {
         Ok(())
     }
 
-    /// Adds a block of up to 64 values, the mark not among them, or none of them because the lane had no room for all.
-    #[tactic(auto, using(crate::proofs::Marks::has_mark_block, crate::proofs::Marks::mark_last_values))]
-    pub fn put_block(&mut self, items: &[Item<T>]) -> bool
+    /// Adds a block of up to 64 values, or none of them because the lane had no room for all.
+    #[tactic(auto, using(crate::proofs::Marks::has_mark_block, crate::proofs::Marks::mark_last_values, crate::proofs::Marks::no_mark_in))]
+    pub fn put_block(&mut self, values: &[T]) -> bool
         requires unmarked { has_mark (put_of self.old) ≡ false }
-        requires values { has_mark items.now ≡ false }
-        requires most { length items.now ≤ 64 }
+        requires most { length values.now ≤ BLOCK }
         ensures lane { (lane_of self.new ≡ lane_of self.old) × (capacity_of self.new ≡ capacity_of self.old) }
-        ensures put { IsTrue result → put_of self.new ≡ put_of self.old ++ items.now }
-        ensures full { IsFalse result → (put_of self.new ≡ put_of self.old) × (room_of self.new < length items.now) }
-        ensures succeeds { length items.now ≤ room_of self.old → IsTrue result }
+        ensures put { IsTrue result → put_of self.new ≡ put_of self.old ++ map One values.now }
+        ensures full { IsFalse result → (put_of self.new ≡ put_of self.old) × (room_of self.new < length values.now) }
+        ensures succeeds { length values.now ≤ room_of self.old → IsTrue result }
         ensures unmarked { has_mark (put_of self.new) ≡ false }
     {
-        self.ring.push_entire_slice(items).is_ok()
+        wrap(&mut self.block, values);
+        self.ring.push_entire_slice(&self.block).is_ok()
     }
 
     /// Puts the mark, which takes a place too; false where the lane was full.
@@ -87,5 +87,17 @@ impl<T: Copy + Send> Sender<T> {
         ensures put { all_put result ≡ put_of self }
     {
         End { sender: self }
+    }
+}
+
+// Makes items of the values, and keeps nothing else.
+fn wrap<T: Copy>(items: &mut Vec<Item<T>>, values: &[T])
+    requires { length values.now ≤ vec_capacity items.old }
+    ensures items { items.new.items ≡ map One values.now }
+    ensures capacity { vec_capacity items.new ≡ vec_capacity items.old }
+{
+    items.clear();
+    for value in values {
+        items.push_reserved(Item::One(*value));
     }
 }
