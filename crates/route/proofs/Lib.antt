@@ -5,4 +5,5 @@ pub mod Rising
 pub mod LaneShares
 pub mod RunFronts
 pub mod MarksLast
+pub mod Headline
 pub mod RunLists

@@ -28,6 +28,10 @@ puts_after ss k s t xs false h at more same = map-set_like put_of ss k s t at (s
 pub room_set : (ss : List (Sender Placed)) (k : ℕ) (t : Sender Placed) → k < length ss → slice_index_or (rooms (set ss k t)) k 0 ≡ room_of t
 room_set ss k t h = ap (λ (l : List ℕ). slice_index_or l k 0) (map-set room_of ss k t) ∙ get_or-set_same (rooms ss) k (room_of t) 0 (omega (arith, h, length-map ss room_of))
 
+-- the sender at the place knew of no room, and knows of none
+pub no_room : (ss : List (Sender Placed)) (k : ℕ) (s t : Sender Placed) → k < length ss → s ≡ get_or ss k s → (room_of s ≡ 0) × (room_of t ≡ 0) → (slice_index_or (rooms ss) k 0 ≡ 0) × (slice_index_or (rooms (set ss k t)) k 0 ≡ 0)
+no_room ss k s t h at none = (get_or-map room_of ss k s 0 h ∙ ap room_of (sym at) ∙ none.0, room_set ss k t h ∙ none.1)
+
 pub on_true : (P : Type 0) (r : Result (Unit {0}) Placed) (b : Bool) → b ≡ is_ok r → OnOk r P → IsTrue b → P
 on_true P (Ok v) b e h t = h
 on_true P (Err v) b e h t = absurd (cc)

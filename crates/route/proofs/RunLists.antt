@@ -60,6 +60,13 @@ kept_along k es before (e ∷ after) allowed split h = kept_along k es (before +
 pub taken_front : (n k : ℕ) (w : List Placed) (es : List Event) → IsRun n w es → IsBeginning (taken_list es k) (put_list es k)
 taken_front n k w es run = (held es k, kept_along k es [] es run.allowed refl refl)
 
+-- what was taken up to an earlier point
+pub taken_before : (n k : ℕ) (w : List Placed) (before after : List Event) → IsRun n w (before ++ after) → IsBeginning (taken_list before k) (put_list (before ++ after) k)
+taken_before n k w before after run =
+    let front = taken_front n k w (before ++ after) run in
+    let more : taken_list (before ++ after) k ≡ taken_list before k ++ of_lane k (takes_in after) = ap (of_lane k) (takes_in-append before after) ∙ of_lane-append k (takes_in before) (takes_in after) in
+    (of_lane k (takes_in after) ++ front.0, front.1 ∙ ap (λ (l : List (Item Placed)). l ++ front.0) more ∙ append_assoc (taken_list before k) (of_lane k (takes_in after)) front.0)
+
 -- a beginning of a run is a run
 pub earlier : (n : ℕ) (w : List Placed) (before after : List Event) → IsRun n w (before ++ after) → IsRun n w before
 earlier n w before after run = record {

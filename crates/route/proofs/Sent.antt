@@ -111,11 +111,9 @@ marks_block puts j m us h none all =
     let P : ℕ → Items → Type 0 = λ k l. has_mark l ≡ nat_lt k m in
     each_after P puts j (map One us) h (has_mark_block (put_on puts j) (map One us) none (no_mark_in us) ∙ sym none ∙ all j h) (λ k e l. all k l)
 
-pub marks_either : (b : Bool) (old new : List Items) (j m : ℕ) (xs : Items) (us : List Placed) → new ≡ cond b (with_puts old j xs) old → xs ≡ map One us → j < length old → has_mark (put_on old j) ≡ false → HaveMarks m old → HaveMarks m new
-marks_either true old new j m xs us e values h none all =
-    let more : new ≡ with_puts old j (map One us) = e ∙ ap (with_puts old j) values in
-    subst (HaveMarks m) (sym more) (marks_block old j m us h none all)
-marks_either false old new j m xs us e values h none all = subst (HaveMarks m) (sym e) all
+pub marks_either : (b : Bool) (old new : List Items) (j m : ℕ) (us : List Placed) → new ≡ cond b (with_puts old j (map One us)) old → j < length old → has_mark (put_on old j) ≡ false → HaveMarks m old → HaveMarks m new
+marks_either true old new j m us e h none all = subst (HaveMarks m) (sym e) (marks_block old j m us h none all)
+marks_either false old new j m us e h none all = subst (HaveMarks m) (sym e) all
 
 -- the marks after a record was put, and after a mark was
 pub marks-one : (puts : List Items) (i : ℕ) (p : Placed) (m : ℕ) → i < length puts → has_mark (put_on puts i) ≡ false → HaveMarks m puts → HaveMarks m (with_put puts i (One p))

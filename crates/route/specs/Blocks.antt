@@ -1,13 +1,12 @@
 -- What a block says.
 use Rattle.std.specs.Prelude.{◌≡◌, ℕ, ◌<◌, ◌≤◌, ◌%◌, List, length, take, All, Some}
-use Rattle.lane.specs.Items.{records}
 use Rattle.trace.specs.declared.records.Record.{Record}
 use Rattle.trace.specs.declared.records.Placed.{Placed}
 use Rattle.route.specs.Sending.{location_of}
 use Rattle.route.specs.declared.block.Block.{Block}
 
 abbrev pub records_in : Block → List Placed
-records_in b = records (take b.len b.items)
+records_in b = take b.len b.records
 
 -- the lane that its records go to, and of how many
 abbrev pub block_lane : Block → ℕ

@@ -3,7 +3,7 @@ use Rattle.std.specs.Prelude.{◌≡◌, ℕ, ◌<◌, ◌↔◌, ◌⊎◌, tru
 use Rattle.std.specs.List.Sorted.{IsStrictlyIncreasing}
 use Rattle.lane.specs.declared.item.Item.{Item}
 use Rattle.lane.specs.declared.item.Item.TheVariants.{One, Finish}
-use Rattle.lane.specs.Items.{records, IsBeginning}
+use Rattle.lane.specs.Items.{has_mark, records, IsBeginning}
 use Rattle.trace.specs.declared.records.Placed.{Placed}
 use Rattle.trace.specs.Shares.{goes_placed, share}
 
@@ -37,6 +37,14 @@ HasShare n on u k = (records (on k) ≡ share k n u) ⊎ ((p : Placed) × (recor
 pub record HasWholeShare (n : ℕ) (on : ℕ → List (Item Placed)) (u : List Placed) (k : ℕ) : Type 0 where
   pub whole : on k ≡ map One (share k n u) ++ Finish ∷ []
   pub none_sent : (p : Placed) → IsBeingSent n on p → ⊥
+
+-- What was taken of lane k is a beginning of its share of u, so each record once and in trace order; and where the mark was
+-- taken it is that share whole, and nothing more stands on the lane.
+pub record TakesShare (n : ℕ) (u : List Placed) (k : ℕ) (taken put : List (Item Placed)) : Type 0 where
+  pub front : IsBeginning (records taken) (share k n u)
+  pub each_once : IsRising (records taken)
+  pub whole : has_mark taken ≡ true → taken ≡ map One (share k n u) ++ Finish ∷ []
+  pub none_more : has_mark taken ≡ true → put ≡ taken
 
 -- exactly one list was routed, and it is a beginning of w
 pub record HasRouted (n : ℕ) (on : ℕ → List (Item Placed)) (w : List Placed) : Type 0 where

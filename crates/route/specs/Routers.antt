@@ -57,6 +57,14 @@ IsLastLane n k p = (j : ℕ) → k < j → j < n → goes_placed j n p ≡ false
 abbrev pub IsFull : Router → ℕ → Type 0
 IsFull r k = slice_index_or (capacities_of r) k 0 ≤ length (put_on (puts_of r) k)
 
--- the sender of lane k knows of room for fewer items
-abbrev pub LacksRoom : Router → ℕ → ℕ → Type 0
-LacksRoom r k count = slice_index_or (rooms r.senders.items) k 0 < count
+-- for how many items more the sender of lane k knows to have room
+abbrev pub room_on : Router → ℕ → ℕ
+room_on r k = slice_index_or (rooms r.senders.items) k 0
+
+-- lane k refused: its sender knew of no room, and knows of none
+pub record HasRefused (old new : Router) (k : ℕ) : Type 0 where
+  pub within : k < lane_count old
+  pub knew_of_none : room_on old k ≡ 0
+  pub knows_of_none : room_on new k ≡ 0
+  pub full : IsFull old k
+  pub unchanged : IsUnchanged old new

@@ -1,11 +1,12 @@
 //! What stands on the lanes at every point of every run, and on the lanes of every router.
 
 ghost use Rattle.std.specs.Prelude.{◌≡◌, ℕ, ◌<◌, ◌⊎◌, true, List, ◌++◌, map};
+ghost use Rattle.lane.specs.declared.item.Item.{Item};
 ghost use Rattle.lane.specs.Items.{has_mark, IsBeginning};
 ghost use Rattle.trace.specs.declared.records.Placed.{Placed};
 ghost use Rattle.route.specs.declared.routing.Router.{Router};
 ghost use Rattle.route.specs.Sending.{put_on};
-ghost use Rattle.route.specs.Routed.{IsRising, in_hand, IsRouted, HasRouted, HasShare, HasWholeShare};
+ghost use Rattle.route.specs.Routed.{IsRising, in_hand, IsRouted, HasRouted, HasShare, HasWholeShare, TakesShare};
 ghost use Rattle.route.specs.Routers.{puts_of, lane_count, pending_of, HasSent};
 ghost use Rattle.route.specs.Runs.{Event, IsRun, put_event, sending, put_list, taken_list};
 
@@ -25,6 +26,11 @@ pub fn runs()
         → HasWholeShare n (put_list es) u k }
     ensures taken { (n k : ℕ) (w : List Placed) (es : List Event) → IsRun n w es
         → IsBeginning (taken_list es k) (put_list es k) }
+    // what was taken is a beginning of the lane's share, and with the mark that share whole
+    ensures headline { (n k : ℕ) (w u : List Placed) (es : List Event) → IsRun n w es
+        → IsRouted n (put_list es) u → k < n → TakesShare n u k (taken_list es k) (put_list es k) }
+    ensures ended { (n k : ℕ) (w : List Placed) (before after : List Event) → IsRun n w (before ++ after) → k < n
+        → has_mark (taken_list before k) ≡ true → put_list (before ++ after) k ≡ taken_list before k }
 {}
 
 /// Of every router that was offered records whose places rise: the same, and what was routed is what was sent
@@ -43,4 +49,9 @@ pub fn routers()
         → IsRising (in_hand w (pending_of r)) → IsRouted (lane_count r) (put_on (puts_of r)) u
         → k < lane_count r → has_mark (put_on (puts_of r) k) ≡ true
         → HasWholeShare (lane_count r) (put_on (puts_of r)) u k }
+    // with the receipt of lane k what its taker took is a beginning of what was put
+    ensures headline { (r : Router) (k : ℕ) (w u : List Placed) (taken : List (Item Placed)) → HasSent w r
+        → IsRising (in_hand w (pending_of r)) → IsRouted (lane_count r) (put_on (puts_of r)) u
+        → k < lane_count r → IsBeginning taken (put_on (puts_of r) k)
+        → TakesShare (lane_count r) u k taken (put_on (puts_of r) k) }
 {}

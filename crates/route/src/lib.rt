@@ -11,6 +11,6 @@ mod routing;
 mod tests;
 mod turns;
 
-pub use block::{BLOCK, Block};
+pub use block::Block;
 pub use progress::Progress;
 pub use routing::Router;

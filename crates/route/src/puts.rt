@@ -1,11 +1,11 @@
 //! A put on one of many lanes.
-ghost use Rattle.std.specs.Prelude.{◌≡◌, ◌<◌, ◌≤◌, false, length, slice_index_or, vec_len, if◌then◌else◌, IsFalse};
+ghost use Rattle.std.specs.Prelude.{◌≡◌, ◌<◌, ◌≤◌, false, length, map, slice_index_or, vec_len, if◌then◌else◌, IsFalse};
 ghost use Rattle.lane.specs.declared.item.Item.TheVariants.{One, Finish};
 ghost use Rattle.lane.specs.Items.{has_mark};
 ghost use Rattle.route.specs.Senders.{lanes, puts, capacities, rooms};
 ghost use Rattle.route.specs.Sending.{put_on, with_put, with_puts};
 
-use lane::{Item, Sender};
+use lane::{BLOCK, Sender};
 use trace::Placed;
 
 /// Puts the record on the lane; false where the lane was full.
@@ -20,25 +20,26 @@ pub fn put_on(senders: &mut Vec<Sender<Placed>>, lane: usize, placed: Placed) ->
     ensures len { vec_len senders.new ≡ vec_len senders.old }
     ensures full { IsFalse result → slice_index_or (capacities senders.old.items) lane 0
         ≤ length (put_on (puts senders.old.items) lane) }
+    ensures no_room { IsFalse result → (slice_index_or (rooms senders.old.items) lane 0 ≡ 0)
+        × (slice_index_or (rooms senders.new.items) lane 0 ≡ 0) }
 {
     senders[lane].put(placed).is_ok()
 }
 
-/// Puts the items on the lane; false where it hadn't room for all.
-pub fn put_block_on(senders: &mut Vec<Sender<Placed>>, lane: usize, items: &[Item<Placed>]) -> bool
+/// Puts the records on the lane; false where it hadn't room for all.
+pub fn put_block_on(senders: &mut Vec<Sender<Placed>>, lane: usize, records: &[Placed]) -> bool
     requires within { lane < vec_len senders.old }
     requires unmarked { has_mark (put_on (puts senders.old.items) lane) ≡ false }
-    requires values { has_mark items.now ≡ false }
-    requires most { length items.now ≤ 64 }
+    requires most { length records.now ≤ BLOCK }
     ensures puts { puts senders.new.items
-        ≡ (if result then with_puts (puts senders.old.items) lane items.now
+        ≡ (if result then with_puts (puts senders.old.items) lane (map One records.now)
         else puts senders.old.items) }
     ensures lanes { lanes senders.new.items ≡ lanes senders.old.items }
     ensures capacities { capacities senders.new.items ≡ capacities senders.old.items }
     ensures len { vec_len senders.new ≡ vec_len senders.old }
-    ensures full { IsFalse result → slice_index_or (rooms senders.new.items) lane 0 < length items.now }
+    ensures full { IsFalse result → slice_index_or (rooms senders.new.items) lane 0 < length records.now }
 {
-    senders[lane].put_block(items)
+    senders[lane].put_block(records)
 }
 
 /// Puts the mark on the lane; false where the lane was full.
@@ -53,6 +54,8 @@ pub fn mark_on(senders: &mut Vec<Sender<Placed>>, lane: usize) -> bool
     ensures len { vec_len senders.new ≡ vec_len senders.old }
     ensures full { IsFalse result → slice_index_or (capacities senders.old.items) lane 0
         ≤ length (put_on (puts senders.old.items) lane) }
+    ensures no_room { IsFalse result → (slice_index_or (rooms senders.old.items) lane 0 ≡ 0)
+        × (slice_index_or (rooms senders.new.items) lane 0 ≡ 0) }
 {
     senders[lane].mark()
 }

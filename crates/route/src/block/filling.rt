@@ -1,13 +1,18 @@
 //! How a block is filled.
-ghost use Rattle.std.specs.Prelude.{◌≡◌, ◌↔◌, ◌<◌, ◌≤◌, [], ◌∷◌, ◌++◌, length, map, IsTrue, IsFalse};
-ghost use Rattle.lane.specs.declared.item.Item.TheVariants.{One};
+ghost use Rattle.std.specs.Prelude.{◌≡◌, ◌↔◌, ◌<◌, ◌≤◌, [], ◌∷◌, ◌++◌, length, IsTrue, IsFalse};
 ghost use Rattle.route.specs.Sending.{AreOfLane, location_of};
 ghost use Rattle.route.specs.Blocks.{records_in, block_lane, block_lanes, most_of, MayJoin};
 
-use super::{BLOCK, Block};
+use super::Block;
 use crate::turns::lane_of;
-use lane::Item;
+use lane::BLOCK;
 use trace::{Placed, Record};
+
+// What stands where no record does.
+const NONE: Placed = Placed {
+    place: 0,
+    what: Record::Sync,
+};
 
 impl Block {
     /// Nothing yet, to be sent over so many lanes. It is full at so many accesses, so that a lane that holds as many has
@@ -19,7 +24,7 @@ impl Block {
         ensures most { most_of result ≡ most }
     {
         Block {
-            items: [Item::Finish; 64],
+            records: [NONE; BLOCK],
             len: 0,
             most,
             lane: 0,
@@ -52,7 +57,7 @@ impl Block {
         if self.len == self.most || self.len > 0 && lane != self.lane {
             return false;
         }
-        self.items[self.len] = Item::One(placed);
+        self.records[self.len] = placed;
         self.len += 1;
         self.lane = lane;
         true
@@ -67,12 +72,12 @@ impl Block {
         self.lane
     }
 
-    // Its records, as items of a lane.
-    pub(crate) fn items(&self) -> &[Item<Placed>]
-        ensures values { result.now ≡ map One (records_in self.now) }
-        ensures most { length result.now ≤ 64 }
+    // Its records, in their order.
+    pub(crate) fn records(&self) -> &[Placed]
+        ensures records { result.now ≡ records_in self.now }
+        ensures most { length result.now ≤ BLOCK }
     {
-        &self.items[..self.len]
+        &self.records[..self.len]
     }
 
     /// Leaves nothing in it.

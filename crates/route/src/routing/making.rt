@@ -6,8 +6,8 @@ ghost use Rattle.route.specs.Blocks.{records_in, block_lanes, most_of, FitsAll};
 ghost use Rattle.route.specs.Routers.{lanes_of, capacities_of, lane_count, pending_of, marked_of, HasSent};
 
 use super::Router;
-use crate::block::{BLOCK, Block};
-use lane::Sender;
+use crate::block::Block;
+use lane::{BLOCK, Sender};
 use std::alloc::Global;
 use trace::{NoMemory, Placed};
 

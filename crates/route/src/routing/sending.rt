@@ -5,7 +5,7 @@ ghost use Rattle.trace.specs.declared.records.Placed.{Placed};
 ghost use Rattle.route.specs.Sending.{first_lane, with_put, sent_whole, HaveMarks};
 ghost use Rattle.route.specs.Blocks.{records_in, block_lane, block_lanes};
 ghost use Rattle.route.specs.Progresses.{OnIdle, OnMoved, IfBlocked};
-ghost use Rattle.route.specs.Routers.{puts_of, lane_count, pending_of, turn_of, marked_of, HasSent, IsOnLanes, IsUnchanged, IsLastLane, IsFull, LacksRoom};
+ghost use Rattle.route.specs.Routers.{puts_of, lane_count, pending_of, turn_of, marked_of, HasSent, IsOnLanes, IsUnchanged, IsLastLane, HasRefused, room_on};
 
 use super::Router;
 use crate::block::Block;
@@ -58,8 +58,7 @@ impl Router {
             → ((pending_of self.new ≡ None)
             ↔ IsLastLane (lane_count self.old) (turn_of self.old) p)) }
 
-        ensures blocked { IfBlocked result (λ k. (k ≡ turn_of self.old) × IsFull self.old k
-            × IsUnchanged self.old self.new) }
+        ensures blocked { IfBlocked result (λ k. (k ≡ turn_of self.old) × HasRefused self.old self.new k) }
     {
         match self.pending {
             Some(placed) => self.put_pending(placed),
@@ -80,8 +79,7 @@ impl Router {
             → (placed ≡ p) × (turn_of self.new ≡ turn_of self.old + 1)) }
         ensures last { OnMoved result ((pending_of self.new ≡ None)
             ↔ IsLastLane (lane_count self.old) (turn_of self.old) placed) }
-        ensures blocked { IfBlocked result (λ k. (k ≡ turn_of self.old) × IsFull self.old k
-            × IsUnchanged self.old self.new) }
+        ensures blocked { IfBlocked result (λ k. (k ≡ turn_of self.old) × HasRefused self.old self.new k) }
     {
         if !put_on(&mut self.senders, self.next, placed) {
             return Progress::Blocked(self.next as u32);
@@ -101,12 +99,12 @@ impl Router {
         ensures sent { IsTrue result → (w : List Placed) → HasSent w self.old
             → HasSent (w ++ records_in block.now) self.new }
         ensures full { IsFalse result → IsUnchanged self.old self.new
-            × LacksRoom self.new (block_lane block.now) (length (records_in block.now)) }
+            × (room_on self.new (block_lane block.now) < length (records_in block.now)) }
         ensures pending { pending_of self.new ≡ None }
         ensures marked { marked_of self.new ≡ 0 }
         ensures lanes { IsOnLanes self.old self.new }
     {
-        put_block_on(&mut self.senders, block.lane(), block.items())
+        put_block_on(&mut self.senders, block.lane(), block.records())
     }
 
     /// Puts the mark on the next lane that has none.
@@ -122,8 +120,7 @@ impl Router {
         ensures put { OnMoved result (puts_of self.new
             ≡ with_put (puts_of self.old) (marked_of self.old) Finish) }
         ensures marked { OnMoved result (marked_of self.new ≡ marked_of self.old + 1) }
-        ensures blocked { IfBlocked result (λ k. (k ≡ marked_of self.old) × IsFull self.old k
-            × IsUnchanged self.old self.new) }
+        ensures blocked { IfBlocked result (λ k. (k ≡ marked_of self.old) × HasRefused self.old self.new k) }
     {
         if self.marked == self.senders.len() {
             return Progress::Idle;

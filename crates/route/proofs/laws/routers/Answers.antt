@@ -7,6 +7,7 @@ use Rattle.route.specs.declared.routing.Router.{Router}
 use Rattle.route.specs.Sending.{put_on}
 use Rattle.route.specs.Routed.{IsRising, in_hand}
 use Rattle.route.specs.Routers.{puts_of, lane_count, pending_of, turn_of, marked_of, HasSent}
+use Rattle.route.proofs.Headline.{takes_share}
 use Rattle.route.proofs.LaneShares.{IsUnderWay, Outcome, outcome, routes_of, has_routed, list_of}
 use Rattle.route.proofs.laws.routers.Goals as goal
 
@@ -40,6 +41,9 @@ returns-clause-whole c = λ r w u sent rising none routed.
 
 pub returns-clause-shares : goal.returns-clause-shares
 returns-clause-shares c = λ r k w u sent rising routed l. (routes_of (lane_count r) (put_on (puts_of r)) w u (pending_of r) (of_router r w sent rising) routed).shares k l
+
+pub returns-clause-headline : goal.returns-clause-headline
+returns-clause-headline c = λ r k w u taken sent rising routed l front. takes_share (lane_count r) (put_on (puts_of r)) u k taken l (routes_of (lane_count r) (put_on (puts_of r)) w u (pending_of r) (of_router r w sent rising) routed) front
 
 pub returns-clause-marks : goal.returns-clause-marks
 returns-clause-marks c = λ r k w u sent rising routed l h. (routes_of (lane_count r) (put_on (puts_of r)) w u (pending_of r) (of_router r w sent rising) routed).marks k l h

@@ -1,6 +1,8 @@
+use Rattle.std.proofs.Common.{◌++◌}
+use Rattle.route.proofs.Headline.{takes_share}
 use Rattle.route.proofs.LaneShares.{routes_of, has_routed}
-use Rattle.route.proofs.RunLists.{taken_front, earlier, front_of, outcome_of, whole_run}
-use Rattle.route.specs.Runs.{put_list}
+use Rattle.route.proofs.RunLists.{taken_front, taken_before, earlier, front_of, outcome_of, whole_run}
+use Rattle.route.specs.Runs.{put_list, taken_list}
 use Rattle.route.proofs.laws.runs.Goals as goal
 
 pub returns-clause-some : goal.returns-clause-some
@@ -20,6 +22,16 @@ returns-clause-shares c = λ n k w u es run routed l.
 pub returns-clause-marks : goal.returns-clause-marks
 returns-clause-marks c = λ n k w u es run routed l h.
     let f = front_of n w es run in (routes_of n (put_list es) f.v u f.pending (outcome_of n w es run f) routed).marks k l h
+
+pub returns-clause-headline : goal.returns-clause-headline
+returns-clause-headline c = λ n k w u es run routed l.
+    let f = front_of n w es run in takes_share n (put_list es) u k (taken_list es k) l (routes_of n (put_list es) f.v u f.pending (outcome_of n w es run f) routed) (taken_front n k w es run)
+
+pub returns-clause-ended : goal.returns-clause-ended
+returns-clause-ended c = λ n k w before after run l h.
+    let f = front_of n w (before ++ after) run in
+    let o = outcome_of n w (before ++ after) run f in
+    (takes_share n (put_list (before ++ after)) o.list k (taken_list before k) l o.routes (taken_before n k w before after run)).none_more h
 
 pub returns-clause-taken : goal.returns-clause-taken
 returns-clause-taken c = λ n k w es run. taken_front n k w es run

@@ -1,7 +1,7 @@
 use Rattle.std.proofs.Common.{rules, [], ◌∷◌}
 use Rattle.lane.specs.declared.item.Item.TheVariants.{Finish}
 use Rattle.lane.specs.Lanes.{lane_of, capacity_of}
-use Rattle.route.proofs.Lists.{map-set_like, puts_after}
+use Rattle.route.proofs.Lists.{map-set_like, puts_after, no_room}
 use Rattle.route.proofs.puts.mark_on.Goals as goal
 
 pub returns-clause-puts : goal.returns-clause-puts
@@ -13,3 +13,6 @@ returns-clause-lanes c = map-set_like lane_of _ _ _ _ c.index_mut.ensures.value 
 
 pub returns-clause-capacities : goal.returns-clause-capacities
 returns-clause-capacities c = map-set_like capacity_of _ _ _ _ c.index_mut.ensures.value c.mark.ensures.lane.1
+
+pub returns-clause-no_room : goal.returns-clause-no_room
+returns-clause-no_room c h = no_room c.args.senders.now.items c.args.lane _ c.mark.new.self (search rules) c.index_mut.ensures.value (c.mark.ensures.no_room h)

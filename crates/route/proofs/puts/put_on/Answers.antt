@@ -1,7 +1,7 @@
 use Rattle.std.proofs.Common.{rules, [], ◌∷◌}
 use Rattle.lane.specs.declared.item.Item.TheVariants.{One}
 use Rattle.lane.specs.Lanes.{lane_of, capacity_of}
-use Rattle.route.proofs.Lists.{map-set_like, puts_after, on_true, on_false}
+use Rattle.route.proofs.Lists.{map-set_like, puts_after, no_room, on_true, on_false}
 use Rattle.route.proofs.puts.put_on.Goals as goal
 
 pub returns-clause-puts : goal.returns-clause-puts
@@ -15,3 +15,6 @@ returns-clause-lanes c = map-set_like lane_of _ _ _ _ c.index_mut.ensures.value 
 
 pub returns-clause-capacities : goal.returns-clause-capacities
 returns-clause-capacities c = map-set_like capacity_of _ _ _ _ c.index_mut.ensures.value c.put.ensures.lane.1
+
+pub returns-clause-no_room : goal.returns-clause-no_room
+returns-clause-no_room c h = no_room c.args.senders.now.items c.args.lane _ c.put.new.self (search rules) c.index_mut.ensures.value (on_false _ _ c.put.result c.is_ok.result c.is_ok.ensures.value c.put.ensures.no_room (λ x e. e) h)
