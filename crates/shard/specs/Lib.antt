@@ -1,4 +1,5 @@
 pub mod Backs
 pub mod Shards
+pub mod Tellings
 pub mod Worked
 pub mod Working

@@ -1,17 +1,15 @@
 //! A worker: a shard, and its lane back.
-ghost use Rattle.std.specs.Prelude.{◌≡◌, true, false, List, [], ◌∷◌, ◌++◌};
+ghost use Rattle.std.specs.Prelude.{◌≡◌, List, [], ◌∷◌, ◌++◌};
 ghost use Rattle.trace.specs.declared.records.Placed.{Placed};
 ghost use Rattle.lane.specs.declared.item.Item.{Item};
-ghost use Rattle.lane.specs.Items.{has_mark, records};
-ghost use Rattle.lane.specs.Lanes.{lane_of, put_of};
-ghost use Rattle.shard.specs.Shards.{capped_count};
-ghost use Rattle.shard.specs.Working.{HasWorked, IsGoing, HasStopped};
+ghost use Rattle.lane.specs.Items.{records};
+ghost use Rattle.shard.specs.Tellings.{told_of, back_lane};
+ghost use Rattle.shard.specs.Working.{HasWorked};
 
-use crate::Back;
 use crate::gate::Gate;
 use crate::state::Shard;
-use crate::telling::{tell_race, tell_refusal};
-use lane::{Item, Sender};
+use crate::telling::Telling;
+use lane::Item;
 use std::hash::BuildHasher;
 use std::sync::Wait;
 use trace::Placed;
@@ -20,30 +18,27 @@ use trace::Placed;
 #[derive(Drop)]
 pub struct Worker<S: BuildHasher + Drop> {
     pub shard: Shard<S>,
-    pub back: Sender<Back>,
+    pub telling: Telling,
     pub stopped: bool,
 }
 
 impl<S: BuildHasher + Drop> Worker<S> {
-    /// Takes each record of a block, once it has passed the gate.
+    /// Takes each record of a block, once it has passed the gate, and puts the races that these tell.
     pub fn take_block<R: Wait, G: Gate>(&mut self, rt: &R, gate: &G, block: &[Item<Placed>])
-        requires { has_mark (put_of self.old.back) ≡ false }
-        ensures worked { (u : List Placed) → HasWorked u self.old.shard (put_of self.old.back) self.old.stopped →
-            HasWorked (u ++ records block.now) self.new.shard (put_of self.new.back) self.new.stopped }
-        ensures lane { lane_of self.new.back ≡ lane_of self.old.back }
-        ensures unmarked { has_mark (put_of self.new.back) ≡ false }
+        ensures worked { (u : List Placed) → HasWorked u self.old.shard (told_of self.old.telling) self.old.stopped →
+            HasWorked (u ++ records block.now) self.new.shard (told_of self.new.telling) self.new.stopped }
+        ensures lane { back_lane self.new.telling ≡ back_lane self.old.telling }
     {
         for item in block {
             self.take_item(rt, gate, *item);
         }
+        self.telling.put_gathered(rt);
     }
 
     fn take_item<R: Wait, G: Gate>(&mut self, rt: &R, gate: &G, item: Item<Placed>)
-        requires { has_mark (put_of self.old.back) ≡ false }
-        ensures worked { (u : List Placed) → HasWorked u self.old.shard (put_of self.old.back) self.old.stopped →
-            HasWorked (u ++ records (item ∷ [])) self.new.shard (put_of self.new.back) self.new.stopped }
-        ensures lane { lane_of self.new.back ≡ lane_of self.old.back }
-        ensures unmarked { has_mark (put_of self.new.back) ≡ false }
+        ensures worked { (u : List Placed) → HasWorked u self.old.shard (told_of self.old.telling) self.old.stopped →
+            HasWorked (u ++ records (item ∷ [])) self.new.shard (told_of self.new.telling) self.new.stopped }
+        ensures lane { back_lane self.new.telling ≡ back_lane self.old.telling }
     {
         match item {
             Item::One(placed) => {
@@ -57,11 +52,9 @@ impl<S: BuildHasher + Drop> Worker<S> {
     /// Takes a record: applies it and tells its race. After a refused growth, which is told once, and after
     /// a record out of order it only counts.
     pub fn take<R: Wait>(&mut self, rt: &R, placed: Placed)
-        requires { has_mark (put_of self.old.back) ≡ false }
-        ensures worked { (u : List Placed) → HasWorked u self.old.shard (put_of self.old.back) self.old.stopped →
-            HasWorked (u ++ placed ∷ []) self.new.shard (put_of self.new.back) self.new.stopped }
-        ensures lane { lane_of self.new.back ≡ lane_of self.old.back }
-        ensures unmarked { has_mark (put_of self.new.back) ≡ false }
+        ensures worked { (u : List Placed) → HasWorked u self.old.shard (told_of self.old.telling) self.old.stopped →
+            HasWorked (u ++ placed ∷ []) self.new.shard (told_of self.new.telling) self.new.stopped }
+        ensures lane { back_lane self.new.telling ≡ back_lane self.old.telling }
     {
         if self.stopped || !self.shard.accepts(placed.place) {
             self.stopped = true;
@@ -70,11 +63,11 @@ impl<S: BuildHasher + Drop> Worker<S> {
         }
         match self.shard.apply(placed) {
             Ok(None) => {}
-            Ok(Some(race)) => tell_race(rt, &mut self.back, race),
+            Ok(Some(race)) => self.telling.tell_race(rt, race),
             Err(_) => {
                 self.stopped = true;
                 self.shard.count_one();
-                tell_refusal(rt, &mut self.back);
+                self.telling.tell_refusal(rt);
             }
         }
     }

@@ -7,9 +7,9 @@ ghost use Rattle.shard.specs.Worked.{DidWork};
 use crate::Back;
 use crate::gate::Gate;
 use crate::state::Shard;
-use crate::telling::close;
+use crate::telling::Telling;
 use crate::worker::Worker;
-use lane::{End, Item, Sender, Taker};
+use lane::{BLOCK, End, Item, Sender, Taker};
 use std::hash::BuildHasher;
 use std::hint::spin_loop;
 use std::sync::Wait;
@@ -28,7 +28,8 @@ pub struct Worked<S: BuildHasher + Drop> {
 
 /// Runs a shard on the records of a lane up to the mark, and puts its races on the lane back.
 ///
-/// Each record passes the gate before it is applied. A full lane back is tried again. After a refused growth
+/// A block of records is taken at a time. Each passes the gate before it is applied, and the races of a block are put at
+/// once where there is room for them, and else one by one, each tried again while the lane back is full. After a refused growth
 /// `Back::NoMemory` is put once, nothing more is applied, and the taking goes on. At the mark the lane back
 /// is marked. A record that the shard doesn't accept isn't applied, and neither is any after it; among
 /// the records of a share there is none.
@@ -46,7 +47,7 @@ pub fn work<R: Wait, S: BuildHasher + Drop, G: Gate>(
 {
     let mut worker = Worker {
         shard,
-        back,
+        telling: Telling::new(back),
         stopped: false,
     };
     let parker = Parker::new();
@@ -62,12 +63,12 @@ pub fn work<R: Wait, S: BuildHasher + Drop, G: Gate>(
         if taker.ended() {
             let Worker {
                 shard,
-                back,
+                telling,
                 stopped: _,
             } = worker;
             return Worked {
                 taker,
-                back: close(rt, back),
+                back: telling.close(rt),
                 shard,
             };
         }
@@ -78,9 +79,6 @@ pub fn work<R: Wait, S: BuildHasher + Drop, G: Gate>(
     }
     unreachable!()
 }
-
-// How many items are taken in one step at most.
-const BLOCK: usize = 64;
 
 // How often the processor pauses before a look at the other end of the lane.
 const PAUSES: u32 = 128;

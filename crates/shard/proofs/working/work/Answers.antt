@@ -2,7 +2,8 @@ use Rattle.std.proofs.Common.{rules, ◌≡◌, List, [], ◌++◌, length, take
 use Rattle.trace.specs.declared.records.Placed.{Placed}
 use Rattle.lane.specs.declared.item.Item.{Item}
 use Rattle.lane.specs.Items.{has_mark, records}
-use Rattle.lane.specs.Lanes.{put_of, taken_of}
+use Rattle.lane.specs.Lanes.{taken_of}
+use Rattle.shard.specs.Tellings.{told_of}
 use Rattle.lane.proofs.Marks.{records-append, all_to_mark}
 use Rattle.shard.specs.declared.Back.{Back}
 use Rattle.shard.specs.Working.{HasWorked, IsOfShare, TellsFound}
@@ -11,26 +12,24 @@ use Rattle.shard.proofs.working.work.Goals as goal
 
 pub loop-init : goal.loop-init
 loop-init g c =
-    let P : List (Item Placed) → Type 0 = λ x. HasWorked (records x) c.args.shard (put_of c.args.back) false in
+    let P : List (Item Placed) → Type 0 = λ x. HasWorked (records x) c.args.shard (told_of c.new.result) false in
     let Q : List (Item Back) → Type 0 = λ y. HasWorked [] c.args.shard y false in
     record {
       same_taker = refl;
-      same_back = refl;
+      same_back = c.new.ensures.lane;
       before_mark = ap has_mark c.requires.none_taken;
-      unmarked = ap has_mark c.requires.none_put;
-      worked = subst P (sym c.requires.none_taken) (subst Q (sym c.requires.none_put) (worked_new c.args.shard c.requires.new));
+      worked = subst P (sym c.requires.none_taken) (subst Q (sym (c.new.ensures.told ∙ c.requires.none_put)) (worked_new c.args.shard c.requires.new));
     }
 
 pub loop-preserved : goal.loop-preserved
 loop-preserved g c =
     let i = c.loop.invariant in
     let same : records (taken_of c.take_block-count.new.self) ≡ records (taken_of c.loop.taker) ++ records (take c.take_block-count.result c.take_block-count.new.items) = ap records c.take_block-count.ensures.taken ∙ records-append (taken_of c.loop.taker) _ in
-    let P : List Placed → Type 0 = λ u. HasWorked u c.take_block.new.self.shard (put_of c.take_block.new.self.back) c.take_block.new.self.stopped in
+    let P : List Placed → Type 0 = λ u. HasWorked u c.take_block.new.self.shard (told_of c.take_block.new.self.telling) c.take_block.new.self.stopped in
     record {
       same_taker = c.take_block-count.ensures.lane ∙ i.same_taker;
       same_back = c.take_block.ensures.lane ∙ i.same_back;
       before_mark = search rules;
-      unmarked = c.take_block.ensures.unmarked;
       worked = subst P (sym same) (c.take_block.ensures.worked (records (taken_of c.loop.taker)) i.worked);
     }
 
@@ -38,7 +37,7 @@ pub returns-then-ended : goal.returns-then-ended
 returns-then-ended g c =
     let i = c.loop.invariant in
     let taken = taken_of c.take_block-count.new.self in
-    let put = put_of c.take_block.new.self.back in
+    let put = told_of c.take_block.new.self.telling in
     let same : records taken ≡ records (taken_of c.loop.taker) ++ records (take c.take_block-count.result c.take_block-count.new.items) = ap records c.take_block-count.ensures.taken ∙ records-append (taken_of c.loop.taker) _ in
     let P : List Placed → Type 0 = λ u. HasWorked u c.take_block.new.self.shard put c.take_block.new.self.stopped in
     let worked = subst P (sym same) (c.take_block.ensures.worked (records (taken_of c.loop.taker)) i.worked) in
