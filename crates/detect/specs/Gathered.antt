@@ -1,5 +1,5 @@
 -- What the shards have handed back, lane by lane, and what a collector holds of it.
-use Rattle.std.specs.Prelude.{◌≡◌, ℕ, ◌+◌, ◌%◌, Bool, false, List, [], ◌∷◌, ◌++◌, length, map, ⊤}
+use Rattle.std.specs.Prelude.{◌≡◌, ℕ, ◌+◌, ◌%◌, Bool, false, List, [], ◌∷◌, ◌++◌, length, map, slice_index_or, slice_set, ⊤}
 use Rattle.std.specs.List.{AllByRecursion}
 use Rattle.shard.specs.declared.Back.{Back}
 use Rattle.lane.specs.declared.item.Item.{Item}
@@ -16,6 +16,10 @@ given_by backs = map taken_of backs
 abbrev pub all_given : List (List (Item Back)) → List Back
 all_given [] = []
 all_given (items ∷ lists) = records items ++ all_given lists
+
+-- lane k gave these items more
+abbrev pub with_items : List (List (Item Back)) → ℕ → List (Item Back) → List (List (Item Back))
+with_items lists k xs = slice_set lists k (slice_index_or lists k [] ++ xs)
 
 -- of n lanes these stand from lane k on, and each gave races of its own locations alone
 abbrev pub AreAtHomeFrom : ℕ → ℕ → List (List (Item Back)) → Type 0

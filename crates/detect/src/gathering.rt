@@ -1,18 +1,17 @@
 //! The lanes back from the shards, and the races that came over them.
-ghost use Rattle.std.specs.Prelude.{◌≡◌, ◌<◌, ◌≤◌, ◌++◌, ℕ, ◌∷◌, vec_len, List, [], IsTrue, IsFalse};
+ghost use Rattle.std.specs.Prelude.{◌≡◌, ◌<◌, ◌≤◌, ◌++◌, ℕ, ◌∷◌, vec_len, length, List, [], IsTrue, IsFalse};
+ghost use Rattle.lane.specs.declared.item.Item.{Item};
 ghost use Rattle.shard.specs.declared.Back.{Back};
 ghost use Rattle.shard.specs.declared.Back.TheVariants.{NoMemory};
 ghost use Rattle.collect.specs.Collected.{Holds};
+ghost use Rattle.detect.specs.Gathered.{Gathers, with_items};
 ghost use Rattle.detect.specs.Gatherings.{IsFurther, HasEnded};
 
 use collect::Collector;
-use lane::{Item, Taker};
+use lane::{BLOCK, Item, Taker};
 use shard::Back;
 use std::sync::Wait;
 use std::thread;
-
-// How many items are taken of a lane before the next one has its turn.
-const TURN: usize = 64;
 
 /// The lanes back from the shards, and what came over them.
 #[derive(Drop)]
@@ -53,36 +52,45 @@ impl Gathering {
             if self.backs[shard].ended() {
                 return;
             }
-            if !self.take_from(shard) {
+            if !self.take_turn(shard) {
                 thread::yield_now();
             }
         }
         unreachable!()
     }
 
-    fn take_turn(&mut self, shard: usize)
+    // Takes a block of what the lane has; false where nothing was there.
+    fn take_turn(&mut self, shard: usize) -> bool
         requires { shard < vec_len self.old.backs }
         ensures { IsFurther self.old self.new }
     {
-        for _ in 0..TURN {
-            if !self.take_from(shard) {
-                return;
-            }
+        let mut block = [Item::Finish; BLOCK];
+        let count = self.backs[shard].take_block(&mut block);
+        self.keep_all(&block[..count]);
+        count > 0
+    }
+
+    // Gives what a lane gave to the collector.
+    fn keep_all(&mut self, items: &[Item<Back>])
+        ensures backs { self.new.backs ≡ self.old.backs }
+        ensures gathers { (lists : List (List (Item Back))) (k : ℕ) → k < length lists
+            → Gathers lists self.old.refused self.old.collector
+            → Gathers (with_items lists k items.now) self.new.refused self.new.collector }
+    {
+        for item in items {
+            self.keep_item(*item);
         }
     }
 
-    // Takes the next item of a lane; false where none was there.
-    fn take_from(&mut self, shard: usize) -> bool
-        requires { shard < vec_len self.old.backs }
-        ensures { IsFurther self.old self.new }
+    fn keep_item(&mut self, item: Item<Back>)
+        ensures backs { self.new.backs ≡ self.old.backs }
+        ensures gathers { (lists : List (List (Item Back))) (k : ℕ) → k < length lists
+            → Gathers lists self.old.refused self.old.collector
+            → Gathers (with_items lists k (item ∷ [])) self.new.refused self.new.collector }
     {
-        match self.backs[shard].take() {
-            None => false,
-            Some(Item::Finish) => true,
-            Some(Item::One(back)) => {
-                self.keep(back);
-                true
-            }
+        match item {
+            Item::One(back) => self.keep(back),
+            Item::Finish => {}
         }
     }
 
