@@ -1,6 +1,6 @@
 -- Paths of a well nested trace: where one leads and where two places are parallel, that parallel
 -- accesses are so through others, and the one way out of a procedure.
-use Rattle.std.proofs.Common.{◌≡◌, ℕ, zero, suc, ◌<◌, ◌≤◌, List, Option, Some, ◌⊎◌, inl, inr, ap, arith}
+use Rattle.std.proofs.Common.{◌≡◌, ℕ, zero, suc, ◌<◌, ◌≤◌, List, Option, Some, ◌⊎◌, inl, inr, ap, sym, arith}
 use Rattle.trace.specs.declared.records.Record.{Record}
 use Rattle.trace.specs.Traces.{at, IsPlace, IsWellNested}
 use Rattle.trace.specs.Dag.{JoinsAt, Leads, IsParallel, IsInPart, OneWayOut}
@@ -29,6 +29,9 @@ leads_or_parallel w h i j a b l = elim (decided (traced w h) i j a.0 (omega arit
   | inl p ↦ inr (pending-parallel w h i j p.0 a b l p.1)
   | inr q ↦ inl (reach-leads w h i j q)
 ]
+
+pub parallel_either_way : (w : List Record) (i j : ℕ) → IsParallel w i j → IsPlace w i × IsPlace w j × IsParallel w j i
+parallel_either_way w i j p = (p.first, p.second, record { first = p.second; second = p.first; apart = λ e. p.apart (sym e); not_forth = p.not_back; not_back = p.not_forth })
 
 -- pseudotransitivity of places
 
