@@ -4,3 +4,4 @@ pub mod Measured
 pub mod MeetingLemmas
 pub mod PairLemmas
 pub mod ConfirmLemmas
+pub mod OneAnswer

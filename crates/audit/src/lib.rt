@@ -5,6 +5,7 @@
 pub mod answers;
 mod confirming;
 pub mod confirms;
+pub mod laws;
 pub mod location_races;
 pub mod measures;
 mod measuring;

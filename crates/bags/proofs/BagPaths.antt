@@ -93,7 +93,7 @@ in_p-parallel_at w h i t a l b n = (λ q. forth q, λ q. back q)
     forth : in_p (bags_after (take t (placed w))).active (procedure_at w i) ≡ true → IsParallel w i (suc t)
     forth q =
         let k = in_p-kept (traced w h) (procedure_at w) (suc t) t _ _ i a.0 (omega arith) inv.each q in
-        pending-parallel w h i (suc t) _ (omega arith) (kept-pending (traced w h) t k.0 i (not_joined w (suc t) n) k.1)
+        pending-parallel w h i (suc t) _ a b (omega arith) (kept-pending (traced w h) t k.0 i (not_joined w (suc t) n) k.1)
 
     back : IsParallel w i (suc t) → in_p (bags_after (take t (placed w))).active (procedure_at w i) ≡ true
     back q = elim (cases_Bool (in_p (bags_after (take t (placed w))).active (procedure_at w i))) [

@@ -2,6 +2,7 @@ pub mod Ascending
 pub mod Kept
 pub mod Best
 pub mod Sorted
+pub mod FirstLeast
 pub mod Written
 pub mod Unique
 pub mod Fronts

@@ -1,5 +1,6 @@
 -- What a collector keeps of the races that it was given.
-use Rattle.std.specs.Prelude.{◌≡◌, ℕ, Bool, false, List, Option, Some, None, find, fold, ◌==◌, nat_lt, nat_le, if◌then◌else◌}
+use Rattle.std.specs.Prelude.{◌≡◌, ℕ, ◌<◌, ◌≤◌, Bool, false, List, ◌∷◌, ◌++◌, Contains, ◌↔◌, Option, Some, None, find, fold, ◌==◌, nat_lt, nat_le, if◌then◌else◌}
+use Rattle.std.specs.List.{AllByRecursion}
 use Rattle.std.specs.Option.{option_map_or}
 use Rattle.shard.specs.declared.Back.{Back}
 use Rattle.shard.specs.declared.Back.TheVariants.{Race, NoMemory}
@@ -41,6 +42,19 @@ IsNew c NoMemory = ⊥
 pub record Holds (g : List Back) (c : Kept) : Type 0 where
   pub refused : c.refused ≡ fails g
   pub best_on : (l : ℕ) → race_on l c.races ≡ best l (races_of g)
+
+-- Of the races on its location r is the first of those with the least second place: each that came before it has a
+-- greater one, and none that came after it a lesser one.
+pub record IsFirstLeast (rs : List RaceAt) (r : RaceAt) : Type 0 where
+  pub before : List RaceAt
+  pub after : List RaceAt
+  pub came : rs ≡ before ++ r ∷ after
+  pub first : AllByRecursion (λ s. s.location ≡ r.location → r.second.place < s.second.place) before
+  pub least : AllByRecursion (λ s. s.location ≡ r.location → r.second.place ≤ s.second.place) after
+
+-- the first least race of each location on which one was handed back, and nothing else
+abbrev pub AreFirstLeast : List Back → List RaceAt → Type 0
+AreFirstLeast g rs = (r : RaceAt) → Contains rs r ↔ IsFirstLeast (races_of g) r
 
 -- the report of what was handed back: of each location the best race, and no growth was refused
 pub record IsCollected (g : List Back) (rs : List RaceAt) : Type 0 where

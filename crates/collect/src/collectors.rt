@@ -1,7 +1,7 @@
 //! The races of all shards, kept by location.
 ghost use Rattle.std.specs.Prelude.{◌≡◌, List, [], ◌∷◌, ◌++◌, true, OnOk, OnErr, IfOk, IsErr};
 ghost use Rattle.shard.specs.declared.Back.{Back};
-ghost use Rattle.collect.specs.Collected.{Holds, IsCollected, IsNew, fails, has_better};
+ghost use Rattle.collect.specs.Collected.{AreFirstLeast, Holds, IsCollected, IsNew, fails, has_better};
 
 use crate::reports::Report;
 use shard::Back;
@@ -62,6 +62,7 @@ impl Collector {
     /// The report of what was taken. It refuses where a shard ran out of memory.
     pub fn finish(self) -> Result<Report, NoMemory>
         ensures ok { IfOk result (λ r. (g : List Back) → Holds g self → IsCollected g r) }
+        ensures first_least { IfOk result (λ r. (g : List Back) → Holds g self → AreFirstLeast g r) }
         ensures refuses { (g : List Back) → Holds g self → fails g ≡ true → IsErr result }
     {
         if self.refused {

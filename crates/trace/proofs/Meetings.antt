@@ -429,7 +429,7 @@ block_parallel w h i j m p q n l a b = elim (first_below (depth w) (suc (level w
     by_first zero z = absurd (omega (arith, z.since, p.0))
     by_first (suc r) z =
         let x : i ≤ r = after_first z in
-        pending-parallel w h i j r l (left_at w h i j m r p q n a b x z.upto z.below (λ k c d. z.before k c (omega arith)))
+        pending-parallel w h i j r p q l (left_at w h i j m r p q n a b x z.upto z.below (λ k c d. z.before k c (omega arith)))
       where
         after_first : FirstBelow (depth w) (suc (level w m)) i j (suc r) → i ≤ r
         after_first z = elim (cases_eq i (suc r)) [

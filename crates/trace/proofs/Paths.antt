@@ -1,6 +1,6 @@
 -- Paths of a well nested trace: where one leads and where two places are parallel, that parallel
 -- accesses are so through others, and the one way out of a procedure.
-use Rattle.std.proofs.Common.{◌≡◌, ℕ, zero, suc, ◌<◌, ◌≤◌, List, Option, Some, ◌⊎◌, inl, inr, ap, arith}
+use Rattle.std.proofs.Common.{◌≡◌, ℕ, zero, suc, ◌<◌, ◌≤◌, List, Option, Some, ◌⊎◌, inl, inr, ap, sym, arith}
 use Rattle.trace.specs.declared.records.Record.{Record}
 use Rattle.trace.specs.Traces.{at, IsPlace, IsWellNested}
 use Rattle.trace.specs.Dag.{JoinsAt, Leads, IsParallel, IsInPart, OneWayOut}
@@ -11,8 +11,10 @@ use Rattle.trace.proofs.World.{Pending, Within, returns, decided, sound, not-rea
 use Rattle.trace.proofs.Traced.{traced, shape_of, leads-reach, reach-leads, leads-le}
 
 -- a pending return makes two places parallel
-pub pending-parallel : (w : List Record) {n d : ℕ} (h : IsWellNested w n d) (i j r : ℕ) → i < j → Pending (traced w h) i j r → IsParallel w i j
-pending-parallel w h i j r l p = record {
+pub pending-parallel : (w : List Record) {n d : ℕ} (h : IsWellNested w n d) (i j r : ℕ) → IsPlace w i → IsPlace w j → i < j → Pending (traced w h) i j r → IsParallel w i j
+pending-parallel w h i j r a b l p = record {
+  first = a;
+  second = b;
   apart = λ e. omega arith;
   not_forth = λ q. sound (traced w h) i j r (leads-reach w h i j q) p;
   not_back = λ q. (let b : j ≤ i = leads-le w j i q in omega arith);
@@ -24,9 +26,12 @@ parallel-pending w h i j a b l p = not-reach (traced w h) i j a.0 (omega arith) 
 -- of two places a path leads, or they are parallel
 pub leads_or_parallel : (w : List Record) {n d : ℕ} → IsWellNested w n d → (i j : ℕ) → IsPlace w i → IsPlace w j → i < j → Leads w i j ⊎ IsParallel w i j
 leads_or_parallel w h i j a b l = elim (decided (traced w h) i j a.0 (omega arith) b.1) [
-  | inl p ↦ inr (pending-parallel w h i j p.0 l p.1)
+  | inl p ↦ inr (pending-parallel w h i j p.0 a b l p.1)
   | inr q ↦ inl (reach-leads w h i j q)
 ]
+
+pub parallel_either_way : (w : List Record) (i j : ℕ) → IsParallel w i j → IsPlace w i × IsPlace w j × IsParallel w j i
+parallel_either_way w i j p = (p.first, p.second, record { first = p.second; second = p.first; apart = λ e. p.apart (sym e); not_forth = p.not_back; not_back = p.not_forth })
 
 -- pseudotransitivity of places
 
@@ -36,12 +41,12 @@ parallel_places_through w h i j k l m a c p q =
     let r = parallel-pending w h i j a b l p in
     let s = parallel-pending w h j k b c m q in
     let t = pending_through (traced w h) i j k r.0 s.0 r.1 s.1 in
-    pending-parallel w h i k t.0 (omega arith) t.1
+    pending-parallel w h i k t.0 a c (omega arith) t.1
 
 pub parallel_places_after : (w : List Record) {n d : ℕ} → IsWellNested w n d → (i j k : ℕ) → i < j → j < k → IsPlace w i → IsPlace w k → Leads w i j → IsParallel w i k → IsParallel w j k
 parallel_places_after w h i j k l m a c p q =
     let s = parallel-pending w h i k a c (omega arith) q in
-    pending-parallel w h j k s.0 m (pending_after (traced w h) i j k s.0 a.0 (omega arith) (omega arith) c.1 (leads-reach w h i j p) s.1)
+    pending-parallel w h j k s.0 (omega (arith, a.0), omega (arith, c.1)) c m (pending_after (traced w h) i j k s.0 a.0 (omega arith) (omega arith) c.1 (leads-reach w h i j p) s.1)
 
 -- where a record stands there is a place
 pub IsPlace-at : (w : List Record) (i : ℕ) (r : Record) → at w i ≡ Some r → IsPlace w i

@@ -123,7 +123,7 @@ walk_end w i t above pending a l b s n d h j = (λ q. forth q, λ q. back q (cas
     k = s n d h
 
     forth : pending ≡ true → IsParallel w i (suc t)
-    forth q = pending-parallel w h i (suc t) _ l (kept-pending (traced w h) t k.least i (not_joined w (suc t) j) (k.kept q))
+    forth q = pending-parallel w h i (suc t) _ (a, omega arith) (omega arith, b) l (kept-pending (traced w h) t k.least i (not_joined w (suc t) j) (k.kept q))
 
     back : IsParallel w i (suc t) → (pending ≡ true) ⊎ (pending ≡ false) → pending ≡ true
     back q (inl y) = y

@@ -46,8 +46,10 @@ end_of i (j ∷ p) = end_of j p
 abbrev pub Leads : List Record → ℕ → ℕ → Type 0
 Leads w i j = (p : List ℕ) × IsPath w (i ∷ p) × (end_of i p ≡ j)
 
--- two different places of which no path leads to the other
+-- two different places, where no path leads from either to the other
 pub record IsParallel (w : List Record) (i j : ℕ) : Type 0 where
+  pub first : IsPlace w i
+  pub second : IsPlace w j
   pub apart : i ≢ j
   pub not_forth : Leads w i j → ⊥
   pub not_back : Leads w j i → ⊥

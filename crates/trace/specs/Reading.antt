@@ -30,6 +30,11 @@ pub record HasRead (w : List Record) (bytes : List ℕ) (s : Reading) : Type 0 w
   pub within : length w ≤ s.limit
   pub no_fault : s.fault ≡ None
 
+-- the header has come, and no byte of a line that isn't ended
+pub record IsBetweenLines (s : Reading) : Type 0 where
+  pub begun : s.begun ≡ true
+  pub nothing_held : s.rest ≡ []
+
 -- how many bytes are held back: those of the header, and those of the unfinished line
 abbrev pub header_length : Bool → ℕ
 header_length true = length (ended header)

@@ -1,7 +1,9 @@
 //! What holds of every text, and of every well nested trace.
 
-ghost use Rattle.std.specs.Prelude.{◌≡◌, ℕ, ◌<◌, ◌↔◌, ◌++◌, List, Some, Err};
+ghost use Rattle.std.specs.Prelude.{◌≡◌, ℕ, ◌<◌, ◌↔◌, ◌++◌, ◌⊎◌, true, List, Some, Err};
 ghost use Rattle.trace.specs.declared.records.Record.{Record};
+ghost use Rattle.trace.specs.declared.records.Record.TheVariants.{Spawn, Return, Sync};
+ghost use Rattle.trace.specs.declared.records.Kind.{Kind};
 ghost use Rattle.trace.specs.declared.faults.Fault.{Fault};
 ghost use Rattle.trace.specs.declared.faults.Fault.TheVariants.{Read};
 ghost use Rattle.trace.specs.Traces.{IsPlace, IsWellNested};
@@ -9,8 +11,9 @@ ghost use Rattle.trace.specs.Text.{text, AllFit};
 ghost use Rattle.trace.specs.Faults.{IsFirstFault, IsFaultOfAll};
 ghost use Rattle.trace.specs.Feeding.{Feeding, IsFed};
 ghost use Rattle.trace.specs.Reading.{Reading, HasRead};
-ghost use Rattle.trace.specs.Dag.{IsParallel};
-ghost use Rattle.trace.specs.Races.{IsAccessPlace};
+ghost use Rattle.trace.specs.Dag.{IsParallel, Leads};
+ghost use Rattle.trace.specs.Races.{IsAccessPlace, access};
+ghost use Rattle.trace.specs.Shares.{goes};
 ghost use Rattle.trace.specs.Meeting.{ExactlyOne, Holds, InOneBlock, IsMeeting, IsStand};
 
 /// Two places meet in one procedure, the deepest one whose part of the trace holds both, and a place has
@@ -25,6 +28,22 @@ pub fn meeting()
     ensures parallel { (w : List Record) (records depths i j m : ℕ) → IsWellNested w records depths
         → IsAccessPlace w i → IsAccessPlace w j → i < j → IsMeeting w i j m
         → IsParallel w i j ↔ InOneBlock w m i j }
+{}
+
+/// Parallel places are two places of the trace, whichever is named first. Of two places of a well nested trace they
+/// are parallel, or a path leads from the earlier to the later one.
+pub fn parallel()
+    ensures either_way { (w : List Record) (i j : ℕ) → IsParallel w i j
+        → IsPlace w i × IsPlace w j × IsParallel w j i }
+    ensures or_path { (w : List Record) (records depths i j : ℕ) → IsWellNested w records depths
+        → IsPlace w i → IsPlace w j → i < j → Leads w i j ⊎ IsParallel w i j }
+{}
+
+/// Of n shards each spawn, return and sync goes to all, and each access to exactly one, which its location tells.
+pub fn shares()
+    ensures structure { (k n : ℕ) → (goes k n Spawn ≡ true) × (goes k n Return ≡ true) × (goes k n Sync ≡ true) }
+    ensures one_shard { (n l : ℕ) (a : Kind) → 0 < n → ExactlyOne (λ k. (k < n) × (goes k n (access a l) ≡ true)) }
+    ensures by_location { (k n l : ℕ) (a b : Kind) → goes k n (access a l) ≡ goes k n (access b l) }
 {}
 
 /// No two traces have one text, and what a reader gives of bytes is the same however they were cut.

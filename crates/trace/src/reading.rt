@@ -120,7 +120,7 @@ impl Model for Reader {
 }
 
 impl Reader {
-    ghost use Rattle.trace.specs.Reading.{at_first_byte, HasRead, held_back};
+    ghost use Rattle.trace.specs.Reading.{at_first_byte, HasRead, IsBetweenLines, held_back};
 
     /// A reader of a text of at most so many records, of which nothing has come.
     pub fn new(max_records: u64) -> Self
@@ -145,6 +145,9 @@ impl Reader {
         ensures whole { IfOk result (λ t. t.what ≡ None → t.used ≡ length piece.now) }
         ensures taken { (w : List Record) (bytes : List ℕ) → HasRead w bytes self.old →
             IfOk result (λ t. HasRead (w ++ option_to_list t.what) (bytes ++ take t.used piece.now) self.new) }
+        // where a record is given, the bytes used end with its line
+        ensures up_to_line_end { (w : List Record) (bytes : List ℕ) → HasRead w bytes self.old →
+            IfOk result (λ t. IfSome t.what (λ r. bytes ++ take t.used piece.now ≡ text (w ++ r ∷ []))) }
         ensures fault { (w : List Record) (bytes : List ℕ) → HasRead w bytes self.old →
             IfErr result (λ f. IsBadLine self.old.limit (bytes ++ piece.now) f) }
         ensures line { self.old.fault ≡ None → IfErr result (λ f. f.line ≤ self.old.count + 2) }
@@ -174,6 +177,7 @@ impl Reader {
         ensures used { IfSome result (λ f. f.used ≤ length piece.now) }
         ensures taken { (w : List Record) (bytes : List ℕ) → HasRead w bytes self.now →
             IfSome result (λ f. HasRead (w ++ f.record ∷ []) (bytes ++ take f.used piece.now) (record self.now { count = self.now.count + 1 })) }
+        ensures at_line { IfSome result (λ _. IsBetweenLines self.now) }
         ensures below { IfSome result (λ _. self.now.count < self.now.limit) }
         ensures no_fault { IfSome result (λ _. self.now.fault ≡ None) }
         ensures limit { self.now.limit ≤ 2 ^ 48 }
@@ -202,6 +206,7 @@ impl Reader {
         ensures whole { IfOk result (λ t. t.what ≡ None → t.used ≡ length piece.now) }
         ensures taken { (w : List Record) (bytes : List ℕ) → HasRead w bytes self.old →
             IfOk result (λ t. HasRead (w ++ option_to_list t.what) (bytes ++ take t.used piece.now) self.new) }
+        ensures at_line { IfOk result (λ t. IfSome t.what (λ _. IsBetweenLines self.new)) }
         ensures fault { (w : List Record) (bytes : List ℕ) → HasRead w bytes self.old →
             IfErr result (λ f. IsBadLine self.old.limit (bytes ++ piece.now) f) }
         ensures line { self.old.fault ≡ None → IfErr result (λ f. f.line ≤ self.old.count + 2) }
@@ -283,6 +288,7 @@ impl Reader {
         ensures whole { IfOk result (λ t. t.what ≡ None → t.used ≡ length piece.now) }
         ensures taken { (w : List Record) (bytes : List ℕ) → HasRead w bytes self.old →
             IfOk result (λ t. HasRead (w ++ option_to_list t.what) (bytes ++ take t.used piece.now) self.new) }
+        ensures at_line { IfOk result (λ t. IfSome t.what (λ _. IsBetweenLines self.new)) }
         ensures fault { (w : List Record) (bytes : List ℕ) → HasRead w bytes self.old →
             IfErr result (λ f. IsBadLine self.old.limit (bytes ++ piece.now) f) }
         ensures line { self.old.fault ≡ None → IfErr result (λ f. f.line ≤ self.old.count + 2) }
