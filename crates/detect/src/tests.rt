@@ -12,3 +12,4 @@ mod short_questions;
 mod thousand_races;
 mod thousand_runs;
 mod together;
+mod told;

@@ -1,4 +1,5 @@
 pub mod Lines
+pub mod Ranges
 pub mod Statuses
 pub mod Sinks
 pub mod Tellings

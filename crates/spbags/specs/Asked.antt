@@ -1,7 +1,7 @@
 -- What the words of a command line may ask for.
 use Rattle.std.specs.Prelude.{◌≡◌, ℕ, ◌<◌, ◌≤◌, List, [], Bool, true, false, codes, string_len, string_bytes}
-use Rattle.spbags.specs.declared.words.Asked.{Asked}
-use Rattle.spbags.specs.declared.words.Asked.TheVariants.{Check, Pairs, Measure, Confirm}
+use Rattle.spbags.specs.declared.asking.Asked.{Asked}
+use Rattle.spbags.specs.declared.asking.Asked.TheVariants.{Check, Pairs, Measure, Confirm}
 
 -- each number lies in its range, each file that the command reads has a name, and standard input is one of them at most
 abbrev pub IsInRange : Asked → Type 0

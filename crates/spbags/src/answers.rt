@@ -11,13 +11,14 @@ ghost use Rattle.trace.specs.Runs.{OfTrace};
 ghost use Rattle.detect.specs.Ran.{RunReports};
 ghost use Rattle.detect.specs.Sent.{FailsInRun};
 ghost use Rattle.spbags.specs.Answers.{IsUntouched, Puts, Took, TookFront, WasGiven, Tells};
-ghost use Rattle.spbags.specs.Asked.{IsInRange, depth_of, asks_report};
+ghost use Rattle.spbags.specs.Asked.{depth_of, asks_report};
 ghost use Rattle.spbags.specs.Questions.{Answers, AnswersCheck, Fails, IsWant};
 ghost use Rattle.spbags.specs.Messages.{message, cannot_write, help_of, refusal};
 
+use crate::asking::{Asked, Check};
 use crate::messages::{put, say, say_fault};
 use crate::questions::{answer_measure, answer_pairs};
-use crate::words::{Asked, Check, WordsFault};
+use crate::words::WordsFault;
 use collect::{Report, write_report};
 use detect::{Plan, Run, detect};
 use shard::Open;
@@ -31,8 +32,7 @@ use trace::{Fault, Limits, Sink, Source, WriteFault};
 pub const MOST_RECORDS: u64 = 1 << 48;
 
 /// Answers what the words ask of a trace alone, and gives the exit status: 0 for no race, or for the numbers of a
-/// trace, 1 for a race, 2 for a fault. What is asked lies in its ranges, as `read_words` leaves it. For `check` this
-/// starts threads, and waits for them.
+/// trace, 1 for a race, 2 for a fault. For `check` this starts threads, and waits for them.
 pub fn answer<T: Threads + Wait + Sync, R: Source, W: Sink, E: Sink>(
     rt: &T,
     alloc: Global,
@@ -42,7 +42,6 @@ pub fn answer<T: Threads + Wait + Sync, R: Source, W: Sink, E: Sink>(
     err: &mut E,
 ) -> u8
     requires alone { asks_report asked.now ≡ false }
-    requires range { IsInRange asked.now }
     ensures status { result ≤ 2 }
 
     // Status 0 or 1: all bytes of the trace were read, and what answers the question was written.
@@ -87,8 +86,6 @@ fn answer_check<T: Threads + Wait + Sync, R: Source, W: Sink, E: Sink>(
     out: &mut W,
     err: &mut E,
 ) -> u8
-    requires shards { (1 ≤ check.now.shards) × (check.now.shards ≤ 64) }
-    requires capacity { (1 ≤ check.now.capacity) × (check.now.capacity ≤ 65536) }
     ensures status { result ≤ 2 }
     ensures told { result < 2 → (text : List ℕ)
         × OfTrace (2 ^ 48) check.now.depth (R.rest trace.old) (R.rest trace.new) (λ w. AnswersCheck w text result)
@@ -127,8 +124,6 @@ fn run_on<T: Threads + Wait + Sync, R: Source>(
     check: &Check,
     trace: &mut R,
 ) -> Result<Run, Fault>
-    requires shards { (1 ≤ check.now.shards) × (check.now.shards ≤ 64) }
-    requires capacity { (1 ≤ check.now.capacity) × (check.now.capacity ≤ 65536) }
     ensures report { IfOk result (RunReports check.now.shards (2 ^ 48) check.now.depth (R.rest trace.old) (R.rest trace.new)) }
     ensures fault { IfErr result (FailsInRun (2 ^ 48) check.now.depth (R.rest trace.old) (R.rest trace.new) (R.failures trace.old) (R.failures trace.new)) }
     ensures honest { (w : List Record) → R.rest trace.old ≡ Some (text w) → AllFit w → IsWellNested w (2 ^ 48) check.now.depth

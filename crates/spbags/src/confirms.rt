@@ -18,10 +18,10 @@ ghost use Rattle.spbags.specs.Questions.{AnswersConfirm, status_of};
 ghost use Rattle.spbags.specs.ReportBytes.{GivesReport, IsRefusal};
 
 use crate::answers::{finish, limits_of};
+use crate::asking::Asked;
 use crate::messages::{say_fault, say_refusal};
 use crate::reports::report_from;
 use crate::texts::put_confirm;
-use crate::words::Asked;
 use audit::{Confirm, confirm};
 use collect::Report;
 use std::alloc::Global;

@@ -1,10 +1,8 @@
 //! The program `spbags`: the races of a trace, and questions about it.
 #![tactic(auto)]
 
-ghost use Rattle.std.specs.Prelude.{IfOk};
-ghost use Rattle.spbags.specs.Asked.{IsInRange};
-
 mod answers;
+mod asking;
 mod commands;
 mod confirms;
 mod input;
@@ -17,15 +15,17 @@ mod texts;
 mod words;
 
 use answers::{answer, refuse};
+use asking::Asked;
 use confirms::answer_confirm;
-use input::Input;
-use std::env;
-use std::io::{BufReader, BufWriter, ErrorKind};
+use input::{Inputs, open_asked};
+use std::fs::File;
+use std::io::{BufReader, BufWriter, ErrorKind, Read};
 use std::process::ExitCode;
 use std::sync::Wait;
 use std::thread::Threads;
+use std::{env, io};
 use trace::{Counted, Sink};
-use words::{Asked, WordsFault, read_words};
+use words::{WordsFault, read_words};
 
 fn main(rt: HostRuntime) -> ExitCode {
     let alloc = rt.alloc();
@@ -40,16 +40,14 @@ fn main(rt: HostRuntime) -> ExitCode {
     };
     let mut out = Counted::new(buffered);
     let status = match read_arguments(&rt) {
-        Ok(asked) => answer_from_files(&rt, &rt, &asked, &mut out, &mut err),
+        Ok(asked) => answer_asked(&rt, &rt, &asked, &mut out, &mut err),
         Err(fault) => refuse(&fault, &mut out, &mut err),
     };
     ExitCode::from(status)
 }
 
 // Reads the program's own words. Words that aren't text ask for nothing.
-fn read_arguments(rt: &HostRuntime) -> Result<Asked, WordsFault>
-    ensures { IfOk result IsInRange }
-{
+fn read_arguments(rt: &HostRuntime) -> Result<Asked, WordsFault> {
     let arguments = match env::args(rt) {
         Ok(arguments) => arguments,
         Err(error) if error.kind() == ErrorKind::OutOfMemory => return Err(WordsFault::NoMemory),
@@ -61,43 +59,47 @@ fn read_arguments(rt: &HostRuntime) -> Result<Asked, WordsFault>
     }
 }
 
-// How many bytes are read ahead of a trace, so that a long one takes few calls of the system.
-const AHEAD: usize = 1 << 16;
-
-// Opens the trace, then the report where one is asked for, and then answers. Where the trace of a report can't be opened
-// the report isn't opened either. Without memory to read ahead nothing is read.
-fn answer_from_files<T: Threads + Wait + Sync, W: Sink, E: Sink>(
+// Answers what is asked, from the files of the system.
+fn answer_asked<T: Threads + Wait + Sync, W: Sink, E: Sink>(
     threads: &T,
     rt: &HostRuntime,
     asked: &Asked,
     out: &mut W,
     err: &mut E,
+) -> u8 {
+    let opener = |name: &str| File::open(rt, name);
+    answer_from_files(threads, rt, asked, &opener, out, err)
+}
+
+// How many bytes are read ahead of a trace, so that a long one takes few calls of the system.
+const AHEAD: usize = 1 << 16;
+
+// Opens the trace, then the report where one is asked for, and then answers. Without memory to read ahead nothing is
+// read.
+fn answer_from_files<T, F, O, W: Sink, E: Sink>(
+    threads: &T,
+    rt: &HostRuntime,
+    asked: &Asked,
+    opener: &O,
+    out: &mut W,
+    err: &mut E,
 ) -> u8
-    requires { IsInRange asked.now }
+where
+    T: Threads + Wait + Sync,
+    F: Read + Drop,
+    O: Fn(&str) -> io::Result<F>,
+    requires { O.IsAlwaysCallable opener.now }
 {
     let alloc = rt.alloc();
-    let trace = Input::open(rt, asked.trace());
+    let Inputs { trace, report } = open_asked(rt, asked, opener);
+    let Ok(ahead) = BufReader::with_capacity(alloc, AHEAD, trace) else {
+        return refuse(&WordsFault::NoMemory, out, err);
+    };
+    let mut trace = Counted::new(ahead);
     if asked.asks_report() {
-        let report = match trace {
-            Input::Missing => Input::Missing,
-            Input::File(_) | Input::Standard(_) => Input::open(rt, asked.report()),
-        };
         let mut report = Counted::new(report);
-        match BufReader::with_capacity(alloc, AHEAD, trace) {
-            Ok(ahead) => answer_confirm(
-                alloc,
-                asked,
-                &mut Counted::new(ahead),
-                &mut report,
-                out,
-                err,
-            ),
-            Err(_) => refuse(&WordsFault::NoMemory, out, err),
-        }
+        answer_confirm(alloc, asked, &mut trace, &mut report, out, err)
     } else {
-        match BufReader::with_capacity(alloc, AHEAD, trace) {
-            Ok(ahead) => answer(threads, alloc, asked, &mut Counted::new(ahead), out, err),
-            Err(_) => refuse(&WordsFault::NoMemory, out, err),
-        }
+        answer(threads, alloc, asked, &mut trace, out, err)
     }
 }

@@ -1,15 +1,16 @@
 //! The program from its words to its bytes, by worked rows: nothing here is taken from its own output.
-ghost use Rattle.spbags.specs.Asked.{IsInRange};
 
 mod devices;
 mod examples;
+mod files;
 mod questions;
 mod rows;
 mod words;
 
 use crate::answers::{answer, refuse};
+use crate::asking::Asked;
 use crate::confirms::answer_confirm;
-use crate::words::{Asked, read_words};
+use crate::words::read_words;
 use devices::{Full, Slow};
 use std::alloc::{AllocError, Global};
 use std::process::Abort;
@@ -90,9 +91,7 @@ fn answer_any<T: Threads + Wait + Sync, R: Source, Q: Source, W: Sink, E: Sink>(
     report: &mut Q,
     out: &mut W,
     err: &mut E,
-) -> u8
-    requires { IsInRange asked.now }
-{
+) -> u8 {
     if asked.asks_report() {
         answer_confirm(alloc, asked, trace, report, out, err)
     } else {

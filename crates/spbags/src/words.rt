@@ -1,104 +1,14 @@
 //! The command line: what its words ask for.
-ghost use Rattle.std.specs.Prelude.{◌≡◌, ◌<◌, ◌≤◌, string_len, IfOk};
-ghost use Rattle.spbags.specs.Asked.{IsInRange, asks_report, trace_name, report_name};
+ghost use Rattle.std.specs.Prelude.{◌<◌, ◌≤◌, string_len, IfOk};
+ghost use Rattle.spbags.specs.Asked.{IsInRange};
 
+use crate::asking::{Asked, Check, Confirm, Measure, Pairs};
 use crate::commands::program;
 use clap::error::ErrorKind;
 use clap::{ArgMatches, Error};
 use std::alloc::Global;
 use thiserror::Error as ErrorTexts;
 use trace::decimal_of;
-
-/// What the words ask for.
-#[derive(Debug, Drop, PartialEq, Eq)]
-pub enum Asked {
-    /// The races of a trace.
-    Check(Check),
-    /// All races of one location.
-    Pairs(Pairs),
-    /// The numbers of a trace.
-    Measure(Measure),
-    /// Whether the entries of a report are races.
-    Confirm(Confirm),
-}
-
-/// `check`: the races of a trace.
-#[derive(Debug, Drop, PartialEq, Eq)]
-pub struct Check {
-    /// How many threads the locations are divided among.
-    pub shards: u32,
-    /// How many records may wait for a thread.
-    pub capacity: u32,
-    /// How deep procedures may nest.
-    pub depth: u32,
-    /// The name of the trace's file; `-` is standard input.
-    pub trace: String,
-}
-
-/// `pairs`: all races of one location.
-#[derive(Debug, Drop, PartialEq, Eq)]
-pub struct Pairs {
-    /// How deep procedures may nest.
-    pub depth: u32,
-    /// The name of the trace's file; `-` is standard input.
-    pub trace: String,
-    /// The location.
-    pub location: u64,
-}
-
-/// `measure`: the numbers of a trace.
-#[derive(Debug, Drop, PartialEq, Eq)]
-pub struct Measure {
-    /// How deep procedures may nest.
-    pub depth: u32,
-    /// The name of the trace's file; `-` is standard input.
-    pub trace: String,
-}
-
-/// `confirm`: whether the entries of a report are races.
-#[derive(Debug, Drop, PartialEq, Eq)]
-pub struct Confirm {
-    /// How deep procedures may nest.
-    pub depth: u32,
-    /// The name of the trace's file; `-` is standard input.
-    pub trace: String,
-    /// The name of the report's file; `-` is standard input, where it isn't the trace's.
-    pub report: String,
-}
-
-impl Asked {
-    /// The name of the trace's file.
-    pub fn trace(&self) -> &str
-        ensures { result.now ≡ trace_name self.now }
-    {
-        match self {
-            Asked::Check(check) => check.trace.as_str(),
-            Asked::Pairs(pairs) => pairs.trace.as_str(),
-            Asked::Measure(measure) => measure.trace.as_str(),
-            Asked::Confirm(confirm) => confirm.trace.as_str(),
-        }
-    }
-
-    /// Whether a report is read too.
-    pub fn asks_report(&self) -> bool
-        ensures { result ≡ asks_report self.now }
-    {
-        match self {
-            Asked::Check(_) | Asked::Pairs(_) | Asked::Measure(_) => false,
-            Asked::Confirm(_) => true,
-        }
-    }
-
-    /// The name of the report's file; an empty one where none is read.
-    pub fn report(&self) -> &str
-        ensures { result.now ≡ report_name self.now }
-    {
-        match self {
-            Asked::Check(_) | Asked::Pairs(_) | Asked::Measure(_) => "",
-            Asked::Confirm(confirm) => confirm.report.as_str(),
-        }
-    }
-}
 
 /// Why the words ask for nothing that can be answered.
 #[derive(Debug, Drop, ErrorTexts)]
@@ -133,6 +43,7 @@ pub const GREATEST_DEPTH: u64 = 1_000_000;
 pub const USUAL_DEPTH: u32 = 65_536;
 
 /// Reads the words of a command line, without the program's name.
+#[tactic(auto, using(crate::proofs::Ranges::in_range))]
 pub fn read_words(alloc: Global, words: &[String]) -> Result<Asked, WordsFault>
     ensures { IfOk result IsInRange }
 {
@@ -148,9 +59,7 @@ pub fn read_words(alloc: Global, words: &[String]) -> Result<Asked, WordsFault>
 }
 
 // What is asked by the command that was found.
-fn asked_of(alloc: Global, matches: &ArgMatches<'_>) -> Result<Asked, WordsFault>
-    ensures { IfOk result IsInRange }
-{
+fn asked_of(alloc: Global, matches: &ArgMatches<'_>) -> Result<Asked, WordsFault> {
     if let Some(found) = matches.subcommand_matches("check") {
         return check_of(alloc, found);
     }
@@ -178,9 +87,7 @@ fn fault_of(alloc: Global, error: &Error) -> WordsFault {
     }
 }
 
-fn check_of(alloc: Global, found: &ArgMatches<'_>) -> Result<Asked, WordsFault>
-    ensures { IfOk result IsInRange }
-{
+fn check_of(alloc: Global, found: &ArgMatches<'_>) -> Result<Asked, WordsFault> {
     let shards = shards_of(found)?;
     let capacity = capacity_of(found)?;
     let depth = depth_of(found)?;
@@ -193,9 +100,7 @@ fn check_of(alloc: Global, found: &ArgMatches<'_>) -> Result<Asked, WordsFault>
     }))
 }
 
-fn pairs_of(alloc: Global, found: &ArgMatches<'_>) -> Result<Asked, WordsFault>
-    ensures { IfOk result IsInRange }
-{
+fn pairs_of(alloc: Global, found: &ArgMatches<'_>) -> Result<Asked, WordsFault> {
     let depth = depth_of(found)?;
     let trace = name_of(alloc, found, "FILE")?;
     let location = location_of(found)?;
@@ -206,18 +111,14 @@ fn pairs_of(alloc: Global, found: &ArgMatches<'_>) -> Result<Asked, WordsFault>
     }))
 }
 
-fn measure_of(alloc: Global, found: &ArgMatches<'_>) -> Result<Asked, WordsFault>
-    ensures { IfOk result IsInRange }
-{
+fn measure_of(alloc: Global, found: &ArgMatches<'_>) -> Result<Asked, WordsFault> {
     let depth = depth_of(found)?;
     let trace = name_of(alloc, found, "FILE")?;
     Ok(Asked::Measure(Measure { depth, trace }))
 }
 
 // What `confirm` is asked. Standard input can't be both of its files.
-fn confirm_of(alloc: Global, found: &ArgMatches<'_>) -> Result<Asked, WordsFault>
-    ensures { IfOk result IsInRange }
-{
+fn confirm_of(alloc: Global, found: &ArgMatches<'_>) -> Result<Asked, WordsFault> {
     let depth = depth_of(found)?;
     let trace = name_of(alloc, found, "TRACE")?;
     let report = name_of(alloc, found, "REPORT")?;

@@ -1,5 +1,6 @@
 //! How the tests detect: from a reader that hands out pieces, to the report's text or the fault.
 ghost use Rattle.std.specs.Prelude.{◌≡◌, ◌≤◌, None, IfOk, vec_len};
+ghost use Rattle.detect.specs.Ran.{IsAnswer};
 
 use crate::{Plan, Run, detect, detect_plain};
 use collect::{Report, write_report};
@@ -55,6 +56,8 @@ pub fn run_from<T: Threads + Wait + Sync, R: Source, G: Gate + Sync>(
     gate: &G,
 ) -> Result<Run, Fault>
     requires { (1 ≤ shards) × (shards ≤ 64) }
+    ensures { IsAnswer shards limits.records limits.depth (R.rest reader.old) (R.rest reader.new)
+        (R.failures reader.old) (R.failures reader.new) result }
 {
     let Ok(hashers) = hashers(alloc, shards) else {
         return Err(Fault::NoMemory);

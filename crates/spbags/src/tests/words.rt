@@ -1,6 +1,7 @@
 //! Command lines.
 use super::{assert_left, run, words_of};
-use crate::words::{Asked, WordsFault, read_words};
+use crate::asking::Asked;
+use crate::words::{WordsFault, read_words};
 use std::string::ToString;
 use std::test::Fail;
 
