@@ -60,7 +60,8 @@ lanes_for n (Write l) = l % n ∷ []
 abbrev pub sending_of : ℕ → Placed → List (ℕ × Item Placed)
 sending_of n p = map (λ k. (k, One p)) (lanes_for n p.what)
 
--- all that is sent of w, put by put: record after record, and then a mark on each lane
+-- all that is sent of w, put by put: record after record, and then a mark on each lane; that the marks come in the order of the
+-- lanes is this product's choice
 abbrev pub sending : ℕ → List Placed → List (ℕ × Item Placed)
 sending n w = flat_map (sending_of n) w ++ map (λ k. (k, Finish)) (range_with_len 0 n)
 
