@@ -495,7 +495,7 @@ fn run(trace: &mut Trace, shape: &str, size: usize) -> Option<()> {
             trace.read(result);
         }
         "nqueens" => {
-            let size = [5, 9, 10][size];
+            let size = [5, 9, 11][size];
             let (result, board) = (trace.variable(), trace.array(size as u64, 8));
             nqueens(trace, &[], board, result, size);
         }
@@ -506,7 +506,7 @@ fn run(trace: &mut Trace, shape: &str, size: usize) -> Option<()> {
             matmul(trace, sum, left, right, block);
         }
         "cilksort" => {
-            let count = [300, 20_000, 190_000][size];
+            let count = [300, 18_000, 150_000][size];
             let mut sorting = Sorting::new(trace, count);
             sorting.sort(trace, 0..count);
             assert!(sorting.values[0].is_sorted());
