@@ -377,6 +377,12 @@ static inline void maybe_touch(bool writes, uintptr_t at, size_t size, __spbags_
     void __tsan_unaligned_write##SIZE(void *at) { WRITE(at, SIZE); }
 ACCESSES(1) ACCESSES(2) ACCESSES(4) ACCESSES(8) ACCESSES(16)
 
+/* With clang these stand beside the accesses instead. */
+#define COVERED(SIZE) \
+    void __sanitizer_cov_load##SIZE(void *at) { READ(at, SIZE); } \
+    void __sanitizer_cov_store##SIZE(void *at) { WRITE(at, SIZE); }
+COVERED(1) COVERED(2) COVERED(4) COVERED(8) COVERED(16)
+
 void __tsan_read_range(void *at, size_t size) { READ(at, size); }
 void __tsan_write_range(void *at, size_t size) { WRITE(at, size); }
 void __tsan_init(void) {}
