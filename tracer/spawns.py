@@ -234,7 +234,7 @@ def rewritten(text):
             else:
                 continue
         except Refused as refused:
-            faults.append(f"{refused.token.place()}: {refused}")
+            faults.append(f"{refused.token.place()}: error: {refused}")
             continue
         made += [text[done:tokens[first].start], instead]
         done = tokens[last].end

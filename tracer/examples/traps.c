@@ -34,7 +34,7 @@ static int siblings_on_the_stack(void) {
         sums[i] = cilk_spawn on_the_stack(i); /* [sibling] */
     SYNC;
     for (int i = 0; i < MANY; i++)
-        sum += sums[i]; /* [sum of siblings] */
+        sum += sums[i]; /* [sum_of_siblings] */
     return sum;
 }
 
@@ -58,7 +58,7 @@ static int siblings_on_the_heap(void) {
     sums.left = cilk_spawn on_the_heap(1); /* [left] */
     sums.right = on_the_heap(2);
     SYNC;
-    return sums.left + sums.right; /* [sum of pair] */
+    return sums.left + sums.right; /* [sum_of_pair] */
 }
 
 /* Freeing is an access of the whole block. */
@@ -90,7 +90,7 @@ static int jumps(void) {
     jump(&a);
     cilk_spawn jump(&b);
     SYNC;
-    return a + b; /* [sum of jumps] */
+    return a + b; /* [sum_of_jumps] */
 }
 
 /* A called function that spawns has children of its own; its sync, or its end, waits for those alone. */
@@ -110,7 +110,7 @@ static int calls(void) {
     two_children(&theirs[2], 1);
     int sum = theirs[0] + theirs[1] + theirs[2] + theirs[3];
     SYNC;
-    return mine + sum; /* [sum of calls] */
+    return mine + sum; /* [sum_of_calls] */
 }
 
 /* Structs that pass in memory, as an argument and as a result, and more arguments than there are registers. */
@@ -202,7 +202,7 @@ static int pointers(void) {
     (*both).right = cilk_spawn (*functions[1])(2);
     *at = cilk_spawn sum_of(9, 1, 2, 3, 4, 5, 6, 7, 8, 9); /* [sum] */
     SYNC;
-    int answer = sum; /* [its use] */
+    int answer = sum; /* [its_use] */
     cilk_sync;
     return answer + sums.left + sums.right;
 }
@@ -223,7 +223,7 @@ static int shapes(int which) {
     }
 end:
     SYNC;
-    int answer = sums[3]; /* [after case] */
+    int answer = sums[3]; /* [after_case] */
     cilk_sync;
     return answer + sums[0] + sums[1] + sums[2] + sums[4];
 }
