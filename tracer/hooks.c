@@ -115,14 +115,25 @@ static void structure(const char *line, uintptr_t code) {
     note_place(code);
 }
 
+/* From 00 to 99. */
+static char two_digits[100][2];
+
+static void fill_digits(void) {
+    for (int number = 0; number < 100; number++) {
+        two_digits[number][0] = (char)('0' + number / 10);
+        two_digits[number][1] = (char)('0' + number % 10);
+    }
+}
+
 /* The line is made from its end, and then copied with what follows it, since a copy of a fixed size is quick. */
 static inline void access_record(bool writes, uint64_t location, uintptr_t code) {
     char line[64];
     char *at = line + 31;
     *at = '\n';
-    for (; location > 9; location /= 10)
-        *--at = (char)('0' + location % 10);
-    *--at = (char)('0' + location);
+    for (; location > 99; location /= 100)
+        __builtin_memcpy(at -= 2, two_digits[location % 100], 2);
+    __builtin_memcpy(at -= 2, two_digits[location], 2);
+    at += location < 10;
     at -= 6;
     __builtin_memcpy(at, writes ? "write " : " read ", 6);
     at += !writes;
@@ -363,25 +374,29 @@ static inline void maybe_touch(bool writes, uintptr_t at, size_t size, __spbags_
         touch(writes, at, size, code);
 }
 
-#define READ(AT, SIZE) maybe_touch(false, (uintptr_t)(AT), SIZE, NULL, STACK_POINTER, CODE)
-#define WRITE(AT, SIZE) maybe_touch(true, (uintptr_t)(AT), SIZE, NULL, STACK_POINTER, CODE)
+/* The same, and small: for what isn't done as often. */
+__attribute__((noinline)) static void seldom_touch(bool writes, uintptr_t at, size_t size, __spbags_function self,
+                                                   uintptr_t stack_pointer, uintptr_t code) {
+    maybe_touch(writes, at, size, self, stack_pointer, code);
+}
+
+#define OFTEN(WRITES, AT, SIZE) maybe_touch(WRITES, (uintptr_t)(AT), SIZE, NULL, STACK_POINTER, CODE)
+#define READ(AT, SIZE) seldom_touch(false, (uintptr_t)(AT), SIZE, NULL, STACK_POINTER, CODE)
+#define WRITE(AT, SIZE) seldom_touch(true, (uintptr_t)(AT), SIZE, NULL, STACK_POINTER, CODE)
 #define LIBRARY_READ(AT, SIZE, SELF) \
-    maybe_touch(false, (uintptr_t)(AT), SIZE, (__spbags_function)SELF, STACK_POINTER, CODE)
+    seldom_touch(false, (uintptr_t)(AT), SIZE, (__spbags_function)SELF, STACK_POINTER, CODE)
 #define LIBRARY_WRITE(AT, SIZE, SELF) \
-    maybe_touch(true, (uintptr_t)(AT), SIZE, (__spbags_function)SELF, STACK_POINTER, CODE)
+    seldom_touch(true, (uintptr_t)(AT), SIZE, (__spbags_function)SELF, STACK_POINTER, CODE)
 
+/* With clang those of coverage stand beside the accesses instead of the sanitizer's. */
 #define ACCESSES(SIZE) \
-    void __tsan_read##SIZE(void *at) { READ(at, SIZE); } \
-    void __tsan_write##SIZE(void *at) { WRITE(at, SIZE); } \
+    void __tsan_read##SIZE(void *at) { OFTEN(false, at, SIZE); } \
+    void __tsan_write##SIZE(void *at) { OFTEN(true, at, SIZE); } \
     void __tsan_unaligned_read##SIZE(void *at) { READ(at, SIZE); } \
-    void __tsan_unaligned_write##SIZE(void *at) { WRITE(at, SIZE); }
+    void __tsan_unaligned_write##SIZE(void *at) { WRITE(at, SIZE); } \
+    void __sanitizer_cov_load##SIZE(void *at) { OFTEN(false, at, SIZE); } \
+    void __sanitizer_cov_store##SIZE(void *at) { OFTEN(true, at, SIZE); }
 ACCESSES(1) ACCESSES(2) ACCESSES(4) ACCESSES(8) ACCESSES(16)
-
-/* With clang these stand beside the accesses instead. */
-#define COVERED(SIZE) \
-    void __sanitizer_cov_load##SIZE(void *at) { READ(at, SIZE); } \
-    void __sanitizer_cov_store##SIZE(void *at) { WRITE(at, SIZE); }
-COVERED(1) COVERED(2) COVERED(4) COVERED(8) COVERED(16)
 
 void __tsan_read_range(void *at, size_t size) { READ(at, size); }
 void __tsan_write_range(void *at, size_t size) { WRITE(at, size); }
@@ -652,6 +667,7 @@ __attribute__((constructor(101))) static void start(void) {
     }
     version = choice("SPBAGS_VERSION", "12", DEFAULT_VERSION);
     unit_shift = (unsigned)__builtin_ctz(choice("SPBAGS_UNIT", "1248", DEFAULT_UNIT));
+    fill_digits();
     open_outputs(name);
     find_stack();
     frames[top] = (struct frame){.kind = ROOT, .end = UINTPTR_MAX};
