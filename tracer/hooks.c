@@ -145,8 +145,8 @@ static inline void access_record(bool writes, uint64_t location, uintptr_t code)
 /* ---- Locations ---- */
 
 /* Accesses are told in units of 1 << unit_shift bytes. Stack memory comes again for other variables, so a unit of it
-   gets a fresh number at its first touch, and loses it when its frame ends: an odd location. Other memory is never given
-   back, so its units keep theirs: twice the address in units, an even location. */
+   gets a fresh number at its first touch, and loses it when its frame ends: an odd location. Other memory is never
+   given back, so its units keep theirs: twice the address in units, an even location. */
 static unsigned unit_shift;
 static uintptr_t stack_first, stack_units;
 static uint64_t *fresh, last_fresh;
@@ -229,8 +229,8 @@ static struct frame *frames;
 static size_t top;
 static size_t most_frames;
 
-/* The procedures that stand open in the trace, from 1, the root's. Each has the frame whose unsynced children it holds, or
-   none: that of the root, which spawns nothing. */
+/* The procedures that stand open in the trace, from 1, the root's. Each has the frame whose unsynced children it holds,
+   or none: that of the root, which spawns nothing. */
 static uint32_t *owners;
 static uint32_t procedures;
 
@@ -280,9 +280,9 @@ static void push_frame(struct frame frame) {
 }
 
 /* A sync waits for the children of its own function, and a procedure of the trace waits for all its own. So a function
-   that was called has to be a procedure of its own where its caller may have children. Version 2 has a record for that.
-   Version 1 hasn't: there a spawn is put in, whose procedure holds the rest of the function, and of its callers up to the
-   sync of the one that has children now. */
+   that was called has to be a procedure of its own where its caller may have children. Version 2 has a record for
+   that. Version 1 hasn't: there a spawn is put in, whose procedure holds the rest of the function, and of its callers
+   up to the sync of the one that has children now. */
 static void become_procedure(struct frame *frame, uintptr_t code) {
     if (version == 2) {
         if (frame->kind == FUNCTION && frames[top - 1].kind == FUNCTION && !frame->called) {
@@ -502,8 +502,8 @@ int __wrap_thrd_create(thrd_t *thread, thrd_start_t start, void *with) {
 
 /* ---- Heap memory ---- */
 
-/* These stand in for the library's own, in the libraries too: no memory is given out twice. Before each block stands its
-   size. */
+/* These stand in for the library's own, in the libraries too: no memory is given out twice. Before each block stands
+   its size. */
 enum { BLOCK_HEAD = 16, CHUNK = 64 << 20 };
 
 static uintptr_t heap_at, heap_end;
@@ -599,8 +599,8 @@ static int move_away(const char *variable, int file) {
     return moved;
 }
 
-/* NAME is a file, fd:N an open descriptor, and - the standard output: what the program prints there goes to its standard
-   error instead. */
+/* NAME is a file, fd:N an open descriptor, and - the standard output: what the program prints there goes to its
+   standard error instead. */
 static void open_output(struct output *output, const char *variable, const char *name) {
     output->name = name;
     if (strcmp(name, "-") == 0) {

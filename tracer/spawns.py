@@ -1,9 +1,9 @@
 """Rewrites the spawns and syncs of a preprocessed C source into calls of the hooks.
 
-A spawn is a statement `f(..)` or `x = f(..)` with the keyword before the call. What the parent evaluates comes first, into
-temporaries: the function, its arguments, the address of the result. Then the child is opened, and the call and the store
-of the result are the child's. Nothing else can be divided between a parent and its child by a text alone, so every other
-spawn is refused.
+A spawn is a statement `f(..)` or `x = f(..)` with the keyword before the call. What the parent evaluates comes first,
+into temporaries: the function, its arguments, the address of the result. Then the child is opened, and the call and the
+store of the result are the child's. Nothing else can be divided between a parent and its child by a text alone, so
+every other spawn is refused.
 """
 import re
 
@@ -173,48 +173,66 @@ def check_target(tokens, first, spawn):
     return True
 
 
-def rewritten_spawn(text, tokens, spawn):
-    """The first index of the spawn's statement, that of its semicolon, and what stands there instead."""
-    def piece(first, last):
-        user = text[tokens[first].start:tokens[last].end]
-        return tokens[first].marker() + user + here
+class Spawn:
+    """One spawn, and the pieces of what stands for its statement."""
 
-    here = tokens[spawn].marker(" 3")
-    around = tokens[spawn].around
-    if around is None or tokens[around].text != "{":
-        raise Refused(tokens[spawn], f"a spawn inside a larger expression can't be traced: {SHAPES}")
-    opening = call_after(tokens, spawn)
-    closing = tokens[opening].partner
-    if any(token.text == "_Cilk_spawn" for token in tokens[spawn + 1:closing]):
-        raise Refused(tokens[spawn], f"a spawn inside another one can't be traced: {SHAPES}")
-    first = statement_start(tokens, spawn)
-    declared = ""
-    made = [f"{{ __auto_type __spbags_f = ({piece(spawn + 1, opening - 1)});"]
-    names = []
-    for number, (start, last) in enumerate(arguments_of(tokens, opening)):
-        if all(token.kind in LITERALS for token in tokens[start:last + 1]):
-            names.append(text[tokens[start].start:tokens[last].end])
-        else:
-            # The comma makes a pointer of an array, and a plain number of a bit field.
-            made.append(f"__auto_type __spbags_{number} = ((void)0, ({piece(start, last)}));")
-            names.append(f"__spbags_{number}")
-    call = f"__spbags_g({', '.join(names)})"
-    result = f"__builtin_choose_expr(sizeof({call}) > 16, {call}, ((void){call}, 0))"
-    stored = ""
-    if first < spawn:
-        target = (first, spawn - 2)
-        if check_target(tokens, first, spawn):
-            declared = piece(*target) + ";"
-            target = (spawn - 2, spawn - 2)
-        made.append(f"__auto_type __spbags_at = &({piece(*target)});")
-        result = call
-        stored = "*__spbags_at = __spbags_result; __spbags_stored(__spbags_at, sizeof *__spbags_at);"
-    made.append("__auto_type __spbags_g = (__typeof__(__spbags_f))__spbags_spawn((__spbags_function)__spbags_f);")
-    # Never done, as only the hook knows; but where it could be, arguments on the stack pass below the stack pointer.
-    made.append("if (!__spbags_g) __spbags_stored(__builtin_alloca(16), 0);")
-    made.append(f"__auto_type __spbags_result = {result}; {stored}")
-    made.append("__spbags_return(&__spbags_result, sizeof __spbags_result); }")
-    return first, closing + 1, here + declared + " ".join(made) + tokens[closing + 1].marker()
+    def __init__(self, text, tokens, spawn):
+        self.text, self.tokens, self.spawn = text, tokens, spawn
+        self.here = tokens[spawn].marker(" 3")
+        around = tokens[spawn].around
+        if around is None or tokens[around].text != "{":
+            raise Refused(tokens[spawn], f"a spawn inside a larger expression can't be traced: {SHAPES}")
+        self.opening = call_after(tokens, spawn)
+        self.closing = tokens[self.opening].partner
+        if any(token.text == "_Cilk_spawn" for token in tokens[spawn + 1:self.closing]):
+            raise Refused(tokens[spawn], f"a spawn inside another one can't be traced: {SHAPES}")
+        self.first = statement_start(tokens, spawn)
+        self.last = self.closing + 1
+
+    def piece(self, first, last):
+        """A piece of the program, on its own lines; what follows is on the spawn's."""
+        user = self.text[self.tokens[first].start:self.tokens[last].end]
+        return self.tokens[first].marker() + user + self.here
+
+    def arguments(self):
+        """A declaration for each argument that has to be evaluated first, and what to hand over."""
+        made, names = [], []
+        for number, (first, last) in enumerate(arguments_of(self.tokens, self.opening)):
+            if all(token.kind in LITERALS for token in self.tokens[first:last + 1]):
+                names.append(self.text[self.tokens[first].start:self.tokens[last].end])
+            else:
+                # The comma makes a pointer of an array, and a plain number of a bit field.
+                made.append(f"__auto_type __spbags_{number} = ((void)0, ({self.piece(first, last)}));")
+                names.append(f"__spbags_{number}")
+        return made, ", ".join(names)
+
+    def target(self):
+        """The declaration that goes before all, and the one of the result's address."""
+        if self.first == self.spawn:
+            return "", []
+        declared, named = "", (self.first, self.spawn - 2)
+        if check_target(self.tokens, self.first, self.spawn):
+            declared = self.piece(*named) + ";"
+            named = (self.spawn - 2, self.spawn - 2)
+        return declared, [f"__auto_type __spbags_at = &({self.piece(*named)});"]
+
+    def rewritten(self):
+        declared, address = self.target()
+        before, names = self.arguments()
+        call = f"__spbags_g({names})"
+        # What a call gives in memory, used or not, has to be in a variable that the hooks know.
+        result, stored = f"__builtin_choose_expr(sizeof({call}) > 16, {call}, ((void){call}, 0))", []
+        if address:
+            result = call
+            stored = ["*__spbags_at = __spbags_result;", "__spbags_stored(__spbags_at, sizeof *__spbags_at);"]
+        made = [
+            f"{{ __auto_type __spbags_f = ({self.piece(self.spawn + 1, self.opening - 1)});", *before, *address,
+            "__auto_type __spbags_g = (__typeof__(__spbags_f))__spbags_spawn((__spbags_function)__spbags_f);",
+            # Never done, as only the hooks know; but where it could be, arguments pass below the stack pointer.
+            "if (!__spbags_g) __spbags_stored(__builtin_alloca(16), 0);",
+            f"__auto_type __spbags_result = {result};", *stored,
+            "__spbags_return(&__spbags_result, sizeof __spbags_result); }"]
+        return self.here + declared + " ".join(made) + self.tokens[self.last].marker()
 
 
 def rewritten(text):
@@ -228,7 +246,8 @@ def rewritten(text):
             if token.text in REFUSED:
                 raise Refused(token, REFUSED[token.text])
             if token.text == "_Cilk_spawn":
-                first, last, instead = rewritten_spawn(text, tokens, at)
+                found = Spawn(text, tokens, at)
+                first, last, instead = found.first, found.last, found.rewritten()
             elif token.text == "_Cilk_sync":
                 first, last, instead = at, at, "__spbags_sync()"
             else:

@@ -1,5 +1,5 @@
-/* Sorts by quarters: all four are sorted at once, then both pairs are merged at once, and then the halves. RACY: the last
-   sync is lost, so the last merge may run beside the first one. */
+/* Sorts by quarters: all four are sorted at once, then both pairs are merged at once, and then the halves. RACY: the
+   last sync is lost, so the last merge may run beside the first one. */
 #include <cilk/cilk.h>
 #include <stdio.h>
 

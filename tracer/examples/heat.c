@@ -1,5 +1,5 @@
-/* Heat spreads over a plate: in each step a place gets the mean of its four neighbours, by bands of rows at once. RACY: the
-   step writes into the grid that it reads, so a band may read the old or the new numbers of the bands beside it. */
+/* Heat spreads over a plate: in each step a place gets the mean of its four neighbours, by bands of rows at once. RACY:
+   the step writes into the grid that it reads, so a band may read the old or the new numbers of the bands beside it. */
 #include <cilk/cilk.h>
 #include <stdio.h>
 

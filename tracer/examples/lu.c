@@ -1,5 +1,5 @@
-/* Divides a matrix into a lower and an upper triangle, in place: step k takes multiples of row k from all rows below it, at
-   once. RACY: the sync between two steps is lost. */
+/* Divides a matrix into a lower and an upper triangle, in place: step k takes multiples of row k from all rows below
+   it, at once. RACY: the sync between two steps is lost. */
 #include <cilk/cilk.h>
 #include <stdio.h>
 

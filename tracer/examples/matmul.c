@@ -1,5 +1,5 @@
-/* The product of two matrices by quarters: each quarter of it is the sum of two products. RACY: the sync between the two
-   halves of the sum is lost, so both add to the same numbers at once. */
+/* The product of two matrices by quarters: each quarter of it is the sum of two products. RACY: the sync between the
+   two halves of the sum is lost, so both add to the same numbers at once. */
 #include <cilk/cilk.h>
 #include <stdio.h>
 

@@ -1,5 +1,5 @@
-/* Counts the ways to place queens on a board. Each child has a board of its own, a copy with one queen more, and stores its
-   count in an element of its parent's array. RACY: all count in one variable. */
+/* Counts the ways to place queens on a board. Each child has a board of its own, a copy with one queen more, and stores
+   its count in an element of its parent's array. RACY: all count in one variable. */
 #include <alloca.h>
 #include <cilk/cilk.h>
 #include <stdio.h>

@@ -1,6 +1,6 @@
-/* What a tracer gets wrong easily: memory that comes again, procedures that aren't spawned, ways out of a function, values
-   that pass in memory. Each function here is one trap. RACY: its sync is lost, and it has one race. Here are chars too, so
-   the unit is 1 byte. */
+/* What a tracer gets wrong easily: memory that comes again, procedures that aren't spawned, ways out of a function,
+   values that pass in memory. Each function here is one trap. RACY: its sync is lost, and it has one race. Here are
+   chars too, so the unit is 1 byte. */
 #include <cilk/cilk.h>
 #include <setjmp.h>
 #include <stdarg.h>

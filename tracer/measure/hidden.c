@@ -1,5 +1,5 @@
-/* One child writes the number before it takes the lock, and the other reads it after that: in most runs the lock happens to
-   put the one before the other. */
+/* One child writes the number before it takes the lock, and the other reads it after that: in most runs the lock
+   happens to put the one before the other. */
 #include "measured.h"
 
 static int number, turns;

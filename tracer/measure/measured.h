@@ -1,4 +1,4 @@
-/* One program for both: with -DTHREADS each child is a thread, and without it a spawned function. */
+/* One program for all: a child is a spawned function, with -DTHREADS a thread, and with -DSERIAL an ordinary call. */
 #include <pthread.h>
 #include <stdio.h>
 #include <stdlib.h>
@@ -8,7 +8,12 @@
 #define SPAWN(thread, function, with) pthread_create(&thread, NULL, function, with)
 #define SYNC(thread) pthread_join(thread, NULL)
 #else
+#ifndef SERIAL
 #include <cilk/cilk.h>
+#else
+#define cilk_spawn
+#define cilk_sync
+#endif
 #define CHILD(thread)
 #define SPAWN(thread, function, with) cilk_spawn function(with)
 #define SYNC(thread) cilk_sync
