@@ -1,0 +1,2 @@
+#include <cilk/reducer_opadd.h>
+int nothing;
