@@ -1,5 +1,6 @@
 pub mod Answers
 pub mod Asked
+pub mod Files
 pub mod Inputs
 pub mod Messages
 pub mod Questions

@@ -1,9 +1,9 @@
 //! Where a trace and a report are read from.
-ghost use Rattle.std.specs.Prelude.{◌≡◌, ◌⊎◌, OnOk, true};
+ghost use Rattle.std.specs.Prelude.{OnOk};
 ghost use Rattle.std.specs.Fn.{FnReturnsAt};
 ghost use Rattle.std.specs.Io.{ReadsAtMost};
 ghost use Rattle.std.specs.Io.KnownBytes.{ReadConsumes};
-ghost use Rattle.spbags.specs.Asked.{trace_name, report_name, asks_report};
+ghost use Rattle.spbags.specs.Files.{AreNamed};
 ghost use Rattle.spbags.specs.Inputs.{IsMissing, StandsFor, known_bytes};
 
 use crate::asking::Asked;
@@ -43,7 +43,8 @@ impl<F: Read> Read for Input<F> {
 
     fn read(&mut self, buffer: &mut [u8]) -> io::Result<usize>
         ensures bound { ReadsAtMost result buffer.new }
-        ensures bytes { ReadConsumes (known_bytes F.remaining self.old) (known_bytes F.remaining self.new) result buffer.new }
+        ensures bytes { ReadConsumes (known_bytes F.remaining self.old) (known_bytes F.remaining self.new)
+            result buffer.new }
         ensures missing { IsMissing self.old → OnOk result ⊥ }
     {
         match self {
@@ -71,9 +72,7 @@ pub fn open_asked<F, O: Fn(&str) -> io::Result<F>>(
     opener: &O,
 ) -> Inputs<F>
     requires { O.IsAlwaysCallable opener.now }
-    ensures trace { StandsFor (FnReturnsAt O.Fn opener.now) (trace_name asked.now) result.trace }
-    ensures report { asks_report asked.now ≡ true → StandsFor (FnReturnsAt O.Fn opener.now) (report_name asked.now) result.report
-        ⊎ (IsMissing result.trace × IsMissing result.report) }
+    ensures { AreNamed (FnReturnsAt O.Fn opener.now) asked.now result.trace result.report }
 {
     let trace = Input::open(rt, asked.trace(), opener);
     let report = match trace {

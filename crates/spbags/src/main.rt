@@ -1,6 +1,13 @@
 //! The program `spbags`: the races of a trace, and questions about it.
 #![tactic(auto)]
 
+ghost use Rattle.std.specs.Prelude.{◌<◌, ◌≤◌, ℕ, List};
+ghost use Rattle.std.specs.Fn.{FnReturnsAt};
+ghost use Rattle.spbags.specs.declared.input.Input.{Input};
+ghost use Rattle.spbags.specs.Answers.{IsUntouched, Took};
+ghost use Rattle.spbags.specs.Files.{AreNamed, AnswersOf};
+ghost use Rattle.spbags.specs.Inputs.{known_bytes};
+
 mod answers;
 mod asking;
 mod commands;
@@ -74,8 +81,8 @@ fn answer_asked<T: Threads + Wait + Sync, W: Sink, E: Sink>(
 // How many bytes are read ahead of a trace, so that a long one takes few calls of the system.
 const AHEAD: usize = 1 << 16;
 
-// Opens the trace, then the report where one is asked for, and then answers. Without memory to read ahead nothing is
-// read.
+// Opens the trace, then the report where one is asked for, and then answers of these. Without memory to read ahead
+// nothing is read.
 fn answer_from_files<T, F, O, W: Sink, E: Sink>(
     threads: &T,
     rt: &HostRuntime,
@@ -89,6 +96,14 @@ where
     F: Read + Drop,
     O: Fn(&str) -> io::Result<F>,
     requires { O.IsAlwaysCallable opener.now }
+    ensures status { result ≤ 2 }
+
+    // Status 0 or 1: what was written answers the words, of what the names stand for that they have.
+    ensures told { result < 2 → (trace : Input F) × (report : Input F) × (text : List ℕ)
+        × AreNamed (FnReturnsAt O.Fn opener.now) asked.now trace report
+        × AnswersOf asked.now (known_bytes F.remaining trace) (known_bytes F.remaining report) text result
+        × Took text (W.held out.old) (W.held out.new) (W.failures out.old) (W.failures out.new)
+        × IsUntouched (E.held err.old) (E.held err.new) (E.failures err.old) (E.failures err.new) }
 {
     let alloc = rt.alloc();
     let Inputs { trace, report } = open_asked(rt, asked, opener);

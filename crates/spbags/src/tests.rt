@@ -5,6 +5,7 @@ mod examples;
 mod files;
 mod questions;
 mod rows;
+mod told;
 mod words;
 
 use crate::answers::{answer, refuse};
