@@ -1,5 +1,5 @@
 -- What a status says of the races of a trace.
-use Rattle.std.proofs.Common.{◌≡◌, ◌↔◌, ℕ, ◌<◌, List, [], ◌∷◌, refl, arith, ap, subst, ◌≤◌, Option, suc, length, ◌⊎◌, inl, inr}
+use Rattle.std.proofs.Common.{◌≡◌, ◌↔◌, ℕ, ◌<◌, List, [], ◌∷◌, refl, arith, subst, ◌≤◌, Option, ◌⊎◌, inl, inr}
 use native.Mathlib.Decide.{dec_le}
 use Rattle.std.specs.List.{Contains}
 use Rattle.trace.specs.declared.records.Record.{Record}
