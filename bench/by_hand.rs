@@ -183,7 +183,7 @@ impl Bags for Numbers {
 
 /// An access that is kept: who made it, and where it stands in the trace.
 #[derive(Clone, Copy)]
-#[repr(packed(4))]
+#[repr(C, packed(4))]
 struct Kept {
     procedure: u32,
     place: u64,
@@ -265,9 +265,8 @@ impl<B: Bags> Detector<B> {
             return;
         }
         let own = Kept { procedure: bags.current(), place: *place };
-        let mut is_parallel = |kept: Kept| {
-            kept.place != 0 && kept.procedure != own.procedure && bags.is_in_p(kept.procedure)
-        };
+        let mut is_parallel =
+            |kept: Kept| kept.place != 0 && kept.procedure != own.procedure && bags.is_in_p(kept.procedure);
         let rival = if is_parallel(cell.writer) {
             Some((cell.writer, "write"))
         } else if is_write && is_parallel(cell.reader) {

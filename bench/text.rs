@@ -43,14 +43,7 @@ pub struct Records<R> {
 impl<R: Read> Records<R> {
     /// Reads the header.
     pub fn new(from: R) -> Result<Records<R>, Fault> {
-        let mut records = Records {
-            from,
-            bytes: vec![0; SIZE + BEHIND],
-            next: 0,
-            end: 0,
-            has_ended: false,
-            line: 1,
-        };
+        let mut records = Records { from, bytes: vec![0; SIZE + BEHIND], next: 0, end: 0, has_ended: false, line: 1 };
         records.fill()?;
         if records.bytes[..records.end].starts_with(HEADER) {
             records.next = HEADER.len();

@@ -207,7 +207,9 @@ impl Square {
     /// The four quarters, by rows.
     fn quarters(self) -> [[Square; 2]; 2] {
         let side = self.side / 2;
-        [0, side].map(|row| [0, side].map(|column| Square { corner: self.corner + row * self.width + column, side, ..self }))
+        [0, side].map(|row| {
+            [0, side].map(|column| Square { corner: self.corner + row * self.width + column, side, ..self })
+        })
     }
 
     fn fill(self, trace: &mut Trace) {
@@ -238,7 +240,9 @@ fn matmul(trace: &mut Trace, sum: Square, left: Square, right: Square, block: us
     for between in 0..2 {
         for row in 0..2 {
             for column in 0..2 {
-                trace.spawn(|trace| matmul(trace, sums[row][column], lefts[row][between], rights[between][column], block));
+                trace.spawn(|trace| {
+                    matmul(trace, sums[row][column], lefts[row][between], rights[between][column], block)
+                });
             }
         }
         trace.sync();
@@ -340,7 +344,14 @@ impl Sorting {
         low
     }
 
-    fn merge_all(&mut self, trace: &mut Trace, side: usize, mut one: Range<usize>, mut other: Range<usize>, to: usize) {
+    fn merge_all(
+        &mut self,
+        trace: &mut Trace,
+        side: usize,
+        mut one: Range<usize>,
+        mut other: Range<usize>,
+        to: usize,
+    ) {
         for index in to..to + one.len() + other.len() {
             let takes_one = other.is_empty()
                 || !one.is_empty() && self.get(trace, side, one.start) <= self.get(trace, side, other.start);
@@ -361,7 +372,9 @@ fn heat(trace: &mut Trace, old: Square, new: Square, rows: Range<usize>) {
     }
     for row in rows {
         for column in 1..old.side - 1 {
-            for (row, column) in [(row - 1, column), (row + 1, column), (row, column - 1), (row, column + 1), (row, column)] {
+            for (row, column) in
+                [(row - 1, column), (row + 1, column), (row, column - 1), (row, column + 1), (row, column)]
+            {
                 trace.read(old.at(row, column));
             }
             trace.write(new.at(row, column));
@@ -397,11 +410,11 @@ fn lu(trace: &mut Trace, matrix: Square, block: usize) {
 fn solve_lower(trace: &mut Trace, matrix: Square, lower: Square, block: usize) {
     if matrix.side > block {
         let (parts, [[first, _], [below, last]]) = (matrix.quarters(), lower.quarters());
-        for half in 0..2 {
+        for (above, under) in parts[0].into_iter().zip(parts[1]) {
             trace.spawn(|trace| {
-                solve_lower(trace, parts[0][half], first, block);
-                matmul(trace, parts[1][half], below, parts[0][half], block);
-                solve_lower(trace, parts[1][half], last, block);
+                solve_lower(trace, above, first, block);
+                matmul(trace, under, below, above, block);
+                solve_lower(trace, under, last, block);
             });
         }
         return trace.sync();
