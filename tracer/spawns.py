@@ -16,10 +16,13 @@ TOKEN = re.compile(
     r"|(?P<word>[A-Za-z_$\x80-\uffff][A-Za-z0-9_$\x80-\uffff]*)"
     r"|(?P<mark>\.\.\.|<<=|>>=|->|\+\+|--|<<|>>|[-+*/%&|^=!<>]=|&&|\|\||.)",
     re.MULTILINE)
-LINE_MARKER = re.compile(r'#(?:line)? *([0-9]+) *("(?:\\.|[^"\\])*")?')
+LINE_MARKER = re.compile(r'#(?:line)? *([0-9]+) *("(?:\\.|[^"\\])*")?([ 0-9]*)')
 PARTNERS = {")": "(", "]": "[", "}": "{"}
 CONTROLS = {"if", "for", "while", "switch"}
 LITERALS = {"string", "character", "number"}
+
+# A function that spawns and is put into its caller would have no end to sync at.
+INLINED = {"always_inline", "__always_inline__"}
 
 SHAPES = "write `cilk_spawn f(..);' or `x = cilk_spawn f(..);' as a statement of its own"
 REFUSED = {
@@ -38,8 +41,9 @@ class Refused(Exception):
 
 
 class Token:
-    def __init__(self, kind, text, start, file, line):
+    def __init__(self, kind, text, start, file, line, system):
         self.kind, self.text, self.start, self.file, self.line = kind, text, start, file, line
+        self.system = system  # whether it stands in a header of the system
         self.end = start + len(text)
         self.partner = None   # of a bracket: the index of the other one
         self.around = None    # the index of the innermost bracket around it
@@ -54,17 +58,18 @@ class Token:
 
 def tokens_of(text):
     """The tokens of C, each with its line of the program."""
-    tokens, file, line = [], '"?"', 1
+    tokens, file, line, system = [], '"?"', 1, False
     for match in TOKEN.finditer(text):
         kind, found = match.lastgroup, match.group()
         if kind == "marker":
             numbered = LINE_MARKER.match(found)
             line = int(numbered[1]) if numbered else line + 1
-            file = numbered[2] or file if numbered else file
+            if numbered and numbered[2]:
+                file, system = numbered[2], "3" in numbered[3].split()
         elif kind == "space":
             line += found == "\n"
         else:
-            tokens.append(Token(kind, found, match.start(), file, line))
+            tokens.append(Token(kind, found, match.start(), file, line, system))
     match_brackets(tokens)
     return tokens
 
@@ -250,6 +255,8 @@ def rewritten(text):
                 first, last, instead = found.first, found.last, found.rewritten()
             elif token.text == "_Cilk_sync":
                 first, last, instead = at, at, "__spbags_sync()"
+            elif token.text in INLINED and not token.system:
+                first, last, instead = at, at, "__unused__"
             else:
                 continue
         except Refused as refused:

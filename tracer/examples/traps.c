@@ -76,7 +76,8 @@ static void go_back(int depth) {
     volatile int mark = depth;
     if (mark == 0)
         longjmp(way_back, 1);
-    go_back(depth - 1);
+    if (mark > 0)
+        go_back(depth - 1);
 }
 
 static void jump(int *at) {
@@ -93,8 +94,9 @@ static int jumps(void) {
     return a + b; /* [sum_of_jumps] */
 }
 
-/* A called function that spawns has children of its own; its sync, or its end, waits for those alone. */
-static void two_children(int *at, int early) {
+/* A called function that spawns has children of its own; its sync, or its end, waits for those alone. So it may
+   not become a part of its caller. */
+__attribute__((always_inline)) static inline void two_children(int *at, int early) {
     cilk_spawn set(&at[0], 1);
     cilk_spawn set(&at[1], 2);
     if (early)
