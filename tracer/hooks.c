@@ -15,10 +15,15 @@
 #include <string.h>
 #include <sys/mman.h>
 #include <sys/resource.h>
+#include <sys/stat.h>
 #include <threads.h>
 #include <unistd.h>
 
 #include "spbags_cilk.h"
+
+#if !defined(__x86_64__) || !defined(__linux__)
+#error "programs can be traced on x86-64 Linux alone"
+#endif
 
 /* The version of the trace's text where SPBAGS_VERSION doesn't say. */
 enum { DEFAULT_VERSION = 1 };
@@ -609,11 +614,10 @@ static void open_output(struct output *output, const char *variable, const char 
     } else if (strncmp(name, "fd:", 3) == 0) {
         char *rest;
         long file = strtol(name + 3, &rest, 10);
-        if (name[3] < '0' || name[3] > '9' || *rest != '\0' || file > 65535)
-            fail("%s=%s: wanted fd: and the number of a descriptor", variable, name);
+        if (name[3] < '0' || name[3] > '9' || *rest != '\0' || file <= STDERR_FILENO || file > 65535)
+            fail("%s=%s: wanted fd: and the number of a descriptor above 2", variable, name);
         output->file = move_away(variable, (int)file);
-        if (file > STDERR_FILENO)
-            close((int)file);
+        close((int)file);
     } else {
         int file = open(name, O_WRONLY | O_CREAT | O_TRUNC | O_CLOEXEC, 0666);
         if (file < 0)
@@ -627,15 +631,16 @@ static void open_output(struct output *output, const char *variable, const char 
 static void open_outputs(const char *name) {
     static char beside[4096];
     const char *places_name = getenv("SPBAGS_PLACES");
-    bool is_file = strcmp(name, "-") != 0 && strncmp(name, "fd:", 3) != 0;
-    if (!places_name && is_file) {
+    struct stat about;
+    open_output(&trace, "SPBAGS_TRACE", name);
+    bool by_name = strcmp(name, "-") != 0 && strncmp(name, "fd:", 3) != 0;
+    if (!places_name && by_name && fstat(trace.file, &about) == 0 && S_ISREG(about.st_mode)) {
         if ((size_t)snprintf(beside, sizeof beside, "%s.places", name) >= sizeof beside)
             fail("SPBAGS_TRACE: the name is too long");
         places_name = beside;
     }
     if (places_name && *places_name)
         open_output(&places, "SPBAGS_PLACES", places_name);
-    open_output(&trace, "SPBAGS_TRACE", name);
 }
 
 /* The stack as it may grow, up to where the environment stands above all frames. */
@@ -669,6 +674,8 @@ __attribute__((constructor(101))) static void start(void) {
     unit_shift = (unsigned)__builtin_ctz(choice("SPBAGS_UNIT", "1248", DEFAULT_UNIT));
     fill_digits();
     open_outputs(name);
+    /* A traced program that this one starts would write over the trace. */
+    unsetenv("SPBAGS_TRACE");
     find_stack();
     frames[top] = (struct frame){.kind = ROOT, .end = UINTPTR_MAX};
     procedures = 1;
