@@ -512,6 +512,8 @@ int __wrap_thrd_create(thrd_t *thread, thrd_start_t start, void *with) {
 enum { BLOCK_HEAD = 16, CHUNK = 64 << 20 };
 
 static uintptr_t heap_at, heap_end;
+/* A library may have threads of its own. */
+static bool heap_locked;
 
 /* At addresses of our own where the system has them free, so that runs are alike and locations have few digits. */
 static bool more_heap(size_t size) {
@@ -529,16 +531,24 @@ static bool more_heap(size_t size) {
 }
 
 static void *new_block(size_t alignment, size_t size) {
+    if ((alignment & (alignment - 1)) != 0) {
+        errno = EINVAL;
+        return NULL;
+    }
     if (alignment < BLOCK_HEAD)
         alignment = BLOCK_HEAD;
     size_t most = size + alignment + BLOCK_HEAD;
     if (most < size || most < alignment)
         most = SIZE_MAX;
-    if (most > heap_end - heap_at && !more_heap(most))
-        return NULL;
-    uintptr_t block = (heap_at + BLOCK_HEAD + alignment - 1) & ~(alignment - 1);
-    ((size_t *)block)[-1] = size;
-    heap_at = block + size;
+    uintptr_t block = 0;
+    while (__atomic_test_and_set(&heap_locked, __ATOMIC_ACQUIRE))
+        continue;
+    if (most <= heap_end - heap_at || more_heap(most)) {
+        block = (heap_at + BLOCK_HEAD + alignment - 1) & ~(alignment - 1);
+        ((size_t *)block)[-1] = size;
+        heap_at = block + size;
+    }
+    __atomic_clear(&heap_locked, __ATOMIC_RELEASE);
     return (void *)block;
 }
 
@@ -570,7 +580,7 @@ void *pvalloc(size_t size) { return new_block(4096, (size + 4095) & ~(size_t)409
 int posix_memalign(void **block, size_t alignment, size_t size) {
     void *made = new_block(alignment, size);
     if (!made)
-        return ENOMEM;
+        return errno;
     *block = made;
     return 0;
 }

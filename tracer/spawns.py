@@ -24,6 +24,9 @@ LITERALS = {"string", "character", "number"}
 # A function that spawns and is put into its caller would have no end to sync at.
 INLINED = {"always_inline", "__always_inline__"}
 
+# A source without any of these stays as it is.
+TOUCHED = re.compile("_Cilk_|_Hyperobject|always_inline")
+
 SHAPES = "write `cilk_spawn f(..);' or `x = cilk_spawn f(..);' as a statement of its own"
 REFUSED = {
     "_Cilk_for": "cilk_for can't be traced: write a loop that spawns a function, and a sync after it",
@@ -242,6 +245,8 @@ class Spawn:
 
 def rewritten(text):
     """The source with its spawns and syncs rewritten, and a line for each that can't be."""
+    if not TOUCHED.search(text):
+        return text, []
     tokens = tokens_of(text)
     made, faults, done = [], [], 0
     for at, token in enumerate(tokens):
