@@ -190,10 +190,12 @@ static void clear_below(uintptr_t address) {
     lowest = end;
 }
 
+/* Nor has this memory. A unit that is partly another variable's keeps its number. */
 static void clear(uintptr_t address, size_t size) {
-    uintptr_t first = (address >> unit_shift) - stack_first;
-    uintptr_t end = ((address + size - 1) >> unit_shift) - stack_first + 1;
-    if (size > 0 && first < end && end <= stack_units)
+    uintptr_t unit = (uintptr_t)1 << unit_shift;
+    uintptr_t first = ((address + unit - 1) >> unit_shift) - stack_first;
+    uintptr_t end = ((address + size) >> unit_shift) - stack_first;
+    if (first < end && end <= stack_units)
         __real_memset(fresh + first, 0, (end - first) * sizeof *fresh);
 }
 

@@ -154,6 +154,19 @@ static long structs(void) {
     return answer + sums[1] + given.numbers[0];
 }
 
+/* A struct that an ordinary call gives is stored like any other. */
+static struct large kept;
+
+static long look(const struct large *at) { return at->numbers[3]; } /* [look] */
+
+static long kept_struct(void) {
+    long before = cilk_spawn look(&kept);
+    SYNC;
+    kept = grow(kept, (struct medium){{1, 2, 3}}); /* [keep] */
+    cilk_sync;
+    return before + kept.numbers[3];
+}
+
 /* The library's functions aren't compiled with hooks. */
 static int by_number(const void *a, const void *b) { return *(const int *)a - *(const int *)b; }
 
@@ -245,6 +258,7 @@ int main(void) {
     free_too_early();
     printf("%d %d %ld\n", jumps(), calls(), structs());
     printf("%d %d %d\n", library(), atomics(), pointers());
+    printf("%ld\n", kept_struct());
     printf("%d %d %d\n", shapes(1), shapes(0), deep(1000));
     cilk_sync;
     printf("%d\n", first);
