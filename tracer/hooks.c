@@ -15,10 +15,15 @@
 #include <string.h>
 #include <sys/mman.h>
 #include <sys/resource.h>
+#include <sys/stat.h>
 #include <threads.h>
 #include <unistd.h>
 
 #include "spbags_cilk.h"
+
+#if !defined(__x86_64__) || !defined(__linux__)
+#error "programs can be traced on x86-64 Linux alone"
+#endif
 
 /* The version of the trace's text where SPBAGS_VERSION doesn't say. */
 enum { DEFAULT_VERSION = 1 };
@@ -185,10 +190,12 @@ static void clear_below(uintptr_t address) {
     lowest = end;
 }
 
+/* Nor has this memory. A unit that is partly another variable's keeps its number. */
 static void clear(uintptr_t address, size_t size) {
-    uintptr_t first = (address >> unit_shift) - stack_first;
-    uintptr_t end = ((address + size - 1) >> unit_shift) - stack_first + 1;
-    if (size > 0 && first < end && end <= stack_units)
+    uintptr_t unit = (uintptr_t)1 << unit_shift;
+    uintptr_t first = ((address + unit - 1) >> unit_shift) - stack_first;
+    uintptr_t end = ((address + size) >> unit_shift) - stack_first;
+    if (first < end && end <= stack_units)
         __real_memset(fresh + first, 0, (end - first) * sizeof *fresh);
 }
 
@@ -507,6 +514,8 @@ int __wrap_thrd_create(thrd_t *thread, thrd_start_t start, void *with) {
 enum { BLOCK_HEAD = 16, CHUNK = 64 << 20 };
 
 static uintptr_t heap_at, heap_end;
+/* A library may have threads of its own. */
+static bool heap_locked;
 
 /* At addresses of our own where the system has them free, so that runs are alike and locations have few digits. */
 static bool more_heap(size_t size) {
@@ -524,16 +533,24 @@ static bool more_heap(size_t size) {
 }
 
 static void *new_block(size_t alignment, size_t size) {
+    if ((alignment & (alignment - 1)) != 0) {
+        errno = EINVAL;
+        return NULL;
+    }
     if (alignment < BLOCK_HEAD)
         alignment = BLOCK_HEAD;
     size_t most = size + alignment + BLOCK_HEAD;
     if (most < size || most < alignment)
         most = SIZE_MAX;
-    if (most > heap_end - heap_at && !more_heap(most))
-        return NULL;
-    uintptr_t block = (heap_at + BLOCK_HEAD + alignment - 1) & ~(alignment - 1);
-    ((size_t *)block)[-1] = size;
-    heap_at = block + size;
+    uintptr_t block = 0;
+    while (__atomic_test_and_set(&heap_locked, __ATOMIC_ACQUIRE))
+        continue;
+    if (most <= heap_end - heap_at || more_heap(most)) {
+        block = (heap_at + BLOCK_HEAD + alignment - 1) & ~(alignment - 1);
+        ((size_t *)block)[-1] = size;
+        heap_at = block + size;
+    }
+    __atomic_clear(&heap_locked, __ATOMIC_RELEASE);
     return (void *)block;
 }
 
@@ -565,7 +582,7 @@ void *pvalloc(size_t size) { return new_block(4096, (size + 4095) & ~(size_t)409
 int posix_memalign(void **block, size_t alignment, size_t size) {
     void *made = new_block(alignment, size);
     if (!made)
-        return ENOMEM;
+        return errno;
     *block = made;
     return 0;
 }
@@ -609,11 +626,10 @@ static void open_output(struct output *output, const char *variable, const char 
     } else if (strncmp(name, "fd:", 3) == 0) {
         char *rest;
         long file = strtol(name + 3, &rest, 10);
-        if (name[3] < '0' || name[3] > '9' || *rest != '\0' || file > 65535)
-            fail("%s=%s: wanted fd: and the number of a descriptor", variable, name);
+        if (name[3] < '0' || name[3] > '9' || *rest != '\0' || file <= STDERR_FILENO || file > 65535)
+            fail("%s=%s: wanted fd: and the number of a descriptor above 2", variable, name);
         output->file = move_away(variable, (int)file);
-        if (file > STDERR_FILENO)
-            close((int)file);
+        close((int)file);
     } else {
         int file = open(name, O_WRONLY | O_CREAT | O_TRUNC | O_CLOEXEC, 0666);
         if (file < 0)
@@ -627,15 +643,16 @@ static void open_output(struct output *output, const char *variable, const char 
 static void open_outputs(const char *name) {
     static char beside[4096];
     const char *places_name = getenv("SPBAGS_PLACES");
-    bool is_file = strcmp(name, "-") != 0 && strncmp(name, "fd:", 3) != 0;
-    if (!places_name && is_file) {
+    struct stat about;
+    open_output(&trace, "SPBAGS_TRACE", name);
+    bool by_name = strcmp(name, "-") != 0 && strncmp(name, "fd:", 3) != 0;
+    if (!places_name && by_name && fstat(trace.file, &about) == 0 && S_ISREG(about.st_mode)) {
         if ((size_t)snprintf(beside, sizeof beside, "%s.places", name) >= sizeof beside)
             fail("SPBAGS_TRACE: the name is too long");
         places_name = beside;
     }
     if (places_name && *places_name)
         open_output(&places, "SPBAGS_PLACES", places_name);
-    open_output(&trace, "SPBAGS_TRACE", name);
 }
 
 /* The stack as it may grow, up to where the environment stands above all frames. */
@@ -669,6 +686,8 @@ __attribute__((constructor(101))) static void start(void) {
     unit_shift = (unsigned)__builtin_ctz(choice("SPBAGS_UNIT", "1248", DEFAULT_UNIT));
     fill_digits();
     open_outputs(name);
+    /* A traced program that this one starts would write over the trace. */
+    unsetenv("SPBAGS_TRACE");
     find_stack();
     frames[top] = (struct frame){.kind = ROOT, .end = UINTPTR_MAX};
     procedures = 1;

@@ -1,4 +1,4 @@
-"""Rewrites the spawns and syncs of a preprocessed C source into calls of the hooks.
+"""Rewrites the spawns and syncs of a preprocessed C source into calls of the hooks, and stores that no hook would see.
 
 A spawn is a statement `f(..)` or `x = f(..)` with the keyword before the call. What the parent evaluates comes first,
 into temporaries: the function, its arguments, the address of the result. Then the child is opened, and the call and the
@@ -16,10 +16,16 @@ TOKEN = re.compile(
     r"|(?P<word>[A-Za-z_$\x80-\uffff][A-Za-z0-9_$\x80-\uffff]*)"
     r"|(?P<mark>\.\.\.|<<=|>>=|->|\+\+|--|<<|>>|[-+*/%&|^=!<>]=|&&|\|\||.)",
     re.MULTILINE)
-LINE_MARKER = re.compile(r'#(?:line)? *([0-9]+) *("(?:\\.|[^"\\])*")?')
+LINE_MARKER = re.compile(r'#(?:line)? *([0-9]+) *("(?:\\.|[^"\\])*")?([ 0-9]*)')
 PARTNERS = {")": "(", "]": "[", "}": "{"}
 CONTROLS = {"if", "for", "while", "switch"}
 LITERALS = {"string", "character", "number"}
+
+# A function that spawns and is put into its caller would have no end to sync at.
+INLINED = {"always_inline", "__always_inline__"}
+
+# A source without any of these stays as it is.
+TOUCHED = re.compile("_Cilk_|_Hyperobject|always_inline")
 
 SHAPES = "write `cilk_spawn f(..);' or `x = cilk_spawn f(..);' as a statement of its own"
 REFUSED = {
@@ -38,8 +44,9 @@ class Refused(Exception):
 
 
 class Token:
-    def __init__(self, kind, text, start, file, line):
+    def __init__(self, kind, text, start, file, line, system):
         self.kind, self.text, self.start, self.file, self.line = kind, text, start, file, line
+        self.system = system  # whether it stands in a header of the system
         self.end = start + len(text)
         self.partner = None   # of a bracket: the index of the other one
         self.around = None    # the index of the innermost bracket around it
@@ -54,17 +61,18 @@ class Token:
 
 def tokens_of(text):
     """The tokens of C, each with its line of the program."""
-    tokens, file, line = [], '"?"', 1
+    tokens, file, line, system = [], '"?"', 1, False
     for match in TOKEN.finditer(text):
         kind, found = match.lastgroup, match.group()
         if kind == "marker":
             numbered = LINE_MARKER.match(found)
             line = int(numbered[1]) if numbered else line + 1
-            file = numbered[2] or file if numbered else file
+            if numbered and numbered[2]:
+                file, system = numbered[2], "3" in numbered[3].split()
         elif kind == "space":
             line += found == "\n"
         else:
-            tokens.append(Token(kind, found, match.start(), file, line))
+            tokens.append(Token(kind, found, match.start(), file, line, system))
     match_brackets(tokens)
     return tokens
 
@@ -93,6 +101,11 @@ def ends_label(tokens, colon):
             return True
         before -= 1
     return False
+
+
+def is_in_block(tokens, at):
+    around = tokens[at].around
+    return around is not None and tokens[around].text == "{"
 
 
 def statement_start(tokens, spawn):
@@ -125,19 +138,17 @@ def after_postfixes(tokens, at):
     return at, last
 
 
-def call_after(tokens, spawn):
-    """The parenthesis that opens the arguments of the call after this spawn; a semicolon ends the statement."""
-    first = tokens[spawn + 1]
+def call_after(tokens, before):
+    """The parenthesis that opens the arguments of the call after this token, where a semicolon ends it; or None."""
+    first = tokens[before + 1]
     if first.text == "(" and first.partner is not None:
         at = first.partner + 1
     elif first.kind == "word":
-        at = spawn + 2
+        at = before + 2
     else:
-        raise Refused(tokens[spawn], f"a spawn of something else than a call can't be traced: {SHAPES}")
+        return None
     end, last = after_postfixes(tokens, at)
-    if last is None or tokens[last].text != "(" or tokens[end].text != ";":
-        raise Refused(tokens[spawn], f"a spawn inside a larger expression can't be traced: {SHAPES}")
-    return last
+    return last if last is not None and tokens[last].text == "(" and tokens[end].text == ";" else None
 
 
 def arguments_of(tokens, opening):
@@ -159,12 +170,17 @@ def is_lvalue(tokens, first, end):
     return stop == end and (last is None or tokens[last].text != "(")
 
 
+def is_one_target(tokens, first, sign):
+    """Whether one thing stands before this sign, which is an assignment's."""
+    direct = [token.text for token in tokens[first:sign] if token.around == tokens[sign].around]
+    return tokens[sign].text == "=" and first < sign and not {"=", ",", "?", "return"} & set(direct)
+
+
 def check_target(tokens, first, spawn):
     """What stands before a spawn has to be `lvalue =` or `type name =`."""
     sign = spawn - 1
     target = tokens[first:sign]
-    direct = [token for token in target if token.around == tokens[spawn].around]
-    if tokens[sign].text != "=" or not target or any(token.text in ("=", ",", "?", "return") for token in direct):
+    if not is_one_target(tokens, first, sign):
         raise Refused(tokens[spawn], f"a spawn inside a larger expression can't be traced: {SHAPES}")
     if is_lvalue(tokens, first, sign):
         return False
@@ -179,10 +195,9 @@ class Spawn:
     def __init__(self, text, tokens, spawn):
         self.text, self.tokens, self.spawn = text, tokens, spawn
         self.here = tokens[spawn].marker(" 3")
-        around = tokens[spawn].around
-        if around is None or tokens[around].text != "{":
-            raise Refused(tokens[spawn], f"a spawn inside a larger expression can't be traced: {SHAPES}")
         self.opening = call_after(tokens, spawn)
+        if not is_in_block(tokens, spawn) or self.opening is None:
+            raise Refused(tokens[spawn], f"a spawn inside a larger expression can't be traced: {SHAPES}")
         self.closing = tokens[self.opening].partner
         if any(token.text == "_Cilk_spawn" for token in tokens[spawn + 1:self.closing]):
             raise Refused(tokens[spawn], f"a spawn inside another one can't be traced: {SHAPES}")
@@ -235,26 +250,57 @@ class Spawn:
         return self.here + declared + " ".join(made) + self.tokens[self.last].marker()
 
 
-def rewritten(text):
-    """The source with its spawns and syncs rewritten, and a line for each that can't be."""
+def rewritten_store(text, tokens, sign):
+    """The statement `x = f(..);` around this sign, and what stands for it: with gcc no hook sees the store of a struct
+    that a call gives, but it sees that of a variable. None for any other statement."""
+    opening = call_after(tokens, sign) if is_in_block(tokens, sign) else None
+    if opening is None:
+        return None
+    first, last = statement_start(tokens, sign), tokens[opening].partner + 1
+    if not is_one_target(tokens, first, sign) or not is_lvalue(tokens, first, sign):
+        return None
+    if any(token.text.startswith("_Cilk_") or token.text in REFUSED for token in tokens[first:last]):
+        return None
+    call = tokens[sign + 1].marker() + text[tokens[sign + 1].start:tokens[last].start]
+    target = tokens[first].marker() + text[tokens[first].start:tokens[sign].start]
+    store = tokens[sign].marker() + "= __spbags_t; }" + tokens[last].marker()
+    return first, last, f"{{ __auto_type __spbags_t = ({call});{target}{store}"
+
+
+def instead_of(text, tokens, at, stores):
+    """The indexes of the first and the last token of what has to be rewritten here, and its new text; or None."""
+    token = tokens[at]
+    if token.text in REFUSED:
+        raise Refused(token, REFUSED[token.text])
+    if token.text == "_Cilk_spawn":
+        found = Spawn(text, tokens, at)
+        return found.first, found.last, found.rewritten()
+    if token.text == "_Cilk_sync":
+        return at, at, "__spbags_sync()"
+    if token.text in INLINED and not token.system:
+        return at, at, "__unused__"
+    if stores and token.text == "=" and not token.system:
+        return rewritten_store(text, tokens, at)
+    return None
+
+
+def rewritten(text, stores):
+    """The source with its spawns and syncs rewritten, and a line for each that can't be; and with the stores of what
+    calls give, where that is wanted."""
+    if not stores and not TOUCHED.search(text):
+        return text, []
     tokens = tokens_of(text)
     made, faults, done = [], [], 0
     for at, token in enumerate(tokens):
-        if token.start < done or token.kind != "word":
+        if token.start < done:
             continue
         try:
-            if token.text in REFUSED:
-                raise Refused(token, REFUSED[token.text])
-            if token.text == "_Cilk_spawn":
-                found = Spawn(text, tokens, at)
-                first, last, instead = found.first, found.last, found.rewritten()
-            elif token.text == "_Cilk_sync":
-                first, last, instead = at, at, "__spbags_sync()"
-            else:
-                continue
+            found = instead_of(text, tokens, at, stores)
         except Refused as refused:
             faults.append(f"{refused.token.place()}: error: {refused}")
             continue
-        made += [text[done:tokens[first].start], instead]
-        done = tokens[last].end
+        if found:
+            first, last, instead = found
+            made += [text[done:tokens[first].start], instead]
+            done = tokens[last].end
     return "".join(made) + text[done:], faults

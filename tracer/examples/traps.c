@@ -76,7 +76,8 @@ static void go_back(int depth) {
     volatile int mark = depth;
     if (mark == 0)
         longjmp(way_back, 1);
-    go_back(depth - 1);
+    if (mark > 0)
+        go_back(depth - 1);
 }
 
 static void jump(int *at) {
@@ -93,8 +94,9 @@ static int jumps(void) {
     return a + b; /* [sum_of_jumps] */
 }
 
-/* A called function that spawns has children of its own; its sync, or its end, waits for those alone. */
-static void two_children(int *at, int early) {
+/* A called function that spawns has children of its own; its sync, or its end, waits for those alone. So it may
+   not become a part of its caller. */
+__attribute__((always_inline)) static inline void two_children(int *at, int early) {
     cilk_spawn set(&at[0], 1);
     cilk_spawn set(&at[1], 2);
     if (early)
@@ -150,6 +152,19 @@ static long structs(void) {
     long answer = results[2].numbers[7]; /* [grown] */
     cilk_sync;
     return answer + sums[1] + given.numbers[0];
+}
+
+/* A struct that an ordinary call gives is stored like any other. */
+static struct large kept;
+
+static long look(const struct large *at) { return at->numbers[3]; } /* [look] */
+
+static long kept_struct(void) {
+    long before = cilk_spawn look(&kept);
+    SYNC;
+    kept = grow(kept, (struct medium){{1, 2, 3}}); /* [keep] */
+    cilk_sync;
+    return before + kept.numbers[3];
 }
 
 /* The library's functions aren't compiled with hooks. */
@@ -243,6 +258,7 @@ int main(void) {
     free_too_early();
     printf("%d %d %ld\n", jumps(), calls(), structs());
     printf("%d %d %d\n", library(), atomics(), pointers());
+    printf("%ld\n", kept_struct());
     printf("%d %d %d\n", shapes(1), shapes(0), deep(1000));
     cilk_sync;
     printf("%d\n", first);
