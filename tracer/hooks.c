@@ -472,6 +472,24 @@ void __tsan_atomic_signal_fence(int order) { (void)order; }
 
 /* ---- The library ---- */
 
+/* What clang from 15 on calls where it copies or fills memory itself. */
+void *__tsan_memcpy(void *to, const void *from, size_t size) {
+    READ(from, size);
+    WRITE(to, size);
+    return __real_memcpy(to, from, size);
+}
+
+void *__tsan_memmove(void *to, const void *from, size_t size) {
+    READ(from, size);
+    WRITE(to, size);
+    return __real_memmove(to, from, size);
+}
+
+void *__tsan_memset(void *to, int byte, size_t size) {
+    WRITE(to, size);
+    return __real_memset(to, byte, size);
+}
+
 void *__wrap_memcpy(void *to, const void *from, size_t size) {
     LIBRARY_READ(from, size, __wrap_memcpy);
     LIBRARY_WRITE(to, size, __wrap_memcpy);

@@ -261,6 +261,8 @@ def rewritten_store(text, tokens, sign):
         return None
     if any(token.text.startswith("_Cilk_") or token.text in REFUSED for token in tokens[first:last]):
         return None
+    if [token.text for token in tokens[last + 1:last + 3]] == ["}", ")"]:
+        return None  # the value of `({ .. })`
     call = tokens[sign + 1].marker() + text[tokens[sign + 1].start:tokens[last].start]
     target = tokens[first].marker() + text[tokens[first].start:tokens[sign].start]
     store = tokens[sign].marker() + "= __spbags_t; }" + tokens[last].marker()
