@@ -2,6 +2,9 @@
 use clap::{Arg, ArgAction, Command};
 use std::alloc::{AllocError, Global};
 
+/// The program's version: that of the newest release in CHANGELOG.md.
+pub const VERSION: &str = "0.1.0";
+
 const ABOUT: &str = "\
 Finds the determinacy races of a fork-join program in the trace of one run, and answers questions about it.";
 
@@ -29,8 +32,14 @@ changes the report. Its first line is the number of races; a line follows for ea
 location, and the kinds and places of two accesses. Place k stands on line k + 1 of the trace. Location l belongs to
 shard l mod N, where N is the number of shards.
 
+A trace that takes minutes: `pv run.trace | spbags check -` shows how far the reading is (pv is a Debian package). One
+thread reads, and each shard is a thread beside it, so give no more shards than processors are idle. Where locations
+are addresses, --shards 1 is as fast as more and takes no more memory. With --capacity 16384 the threads wait for each
+other less often; it takes a megabyte for each shard.
+
 Examples:
   spbags check run.trace
+  pv run.trace | spbags check --shards 1 --capacity 16384 -
   spbags check --shards 8 --depth 1000 run.trace
 
 Exit status:
@@ -87,7 +96,7 @@ pub fn program<'a>(alloc: Global) -> Result<Command<'a>, AllocError> {
     let program = Command::new(alloc, "spbags")
         .no_binary_name(true)
         .bin_name("spbags")?
-        .version("0.1.0")
+        .version(VERSION)
         .about(ABOUT)
         .after_help(NOTES)
         .subcommand_required(true)

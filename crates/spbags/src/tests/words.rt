@@ -1,6 +1,7 @@
 //! Command lines.
 use super::{assert_left, run, words_of};
 use crate::asking::Asked;
+use crate::commands::VERSION;
 use crate::words::{WordsFault, read_words};
 use std::string::ToString;
 use std::test::Fail;
@@ -201,7 +202,8 @@ fn helps(rt: HostRuntime) -> Result<(), Fail> {
         assert!(rt; !ran.out.is_empty(), "{line}");
     }
     let version = run(&rt, rt.alloc(), "--version", b"", 1)?;
-    assert_left(&rt, &version, 0, b"spbags 0.1.0\n", b"", "--version");
+    let want = format!(in rt.alloc(); "spbags {VERSION}\n")?;
+    assert_left(&rt, &version, 0, want.as_bytes(), b"", "--version");
     Ok(())
 }
 
