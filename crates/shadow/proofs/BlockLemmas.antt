@@ -1,11 +1,13 @@
 -- Blocks in a list by their numbers: where they stand, and what is kept after one seat was put.
-use Rattle.std.proofs.Common.{◌≡◌, ◌≢◌, ℕ, zero, suc, ◌⊎◌, inl, inr, arith, ⊎_elim, List, [], ◌∷◌, Option, None, Some, true, false, cond, if◌then◌else◌, ◌==◌, ◌&&◌, nat_eq, unwrap_or, slice_get, option_map, position, get_or, length, ◌<◌, refl, sym, ap, ◌∙◌}
+use Rattle.std.proofs.Common.{◌≡◌, ◌≢◌, ◌≤◌, ◌+◌, ◌*◌, ◌/◌, ◌%◌, ℕ, zero, suc, ◌⊎◌, inl, inr, arith, ⊎_elim, List, [], ◌∷◌, Option, None, Some, true, false, cond, if◌then◌else◌, ◌==◌, ◌&&◌, nat_eq, unwrap_or, slice_get, option_map, position, get_or, length, ◌<◌, refl, sym, ap, ◌∙◌}
 use Rattle.std.specs.Map.{lookup, keys_of, values_of}
 use Rattle.std.proofs.lemmas.Bool.{eqb-true, eq-eqb, ne_eqb}
 use Rattle.std.proofs.lemmas.Bool.Decides.{eqb_tells}
+use Rattle.std.proofs.lemmas.Nat.{div-add-mod', div-mul-add, mod-mul-add}
+use Rattle.std.proofs.Math.Nat.{mod-lt}
 use Rattle.std.proofs.lemmas.List.Quantifiers.{position-Some}
 use Rattle.shadow.specs.Cells.{Cell}
-use Rattle.shadow.specs.Blocks.{block_of, cell_at, page_of, seat_of, IsBlockAt, HasPut}
+use Rattle.shadow.specs.Blocks.{block_of, cell_at, cell_of, page_of, seat_of, IsBlockAt, HasPut}
 use Rattle.shadow.specs.Found.{with_cell}
 
 -- a number at the place that its look-up gives
@@ -49,27 +51,43 @@ put_changed es fs page seat c b seats looks q k = rw looks (⊎_elim same other 
     other : (nat_eq page q ≡ false) × (page ≢ q) → Changed
     other (is, ne) = rw (is, ne_eqb q page (λ e. ne (sym e))) refl
 
+-- two numbers of a shard's locations that have one block there have seats of their own
+one_number : (a b : ℕ) → a / 64 * 8 + a % 8 ≡ b / 64 * 8 + b % 8 → a / 8 % 8 ≡ b / 8 % 8 → a ≡ b
+one_number a b blocks seats = omega (arith, blocks, seats)
+
 -- two locations of one block have seats of their own
-one_seat : (l q : ℕ) → page_of l ≡ page_of q → seat_of l ≡ seat_of q → l ≡ q
-one_seat l q pages seats = omega (arith, pages, seats)
+one_seat : (n l q : ℕ) → 1 ≤ n → page_of n l ≡ page_of n q → seat_of n l ≡ seat_of n q → l ≡ q
+one_seat n l q some pages seats = sym (div-add-mod' l n) ∙ ap (λ x. x * n + l % n) numbers ∙ ap (λ x. q / n * n + x) shards ∙ div-add-mod' q n
+  where
+    own : ℕ → ℕ
+    own x = x / 64 * 8 + x % 8
+
+    shards : l % n ≡ q % n
+    shards = sym (mod-mul-add (own (l / n)) n (l % n) (mod-lt l some)) ∙ ap (λ x. x % n) pages ∙ mod-mul-add (own (q / n)) n (q % n) (mod-lt q some)
+
+    owns : own (l / n) ≡ own (q / n)
+    owns = sym (div-mul-add (own (l / n)) n (l % n) (mod-lt l some)) ∙ ap (λ x. x / n) pages ∙ div-mul-add (own (q / n)) n (q % n) (mod-lt q some)
+
+    numbers : l / n ≡ q / n
+    numbers = one_number (l / n) (q / n) owns seats
 
 -- a location's cell is a seat of its own, so a put there changes what is kept of no other location
-pub put_is_of : (es fs : List (ℕ × List Cell)) (l : ℕ) (c : Cell) → HasPut (page_of l) (seat_of l) c es fs
-    → (q : ℕ) → cell_at (block_of fs (page_of q)) (seat_of q) ≡ with_cell l c (λ n. cell_at (block_of es (page_of n)) (seat_of n)) q
-put_is_of es fs l c put q = put (page_of q) (seat_of q) ∙ ap (λ t. if t then c else cell_at (block_of es (page_of q)) (seat_of q)) (⊎_elim same other (eqb_tells q l))
+pub put_is_of : (n : ℕ) (es fs : List (ℕ × List Cell)) (l : ℕ) (c : Cell) → 1 ≤ n → HasPut (page_of n l) (seat_of n l) c es fs
+    → (q : ℕ) → cell_of n fs q ≡ with_cell l c (cell_of n es) q
+put_is_of n es fs l c some put q = put (page_of n q) (seat_of n q) ∙ ap (λ t. if t then c else cell_of n es q) (⊎_elim same other (eqb_tells q l))
   where
     One : Type 0
-    One = (page_of q == page_of l && seat_of q == seat_of l) ≡ (q == l)
+    One = (page_of n q == page_of n l && seat_of n q == seat_of n l) ≡ (q == l)
 
     same : (nat_eq q l ≡ true) × (q ≡ l) → One
-    same (is, e) = rw (is, eq-eqb (page_of q) (page_of l) (ap page_of e), eq-eqb (seat_of q) (seat_of l) (ap seat_of e)) refl
+    same (is, e) = rw (is, eq-eqb (page_of n q) (page_of n l) (ap (page_of n) e), eq-eqb (seat_of n q) (seat_of n l) (ap (seat_of n) e)) refl
 
     other : (nat_eq q l ≡ false) × (q ≢ l) → One
-    other (is, ne) = rw is (not_both (eqb_tells (page_of q) (page_of l)) (eqb_tells (seat_of q) (seat_of l)))
+    other (is, ne) = rw is (not_both (eqb_tells (page_of n q) (page_of n l)) (eqb_tells (seat_of n q) (seat_of n l)))
       where
-        not_both : ((nat_eq (page_of q) (page_of l) ≡ true) × (page_of q ≡ page_of l)) ⊎ ((nat_eq (page_of q) (page_of l) ≡ false) × (page_of q ≢ page_of l))
-            → ((nat_eq (seat_of q) (seat_of l) ≡ true) × (seat_of q ≡ seat_of l)) ⊎ ((nat_eq (seat_of q) (seat_of l) ≡ false) × (seat_of q ≢ seat_of l))
-            → (page_of q == page_of l && seat_of q == seat_of l) ≡ false
-        not_both (inl (p, pages)) (inl (s, seats)) = absurd (ne (one_seat q l pages seats))
+        not_both : ((nat_eq (page_of n q) (page_of n l) ≡ true) × (page_of n q ≡ page_of n l)) ⊎ ((nat_eq (page_of n q) (page_of n l) ≡ false) × (page_of n q ≢ page_of n l))
+            → ((nat_eq (seat_of n q) (seat_of n l) ≡ true) × (seat_of n q ≡ seat_of n l)) ⊎ ((nat_eq (seat_of n q) (seat_of n l) ≡ false) × (seat_of n q ≢ seat_of n l))
+            → (page_of n q == page_of n l && seat_of n q == seat_of n l) ≡ false
+        not_both (inl (p, pages)) (inl (s, seats)) = absurd (ne (one_seat n q l some pages seats))
         not_both (inl (p, pages)) (inr (s, seats)) = rw (p, s) refl
         not_both (inr (p, pages)) s = rw p refl

@@ -7,21 +7,26 @@ use Rattle.shadow.specs.Cells.{Cell, untouched}
 abbrev pub cell_at : List Cell → ℕ → Cell
 cell_at cells seat = slice_index_or cells seat untouched
 
--- The number of a location's block. The locations of one block are eight apart.
-abbrev pub page_of : ℕ → ℕ
-page_of l = l / 64 * 8 + l % 8
+-- The number of a location's block, with n shards. A shard's locations are n apart, and location l is the (l / n)th of
+-- them. The locations of one block are one shard's, and eight apart among these.
+abbrev pub page_of : ℕ → ℕ → ℕ
+page_of n l = (l / n / 64 * 8 + l / n % 8) * n + l % n
 
 -- the seat of a location in its block
-abbrev pub seat_of : ℕ → ℕ
-seat_of l = l / 8 % 8
+abbrev pub seat_of : ℕ → ℕ → ℕ
+seat_of n l = l / n / 8 % 8
 
 -- the block of this number, in which nothing is kept where it isn't there
 abbrev pub block_of : List (ℕ × List Cell) → ℕ → List Cell
 block_of blocks page = unwrap_or (lookup (nat_eq page) blocks) []
 
--- what is kept of a location
-abbrev pub cell_of : List (ℕ × List Cell) → ℕ → Cell
-cell_of blocks l = cell_at (block_of blocks (page_of l)) (seat_of l)
+-- what is kept in a seat of the block of this number
+abbrev pub cell_in : List (ℕ × List Cell) → ℕ → ℕ → Cell
+cell_in blocks page seat = cell_at (block_of blocks page) seat
+
+-- what is kept of a location, with n shards
+abbrev pub cell_of : ℕ → List (ℕ × List Cell) → ℕ → Cell
+cell_of n blocks l = cell_in blocks (page_of n l) (seat_of n l)
 
 -- the block of this number stands at this place of the list
 abbrev pub IsBlockAt : List (ℕ × List Cell) → ℕ → ℕ → Type 0
@@ -29,4 +34,4 @@ IsBlockAt blocks place page = slice_get blocks place ≡ Some (page, block_of bl
 
 -- this is kept in one seat of one block, and all else as it was
 abbrev pub HasPut : ℕ → ℕ → Cell → List (ℕ × List Cell) → List (ℕ × List Cell) → Type 0
-HasPut page seat c old new = (q k : ℕ) → cell_at (block_of new q) k ≡ (if q == page && k == seat then c else cell_at (block_of old q) k)
+HasPut page seat c old new = (q k : ℕ) → cell_in new q k ≡ (if q == page && k == seat then c else cell_in old q k)

@@ -9,15 +9,17 @@ use Rattle.shadow.specs.Before.{IsCellBefore}
 use Rattle.shadow.specs.Blocks.{cell_of}
 use Rattle.shadow.specs.Found.{state_after}
 
--- the blocks of the locations that were touched, the place of the last touch, and the count of its bags
+-- how many shards the cells are numbered for, the blocks of the locations that were touched, the place of the last touch,
+-- and the count of its bags
 pub record Memory : Type 0 where
+  pub shards : ℕ
   pub blocks : List (ℕ × List Cell)
   pub last_place : ℕ
   pub least_count : ℕ
 
 -- what is kept of a location
 abbrev pub kept_of : Memory → ℕ → Cell
-kept_of m l = cell_of m.blocks l
+kept_of m l = cell_of m.shards m.blocks l
 
 abbrev pub last_place_of : Memory → ℕ
 last_place_of m = m.last_place

@@ -1,16 +1,13 @@
-//! Blocks of cells: what is kept of eight locations that lie side by side.
+//! Blocks of cells: what is kept of eight locations.
 ghost use Rattle.std.specs.Prelude.{◌≡◌, ◌==◌, ◌<◌, ◌≤◌, ◌+◌, ◌^◌, ℕ, if◌then◌else◌};
 ghost use Rattle.shadow.specs.Before.{IsCellBefore};
-ghost use Rattle.shadow.specs.Blocks.{cell_at, page_of, seat_of};
+ghost use Rattle.shadow.specs.Blocks.{cell_at};
 ghost use Rattle.shadow.specs.Cells.{untouched, race_at, touched};
 
 use crate::cell::Kept;
 use bags::Bags;
 use std::marker::Model;
 use trace::{Kind, Race};
-
-/// How many cells a block has.
-const SEATS: u64 = 8;
 
 /// What is kept of eight locations.
 #[derive(Drop)]
@@ -76,22 +73,4 @@ impl Block {
     {
         self.cells[seat] = kept;
     }
-}
-
-/// The number of the block that has the location's cell. Locations of one block are eight apart, so blocks are
-/// filled by programs whose accesses are one, two, four or eight bytes apart.
-#[inline(always)]
-pub fn page_of(location: u64) -> u64
-    ensures { result ≡ page_of location }
-{
-    location / (8 * SEATS) * 8 + location % 8
-}
-
-/// The seat of the location's cell in its block.
-#[inline(always)]
-pub fn seat_of(location: u64) -> usize
-    ensures seat { result ≡ seat_of location }
-    ensures within { result < 8 }
-{
-    (location / 8 % SEATS) as usize
 }

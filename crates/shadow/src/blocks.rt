@@ -1,11 +1,12 @@
 //! The blocks that were touched, by their numbers.
 ghost use Rattle.std.specs.Prelude.{◌≡◌, ◌<◌, ◌≤◌, ◌+◌, ◌^◌, [], IfSome, IfNone, IsTrue, OnOk, OnErr};
 ghost use Rattle.shadow.specs.Before.{IsCellBefore};
-ghost use Rattle.shadow.specs.Blocks.{block_of, cell_of, page_of, seat_of, IsBlockAt, HasPut};
+ghost use Rattle.shadow.specs.Blocks.{block_of, cell_in, IsBlockAt, HasPut};
 ghost use Rattle.shadow.specs.Cells.{race_at, touched};
 
-use crate::block::{Block, seat_of};
+use crate::block::Block;
 use crate::cell::Kept;
+use crate::spot::Spot;
 use bags::Bags;
 use indexmap::IndexMap;
 use std::alloc::Global;
@@ -16,7 +17,7 @@ use trace::{Kind, NoMemory, Race};
 /// How many places are remembered.
 const SLOTS: u64 = 256;
 
-/// How far apart the numbers of two blocks are whose locations follow one another.
+/// How far apart the numbers among those of a shard are of two blocks whose locations follow one another.
 const NEIGHBOUR: u64 = 8;
 
 /// Blocks by their numbers. Where a late look-up found a block is remembered, and tried first at the next one.
@@ -47,19 +48,18 @@ impl<S: BuildHasher> Blocks<S> {
         }
     }
 
-    /// Where the block of this number stands, if it is there.
+    /// Where the block of this spot stands, if it is there.
     #[inline(always)]
-    pub fn find(&mut self, page: u64) -> Option<usize>
+    pub fn find(&mut self, spot: Spot) -> Option<usize>
         ensures same { self.new ≡ self.old }
-        ensures found { IfSome result (λ i. IsBlockAt self.old i page) }
-        ensures none { IfNone result (block_of self.old page ≡ []) }
+        ensures found { IfSome result (λ i. IsBlockAt self.old i spot.page) }
+        ensures none { IfNone result (block_of self.old spot.page ≡ []) }
     {
-        let slot = slot_of(page);
-        let place = self.recent[slot];
-        if self.is_at(place, page) {
+        let place = self.recent[slot_of(spot.own)];
+        if self.is_at(place, spot.page) {
             return Some(place);
         }
-        self.look_up(slot, page)
+        self.look_up(spot.page, spot.own)
     }
 
     #[inline(always)]
@@ -73,13 +73,13 @@ impl<S: BuildHasher> Blocks<S> {
     }
 
     #[inline(never)]
-    fn look_up(&mut self, slot: usize, page: u64) -> Option<usize>
-        requires { slot < 256 }
+    fn look_up(&mut self, page: u64, own: u64) -> Option<usize>
         ensures same { self.new ≡ self.old }
         ensures found { IfSome result (λ i. IsBlockAt self.old i page) }
         ensures none { IfNone result (block_of self.old page ≡ []) }
     {
-        if let Some(place) = self.behind_its_neighbour(page) {
+        let slot = slot_of(own);
+        if let Some(place) = self.behind_its_neighbour(page, own) {
             self.recent[slot] = place;
             return Some(place);
         }
@@ -88,10 +88,10 @@ impl<S: BuildHasher> Blocks<S> {
 
     // The block's place, if it stands one or two behind the last one found of the neighbour's slot. A program that goes
     // through an array adds its blocks one after another, or by turns with those of the locations between.
-    fn behind_its_neighbour(&self, page: u64) -> Option<usize>
+    fn behind_its_neighbour(&self, page: u64, own: u64) -> Option<usize>
         ensures { IfSome result (λ i. IsBlockAt self.now i page) }
     {
-        let neighbour = self.recent[slot_of(page.wrapping_sub(NEIGHBOUR))];
+        let neighbour = self.recent[slot_of(own.wrapping_sub(NEIGHBOUR))];
         for step in 1..3 {
             let near = neighbour.wrapping_add(step);
             if self.is_at(near, page) {
@@ -112,52 +112,52 @@ impl<S: BuildHasher> Blocks<S> {
         Some(place)
     }
 
-    /// An access of a location whose block stands here: the race that it tells, if any.
+    /// An access of the location of this spot, whose block stands here: the race that it tells, if any.
     #[inline(always)]
     pub fn touch(
         &mut self,
         at: usize,
+        spot: Spot,
         bags: &Bags,
         location: u64,
         kind: Kind,
         place: u64,
     ) -> Option<Race>
-        requires there { IsBlockAt self.old at (page_of location) }
-        requires earlier { IsCellBefore place bags.now.count (cell_of self.old location) }
+        requires there { IsBlockAt self.old at spot.page }
+        requires earlier { IsCellBefore place bags.now.count (cell_in self.old spot.page spot.seat) }
         requires from_one { 1 ≤ place }
         requires to_limit { place ≤ 2 ^ 48 }
-        ensures race { result ≡ race_at bags.now.active location kind place (cell_of self.old location) }
-        ensures kept { HasPut (page_of location) (seat_of location) (touched bags.now.active kind place (cell_of self.old location)) self.old self.new }
-        ensures earlier { IsCellBefore (place + 1) bags.now.count (touched bags.now.active kind place (cell_of self.old location)) }
+        ensures race { result ≡ race_at bags.now.active location kind place (cell_in self.old spot.page spot.seat) }
+        ensures kept { HasPut spot.page spot.seat (touched bags.now.active kind place (cell_in self.old spot.page spot.seat)) self.old self.new }
+        ensures earlier { IsCellBefore (place + 1) bags.now.count (touched bags.now.active kind place (cell_in self.old spot.page spot.seat)) }
     {
         match self.map.get_index_mut(at) {
-            Some(block) => block.touch(seat_of(location), bags, location, kind, place),
+            Some(block) => block.touch(spot.seat, bags, location, kind, place),
             None => unreachable!(),
         }
     }
 
-    /// Adds the block of this number, and keeps this in its seat.
+    /// Adds the block of this spot, and keeps this in its seat.
     ///
     /// On an error nothing has changed.
     #[cold]
     #[inline(never)]
-    pub fn add(&mut self, page: u64, seat: usize, kept: Kept) -> Result<(), NoMemory>
-        requires new { block_of self.old page ≡ [] }
-        requires within { seat < 8 }
-        ensures ok { OnOk result (HasPut page seat kept self.old self.new) }
+    pub fn add(&mut self, spot: Spot, kept: Kept) -> Result<(), NoMemory>
+        requires { block_of self.old spot.page ≡ [] }
+        ensures ok { OnOk result (HasPut spot.page spot.seat kept self.old self.new) }
         ensures err { OnErr result (self.new ≡ self.old) }
     {
         let mut block = Block::untouched();
-        block.put(seat, kept);
-        self.map.insert(page, block).map_err(|_| NoMemory)?;
+        block.put(spot.seat, kept);
+        self.map.insert(spot.page, block).map_err(|_| NoMemory)?;
         Ok(())
     }
 }
 
-// The slot of a block's number. Numbers of blocks that lie side by side have slots of their own.
+// The slot of a block, by its number among those of its shard. Numbers that lie side by side have slots of their own.
 #[inline(always)]
-fn slot_of(page: u64) -> usize
+fn slot_of(own: u64) -> usize
     ensures { result < 256 }
 {
-    ((page / 8 + page % SLOTS) % SLOTS) as usize
+    ((own / 8 + own % SLOTS) % SLOTS) as usize
 }

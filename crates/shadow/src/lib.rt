@@ -6,6 +6,7 @@ mod blocks;
 mod cell;
 mod memory;
 mod rules;
+mod spot;
 
 pub use memory::Shadow;
 pub use rules::apply;

@@ -3,9 +3,9 @@ ghost use Rattle.std.specs.Prelude.{◌≡◌, ℕ, ◌<◌, ◌≤◌, ◌^◌,
 ghost use Rattle.shadow.specs.Cells.{untouched, race_at, touched};
 ghost use Rattle.shadow.specs.Found.{with_cell};
 
-use crate::block::{page_of, seat_of};
 use crate::blocks::Blocks;
 use crate::cell::Kept;
+use crate::spot::spot_of;
 use bags::Bags;
 use std::alloc::Global;
 use std::hash::BuildHasher;
@@ -15,9 +15,11 @@ use trace::{Kind, NoMemory, Race};
 /// The shadow memory of a serial run: the kept writer and the kept reader of each location.
 #[derive(Drop)]
 pub struct Shadow<S: BuildHasher> {
+    shards: u64,
     blocks: Blocks<S>,
     last_place: u64,
     least_count: u64,
+    ghost shards_within: { 1 ≤ shards },
 }
 
 impl<S: BuildHasher> Model for Shadow<S> {
@@ -25,9 +27,9 @@ impl<S: BuildHasher> Model for Shadow<S> {
 
     ghost Value = { Memory };
 
-    ghost view = { λ s. record { blocks = s.blocks; last_place = s.last_place; least_count = s.least_count } };
+    ghost view = { λ s. record { shards = s.shards; blocks = s.blocks; last_place = s.last_place; least_count = s.least_count } };
 
-    ghost invariant = { λ s. IsMemoryBefore (record { blocks = s.blocks; last_place = s.last_place; least_count = s.least_count }) };
+    ghost invariant = { λ s. IsMemoryBefore (record { shards = s.shards; blocks = s.blocks; last_place = s.last_place; least_count = s.least_count }) };
 }
 
 impl<S: BuildHasher> Shadow<S> {
@@ -39,7 +41,19 @@ impl<S: BuildHasher> Shadow<S> {
         ensures last_place { last_place_of result ≡ 0 }
         ensures least_count { least_count_of result ≡ 1 }
     {
+        Shadow::for_shards(alloc, hasher, 1)
+    }
+
+    /// The shadow memory of one of so many shards, of which nothing was touched: its blocks are full where the locations
+    /// of one shard alone are touched. It takes no memory.
+    pub fn for_shards(alloc: Global, hasher: S, shards: u64) -> Shadow<S>
+        requires { 1 ≤ shards }
+        ensures kept { (l : ℕ) → kept_of result l ≡ untouched }
+        ensures last_place { last_place_of result ≡ 0 }
+        ensures least_count { least_count_of result ≡ 1 }
+    {
         Shadow {
+            shards,
             blocks: Blocks::with_hasher(alloc, hasher),
             last_place: 0,
             least_count: 1,
@@ -82,13 +96,13 @@ impl<S: BuildHasher> Shadow<S> {
         ensures err { OnErr result (IsSameMemory self.old self.new) }
         ensures not_there { OnErr result (kept_of self.old location ≡ untouched) }
     {
-        let page = page_of(location);
-        let race = match self.blocks.find(page) {
-            Some(at) => self.blocks.touch(at, bags, location, kind, place),
+        let spot = spot_of(location, self.shards);
+        let race = match self.blocks.find(spot) {
+            Some(at) => self.blocks.touch(at, spot, bags, location, kind, place),
             None => {
                 let mut kept = Kept::untouched();
                 let race = kept.touch(bags, location, kind, place);
-                self.blocks.add(page, seat_of(location), kept)?;
+                self.blocks.add(spot, kept)?;
                 race
             }
         };

@@ -1,0 +1,59 @@
+//! Where the cell of a location lies.
+ghost use Rattle.std.specs.Prelude.{◌≡◌, ◌+◌, ◌*◌, ◌/◌, ◌%◌, ◌<◌, ◌≤◌, ◌^◌};
+ghost use Rattle.shadow.specs.Blocks.{page_of, seat_of};
+
+/// How many cells a block has.
+const SEATS: u64 = 8;
+
+/// Where a location's cell lies.
+#[derive(Clone, Copy)]
+pub struct Spot {
+    /// The number of the block that has the cell.
+    pub page: u64,
+    /// The block's number among those of its shard.
+    pub own: u64,
+    /// The cell's seat in the block.
+    pub seat: usize,
+    ghost within: { seat < 8 },
+}
+
+/// Where the location's cell lies, with so many shards. A division by a number that is known before takes a
+/// multiplication and no division, so the numbers that most often are a count of processors stand here.
+#[inline(always)]
+pub fn spot_of(location: u64, shards: u64) -> Spot
+    requires { 1 ≤ shards }
+    ensures page { result.page ≡ page_of shards location }
+    ensures seat { result.seat ≡ seat_of shards location }
+{
+    if shards == 1 {
+        return spot_at(location, 0, 1);
+    }
+    match shards {
+        2 => spot_at(location / 2, location % 2, 2),
+        3 => spot_at(location / 3, location % 3, 3),
+        4 => spot_at(location / 4, location % 4, 4),
+        6 => spot_at(location / 6, location % 6, 6),
+        8 => spot_at(location / 8, location % 8, 8),
+        12 => spot_at(location / 12, location % 12, 12),
+        16 => spot_at(location / 16, location % 16, 16),
+        32 => spot_at(location / 32, location % 32, 32),
+        64 => spot_at(location / 64, location % 64, 64),
+        _ => spot_at(location / shards, location % shards, shards),
+    }
+}
+
+// Where the cell of a shard's location lies, by its number among those of the shard. Locations of one block are eight
+// apart among these, so blocks are filled by programs whose accesses are one, two, four or eight bytes apart.
+#[inline(always)]
+fn spot_at(number: u64, shard: u64, shards: u64) -> Spot
+    requires { number * shards + shard < 2 ^ 64 }
+    ensures page { result.page ≡ (number / 64 * 8 + number % 8) * shards + shard }
+    ensures seat { result.seat ≡ number / 8 % 8 }
+{
+    let own = number / (8 * SEATS) * 8 + number % 8;
+    Spot {
+        page: own * shards + shard,
+        own,
+        seat: (number / 8 % SEATS) as usize,
+    }
+}
