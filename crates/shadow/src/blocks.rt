@@ -15,17 +15,17 @@ use std::marker::Model;
 use trace::{Kind, NoMemory, Race};
 
 /// How many places are remembered.
-const SLOTS: u64 = 256;
+const SLOTS: usize = 256;
 
-/// How far apart the numbers among those of a shard are of two blocks whose locations follow one another.
-const NEIGHBOUR: u64 = 8;
+/// How many slots before its own a block has that of the block whose locations come before its own.
+const NEIGHBOUR: usize = 9;
 
 /// Blocks by their numbers. Where a late look-up found a block is remembered, and tried first at the next one.
 #[derive(Drop)]
 pub struct Blocks<S: BuildHasher> {
     map: IndexMap<u64, Block, S>,
     // Places in the map, one for all numbers of a slot. None of them is trusted.
-    recent: [usize; 256],
+    recent: [usize; SLOTS],
 }
 
 impl<S: BuildHasher> Model for Blocks<S> {
@@ -44,26 +44,19 @@ impl<S: BuildHasher> Blocks<S> {
     {
         Blocks {
             map: IndexMap::with_hasher(alloc, hasher),
-            recent: [0; 256],
+            recent: [0; SLOTS],
         }
     }
 
-    /// Where the block of this spot stands, if it is there.
+    /// The place that is remembered for the spot's slot. It may be another block's.
     #[inline(always)]
-    pub fn find(&mut self, spot: Spot) -> Option<usize>
-        ensures same { self.new ≡ self.old }
-        ensures found { IfSome result (λ i. IsBlockAt self.old i spot.page) }
-        ensures none { IfNone result (block_of self.old spot.page ≡ []) }
-    {
-        let place = self.recent[slot_of(spot.own)];
-        if self.is_at(place, spot.page) {
-            return Some(place);
-        }
-        self.look_up(spot.page, spot.own)
+    pub fn remembered(&self, spot: Spot) -> usize {
+        self.recent[spot.slot]
     }
 
+    /// Whether the block of this number stands here.
     #[inline(always)]
-    fn is_at(&self, place: usize, page: u64) -> bool
+    pub fn is_at(&self, place: usize, page: u64) -> bool
         ensures { IsTrue result → IsBlockAt self.now place page }
     {
         match self.map.get_index(place) {
@@ -72,14 +65,15 @@ impl<S: BuildHasher> Blocks<S> {
         }
     }
 
+    /// Where the block of this number stands, if it is there. It is remembered for the slot.
     #[inline(never)]
-    fn look_up(&mut self, page: u64, own: u64) -> Option<usize>
+    pub fn look_up(&mut self, slot: usize, page: u64) -> Option<usize>
+        requires { slot < 256 }
         ensures same { self.new ≡ self.old }
         ensures found { IfSome result (λ i. IsBlockAt self.old i page) }
         ensures none { IfNone result (block_of self.old page ≡ []) }
     {
-        let slot = slot_of(own);
-        if let Some(place) = self.behind_its_neighbour(page, own) {
+        if let Some(place) = self.behind_its_neighbour(slot, page) {
             self.recent[slot] = place;
             return Some(place);
         }
@@ -88,10 +82,11 @@ impl<S: BuildHasher> Blocks<S> {
 
     // The block's place, if it stands one or two behind the last one found of the neighbour's slot. A program that goes
     // through an array adds its blocks one after another, or by turns with those of the locations between.
-    fn behind_its_neighbour(&self, page: u64, own: u64) -> Option<usize>
+    fn behind_its_neighbour(&self, slot: usize, page: u64) -> Option<usize>
+        requires { slot < 256 }
         ensures { IfSome result (λ i. IsBlockAt self.now i page) }
     {
-        let neighbour = self.recent[slot_of(own.wrapping_sub(NEIGHBOUR))];
+        let neighbour = self.recent[(slot + SLOTS - NEIGHBOUR) % SLOTS];
         for step in 1..3 {
             let near = neighbour.wrapping_add(step);
             if self.is_at(near, page) {
@@ -137,27 +132,20 @@ impl<S: BuildHasher> Blocks<S> {
         }
     }
 
-    /// Adds the block of this spot, and keeps this in its seat.
+    /// Adds the block of this number, and keeps this in its seat.
     ///
     /// On an error nothing has changed.
     #[cold]
     #[inline(never)]
-    pub fn add(&mut self, spot: Spot, kept: Kept) -> Result<(), NoMemory>
-        requires { block_of self.old spot.page ≡ [] }
-        ensures ok { OnOk result (HasPut spot.page spot.seat kept self.old self.new) }
+    pub fn add(&mut self, page: u64, seat: usize, kept: Kept) -> Result<(), NoMemory>
+        requires new { block_of self.old page ≡ [] }
+        requires within { seat < 8 }
+        ensures ok { OnOk result (HasPut page seat kept self.old self.new) }
         ensures err { OnErr result (self.new ≡ self.old) }
     {
         let mut block = Block::untouched();
-        block.put(spot.seat, kept);
-        self.map.insert(spot.page, block).map_err(|_| NoMemory)?;
+        block.put(seat, kept);
+        self.map.insert(page, block).map_err(|_| NoMemory)?;
         Ok(())
     }
-}
-
-// The slot of a block, by its number among those of its shard. Numbers that lie side by side have slots of their own.
-#[inline(always)]
-fn slot_of(own: u64) -> usize
-    ensures { result < 256 }
-{
-    ((own / 8 + own % SLOTS) % SLOTS) as usize
 }

@@ -97,15 +97,23 @@ impl<S: BuildHasher> Shadow<S> {
         ensures not_there { OnErr result (kept_of self.old location ≡ untouched) }
     {
         let spot = spot_of(location, self.shards);
-        let race = match self.blocks.find(spot) {
-            Some(at) => self.blocks.touch(at, spot, bags, location, kind, place),
-            None => {
-                let mut kept = Kept::untouched();
-                let race = kept.touch(bags, location, kind, place);
-                self.blocks.add(spot, kept)?;
-                race
+        let remembered = self.blocks.remembered(spot);
+        let at = if self.blocks.is_at(remembered, spot.page) {
+            remembered
+        } else {
+            match self.blocks.look_up(spot.slot, spot.page) {
+                Some(found) => found,
+                None => {
+                    let mut kept = Kept::untouched();
+                    let told = kept.touch(bags, location, kind, place);
+                    self.blocks.add(spot.page, spot.seat, kept)?;
+                    self.last_place = place;
+                    self.least_count = bags.count();
+                    return Ok(told);
+                }
             }
         };
+        let race = self.blocks.touch(at, spot, bags, location, kind, place);
         self.last_place = place;
         self.least_count = bags.count();
         Ok(race)

@@ -10,11 +10,12 @@ const SEATS: u64 = 8;
 pub struct Spot {
     /// The number of the block that has the cell.
     pub page: u64,
-    /// The block's number among those of its shard.
-    pub own: u64,
     /// The cell's seat in the block.
     pub seat: usize,
-    ghost within: { seat < 8 },
+    /// The block's slot among the 256 that remember a place each.
+    pub slot: usize,
+    ghost seat_within: { seat < 8 },
+    ghost slot_within: { slot < 256 },
 }
 
 /// Where the location's cell lies, with so many shards. A division by a number that is known before takes a
@@ -25,7 +26,8 @@ pub fn spot_of(location: u64, shards: u64) -> Spot
     ensures page { result.page ≡ page_of shards location }
     ensures seat { result.seat ≡ seat_of shards location }
 {
-    if shards == 1 {
+    // One shard needs no jump by its number.
+    if shards < 2 {
         return spot_at(location, 0, 1);
     }
     match shards {
@@ -53,7 +55,15 @@ fn spot_at(number: u64, shard: u64, shards: u64) -> Spot
     let own = number / (8 * SEATS) * 8 + number % 8;
     Spot {
         page: own * shards + shard,
-        own,
         seat: (number / 8 % SEATS) as usize,
+        slot: slot_of(own),
     }
+}
+
+// The slot of a block, by its number among those of its shard. Numbers that lie side by side have slots of their own.
+#[inline(always)]
+fn slot_of(own: u64) -> usize
+    ensures { result < 256 }
+{
+    ((own / 8 + own % 256) % 256) as usize
 }
