@@ -51,7 +51,7 @@ fn make_ends<S: BuildHasher + Drop>(
     hashers: Vec<S>,
 ) -> Result<Ends<S>, NoMemory>
     requires capacity { (1 ≤ capacity) × (capacity ≤ 65536) }
-    requires shards { vec_len hashers ≤ 64 }
+    requires shards { (1 ≤ vec_len hashers) × (vec_len hashers ≤ 64) }
     ensures { IfOk result (IsTied (vec_len hashers)) }
 {
     let mut ends = Ends {
@@ -59,9 +59,10 @@ fn make_ends<S: BuildHasher + Drop>(
         jobs: Vec::new(alloc),
         backs: Vec::new(alloc),
     };
+    let shards = hashers.len() as u64;
     let mut index = 0;
     for hasher in hashers {
-        add_shard(alloc, capacity, index, hasher, &mut ends)?;
+        add_shard(alloc, capacity, index, shards, hasher, &mut ends)?;
         index += 1;
     }
     Ok(ends)
@@ -71,13 +72,15 @@ fn add_shard<S: BuildHasher + Drop>(
     alloc: Global,
     capacity: usize,
     index: u32,
+    shards: u64,
     hasher: S,
     ends: &mut Ends<S>,
 ) -> Result<(), NoMemory>
-    requires { (1 ≤ capacity) × (capacity ≤ 65536) }
+    requires capacity { (1 ≤ capacity) × (capacity ≤ 65536) }
+    requires shards { 1 ≤ shards }
     ensures { OnOk result ((n : ℕ) → IsTied n ends.old → IsTied (n + 1) ends.new) }
 {
-    let shard = Shard::new(alloc, index, hasher)?;
+    let shard = Shard::of_shards(alloc, index, shards, hasher)?;
     let (sender, taker) = lane(alloc, capacity)?;
     let (back, gatherer) = lane(alloc, capacity)?;
     ends.senders.push(sender).map_err(|_| NoMemory)?;

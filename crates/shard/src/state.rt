@@ -1,5 +1,5 @@
 //! The state of a shard: the records that it has taken, as bags and shadow memory.
-ghost use Rattle.std.specs.Prelude.{◌≡◌, ◌↔◌, ◌+◌, ◌<◌, List, [], ◌∷◌, ◌++◌, IsTrue, IfOk, IfSome, OnOk, OnErr};
+ghost use Rattle.std.specs.Prelude.{◌≡◌, ◌↔◌, ◌+◌, ◌<◌, ◌≤◌, List, [], ◌∷◌, ◌++◌, IsTrue, IfOk, IfSome, OnOk, OnErr};
 ghost use Rattle.std.specs.Option.{option_to_list};
 ghost use Rattle.trace.specs.declared.records.Placed.{Placed};
 ghost use Rattle.shadow.specs.Found.{found};
@@ -46,10 +46,25 @@ impl<S: BuildHasher + Drop> Shard<S> {
         ensures new { IfOk result IsNew }
         ensures index { IfOk result (λ shard. shard.index ≡ index) }
     {
+        Shard::of_shards(alloc, index, 1, hasher)
+    }
+
+    /// The shard of this number among so many, before its first record. It takes any location, and the least memory where
+    /// it takes only those that are this shard's.
+    pub fn of_shards(
+        alloc: Global,
+        index: u32,
+        shards: u64,
+        hasher: S,
+    ) -> Result<Shard<S>, NoMemory>
+        requires { 1 ≤ shards }
+        ensures new { IfOk result IsNew }
+        ensures index { IfOk result (λ shard. shard.index ≡ index) }
+    {
         Ok(Shard {
             index,
             bags: Bags::new(alloc)?,
-            shadow: Shadow::with_hasher(alloc, hasher),
+            shadow: Shadow::for_shards(alloc, hasher, shards),
             last_place: 0,
             ended: false,
             taken: 0,
