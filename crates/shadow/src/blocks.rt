@@ -149,3 +149,34 @@ impl<S: BuildHasher> Blocks<S> {
         Ok(())
     }
 }
+
+#[cfg(test)]
+mod tests {
+    use super::*;
+    use crate::spot::spot_of;
+    use std::hash::{BuildHasherDefault, FoldHasher};
+    use std::test::Fail;
+
+    /// How many blocks 10,000 locations take that follow one another in the third of so many shards.
+    fn blocks_taken(alloc: Global, shards: u64) -> Result<usize, Fail> {
+        let mut blocks = Blocks::with_hasher(alloc, BuildHasherDefault::<FoldHasher>::default());
+        for number in 0..10_000u64 {
+            if 1 <= shards && shards <= 64 {
+                let spot = spot_of(number.wrapping_mul(shards).wrapping_add(2), shards);
+                if blocks.look_up(spot.slot, spot.page).is_none() {
+                    blocks.add(spot.page, spot.seat, Kept::untouched())?;
+                }
+            }
+        }
+        Ok(blocks.map.len())
+    }
+
+    #[test]
+    fn blocks_are_full(rt: HostRuntime) -> Result<(), Fail> {
+        for shards in [1, 2, 3, 4, 5, 6, 8, 12, 16, 32, 61, 64] {
+            let taken = blocks_taken(rt.alloc(), shards)?;
+            assert!(rt; 1250 <= taken && taken <= 1264, "{shards}");
+        }
+        Ok(())
+    }
+}
