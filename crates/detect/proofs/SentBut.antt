@@ -1,12 +1,32 @@
--- What was sent but for the records in the block.
-use Rattle.std.proofs.Common.{◌≡◌, List, [], ◌++◌, sym, ap, ◌∙◌, append-nil}
+-- What was sent but for the records in the batch.
+use Rattle.std.proofs.Common.{◌≡◌, ℕ, List, [], ◌∷◌, ◌++◌, sym, ap, ◌∙◌, append-nil, append_assoc, subst, arith}
 use Rattle.trace.specs.declared.records.Placed.{Placed}
-use Rattle.route.specs.declared.block.Block.{Block}
+use Rattle.trace.specs.Shares.{share}
+use Rattle.route.specs.declared.batch.Batch.{Batch}
 use Rattle.route.specs.declared.routing.Router.{Router}
-use Rattle.route.specs.Blocks.{records_in}
+use Rattle.route.specs.Batches.{part_of, HasStaged, HasSameParts}
 use Rattle.route.specs.Routers.{HasSent}
 use Rattle.detect.specs.Sent.{HasSentBut}
 
--- the block is empty
-pub none_but : (b : Block) (w : List Placed) (r : Router) → records_in b ≡ [] → HasSent w r → HasSentBut b w r
-none_but b w r none h = (w, sym (append-nil w) ∙ ap (λ (l : List Placed). w ++ l) (sym none), h)
+-- nothing is staged
+pub none_but : (b : Batch) (w : List Placed) (r : Router) → HasStaged [] b → HasSent w r → HasSentBut b w r
+none_but b w r none h = record { front = w; last = []; whole = sym (append-nil w); sent = h; staged = none }
+
+-- one more is staged
+pub one_more_but : (old new : Batch) (w : List Placed) (p : Placed) (r : Router) → ((us : List Placed) → HasStaged us old → HasStaged (us ++ p ∷ []) new) → HasSentBut old w r → HasSentBut new (w ++ p ∷ []) r
+one_more_but old new w p r joined h = record {
+  front = h.front;
+  last = h.last ++ p ∷ [];
+  whole = ap (λ (l : List Placed). l ++ p ∷ []) h.whole ∙ append_assoc h.front h.last (p ∷ []);
+  sent = h.sent;
+  staged = joined h.last h.staged;
+}
+
+-- the same is staged
+pub staged_same : (old new : Batch) (us : List Placed) → HasSameParts old new → HasStaged us old → HasStaged us new
+staged_same old new us same h k lt =
+    let P : ℕ → Type 0 = λ n. part_of old k ≡ share k n us in
+    same.parts k ∙ subst P (sym same.lanes) (h k (omega (arith, lt, same.lanes)))
+
+pub same_parts_trans : (a b c : Batch) → HasSameParts a b → HasSameParts b c → HasSameParts a c
+same_parts_trans a b c h k = record { lanes = k.lanes ∙ h.lanes; parts = λ j. k.parts j ∙ h.parts j }

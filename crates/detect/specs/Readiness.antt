@@ -2,6 +2,7 @@
 use Rattle.std.specs.Prelude.{◌≡◌, ℕ, ◌≤◌, [], length, map, None, vec_len, vec_capacity}
 use Rattle.std.specs.List.{All, AllByRecursion}
 use Rattle.lane.specs.Lanes.{lane_of, put_of, taken_of, taker_lane}
+use Rattle.route.specs.Batches.{batch_lanes, HasStaged, IsUnsent}
 use Rattle.route.specs.Routers.{lanes_of, lane_count, pending_of, marked_of, HasSent}
 use Rattle.detect.specs.declared.made.Ends.{Ends}
 use Rattle.detect.specs.declared.made.Made.{Made}
@@ -28,6 +29,9 @@ module _ {S H : Type 0} where
     pub idle : pending_of made.router ≡ None
     pub unmarked : marked_of made.router ≡ 0
     pub none_sent : HasSent [] made.router
+    pub batch_lanes_are : batch_lanes made.batch ≡ n
+    pub none_staged : HasStaged [] made.batch
+    pub unsent : IsUnsent made.batch
     pub to_shards_are : to_shards made.jobs.items ≡ lanes_of made.router
     pub from_shards_are : from_shards made.jobs.items ≡ back_lanes made.gathering
     pub new : AllNew made.jobs.items

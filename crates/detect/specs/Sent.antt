@@ -8,9 +8,9 @@ use Rattle.trace.specs.declared.faults.Fault.TheVariants.{NoThread}
 use Rattle.trace.specs.Feeding.{IsWhole}
 use Rattle.trace.specs.Runs.{FailsBy}
 use Rattle.trace.specs.declared.records.Placed.{Placed}
-use Rattle.route.specs.declared.block.Block.{Block}
+use Rattle.route.specs.declared.batch.Batch.{Batch}
 use Rattle.route.specs.declared.routing.Router.{Router}
-use Rattle.route.specs.Blocks.{records_in}
+use Rattle.route.specs.Batches.{HasStaged}
 use Rattle.route.specs.Routers.{HasSent}
 
 -- the bytes that came are the text of a trace that is well nested within the limits, they are all that the
@@ -22,9 +22,13 @@ pub record HasSentAll (records depths : ℕ) (before after : Option (List ℕ)) 
   pub whole : IsWhole records depths trace came after
   pub sent : HasSent (placed trace) router
 
--- all of w was sent but the records in the block, which are its last
-abbrev pub HasSentBut : Block → List Placed → Router → Type 0
-HasSentBut block w router = (front : List Placed) × (w ≡ front ++ records_in block) × HasSent front router
+-- all of w was sent but the records that are staged in the batch, which are its last
+pub record HasSentBut (batch : Batch) (w : List Placed) (router : Router) : Type 0 where
+  pub front : List Placed
+  pub last : List Placed
+  pub whole : w ≡ front ++ last
+  pub sent : HasSent front router
+  pub staged : HasStaged last batch
 
 -- no thread could be started, no memory was left, or the fault is the first; or the source failed before any fault
 abbrev pub FailsInRun : ℕ → ℕ → Option (List ℕ) → Option (List ℕ) → ℕ → ℕ → Fault → Type 0

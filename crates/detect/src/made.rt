@@ -2,7 +2,7 @@
 use crate::gathering::Gathering;
 use crate::jobs::{Job, WorkOf};
 use lane::{Sender, Taker};
-use route::Router;
+use route::{Batch, Router};
 use shard::{Back, Worked};
 use std::hash::BuildHasher;
 use std::thread::PromisedHandle;
@@ -20,6 +20,7 @@ pub(crate) struct Ends<S: BuildHasher + Drop> {
 #[derive(Drop)]
 pub(crate) struct Made<S: BuildHasher + Drop> {
     pub(crate) router: Router,
+    pub(crate) batch: Batch,
     pub(crate) gathering: Gathering,
     pub(crate) jobs: Vec<Job<S>>,
     pub(crate) handles: Vec<PromisedHandle<Worked<S>, WorkOf>>,

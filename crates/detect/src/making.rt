@@ -8,13 +8,13 @@ use crate::jobs::Job;
 use crate::made::{Ends, Lists, Made};
 use collect::Collector;
 use lane::lane;
-use route::Router;
+use route::{Batch, Router};
 use shard::Shard;
 use std::alloc::Global;
 use std::hash::BuildHasher;
 use trace::NoMemory;
 
-/// Makes the lanes, the router, the shards, and room for what comes of the workers.
+/// Makes the lanes, the router and its batch, the shards, and room for what comes of the workers.
 pub(crate) fn make<S: BuildHasher + Drop>(
     alloc: Global,
     capacity: u32,
@@ -33,6 +33,7 @@ pub(crate) fn make<S: BuildHasher + Drop>(
     } = ends;
     Ok(Made {
         router: Router::new(alloc, senders)?,
+        batch: Batch::new(alloc, count)?,
         gathering: Gathering {
             backs,
             collector: Collector::new(alloc),

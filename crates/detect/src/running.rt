@@ -36,13 +36,14 @@ where
 {
     let Made {
         mut router,
+        mut batch,
         mut gathering,
         jobs,
         mut handles,
         mut workers,
     } = made;
     let outcome = match start_all(rt, scope, gate, jobs, &mut handles) {
-        Ok(()) => send_all(rt, limits, reader, &mut router, &mut gathering),
+        Ok(()) => send_all(rt, limits, reader, &mut router, &mut batch, &mut gathering),
         Err(NoThread) => Err(Fault::NoThread),
     };
     mark_all(rt, &mut router, &mut gathering);

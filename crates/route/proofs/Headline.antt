@@ -8,7 +8,7 @@ use Rattle.lane.proofs.Marks.{records-append, all_taken, mark_last_more, no_mark
 use Rattle.trace.specs.declared.records.Placed.{Placed}
 use Rattle.trace.specs.Shares.{goes_placed, share}
 use Rattle.trace.proofs.Once.{AllAbove, Rises, Rises-from, increasing-from_rises}
-use Rattle.route.specs.Routed.{IsRising, HasShare, HasWholeShare, TakesShare}
+use Rattle.route.specs.Routed.{IsRising, HasShare, TakesShare}
 use Rattle.route.proofs.Rising.{rising_front}
 use Rattle.route.proofs.LaneShares.{Routes}
 
@@ -47,17 +47,18 @@ mark_within (Finish ∷ xs) rest h = refl
 mark_of_front : (taken put : List (Item Placed)) → IsBeginning taken put → has_mark taken ≡ true → has_mark put ≡ true
 mark_of_front taken put (r, e) h = ap has_mark e ∙ mark_within taken r h
 
--- with the mark it is all that was put
-all_of_lane : (n : ℕ) (on : ℕ → List (Item Placed)) (u : List Placed) (k : ℕ) (taken : List (Item Placed)) → IsBeginning taken (on k) → HasWholeShare n on u k → has_mark taken ≡ true → taken ≡ on k
-all_of_lane n on u k taken front whole h = all_taken taken (on k) front (ap mark_last whole.whole ∙ mark_last_more (map One (share k n u)) Finish (no_mark_in (share k n u))) h
-
-pub takes_share : (n : ℕ) (on : ℕ → List (Item Placed)) (u : List Placed) (k : ℕ) (taken : List (Item Placed)) → k < n → Routes n on u → IsBeginning taken (on k) → TakesShare n u k taken (on k)
-takes_share n on u k taken l routes front =
-    let begins = beginning-trans (records taken) (records (on k)) (share k n u) (records-front taken (on k) front) (put_front n on u k (routes.shares k l)) in
-    let all : has_mark taken ≡ true → taken ≡ on k = λ h. all_of_lane n on u k taken front (routes.marks k l (mark_of_front taken (on k) front h)) h in
+-- a lane has a beginning of its share of u, and with the mark that share whole
+pub takes : (n : ℕ) (u : List Placed) (k : ℕ) (taken put : List (Item Placed)) → IsRising u → IsBeginning (records put) (share k n u) → (has_mark put ≡ true → put ≡ map One (share k n u) ++ Finish ∷ []) → IsBeginning taken put → TakesShare n u k taken put
+takes n u k taken put rising begins marked front =
+    let within = beginning-trans (records taken) (records put) (share k n u) (records-front taken put front) begins in
+    let whole : has_mark taken ≡ true → put ≡ map One (share k n u) ++ Finish ∷ [] = λ h. marked (mark_of_front taken put front h) in
+    let all : has_mark taken ≡ true → taken ≡ put = λ h. all_taken taken put front (ap mark_last (whole h) ∙ mark_last_more (map One (share k n u)) Finish (no_mark_in (share k n u))) h in
     record {
-      front = begins;
-      each_once = rising_front (records taken) begins.0 (subst IsRising begins.1 (rising_share k n u routes.routed.rising));
-      whole = λ h. all h ∙ (routes.marks k l (mark_of_front taken (on k) front h)).whole;
+      front = within;
+      each_once = rising_front (records taken) within.0 (subst IsRising within.1 (rising_share k n u rising));
+      whole = λ h. all h ∙ whole h;
       none_more = λ h. sym (all h);
     }
+
+pub takes_share : (n : ℕ) (on : ℕ → List (Item Placed)) (u : List Placed) (k : ℕ) (taken : List (Item Placed)) → k < n → Routes n on u → IsBeginning taken (on k) → TakesShare n u k taken (on k)
+takes_share n on u k taken l routes front = takes n u k taken (on k) routes.routed.rising (put_front n on u k (routes.shares k l)) (λ h. (routes.marks k l h).whole) front

@@ -17,12 +17,15 @@ use Rattle.route.specs.Routed.{IsRising, in_hand, IsOnSome, IsRouted, IsBeingSen
 use Rattle.route.proofs.Rising.{Contains-here, Contains-later, Contains-cases, Ordered-from_rising, rising_front, last_above, same_records}
 
 -- the records and the mark of a lane
-records-ones : (xs : List Placed) (b : Bool) → records (map One xs ++ cond b (Finish ∷ []) []) ≡ xs
+pub records-ones : (xs : List Placed) (b : Bool) → records (map One xs ++ cond b (Finish ∷ []) []) ≡ xs
 records-ones [] true = refl
 records-ones [] false = refl
 records-ones (x ∷ xs) b = ap (λ (l : List Placed). x ∷ l) (records-ones xs b)
 
-has_mark-ones : (xs : List Placed) (b : Bool) → has_mark (map One xs ++ cond b (Finish ∷ []) []) ≡ b
+pub records-map : (xs : List Placed) → records (map One xs) ≡ xs
+records-map xs = ap records (sym (append-nil (map One xs))) ∙ records-ones xs false
+
+pub has_mark-ones : (xs : List Placed) (b : Bool) → has_mark (map One xs ++ cond b (Finish ∷ []) []) ≡ b
 has_mark-ones [] true = refl
 has_mark-ones [] false = refl
 has_mark-ones (x ∷ xs) b = has_mark-ones xs b
@@ -39,7 +42,7 @@ in_either : (b : Bool) (p q : Placed) (l : List Placed) → Contains l q → Con
 in_either true p q l h = Contains-later p q l h
 in_either false p q l h = h
 
-Contains-filter : (f : Placed → Bool) (u : List Placed) (q : Placed) → Contains u q → f q ≡ true → Contains (filter f u) q
+pub Contains-filter : (f : Placed → Bool) (u : List Placed) (q : Placed) → Contains u q → f q ≡ true → Contains (filter f u) q
 Contains-filter f [] q h g = absurd (Contains-nil q h)
 Contains-filter f (p ∷ u) q h g =
     ⊎_elim
@@ -47,11 +50,11 @@ Contains-filter f (p ∷ u) q h g =
     subst P (sym (cond-true (f p) (p ∷ filter f u) (filter f u) (ap f e ∙ g))) (let Q : Placed → Type 0 = λ x. Contains (p ∷ filter f u) x in subst Q e (Contains-here p (filter f u))))
     (λ (m : Contains u q). let rest : Contains (filter f u) q = Contains-filter f u q m g in in_either (f p) p q (filter f u) rest) (Contains-cases p q u h)
 
-Contains-unfilter : (f : Placed → Bool) (u : List Placed) (q : Placed) → Contains (filter f u) q → Contains u q
+pub Contains-unfilter : (f : Placed → Bool) (u : List Placed) (q : Placed) → Contains (filter f u) q → Contains u q
 Contains-unfilter f u q h = All-contains (Contains u) (filter f u) q (All-filter f (Contains u) u (All-contains_itself u)) h
 
 -- a record of the list stands on a lane that it goes to, and on each such lane
-on_its_lane : (n : ℕ) (u : List Placed) (q : Placed) → 0 < n → Contains u q → (k : ℕ) × (k < n) × Contains (share k n u) q
+pub on_its_lane : (n : ℕ) (u : List Placed) (q : Placed) → 0 < n → Contains u q → (k : ℕ) × (k < n) × Contains (share k n u) q
 on_its_lane n u q h m = let g = goes_somewhere n q.what h in (g.0, g.1, Contains-filter (goes_placed g.0 n) u q m g.2)
 
 only_one : (n : ℕ) (on : ℕ → List (Item Placed)) (u v : List Placed) → IsRouted n on u → IsRouted n on v → v ≡ u
@@ -71,7 +74,7 @@ module _ (n : ℕ) (on : ℕ → List (Item Placed)) (w : List Placed) (some : 0
   in_from : (q : Placed) → IsOnSome n on q → Contains w q
   in_from q (k, l, m) = let P : List Placed → Type 0 = λ l. Contains l q in Contains-unfilter (goes_placed k n) w q (subst P (same k l) m)
 
-  none_sent : (q : Placed) → IsBeingSent n on q → ⊥
+  pub none_sent : (q : Placed) → IsBeingSent n on q → ⊥
   none_sent q s =
       let P : List Placed → Type 0 = λ l. Contains l q in
       let lane = s.unfinished in

@@ -1,9 +1,15 @@
 pub mod Lists
-pub mod Blocks
 pub mod Sent
 pub mod Rising
 pub mod LaneShares
 pub mod RunFronts
 pub mod MarksLast
 pub mod Headline
+pub mod Staging
+pub mod BatchParts
+pub mod BatchSent
 pub mod RunLists
+pub mod BatchFronts
+pub mod Batches
+pub mod OneByOne
+pub mod Sendings

@@ -9,13 +9,13 @@ use Rattle.trace.specs.declared.records.Placed.{Placed}
 use Rattle.trace.proofs.Lists.{Contains-nil}
 use Rattle.route.specs.Routed.{IsRising}
 
-pub Contains-here : (p : Placed) (u : List Placed) → Contains (p ∷ u) p
+pub Contains-here : {A : Type 0} (p : A) (u : List A) → Contains (p ∷ u) p
 Contains-here p u = (0, omega arith, refl)
 
-pub Contains-later : (p q : Placed) (u : List Placed) → Contains u q → Contains (p ∷ u) q
+pub Contains-later : {A : Type 0} (p q : A) (u : List A) → Contains u q → Contains (p ∷ u) q
 Contains-later p q u (k, l, e) = (suc k, omega arith, e)
 
-pub Contains-cases : (p q : Placed) (u : List Placed) → Contains (p ∷ u) q → (p ≡ q) ⊎ Contains u q
+pub Contains-cases : {A : Type 0} (p q : A) (u : List A) → Contains (p ∷ u) q → (p ≡ q) ⊎ Contains u q
 Contains-cases p q u (zero, l, e) = inl e
 Contains-cases p q u (suc k, l, e) = inr (k, omega arith, e)
 

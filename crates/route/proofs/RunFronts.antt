@@ -119,7 +119,7 @@ pub record Front (n : ℕ) (w : List Placed) (s : Sends) : Type 0 where
   pub unmarked : (p : Placed) → pending ≡ Some p → marked ≡ 0
   pub sent : AllSent n v turn pending marked (λ k. of_lane k s)
 
-mark_of-none : (k : ℕ) → mark_of k 0 ≡ []
+pub mark_of-none : (k : ℕ) → mark_of k 0 ≡ []
 mark_of-none k = cond-false (nat_lt k 0) (Finish ∷ []) [] (le-ltb k 0 (omega arith))
 
 pub cut_front : {X : Type 0} (s r a : List X) (n : ℕ) → length a ≡ n → s ++ r ≡ a → (s ≡ take (length s) a) × (length s ≤ n)

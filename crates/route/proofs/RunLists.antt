@@ -1,17 +1,19 @@
 -- Along a run: what was taken from a lane and what it holds is what was put on it.
 use Rattle.std.proofs.Common.{◌≡◌, ℕ, ◌==◌, Bool, true, false, cond, List, [], ◌∷◌, ◌++◌, length, map, drop, ◌<◌, arith, refl, sym, ap, ap₂, subst, ◌∙◌, append_assoc, append-nil}
+use Rattle.std.specs.List.{range_with_len, flat_map}
 use Rattle.std.proofs.lemmas.List.Sums.{fold-append}
 use Rattle.std.proofs.lemmas.Bool.{eqb-true}
 use Rattle.std.proofs.lemmas.List.{length-append}
 use Rattle.lane.specs.declared.item.Item.{Item}
-use Rattle.lane.specs.Items.{IsBeginning}
+use Rattle.lane.specs.declared.item.Item.TheVariants.{Finish}
+use Rattle.lane.specs.Items.{has_mark, IsBeginning}
 use Rattle.trace.specs.declared.records.Placed.{Placed}
 use Rattle.route.specs.Routed.{IsRising}
-use Rattle.route.specs.Runs.{Event, put, take, puts_in, takes_in, of_lane, put_list, taken_list, held_after, held, IsAllowed, IsRun, put_event, sending}
+use Rattle.route.specs.Runs.{Event, put, take, puts_in, takes_in, of_lane, put_list, taken_list, held_after, held, IsAllowed, IsRun, put_event, sending_of, sending}
 use Rattle.route.proofs.LaneShares.{Outcome, outcome}
 use Rattle.route.proofs.Rising.{rising_front}
-use Rattle.route.proofs.RunFronts.{of_lane-append, Front, front}
-use Rattle.route.proofs.MarksLast.{never_marked}
+use Rattle.route.proofs.RunFronts.{Sends, of_lane-append, Front, front}
+use Rattle.route.proofs.MarksLast.{Unmarked, never_marked, unmarked_sending}
 
 puts_in-append : (es fs : List Event) → puts_in (es ++ fs) ≡ puts_in es ++ puts_in fs
 puts_in-append [] fs = refl
@@ -53,27 +55,37 @@ kept-push k es (take j x) (rest, oldest) h =
     ∙ after_take (j == k) (put_list es k) (taken_list es k) (held es k) rest x (λ b. let P : ℕ → Type 0 = λ i. held es i ≡ x ∷ rest in subst P (eqb-true j k b) oldest) h
     ∙ sym (ap₂ (λ (a b : List (Item Placed)). a ++ b) (taken_list-push es (take j x) k) (held-push es (take j x) k))
 
-kept_along : (k : ℕ) (es before after : List Event) → ((b a : List Event) (e : Event) → es ≡ b ++ e ∷ a → IsAllowed b e) → es ≡ before ++ after → Kept k before → Kept k es
+-- each event is allowed after those before it
+abbrev pub AllAllowed : List Event → Type 0
+AllAllowed es = (before after : List Event) (e : Event) → es ≡ before ++ e ∷ after → IsAllowed before e
+
+kept_along : (k : ℕ) (es before after : List Event) → AllAllowed es → es ≡ before ++ after → Kept k before → Kept k es
 kept_along k es before [] allowed split h = subst (Kept k) (sym (split ∙ append-nil before)) h
 kept_along k es before (e ∷ after) allowed split h = kept_along k es (before ++ e ∷ []) after allowed (split ∙ sym (append_assoc before (e ∷ []) after)) (kept-push k before e (allowed before after e split) h)
 
-pub taken_front : (n k : ℕ) (w : List Placed) (es : List Event) → IsRun n w es → IsBeginning (taken_list es k) (put_list es k)
-taken_front n k w es run = (held es k, kept_along k es [] es run.allowed refl refl)
+pub taken_front : (k : ℕ) (es : List Event) → AllAllowed es → IsBeginning (taken_list es k) (put_list es k)
+taken_front k es allowed = (held es k, kept_along k es [] es allowed refl refl)
 
 -- what was taken up to an earlier point
-pub taken_before : (n k : ℕ) (w : List Placed) (before after : List Event) → IsRun n w (before ++ after) → IsBeginning (taken_list before k) (put_list (before ++ after) k)
-taken_before n k w before after run =
-    let front = taken_front n k w (before ++ after) run in
+pub taken_before : (k : ℕ) (before after : List Event) → AllAllowed (before ++ after) → IsBeginning (taken_list before k) (put_list (before ++ after) k)
+taken_before k before after allowed =
+    let front = taken_front k (before ++ after) allowed in
     let more : taken_list (before ++ after) k ≡ taken_list before k ++ of_lane k (takes_in after) = ap (of_lane k) (takes_in-append before after) ∙ of_lane-append k (takes_in before) (takes_in after) in
     (of_lane k (takes_in after) ++ front.0, front.1 ∙ ap (λ (l : List (Item Placed)). l ++ front.0) more ∙ append_assoc (taken_list before k) (of_lane k (takes_in after)) front.0)
+
+pub allowed_earlier : (before after : List Event) → AllAllowed (before ++ after) → AllAllowed before
+allowed_earlier before after allowed = λ b a e split. allowed b (a ++ after) e (ap (λ (l : List Event). l ++ after) split ∙ append_assoc b (e ∷ a) after)
+
+pub order_earlier : (s : Sends) (before after : List Event) → IsBeginning (puts_in (before ++ after)) s → IsBeginning (puts_in before) s
+order_earlier s before after (rest, e) = (puts_in after ++ rest, e ∙ ap (λ (l : Sends). l ++ rest) (puts_in-append before after) ∙ append_assoc (puts_in before) (puts_in after) rest)
 
 -- a beginning of a run is a run
 pub earlier : (n : ℕ) (w : List Placed) (before after : List Event) → IsRun n w (before ++ after) → IsRun n w before
 earlier n w before after run = record {
   some = run.some;
   rising = run.rising;
-  allowed = λ b a e split. run.allowed b (a ++ after) e (ap (λ (l : List Event). l ++ after) split ∙ append_assoc b (e ∷ a) after);
-  in_order = (puts_in after ++ run.in_order.0, run.in_order.1 ∙ ap (λ (l : List (ℕ × Item Placed)). l ++ run.in_order.0) (puts_in-append before after) ∙ append_assoc (puts_in before) (puts_in after) run.in_order.0);
+  allowed = allowed_earlier before after run.allowed;
+  in_order = order_earlier (sending n w) before after run.in_order;
 }
 
 -- where a run stands
@@ -94,17 +106,25 @@ takes_in-events : (s : List (ℕ × Item Placed)) → takes_in (map put_event s)
 takes_in-events [] = refl
 takes_in-events (e ∷ s) = takes_in-events s
 
-allowed_put : (n : ℕ) (w : List Placed) (before after : List Event) (e : Event) → map put_event (sending n w) ≡ before ++ e ∷ after → IsAllowed before e
-allowed_put n w before after (put k x) split = never_marked n k x w (puts_in before) (puts_in after) (sym (puts_in-append before (put k x ∷ after)) ∙ ap puts_in (sym split) ∙ puts_in-events (sending n w))
-allowed_put n w before after (take k x) split =
-    let none : takes_in before ++ (k, x) ∷ takes_in after ≡ [] = sym (takes_in-append before (take k x ∷ after)) ∙ ap takes_in (sym split) ∙ takes_in-events (sending n w) in
+-- puts are allowed where nothing is sent to a lane after its mark
+allowed_put : (s : Sends) → ((k : ℕ) (x : Item Placed) (t r : Sends) → t ++ (k, x) ∷ r ≡ s → has_mark (of_lane k t) ≡ false) → (before after : List Event) (e : Event) → map put_event s ≡ before ++ e ∷ after → IsAllowed before e
+allowed_put s never before after (put k x) split = never k x (puts_in before) (puts_in after) (sym (puts_in-append before (put k x ∷ after)) ∙ ap puts_in (sym split) ∙ puts_in-events s)
+allowed_put s never before after (take k x) split =
+    let none : takes_in before ++ (k, x) ∷ takes_in after ≡ [] = sym (takes_in-append before (take k x ∷ after)) ∙ ap takes_in (sym split) ∙ takes_in-events s in
     let long : length (takes_in before ++ (k, x) ∷ takes_in after) ≡ 0 = ap length none in absurd (omega (arith, length-append (takes_in before) ((k, x) ∷ takes_in after)))
+
+-- where the marks come last, the puts one by one are allowed and in order
+pub allowed_puts : (n : ℕ) (a : Sends) → Unmarked a → AllAllowed (map put_event (a ++ map (λ k. (k, Finish)) (range_with_len 0 n)))
+allowed_puts n a none = λ before after e split. allowed_put (a ++ map (λ k. (k, Finish)) (range_with_len 0 n)) (λ k x t r is. never_marked n k x a t r none is) before after e split
+
+pub order_puts : (s : Sends) → IsBeginning (puts_in (map put_event s)) s
+order_puts s = ([], sym (append-nil (puts_in (map put_event s)) ∙ puts_in-events s))
 
 -- all that is sent, put by put, is a run
 pub whole_run : (n : ℕ) (w : List Placed) → 0 < n → IsRising w → IsRun n w (map put_event (sending n w))
 whole_run n w some rising = record {
   some = some;
   rising = rising;
-  allowed = λ before after e split. allowed_put n w before after e split;
-  in_order = ([], sym (append-nil (puts_in (map put_event (sending n w))) ∙ puts_in-events (sending n w)));
+  allowed = allowed_puts n (flat_map (sending_of n) w) (unmarked_sending n w);
+  in_order = order_puts (sending n w);
 }

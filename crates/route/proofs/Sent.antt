@@ -1,6 +1,6 @@
 -- What stands on the lanes after a put.
-use Rattle.std.proofs.Common.{◌≡◌, ℕ, ◌+◌, ◌<◌, ◌≤◌, Bool, true, false, cond, ◌&&◌, nat_lt, ◌==◌, List, [], ◌∷◌, ◌++◌, length, map, refl, sym, ap, subst, ◌∙◌, Option, Some, None, append-nil, ◌⊎◌, ⊎_elim, arith}
-use Rattle.std.proofs.lemmas.Bool.{cases_eq, cases_order, lt-ltb, le-ltb, eq-eqb, ne_eqb, cond-true, cond-false, and_left}
+use Rattle.std.proofs.Common.{◌≡◌, ℕ, ◌+◌, ◌<◌, ◌≤◌, Bool, true, false, cond, ◌&&◌, nat_lt, List, [], ◌∷◌, ◌++◌, length, map, sym, ap, subst, ◌∙◌, Option, Some, None, append-nil, ◌⊎◌, ⊎_elim, arith}
+use Rattle.std.proofs.lemmas.Bool.{cases_eq, cases_order, lt-ltb, le-ltb, cond-true, cond-false, and_left}
 use Rattle.std.proofs.lemmas.List.{length-set, get_or-set_same, get_or-set_other, map-append}
 use Rattle.lane.specs.declared.item.Item.{Item}
 use Rattle.lane.specs.declared.item.Item.TheVariants.{One, Finish}
@@ -8,8 +8,7 @@ use Rattle.lane.specs.Items.{has_mark}
 use Rattle.lane.proofs.Marks.{has_mark_more, has_mark_block, no_mark_in}
 use Rattle.trace.specs.declared.records.Placed.{Placed}
 use Rattle.trace.specs.Shares.{goes_placed, share}
-use Rattle.trace.proofs.ShareLemmas.{share-append, share-push}
-use Rattle.route.specs.Sending.{AreOfLane}
+use Rattle.trace.proofs.ShareLemmas.{share-push}
 use Rattle.route.specs.Sending.{put_on, with_put, with_puts, part, mark_of, AllSent, sent_whole, HaveMarks}
 
 abbrev pub Items : Type 0
@@ -24,7 +23,7 @@ apart : (k i : ℕ) → (k ≡ i → ⊥) → (k < i) ⊎ (i < k)
 apart k i e = ⊎_elim (λ (x : k ≡ i). absurd (e x)) (λ (x : (k < i) ⊎ (i < k)). x) (cases_order k i)
 
 -- every lane holds some fact after more items on one of them
-each_after : (P : ℕ → Items → Type 0) (puts : List Items) (i : ℕ) (xs : Items) → i < length puts → P i (put_on puts i ++ xs)
+pub each_after : (P : ℕ → Items → Type 0) (puts : List Items) (i : ℕ) (xs : Items) → i < length puts → P i (put_on puts i ++ xs)
     → ((k : ℕ) → (k ≡ i → ⊥) → k < length puts → P k (put_on puts k)) → (k : ℕ) → k < length (with_puts puts i xs) → P k (put_on (with_puts puts i xs) k)
 each_after P puts i xs h here others k l =
     let within : k < length puts = omega (arith, length-set puts i (put_on puts i ++ xs)) in
@@ -40,7 +39,7 @@ part-before k n i p h = ap (λ (b : Bool). cond (b && goes_placed k n p) (p ∷ 
 part-from : (k n i : ℕ) (p : Placed) → i ≤ k → part k n i (Some p) ≡ []
 part-from k n i p h = cond-false (nat_lt k i && goes_placed k n p) (p ∷ []) [] (and_left (nat_lt k i) (goes_placed k n p) (le-ltb k i h))
 
-mark_of-from : (k m : ℕ) → m ≤ k → mark_of k m ≡ []
+pub mark_of-from : (k m : ℕ) → m ≤ k → mark_of k m ≡ []
 mark_of-from k m h = cond-false (nat_lt k m) (Finish ∷ []) [] (le-ltb k m h)
 
 -- records join the records where no mark stands
@@ -85,26 +84,6 @@ sent-last puts w i p m none h goes last all =
     (λ (x : i < k). part-from k n i p (omega arith) ∙ sym (cond-false (goes_placed k n p) (p ∷ []) [] (last k x l))) (apart k i e)) ∙ whole k) in
     let Q : ℕ → Type 0 = λ j. (k : ℕ) → k < length (with_put puts i (One p)) → put_on (with_put puts i (One p)) k ≡ map One (share k j (w ++ p ∷ []) ++ []) ++ mark_of k m in
     subst Q (sym (length-set puts i (put_on puts i ++ One p ∷ []))) (each_after P puts i (One p ∷ []) h here others)
-
--- records that all go to one lane were put there
-sent_idle : (puts : List Items) (w us : List Placed) (i j m : ℕ) → m ≡ 0 → j < length puts → AreOfLane (length puts) j us → OnPuts w i None m puts → OnPuts (w ++ us) i None m (with_puts puts j (map One us))
-sent_idle puts w us i j m none h of_lane all =
-    let n : ℕ = length puts in
-    let P : ℕ → Items → Type 0 = λ k l. l ≡ map One (share k n (w ++ us) ++ []) ++ mark_of k m in
-    let more : (k : ℕ) → share k n w ++ cond (j == k) us [] ≡ share k n (w ++ us) ++ [] = λ k. ap (λ (l : List Placed). share k n w ++ l) (sym (of_lane k)) ∙ sym (share-append k n w us) ∙ sym (append-nil (share k n (w ++ us))) in
-    let here : P j (put_on puts j ++ map One us) =
-    ap (λ (l : Items). l ++ map One us) (all j h)
-    ∙ add_all (share j n w ++ []) (share j n (w ++ us) ++ []) us (mark_of j m) (mark_of-from j m (omega arith))
-    (ap (λ (l : List Placed). l ++ us) (append-nil (share j n w)) ∙ ap (λ (l : List Placed). share j n w ++ l) (sym (cond-true (j == j) us [] (eq-eqb j j refl))) ∙ more j) in
-    let others : (k : ℕ) → (k ≡ j → ⊥) → k < n → P k (put_on puts k) =
-    λ k e l. same_records _ _ _ _ (all k l) (ap (λ (x : List Placed). share k n w ++ x) (sym (cond-false (j == k) us [] (ne_eqb j k (λ x. e (sym x))))) ∙ more k) in
-    let Q : ℕ → Type 0 = λ x. (k : ℕ) → k < length (with_puts puts j (map One us)) → put_on (with_puts puts j (map One us)) k ≡ map One (share k x (w ++ us) ++ []) ++ mark_of k m in
-    subst Q (sym (length-set puts j (put_on puts j ++ map One us))) (each_after P puts j (map One us) h here others)
-
-pub sent_block : (puts : List Items) (w us : List Placed) (i j m : ℕ) (pending : Option Placed) → m ≡ 0 → pending ≡ None → j < length puts → AreOfLane (length puts) j us → OnPuts w i pending m puts → OnPuts (w ++ us) i pending m (with_puts puts j (map One us))
-sent_block puts w us i j m pending none idle h of_lane =
-    let P : Option Placed → Type 0 = λ o. OnPuts w i o m puts → OnPuts (w ++ us) i o m (with_puts puts j (map One us)) in
-    subst P (sym idle) (sent_idle puts w us i j m none h of_lane)
 
 marks_block : (puts : List Items) (j m : ℕ) (us : List Placed) → j < length puts → has_mark (put_on puts j) ≡ false → HaveMarks m puts → HaveMarks m (with_puts puts j (map One us))
 marks_block puts j m us h none all =

@@ -1,7 +1,9 @@
 pub mod Senders
-pub mod Blocks
+pub mod Parts
 pub mod Sending
 pub mod Progresses
 pub mod Routers
 pub mod Routed
 pub mod Runs
+pub mod Batches
+pub mod BatchRuns

@@ -53,9 +53,13 @@ pub record IsUnchanged (old new : Router) : Type 0 where
 abbrev pub IsLastLane : ℕ → ℕ → Placed → Type 0
 IsLastLane n k p = (j : ℕ) → k < j → j < n → goes_placed j n p ≡ false
 
+-- how many items lane k can hold
+abbrev pub capacity_on : Router → ℕ → ℕ
+capacity_on r k = slice_index_or (capacities_of r) k 0
+
 -- on lane k no fewer items were put than it can hold
 abbrev pub IsFull : Router → ℕ → Type 0
-IsFull r k = slice_index_or (capacities_of r) k 0 ≤ length (put_on (puts_of r) k)
+IsFull r k = capacity_on r k ≤ length (put_on (puts_of r) k)
 
 -- for how many items more the sender of lane k knows to have room
 abbrev pub room_on : Router → ℕ → ℕ

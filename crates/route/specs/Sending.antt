@@ -1,5 +1,5 @@
 -- What stands on each lane while records are sent, and the lanes that a record goes to.
-use Rattle.std.specs.Prelude.{◌≡◌, ℕ, ◌<◌, ◌%◌, ◌==◌, ◌&&◌, nat_lt, if◌then◌else◌, List, [], ◌∷◌, ◌++◌, length, map, slice_index_or, slice_set, Option, Some, None}
+use Rattle.std.specs.Prelude.{◌≡◌, ℕ, ◌<◌, ◌%◌, ◌&&◌, nat_lt, if◌then◌else◌, List, [], ◌∷◌, ◌++◌, length, map, slice_index_or, slice_set, Option, Some, None}
 use Rattle.lane.specs.declared.item.Item.{Item}
 use Rattle.lane.specs.declared.item.Item.TheVariants.{One, Finish}
 use Rattle.lane.specs.Items.{has_mark}
@@ -27,10 +27,6 @@ location_of Return = None
 location_of Sync = None
 location_of (Read l) = Some l
 location_of (Write l) = Some l
-
--- all of u go to lane j of n, and to no other
-abbrev pub AreOfLane : ℕ → ℕ → List Placed → Type 0
-AreOfLane n j u = (k : ℕ) → share k n u ≡ (if j == k then u else [])
 
 -- the first lane of n that a record goes to
 abbrev pub first_lane : ℕ → Record → ℕ

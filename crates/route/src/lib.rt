@@ -1,9 +1,10 @@
-//! The router: sends each record to the lanes whose share has it, one put a step or a block of
-//! accesses on one lane, so that a full lane stops it and loses nothing.
+//! The router: sends each record to the lanes whose share has it, one put a step or records of a batch on
+//! one lane, so that a full lane stops it and loses nothing.
 #![tactic(auto)]
 
-mod block;
+mod batch;
 pub mod laws;
+mod part;
 mod progress;
 mod puts;
 mod routing;
@@ -11,6 +12,6 @@ mod routing;
 mod tests;
 mod turns;
 
-pub use block::Block;
+pub use batch::Batch;
 pub use progress::Progress;
 pub use routing::Router;

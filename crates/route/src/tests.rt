@@ -82,29 +82,51 @@ fn settle_two(mut ends: Vec<End<Placed>>, mut taker: Taker<Placed>, mut other: T
 }
 
 #[test]
-fn block_of_accesses(rt: HostRuntime) -> Result<(), Fail> {
-    let (first, _) = lane::<Placed>(rt.alloc(), 2)?;
-    let (second, mut taker) = lane::<Placed>(rt.alloc(), 3)?;
+fn batch_on_two_lanes(rt: HostRuntime) -> Result<(), Fail> {
+    let (first, mut even) = lane::<Placed>(rt.alloc(), 3)?;
+    let (second, mut odd) = lane::<Placed>(rt.alloc(), 2)?;
     let mut senders = Vec::new(rt.alloc());
     senders.push(first)?;
     senders.push(second)?;
     let mut router = Router::new(rt.alloc(), senders)?;
-    let mut block = router.block();
-    assert!(rt; block.is_empty());
-    assert!(rt; !block.add(at(1, Record::Spawn)));
-    assert!(rt; block.add(at(2, Record::Write(5))));
-    assert!(rt; !block.add(at(3, Record::Read(4))));
-    assert!(rt; block.add(at(3, Record::Read(7))));
-    assert!(rt; !block.add(at(4, Record::Read(7))));
-    assert_eq!(rt; block.lane(), 1);
-    assert!(rt; router.put_block(&block));
-    assert!(rt; !router.put_block(&block));
-    assert_eq!(rt; taker.take(), one(2, Record::Write(5)));
-    assert!(rt; router.put_block(&block));
-    assert_eq!(rt; taker.take(), one(3, Record::Read(7)));
-    block.clear();
-    assert!(rt; block.add(at(4, Record::Read(4))));
-    assert_eq!(rt; block.lane(), 0);
+    let mut batch = Batch::new(rt.alloc(), 2)?;
+    assert_eq!(rt; router.send_step(&mut batch), Progress::Idle);
+    assert!(rt; batch.add(at(1, Record::Spawn)));
+    assert!(rt; batch.add(at(2, Record::Write(5))));
+    assert!(rt; batch.add(at(3, Record::Read(4))));
+    assert!(rt; batch.add(at(4, Record::Read(7))));
+    for progress in [
+        Progress::Moved,
+        Progress::Moved,
+        Progress::Moved,
+        Progress::Moved,
+        Progress::Blocked(1),
+    ] {
+        assert_eq!(rt; router.send_step(&mut batch), progress);
+    }
+    assert_eq!(rt; even.take(), one(1, Record::Spawn));
+    assert_eq!(rt; even.take(), one(3, Record::Read(4)));
+    assert_eq!(rt; odd.take(), one(1, Record::Spawn));
+    assert_eq!(rt; router.send_step(&mut batch), Progress::Moved);
+    assert_eq!(rt; router.send_step(&mut batch), Progress::Idle);
+    assert_eq!(rt; odd.take(), one(2, Record::Write(5)));
+    assert_eq!(rt; odd.take(), one(4, Record::Read(7)));
+    batch.clear();
+    assert_eq!(rt; router.send_step(&mut batch), Progress::Idle);
+    Ok(())
+}
+
+#[test]
+fn batch_is_full(rt: HostRuntime) -> Result<(), Fail> {
+    let mut batch = Batch::new(rt.alloc(), 3)?;
+    for place in 1..65 {
+        assert!(rt; batch.add(at(place, Record::Write(3 * place))));
+    }
+    assert!(rt; !batch.add(at(65, Record::Read(0))));
+    assert!(rt; !batch.add(at(65, Record::Sync)));
+    assert!(rt; batch.add(at(65, Record::Read(1))));
+    batch.clear();
+    assert!(rt; batch.add(at(66, Record::Sync)));
     Ok(())
 }
 

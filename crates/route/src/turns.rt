@@ -1,7 +1,7 @@
 //! The lanes that a record goes to, in their order.
 ghost use Rattle.std.specs.Prelude.{◌≡◌, ℕ, ◌<◌, ◌≤◌, ◌+◌, ◌%◌, true, false, IfSome, IfNone};
 ghost use Rattle.trace.specs.Shares.{goes};
-ghost use Rattle.route.specs.Sending.{first_lane};
+ghost use Rattle.route.specs.Sending.{first_lane, location_of};
 
 use trace::Record;
 
@@ -54,5 +54,16 @@ pub fn lane_after(what: Record, lane: usize, count: usize) -> Option<usize>
     match what {
         Record::Spawn | Record::Return | Record::Sync if lane + 1 < count => Some(lane + 1),
         _ => None,
+    }
+}
+
+/// The location of an access.
+#[inline(always)]
+pub fn location_of(what: Record) -> Option<u64>
+    ensures { result ≡ location_of what }
+{
+    match what {
+        Record::Read(location) | Record::Write(location) => Some(location),
+        Record::Spawn | Record::Return | Record::Sync => None,
     }
 }

@@ -2,12 +2,10 @@
 ghost use Rattle.std.specs.Prelude.{◌≡◌, ◌≤◌, [], All, IfOk, vec_len};
 ghost use Rattle.lane.specs.Lanes.{put_of};
 ghost use Rattle.route.specs.Senders.{lanes, capacities};
-ghost use Rattle.route.specs.Blocks.{records_in, block_lanes, most_of, FitsAll};
 ghost use Rattle.route.specs.Routers.{lanes_of, capacities_of, lane_count, pending_of, marked_of, HasSent};
 
 use super::Router;
-use crate::block::Block;
-use lane::{BLOCK, Sender};
+use lane::Sender;
 use std::alloc::Global;
 use trace::{NoMemory, Placed};
 
@@ -33,18 +31,5 @@ impl Router {
             next: 0,
             marked: 0,
         })
-    }
-
-    /// An empty block for these lanes, full at no more records than each of them holds, so that there is room for it in the end.
-    pub fn block(&self) -> Block
-        ensures empty { records_in result ≡ [] }
-        ensures lanes { block_lanes result ≡ lane_count self.now }
-        ensures most { FitsAll (most_of result) (capacities_of self.now) }
-    {
-        let mut most = BLOCK;
-        for sender in &self.senders {
-            most = most.min(sender.capacity());
-        }
-        Block::new(self.senders.len(), most.max(1))
     }
 }

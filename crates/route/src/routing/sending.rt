@@ -1,14 +1,14 @@
 //! What a router does.
-ghost use Rattle.std.specs.Prelude.{◌≡◌, ℕ, ◌<◌, ◌+◌, ◌++◌, ◌↔◌, ◌≢◌, List, length, is_some, IsTrue, IsFalse};
+ghost use Rattle.std.specs.Prelude.{◌≡◌, ℕ, ◌<◌, ◌≤◌, ◌+◌, ◌++◌, ◌↔◌, ◌≢◌, List, [], length, take, map, is_some, IsTrue, IsFalse, IfSome, IfNone};
 ghost use Rattle.lane.specs.declared.item.Item.TheVariants.{One, Finish};
 ghost use Rattle.trace.specs.declared.records.Placed.{Placed};
-ghost use Rattle.route.specs.Sending.{first_lane, with_put, sent_whole, HaveMarks};
-ghost use Rattle.route.specs.Blocks.{records_in, block_lane, block_lanes};
+ghost use Rattle.route.specs.Sending.{first_lane, with_put, with_puts, sent_whole, HaveMarks};
+ghost use Rattle.route.specs.Batches.{batch_lanes, batch_turn, unsent_part, HasStaged, HasSameParts, IsUnsent, IsSentWhole, IsAsFarSent, IsSending, LacksRoom, SendsNext};
 ghost use Rattle.route.specs.Progresses.{OnIdle, OnMoved, IfBlocked};
-ghost use Rattle.route.specs.Routers.{puts_of, lane_count, pending_of, turn_of, marked_of, HasSent, IsOnLanes, IsUnchanged, IsLastLane, HasRefused, room_on};
+ghost use Rattle.route.specs.Routers.{puts_of, lane_count, pending_of, turn_of, marked_of, HasSent, IsOnLanes, IsUnchanged, IsLastLane, HasRefused, capacity_on, room_on};
 
 use super::Router;
-use crate::block::Block;
+use crate::batch::Batch;
 use crate::progress::Progress;
 use crate::puts::{mark_on, put_block_on, put_on};
 use crate::turns::{first_lane, lane_after};
@@ -91,20 +91,65 @@ impl Router {
         Progress::Moved
     }
 
-    /// Puts all records of the block on their lane, or none of them because that had no room for all.
-    pub fn put_block(&mut self, block: &Block) -> bool
+    /// Puts records of the batch on the first lane that lacks some: all that it lacks, or on a small lane a piece of them.
+    pub fn send_step(&mut self, batch: &mut Batch) -> Progress
         requires idle { pending_of self.old ≡ None }
         requires unmarked { marked_of self.old ≡ 0 }
-        requires lanes { block_lanes block.now ≡ lane_count self.old }
-        ensures sent { IsTrue result → (w : List Placed) → HasSent w self.old
-            → HasSent (w ++ records_in block.now) self.new }
-        ensures full { IsFalse result → IsUnchanged self.old self.new
-            × (room_on self.new (block_lane block.now) < length (records_in block.now)) }
+        requires lanes { batch_lanes batch.old ≡ lane_count self.old }
+        // w is what was sent whole before the batch
+        ensures sending { (w : List Placed) → IsSending w batch.old self.old → IsSending w batch.new self.new }
+        ensures begun { (w : List Placed) → IsUnsent batch.old → HasSent w self.old → IsSending w batch.old self.old }
+        ensures sent { OnIdle result ((w us : List Placed) → HasStaged us batch.old → IsSending w batch.old self.old → HasSent (w ++ us) self.new) }
+        ensures parts { HasSameParts batch.old batch.new }
         ensures pending { pending_of self.new ≡ None }
         ensures marked { marked_of self.new ≡ 0 }
         ensures lanes { IsOnLanes self.old self.new }
+
+        ensures idle { (result ≡ Progress.Idle) ↔ IsSentWhole batch.old }
+        ensures put { OnMoved result (SendsNext batch.old batch.new self.old self.new) }
+        ensures blocked { IfBlocked result (λ k. LacksRoom batch.old self.old self.new k) }
+        ensures keeps { result ≢ Progress.Moved → IsUnchanged self.old self.new × IsAsFarSent batch.old batch.new }
     {
-        put_block_on(&mut self.senders, block.lane(), block.records())
+        batch.turn_on();
+        if batch.turn() == self.senders.len() {
+            return Progress::Idle;
+        }
+        match self.put_records(batch) {
+            Some(count) => {
+                batch.count_sent(count);
+                Progress::Moved
+            }
+            None => Progress::Blocked(batch.turn() as u32),
+        }
+    }
+
+    // Puts the next records of the lane whose turn it is, and tells how many; none where that lane had no room for them.
+    fn put_records(&mut self, batch: &Batch) -> Option<usize>
+        requires idle { pending_of self.old ≡ None }
+        requires unmarked { marked_of self.old ≡ 0 }
+        requires lanes { batch_lanes batch.now ≡ lane_count self.old }
+        requires lacks { unsent_part batch.now (batch_turn batch.now) ≢ [] }
+        requires within { batch_turn batch.now < batch_lanes batch.now }
+        ensures put { IfSome result (λ count. puts_of self.new ≡ with_puts (puts_of self.old) (batch_turn batch.now)
+            (map One (take count (unsent_part batch.now (batch_turn batch.now))))) }
+        ensures count { IfSome result (λ count. (1 ≤ count) × (count ≤ length (unsent_part batch.now (batch_turn batch.now)))) }
+        ensures refused { IfNone result (IsUnchanged self.old self.new) }
+        ensures few { IfNone result (room_on self.new (batch_turn batch.now) < length (unsent_part batch.now (batch_turn batch.now))) }
+        ensures held { IfNone result (1 ≤ capacity_on self.old (batch_turn batch.now)
+            → room_on self.new (batch_turn batch.now) < capacity_on self.old (batch_turn batch.now)) }
+        ensures pending { pending_of self.new ≡ pending_of self.old }
+        ensures marked { marked_of self.new ≡ 0 }
+        ensures lanes { IsOnLanes self.old self.new }
+    {
+        let lane = batch.turn();
+        // half of the lane at most, so that one half is filled while the other is taken
+        let most = (self.senders[lane].capacity() / 2).max(1);
+        let records = batch.next(most);
+        if put_block_on(&mut self.senders, lane, records) {
+            Some(records.len())
+        } else {
+            None
+        }
     }
 
     /// Puts the mark on the next lane that has none.

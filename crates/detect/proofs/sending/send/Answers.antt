@@ -1,21 +1,20 @@
-use Rattle.std.proofs.Common.{rules, ◌≡◌, List, [], ◌∷◌, ◌++◌, sym, ap, subst, ◌∙◌}
-use Rattle.trace.specs.declared.records.Placed.{Placed}
-use Rattle.route.specs.declared.block.Block.{Block}
-use Rattle.route.specs.Blocks.{records_in}
+use Rattle.std.proofs.Common.{rules, ◌≡◌, [], ◌∷◌, refl, sym, subst}
+use Rattle.route.specs.declared.batch.Batch.{Batch}
 use Rattle.detect.specs.Sent.{HasSentBut}
-use Rattle.detect.proofs.SentBut.{none_but}
+use Rattle.detect.proofs.SentBut.{one_more_but}
 use Rattle.detect.proofs.sending.send.Goals as goal
 
-pub returns-then-not-add-clause-sent : goal.returns-then-not-add-clause-sent
-returns-then-not-add-clause-sent g c w h =
-    let same : c.add.new.self ≡ c.args.block.now = search rules in
-    let empty : records_in c.add-2.new.self ≡ [] = search rules in
-    let P : Block → Type 0 = λ b. HasSentBut b w c.args.router.now in
-    none_but c.add-2.new.self (w ++ c.args.placed ∷ []) c.put_one.new.router empty (c.put_one.ensures.sent w (c.put_block.ensures.sent w (subst P (sym same) h)))
+pub returns-then-add-clause-sent : goal.returns-then-add-clause-sent
+returns-then-add-clause-sent g c w h = one_more_but c.args.batch.now c.add.new.self w c.args.placed c.args.router.now (c.add.ensures.joined c.if-add.true) h
 
-pub returns-else-not-add-clause-sent : goal.returns-else-not-add-clause-sent
-returns-else-not-add-clause-sent g c w h =
-    let same : c.add.new.self ≡ c.args.block.now = search rules in
-    let one : records_in c.add-2.new.self ≡ c.args.placed ∷ [] = c.add-2.ensures.joined (search rules) ∙ ap (λ (l : List Placed). l ++ c.args.placed ∷ []) c.put_block.ensures.empty in
-    let P : Block → Type 0 = λ b. HasSentBut b w c.args.router.now in
-    (w, ap (λ (l : List Placed). w ++ l) (sym one), c.put_block.ensures.sent w (subst P (sym same) h))
+pub returns-clause-sent : goal.returns-clause-sent
+returns-clause-sent g c w h =
+    let same : c.add.new.self ≡ c.args.batch.now = search rules in
+    let P : Batch → Type 0 = λ b. HasSentBut b w c.args.router.now in
+    record {
+      front = w;
+      last = c.args.placed ∷ [];
+      whole = refl;
+      sent = c.send_batch.ensures.sent w (subst P (sym same) h);
+      staged = c.add-2.ensures.joined (search rules) [] c.send_batch.ensures.empty;
+    }

@@ -19,8 +19,9 @@ records-init g c =
       came = [];
       consumed = consumes_none _;
       fed = subst P (sym c.new-intake.ensures) (fed_none c.args.limits.records c.args.limits.depth);
-      sent = none_but c.block-block.result [] c.args.router.now c.block-block.ensures.empty c.requires.none_sent;
-      block = c.block-block.ensures.lanes;
+      sent = none_but c.args.batch.now [] c.args.router.now c.requires.empty c.requires.none_sent;
+      batch = c.requires.batch;
+      unsent = c.requires.unsent;
       idle = c.requires.idle;
       unmarked = c.requires.unmarked;
       lanes = on_lanes_refl _;
@@ -40,14 +41,15 @@ pub records-preserved-in-Some : goal.records-preserved-in-Some
 records-preserved-in-Some g c =
     let i = c.records.invariant in
     let next = c.in-Some.ensures.fed i.trace i.came i.fed in
-    let P : List Placed → Type 0 = λ u. HasSentBut c.send.new.block u c.send.new.router in
+    let P : List Placed → Type 0 = λ u. HasSentBut c.send.new.batch u c.send.new.router in
     record {
       trace = i.trace ++ c.in-Some.placed.what ∷ [];
       came = i.came;
       consumed = i.consumed;
       fed = next.1;
       sent = subst P (sym (placed-next i.trace c.in-Some.placed next.0)) (c.send.ensures.sent (placed i.trace) i.sent);
-      block = c.send.ensures.block;
+      batch = c.send.ensures.batch;
+      unsent = c.send.ensures.unsent;
       idle = c.send.ensures.idle;
       unmarked = c.send.ensures.unmarked;
       lanes = on_lanes_trans _ _ _ i.lanes c.send.ensures.lanes;
@@ -78,7 +80,7 @@ returns-in-Ok-None-clause-sent g c =
       consumed = consumes_more _ _ _ i.came fed.0 i.consumed fed.1;
       trace = i.trace;
       whole = at_limits P _ _ _ _ (c.next_known.ensures.limits.0 ∙ i.records) (c.next_known.ensures.limits.1 ∙ i.depths) end;
-      sent = c.put_block.ensures.sent (placed i.trace) i.sent;
+      sent = c.send_batch.ensures.sent (placed i.trace) i.sent;
     }
 
 pub records-smaller : goal.records-smaller
@@ -96,32 +98,33 @@ records-preserved g c =
     let kept : HasFed i.trace i.came c.next_known.new.self = subst (HasFed i.trace i.came) (sym same) i.fed in
     let fed = c.in-Ok-Some.ensures.fed i.trace i.came kept in
     let next = given_next _ _ _ _ _ _ _ _ _ _ c.in-Ok-Some.field-0-is fed.2 in
-    let P : List Placed → Type 0 = λ u. HasSentBut c.send-in-Ok-Some.new.block u c.send-in-Ok-Some.new.router in
-    let sent = none_but c.put_block.new.block (placed i.trace) c.put_block.new.router c.put_block.ensures.empty (c.put_block.ensures.sent (placed i.trace) i.sent) in
+    let P : List Placed → Type 0 = λ u. HasSentBut c.send-in-Ok-Some.new.batch u c.send-in-Ok-Some.new.router in
+    let sent = none_but c.send_batch.new.batch (placed i.trace) c.send_batch.new.router c.send_batch.ensures.empty (c.send_batch.ensures.sent (placed i.trace) i.sent) in
     record {
       trace = i.trace ++ c.in-Ok-Some.placed.what ∷ [];
       came = i.came ++ fed.0;
       consumed = consumes_more _ _ _ i.came fed.0 i.consumed fed.1;
       fed = next.1;
       sent = subst P (sym (placed-next i.trace c.in-Ok-Some.placed next.0)) (c.send-in-Ok-Some.ensures.sent (placed i.trace) sent);
-      block = c.send-in-Ok-Some.ensures.block;
+      batch = c.send-in-Ok-Some.ensures.batch;
+      unsent = c.send-in-Ok-Some.ensures.unsent;
       idle = c.send-in-Ok-Some.ensures.idle;
       unmarked = c.send-in-Ok-Some.ensures.unmarked;
-      lanes = on_lanes_trans _ _ _ i.lanes (on_lanes_trans _ _ _ c.put_block.ensures.lanes c.send-in-Ok-Some.ensures.lanes);
-      further = further_trans _ _ _ i.further (further_trans _ _ _ c.put_block.ensures.further c.send-in-Ok-Some.ensures.further);
+      lanes = on_lanes_trans _ _ _ i.lanes (on_lanes_trans _ _ _ c.send_batch.ensures.lanes c.send-in-Ok-Some.ensures.lanes);
+      further = further_trans _ _ _ i.further (further_trans _ _ _ c.send_batch.ensures.further c.send-in-Ok-Some.ensures.further);
       count = next.2 ∙ i.count;
       records = c.next_from.ensures.limits.0 ∙ c.next_known.ensures.limits.0 ∙ i.records;
       depths = c.next_from.ensures.limits.1 ∙ c.next_known.ensures.limits.1 ∙ i.depths;
     }
 
 pub returns-in-Err-clause-lanes : goal.returns-in-Err-clause-lanes
-returns-in-Err-clause-lanes g c = on_lanes_trans _ _ _ c.records.invariant.lanes c.put_block.ensures.lanes
+returns-in-Err-clause-lanes g c = on_lanes_trans _ _ _ c.records.invariant.lanes c.send_batch.ensures.lanes
 
 pub returns-in-Err-clause-further : goal.returns-in-Err-clause-further
-returns-in-Err-clause-further g c = further_trans _ _ _ c.records.invariant.further c.put_block.ensures.further
+returns-in-Err-clause-further g c = further_trans _ _ _ c.records.invariant.further c.send_batch.ensures.further
 
 pub returns-in-Ok-None-clause-lanes : goal.returns-in-Ok-None-clause-lanes
-returns-in-Ok-None-clause-lanes g c = on_lanes_trans _ _ _ c.records.invariant.lanes c.put_block.ensures.lanes
+returns-in-Ok-None-clause-lanes g c = on_lanes_trans _ _ _ c.records.invariant.lanes c.send_batch.ensures.lanes
 
 pub returns-in-Ok-None-clause-further : goal.returns-in-Ok-None-clause-further
-returns-in-Ok-None-clause-further g c = further_trans _ _ _ c.records.invariant.further c.put_block.ensures.further
+returns-in-Ok-None-clause-further g c = further_trans _ _ _ c.records.invariant.further c.send_batch.ensures.further

@@ -4,7 +4,7 @@ use Rattle.trace.specs.declared.records.Record.{Record}
 use Rattle.trace.specs.Traces.{placed}
 use Rattle.trace.specs.Feeding.{HasFed}
 use Rattle.route.specs.Routers.{lane_count, pending_of, marked_of, IsOnLanes}
-use Rattle.route.specs.Blocks.{block_lanes}
+use Rattle.route.specs.Batches.{batch_lanes, IsUnsent}
 use Rattle.detect.specs.Sent.{HasSentBut}
 use Rattle.detect.specs.Gatherings.{IsFurther}
 use Rattle.detect.proofs.sending.send_all.Given as goal
@@ -15,8 +15,9 @@ invariant-records g l = record {
   came : List ℕ;
   consumed : Consumes (g.R.Source.rest l.fn.reader) (g.R.Source.rest l.reader) came;
   fed : HasFed trace came l.intake;
-  sent : HasSentBut l.block (placed trace) l.router;
-  block : block_lanes l.block ≡ lane_count l.router;
+  sent : HasSentBut l.batch (placed trace) l.router;
+  batch : batch_lanes l.batch ≡ lane_count l.router;
+  unsent : IsUnsent l.batch;
   idle : pending_of l.router ≡ None;
   unmarked : marked_of l.router ≡ 0;
   lanes : IsOnLanes l.fn.router l.router;

@@ -25,13 +25,13 @@ returns-clause-marks c = λ n k w u es run routed l h.
 
 pub returns-clause-headline : goal.returns-clause-headline
 returns-clause-headline c = λ n k w u es run routed l.
-    let f = front_of n w es run in takes_share n (put_list es) u k (taken_list es k) l (routes_of n (put_list es) f.v u f.pending (outcome_of n w es run f) routed) (taken_front n k w es run)
+    let f = front_of n w es run in takes_share n (put_list es) u k (taken_list es k) l (routes_of n (put_list es) f.v u f.pending (outcome_of n w es run f) routed) (taken_front k es run.allowed)
 
 pub returns-clause-ended : goal.returns-clause-ended
 returns-clause-ended c = λ n k w before after run l h.
     let f = front_of n w (before ++ after) run in
     let o = outcome_of n w (before ++ after) run f in
-    (takes_share n (put_list (before ++ after)) o.list k (taken_list before k) l o.routes (taken_before n k w before after run)).none_more h
+    (takes_share n (put_list (before ++ after)) o.list k (taken_list before k) l o.routes (taken_before k before after run.allowed)).none_more h
 
 pub returns-clause-taken : goal.returns-clause-taken
-returns-clause-taken c = λ n k w es run. taken_front n k w es run
+returns-clause-taken c = λ n k w es run. taken_front k es run.allowed

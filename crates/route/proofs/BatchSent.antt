@@ -1,0 +1,102 @@
+-- What stands on the lanes while a batch is sent.
+use Rattle.std.proofs.Common.{◌≡◌, ℕ, zero, suc, ◌+◌, ◌<◌, ◌≤◌, ◌==◌, nat_lt, Bool, true, false, cond, List, [], ◌∷◌, ◌++◌, length, take, drop, map, sym, ap, ap₂, subst, ◌∙◌, append_assoc, append-nil, refl, Option, None, arith}
+use Rattle.std.proofs.lemmas.List.{take-append-drop, drop-take, take-take, drop-drop, drop_all, map-append, length-set}
+use Rattle.std.proofs.lemmas.Bool.{lt-ltb, le-ltb, cond-true, cond-false}
+use Rattle.lane.specs.declared.item.Item.TheVariants.{One}
+use Rattle.trace.specs.declared.records.Placed.{Placed}
+use Rattle.trace.specs.Shares.{share}
+use Rattle.trace.proofs.ShareLemmas.{share-append}
+use Rattle.route.specs.declared.routing.Router.{Router}
+use Rattle.route.specs.Sending.{put_on, with_puts, part, mark_of}
+use Rattle.route.specs.Routers.{puts_of, lane_count, pending_of, turn_of, marked_of, HasSent}
+use Rattle.route.specs.declared.batch.Batch.{Batch}
+use Rattle.route.specs.Batches.{part_of, sent_count, sent_part, unsent_part, batch_lanes, HasStaged, HasSameParts, IsUnsent, IsSentWhole, IsSending, IsAsFarSent, IsFirstToLack}
+use Rattle.route.proofs.Sent.{Items, each_after, mark_of-from}
+
+-- so many more from the front
+pub take_further : (s c : ℕ) (xs : List Placed) → take (s + c) xs ≡ take s xs ++ take c (drop s xs)
+take_further s c xs =
+    sym (take-append-drop s (take (s + c) xs)) ∙ ap₂ (λ (a b : List Placed). a ++ b) (take-take s (s + c) xs (omega arith)) (drop-take s c xs)
+
+-- lane j got records more, and nothing else changed: sent k is what of the batch lane k has
+pub sending_more : (n : ℕ) (w : List Placed) (puts : List Items) (old new : ℕ → List Placed) (j : ℕ) (us : List Placed) → n ≡ length puts → j < n
+    → new j ≡ old j ++ us → ((k : ℕ) → (k ≡ j → ⊥) → new k ≡ old k) → ((k : ℕ) → k < n → put_on puts k ≡ map One (share k n w ++ old k))
+    → (k : ℕ) → k < n → put_on (with_puts puts j (map One us)) k ≡ map One (share k n w ++ new k)
+sending_more n w puts old new j us count within here others h k lt =
+    let P : ℕ → Items → Type 0 = λ i l. l ≡ map One (share i n w ++ new i) in
+    each_after P puts j (map One us) (omega (arith, count, within))
+    (ap (λ (l : Items). l ++ map One us) (h j within) ∙ sym (map-append One (share j n w ++ old j) us) ∙ ap (map One) (append_assoc (share j n w) (old j) us ∙ ap (λ (l : List Placed). share j n w ++ l) (sym here)))
+    (λ i e l. h i (omega (arith, count, l)) ∙ ap (λ (x : List Placed). map One (share i n w ++ x)) (sym (others i e)))
+    k (omega (arith, count, lt, length-set puts j (put_on puts j ++ map One us)))
+
+-- the batch was sent whole
+pub sent_all : (n : ℕ) (w us : List Placed) (on : ℕ → Items) (part sent : ℕ → List Placed) → ((k : ℕ) → k < n → part k ≡ share k n us) → ((k : ℕ) → k < n → sent k ≡ part k)
+    → ((k : ℕ) → k < n → on k ≡ map One (share k n w ++ sent k)) → (k : ℕ) → k < n → on k ≡ map One (share k n (w ++ us))
+sent_all n w us on part sent staged all h k lt =
+    h k lt ∙ ap (λ (x : List Placed). map One (share k n w ++ x)) (all k lt ∙ staged k lt) ∙ ap (map One) (sym (share-append k n w us))
+
+-- what was sent to a lane where nothing more was
+pub same_sent : (old new : Batch) (k : ℕ) → HasSameParts old new → sent_count new k ≡ sent_count old k → sent_part new k ≡ sent_part old k
+same_sent old new k same e = ap₂ (λ (n : ℕ) (l : List Placed). take n l) e (same.parts k)
+
+pub same_unsent : (old new : Batch) (k : ℕ) → HasSameParts old new → sent_count new k ≡ sent_count old k → unsent_part new k ≡ unsent_part old k
+same_unsent old new k same e = ap₂ (λ (n : ℕ) (l : List Placed). drop n l) e (same.parts k)
+
+-- and where so many more were
+pub more_sent : (old new : Batch) (k c : ℕ) → HasSameParts old new → sent_count new k ≡ sent_count old k + c → sent_part new k ≡ sent_part old k ++ take c (unsent_part old k)
+more_sent old new k c same e = ap₂ (λ (n : ℕ) (l : List Placed). take n l) e (same.parts k) ∙ take_further (sent_count old k) c (part_of old k)
+
+pub fewer_unsent : (old new : Batch) (k c : ℕ) → HasSameParts old new → sent_count new k ≡ sent_count old k + c → unsent_part old k ≡ take c (unsent_part old k) ++ unsent_part new k
+fewer_unsent old new k c same e =
+    sym (take-append-drop c (unsent_part old k)) ∙ ap (λ (l : List Placed). take c (unsent_part old k) ++ l) (drop-drop c (sent_count old k) (part_of old k) ∙ sym (ap₂ (λ (n : ℕ) (l : List Placed). drop n l) e (same.parts k)))
+
+-- the lanes before the turn have all
+pub sent_before : (b : Batch) (k : ℕ) → k < b.turn → unsent_part b k ≡ []
+sent_before b k h =
+    let all : sent_count b k ≡ length (part_of b k) = cond-true (nat_lt k b.turn) (length (part_of b k)) (cond (k == b.turn) b.sent 0) (lt-ltb k b.turn h) in
+    drop_all (sent_count b k) (part_of b k) (omega (arith, all))
+
+-- the first of some records
+pub take_some : (c : ℕ) (xs : List Placed) → 1 ≤ c → c ≤ length xs → take c xs ≡ [] → ⊥
+take_some c [] some most e = absurd (omega (arith, some, most))
+take_some zero (x ∷ xs) some most e = absurd (omega (arith, some))
+take_some (suc c) (x ∷ xs) some most e = absurd cc
+
+-- the lane that a batch turned to is the first that lacked records
+pub first_to_lack : (old turned : Batch) (j : ℕ) → j ≡ turned.turn → HasSameParts old turned → IsAsFarSent old turned → j < batch_lanes turned → (unsent_part turned turned.turn ≡ [] → ⊥) → IsFirstToLack old j
+first_to_lack old turned j here same far within lacks =
+    let P : ℕ → Type 0 = λ i. unsent_part turned i ≡ [] → ⊥ in
+    record {
+      within = omega (arith, within, same.lanes);
+      lacks = λ e. subst P (sym here) lacks (same_unsent old turned j same (far j) ∙ e);
+      first = λ k h. sym (same_unsent old turned k same (far k)) ∙ sent_before turned k (omega (arith, h, here));
+    }
+
+-- where nothing is pending and no lane is marked, w alone stands on the lanes
+at_rest : (n k turn marked : ℕ) (w : List Placed) (pending : Option Placed) → pending ≡ None → marked ≡ 0 → map One (share k n w ++ part k n turn pending) ++ mark_of k marked ≡ map One (share k n w)
+at_rest n k turn marked w pending idle unmarked =
+    let P : Option Placed → Type 0 = λ o. map One (share k n w ++ part k n turn o) ++ mark_of k marked ≡ map One (share k n w) in
+    subst P (sym idle) (ap (λ (ms : Items). map One (share k n w ++ []) ++ ms) (mark_of-from k marked (omega (arith, unmarked))) ∙ append-nil (map One (share k n w ++ [])) ∙ ap (map One) (append-nil (share k n w)))
+
+zero_either : (c : Bool) (m : ℕ) → m ≡ 0 → cond c m 0 ≡ 0
+zero_either true m h = h
+zero_either false m h = refl
+
+none_counted : (b : Batch) (k : ℕ) → IsUnsent b → sent_count b k ≡ 0
+none_counted b k h =
+    cond-false (nat_lt k b.turn) (length (part_of b k)) (cond (k == b.turn) b.sent 0) (le-ltb k b.turn (omega (arith, h.at_first))) ∙ zero_either (k == b.turn) b.sent h.none_sent
+
+-- a batch of which nothing was sent is sent behind what was sent whole
+pub unsent_begins : (w : List Placed) (b : Batch) (r : Router) → IsUnsent b → pending_of r ≡ None → marked_of r ≡ 0 → HasSent w r → IsSending w b r
+unsent_begins w b r unsent idle unmarked sent k lt =
+    let n : ℕ = lane_count r in
+    let none : sent_part b k ≡ [] = ap (λ (m : ℕ). take m (part_of b k)) (none_counted b k unsent) in
+    sent k lt ∙ at_rest n k (turn_of r) (marked_of r) w (pending_of r) idle unmarked ∙ ap (map One) (sym (append-nil (share k n w)) ∙ ap (λ (l : List Placed). share k n w ++ l) (sym none))
+
+-- a batch that was sent whole joins it
+pub sent_joins : (w us : List Placed) (b : Batch) (r : Router) → batch_lanes b ≡ lane_count r → pending_of r ≡ None → marked_of r ≡ 0 → HasStaged us b → IsSentWhole b → IsSending w b r → HasSent (w ++ us) r
+sent_joins w us b r lanes idle unmarked staged whole sending k lt =
+    let n : ℕ = lane_count r in
+    let S : ℕ → Type 0 = λ m. (j : ℕ) → j < m → part_of b j ≡ share j m us in
+    let all : (j : ℕ) → j < n → sent_part b j ≡ part_of b j = λ j l. sym (append-nil (sent_part b j)) ∙ ap (λ (x : List Placed). sent_part b j ++ x) (sym (whole j (omega (arith, l, lanes)))) ∙ take-append-drop (sent_count b j) (part_of b j) in
+    sent_all n w us (put_on (puts_of r)) (part_of b) (sent_part b) (subst S lanes staged) all sending k lt ∙ sym (at_rest n k (turn_of r) (marked_of r) (w ++ us) (pending_of r) idle unmarked)

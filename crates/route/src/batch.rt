@@ -1,0 +1,161 @@
+//! Records that are sent at once.
+ghost use Rattle.std.specs.Prelude.{◌≡◌, ℕ, ◌+◌, ◌<◌, ◌≤◌, List, [], ◌∷◌, ◌++◌, length, take, ◌≢◌, vec_len, IfOk, IsTrue, IsFalse};
+ghost use Rattle.lane.specs.declared.ends.TheConstants.{BLOCK};
+ghost use Rattle.trace.specs.declared.records.Placed.{Placed};
+ghost use Rattle.route.specs.Parts.{part_at, AreNoLonger};
+
+use crate::part::{Part, clear_all, push_on, push_on_all};
+use crate::turns::{lane_of, location_of};
+use lane::BLOCK;
+use std::alloc::Global;
+use trace::{NoMemory, Placed};
+
+/// Consecutive records of a trace, staged for the lanes: a spawn, a return or a sync for each, an access for its own. They
+/// are sent lane after lane.
+#[derive(Drop)]
+pub struct Batch {
+    parts: Vec<Part>,
+    // no part is longer
+    longest: usize,
+    // the lane whose part is being sent, and how many records of that part were sent
+    turn: usize,
+    sent: usize,
+    ghost some: { 1 ≤ vec_len parts },
+    ghost within: { longest ≤ BLOCK },
+    ghost no_longer: { AreNoLonger longest parts.items },
+    ghost turn_within: { turn ≤ vec_len parts },
+    ghost sent_within: { sent ≤ length (part_at parts.items turn) },
+}
+
+impl Batch {
+    ghost use Rattle.route.specs.Batches.{batch_lanes, longest_of, part_of, batch_turn, sent_count, unsent_part, HasStaged, HasSameParts, IsUnsent, IsSentWhole};
+
+    /// Nothing yet, for so many lanes. It takes memory for all that it may have, and none after that.
+    pub fn new(alloc: Global, lanes: usize) -> Result<Batch, NoMemory>
+        requires { 1 ≤ lanes }
+        ensures lanes { IfOk result (λ b. batch_lanes b ≡ lanes) }
+        ensures empty { IfOk result (HasStaged []) }
+        ensures longest { IfOk result (λ b. longest_of b ≡ 0) }
+        ensures unsent { IfOk result IsUnsent }
+    {
+        let mut parts = Vec::with_capacity(alloc, lanes).map_err(|_| NoMemory)?;
+        for _ in 0..lanes {
+            parts.push_reserved(Part::new(alloc)?);
+        }
+        Ok(Batch {
+            parts,
+            longest: 0,
+            turn: 0,
+            sent: 0,
+        })
+    }
+
+    /// Stages the record behind the others. False where a lane's part is full; then nothing changes.
+    #[inline(always)]
+    pub fn add(&mut self, placed: Placed) -> bool
+        requires { IsUnsent self.old }
+        ensures joined { IsTrue result → (us : List Placed) → HasStaged us self.old → HasStaged (us ++ placed ∷ []) self.new }
+        ensures refused { IsFalse result → self.new ≡ self.old }
+        ensures full { IsFalse result → longest_of self.old ≡ BLOCK }
+        ensures lanes { batch_lanes self.new ≡ batch_lanes self.old }
+        ensures unsent { IsUnsent self.new }
+    {
+        let lanes = self.parts.len();
+        match location_of(placed.what) {
+            Some(location) => self.add_to(lane_of(location, lanes), placed),
+            None => self.add_to_all(placed),
+        }
+    }
+
+    fn add_to(&mut self, lane: usize, placed: Placed) -> bool
+        requires within { lane < batch_lanes self.old }
+        requires unsent { IsUnsent self.old }
+        ensures here { IsTrue result → part_of self.new lane ≡ part_of self.old lane ++ placed ∷ [] }
+        ensures others { IsTrue result → (k : ℕ) → (k ≡ lane → ⊥) → part_of self.new k ≡ part_of self.old k }
+        ensures refused { IsFalse result → self.new ≡ self.old }
+        ensures full { IsFalse result → longest_of self.old ≡ BLOCK }
+        ensures lanes { batch_lanes self.new ≡ batch_lanes self.old }
+        ensures unsent { IsUnsent self.new }
+    {
+        if self.parts[lane].len() == BLOCK {
+            return false;
+        }
+        push_on(&mut self.parts, lane, placed);
+        self.longest = self.longest.max(self.parts[lane].len());
+        true
+    }
+
+    fn add_to_all(&mut self, placed: Placed) -> bool
+        requires { IsUnsent self.old }
+        ensures each { IsTrue result → (k : ℕ) → k < batch_lanes self.old → part_of self.new k ≡ part_of self.old k ++ placed ∷ [] }
+        ensures refused { IsFalse result → self.new ≡ self.old }
+        ensures full { IsFalse result → longest_of self.old ≡ BLOCK }
+        ensures lanes { batch_lanes self.new ≡ batch_lanes self.old }
+        ensures unsent { IsUnsent self.new }
+    {
+        if self.longest == BLOCK {
+            return false;
+        }
+        push_on_all(&mut self.parts, placed);
+        self.longest += 1;
+        true
+    }
+
+    /// Turns to the next lane that lacks records of the batch, or behind the last lane.
+    pub(crate) fn turn_on(&mut self)
+        ensures parts { HasSameParts self.old self.new }
+        ensures sent { (k : ℕ) → sent_count self.new k ≡ sent_count self.old k }
+        ensures lacks { batch_turn self.new < batch_lanes self.new → unsent_part self.new (batch_turn self.new) ≢ [] }
+        ensures whole { batch_turn self.new ≡ batch_lanes self.new → IsSentWhole self.new }
+    {
+        for lane in self.turn..self.parts.len() {
+            if self.sent < self.parts[lane].len() {
+                return;
+            }
+            self.turn = lane + 1;
+            self.sent = 0;
+        }
+    }
+
+    /// The lane whose records are being sent; behind the last one where none lacks any.
+    pub(crate) fn turn(&self) -> usize
+        ensures { result ≡ batch_turn self.now }
+    {
+        self.turn
+    }
+
+    /// The next records for that lane, at most so many.
+    pub(crate) fn next(&self, most: usize) -> &[Placed]
+        requires { batch_turn self.now < batch_lanes self.now }
+        ensures next { result.now ≡ take most (unsent_part self.now (batch_turn self.now)) }
+        ensures most { length result.now ≤ BLOCK }
+    {
+        let part = &self.parts[self.turn];
+        let count = (part.len() - self.sent).min(most);
+        part.between(self.sent, self.sent + count)
+    }
+
+    /// Counts so many records more for that lane as sent.
+    pub(crate) fn count_sent(&mut self, count: usize)
+        requires { count ≤ length (unsent_part self.old (batch_turn self.old)) }
+        ensures parts { HasSameParts self.old self.new }
+        ensures turn { batch_turn self.new ≡ batch_turn self.old }
+        ensures here { sent_count self.new (batch_turn self.old) ≡ sent_count self.old (batch_turn self.old) + count }
+        ensures others { (k : ℕ) → (k ≡ batch_turn self.old → ⊥) → sent_count self.new k ≡ sent_count self.old k }
+    {
+        self.sent += count;
+    }
+
+    /// Leaves nothing in it.
+    pub fn clear(&mut self)
+        ensures empty { HasStaged [] self.new }
+        ensures longest { longest_of self.new ≡ 0 }
+        ensures unsent { IsUnsent self.new }
+        ensures lanes { batch_lanes self.new ≡ batch_lanes self.old }
+    {
+        clear_all(&mut self.parts);
+        self.longest = 0;
+        self.turn = 0;
+        self.sent = 0;
+    }
+}
