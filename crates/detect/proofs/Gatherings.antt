@@ -7,6 +7,7 @@ use Rattle.std.proofs.lemmas.List.{map-set, get_or-map, get_or-set_same, set-set
 use Rattle.std.proofs.Math.Seq.{map-set_same, take-suc}
 use Rattle.shard.specs.declared.Back.{Back}
 use Rattle.shard.specs.declared.Back.TheVariants.{Race, NoMemory}
+use Rattle.lane.specs.declared.waiting.Waiting.{Waiting}
 use Rattle.lane.specs.declared.item.Item.{Item}
 use Rattle.lane.specs.declared.item.Item.TheVariants.{One, Finish}
 use Rattle.lane.specs.declared.ends.Taker.{Taker}
@@ -37,10 +38,10 @@ marks_stay (xs ∷ lists) (suc k) zero ys h = h
 marks_stay (xs ∷ lists) (suc k) (suc j) ys h = marks_stay lists k j ys h
 
 -- items were taken, and perhaps given to the collector
-further_some : (old : Gathering) (k : ℕ) (s t : Taker Back) (xs : List (Item Back)) (refused : Bool) (collector : Kept) → k < length old.backs.items → s ≡ get_or old.backs.items k s → taker_lane t ≡ taker_lane s → taken_of t ≡ taken_of s ++ xs
+further_some : (old : Gathering) (k : ℕ) (s t : Taker Back) (xs : List (Item Back)) (refused : Bool) (collector : Kept) (waiting : Waiting) → k < length old.backs.items → s ≡ get_or old.backs.items k s → taker_lane t ≡ taker_lane s → taken_of t ≡ taken_of s ++ xs
     → (IsGathered old → Gathers (with_items (given_by old.backs.items) k xs) refused collector)
-    → IsFurther old (record { backs = with_item old.backs k t; collector = collector; refused = refused })
-further_some old k s t xs refused collector lt at lane more gathers =
+    → IsFurther old (record { backs = with_item old.backs k t; collector = collector; refused = refused; waiting = waiting })
+further_some old k s t xs refused collector waiting lt at lane more gathers =
     let lists : List (List (Item Back)) = given_by old.backs.items in
     let given : given_by (set old.backs.items k t) ≡ with_items lists k xs =
     map-set taken_of old.backs.items k t ∙ ap (set lists k) (more ∙ ap (λ (l : List (Item Back)). l ++ xs) (ap taken_of at ∙ sym (get_or-map taken_of old.backs.items k s [] lt))) in
@@ -80,8 +81,8 @@ gathers_mark lists k x refused c is h =
 pub further_kept : (old new : Gathering) (k : ℕ) (s t : Taker Back) (xs : List (Item Back)) → new.backs ≡ with_item old.backs k t → k < length old.backs.items → s ≡ get_or old.backs.items k s → taker_lane t ≡ taker_lane s → taken_of t ≡ taken_of s ++ xs
     → (IsGathered old → Gathers (with_items (given_by old.backs.items) k xs) new.refused new.collector) → IsFurther old new
 further_kept old new k s t xs is lt at lane more gathers =
-    let P : Vec (Taker Back) _ → Type 0 = λ b. IsFurther old (record { backs = b; collector = new.collector; refused = new.refused }) in
-    subst P (sym is) (further_some old k s t xs new.refused new.collector lt at lane more gathers)
+    let P : Vec (Taker Back) _ → Type 0 = λ b. IsFurther old (record { backs = b; collector = new.collector; refused = new.refused; waiting = new.waiting }) in
+    subst P (sym is) (further_some old k s t xs new.refused new.collector new.waiting lt at lane more gathers)
 
 -- items of a lane, and one more
 with_next : (lists : List (List (Item Back))) (k i : ℕ) (items : List (Item Back)) (d : Item Back) → k < length lists → i < length items

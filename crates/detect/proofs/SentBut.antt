@@ -29,4 +29,4 @@ staged_same old new us same h k lt =
     same.parts k ∙ subst P (sym same.lanes) (h k (omega (arith, lt, same.lanes)))
 
 pub same_parts_trans : (a b c : Batch) → HasSameParts a b → HasSameParts b c → HasSameParts a c
-same_parts_trans a b c h k = record { lanes = k.lanes ∙ h.lanes; parts = λ j. k.parts j ∙ h.parts j }
+same_parts_trans a b c h k = record { lanes = k.lanes ∙ h.lanes; most = k.most ∙ h.most; parts = λ j. k.parts j ∙ h.parts j }

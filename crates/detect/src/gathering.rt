@@ -8,10 +8,9 @@ ghost use Rattle.detect.specs.Gathered.{Gathers, with_items};
 ghost use Rattle.detect.specs.Gatherings.{IsFurther, HasEnded};
 
 use collect::Collector;
-use lane::{BLOCK, Item, Taker};
+use lane::{BLOCK, Item, Taker, Waiting};
 use shard::Back;
 use std::sync::Wait;
-use std::thread;
 
 /// The lanes back from the shards, and what came over them.
 #[derive(Drop)]
@@ -20,6 +19,8 @@ pub(crate) struct Gathering {
     pub(crate) collector: Collector,
     /// Whether a growth was refused, in a shard or in the collector.
     pub(crate) refused: bool,
+    /// How the reading thread waits at its lanes.
+    pub(crate) waiting: Waiting,
 }
 
 impl Gathering {
@@ -30,6 +31,22 @@ impl Gathering {
         for shard in 0..self.backs.len() {
             self.take_turn(shard);
         }
+    }
+
+    /// Waits at a full lane. Its shard may be waiting for room on its lane back.
+    pub(crate) fn wait<R: Wait>(&mut self, rt: &R)
+        ensures { IsFurther self.old self.new }
+    {
+        self.take_turns();
+        self.waiting.wait(rt);
+    }
+
+    /// Learns how much room there is on the lane that was full, of as much as it has.
+    #[inline(always)]
+    pub(crate) fn learn(&mut self, room: usize, capacity: usize)
+        ensures { IsFurther self.old self.new }
+    {
+        self.waiting.learn(room, capacity);
     }
 
     /// Takes from the first so many lanes until each has given its mark.
@@ -53,7 +70,7 @@ impl Gathering {
                 return;
             }
             if !self.take_turn(shard) {
-                thread::yield_now();
+                self.waiting.wait(rt);
             }
         }
         unreachable!()

@@ -2,12 +2,13 @@
 ghost use Rattle.std.specs.Prelude.{◌≡◌, ℕ, ◌+◌, ◌≤◌, vec_len, vec_capacity, IfOk, OnOk};
 ghost use Rattle.detect.specs.Readiness.{IsReady, IsTied};
 ghost use Rattle.detect.specs.Rooms.{HasRoom};
+ghost use Rattle.lane.specs.declared.ends.TheConstants.{BLOCK};
 
 use crate::gathering::Gathering;
 use crate::jobs::Job;
 use crate::made::{Ends, Lists, Made};
 use collect::Collector;
-use lane::lane;
+use lane::{BLOCK, Waiting, lane};
 use route::{Batch, Router};
 use shard::Shard;
 use std::alloc::Global;
@@ -33,16 +34,25 @@ pub(crate) fn make<S: BuildHasher + Drop>(
     } = ends;
     Ok(Made {
         router: Router::new(alloc, senders)?,
-        batch: Batch::new(alloc, count)?,
+        batch: Batch::new(alloc, count, most_at_once(capacity as usize))?,
         gathering: Gathering {
             backs,
             collector: Collector::new(alloc),
             refused: false,
+            waiting: Waiting::new(),
         },
         jobs,
         handles: with_room(alloc, count)?,
         workers: with_room(alloc, count)?,
     })
+}
+
+// How many records are sent at once on a lane that holds so many: half of them, so that one half is filled while the
+// other is taken, and no more than a block.
+fn most_at_once(capacity: usize) -> usize
+    ensures { (1 ≤ result) × (result ≤ BLOCK) }
+{
+    (capacity / 2).min(BLOCK).max(1)
 }
 
 // A shard for each hasher, with a lane to it and a lane back.

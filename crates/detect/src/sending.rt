@@ -1,7 +1,7 @@
 //! From the reader to the shards: records are sent, and at last the marks.
-ghost use Rattle.std.specs.Prelude.{◌≡◌, ◌++◌, ◌∷◌, [], List, IfErr, OnOk};
+ghost use Rattle.std.specs.Prelude.{◌≡◌, ◌≤◌, ◌++◌, ◌∷◌, [], List, IfErr, OnOk};
 ghost use Rattle.trace.specs.declared.records.Placed.{Placed};
-ghost use Rattle.route.specs.Batches.{batch_lanes, longest_of, HasStaged, IsUnsent};
+ghost use Rattle.route.specs.Batches.{batch_lanes, longest_of, most_of, HasStaged, IsUnsent};
 ghost use Rattle.route.specs.Routers.{lane_count, pending_of, marked_of, HasSent, IsOnLanes};
 ghost use Rattle.detect.specs.Gatherings.{IsFurther};
 ghost use Rattle.trace.specs.Runs.{FailsBy};
@@ -9,9 +9,7 @@ ghost use Rattle.detect.specs.Sent.{HasSentAll, HasSentBut};
 
 use crate::gathering::Gathering;
 use route::{Batch, Progress, Router};
-use std::hint::spin_loop;
 use std::sync::Wait;
-use std::thread;
 use trace::{Fault, Intake, Limits, Placed, Source};
 
 /// Reads the trace to its end, or to its first fault, and sends its records in batches.
@@ -66,7 +64,7 @@ pub(crate) fn mark_all<T: Wait>(rt: &T, router: &mut Router, gathering: &mut Gat
         match router.mark_all_step() {
             Progress::Idle => return,
             Progress::Moved => {}
-            Progress::Blocked(_) => wait(gathering),
+            Progress::Blocked(_) => gathering.wait(rt),
         }
     }
     unreachable!()
@@ -111,6 +109,7 @@ fn send_batch<T: Wait>(rt: &T, router: &mut Router, gathering: &mut Gathering, b
     ensures sent { (w : List Placed) → HasSentBut batch.old w router.old → HasSent w router.new }
     ensures empty { HasStaged [] batch.new }
     ensures longest { longest_of batch.new ≡ 0 }
+    ensures most { 1 ≤ most_of batch.new }
     ensures idle { pending_of router.new ≡ None }
     ensures unmarked { marked_of router.new ≡ 0 }
     ensures batch { batch_lanes batch.new ≡ lane_count router.new }
@@ -118,29 +117,20 @@ fn send_batch<T: Wait>(rt: &T, router: &mut Router, gathering: &mut Gathering, b
     ensures lanes { IsOnLanes router.old router.new }
     ensures further { IsFurther gathering.old gathering.new }
 {
+    // the lane that was full last
+    let mut lane = 0;
     for _ in rt.forever() {
         match router.send_step(batch) {
             Progress::Idle => {
                 batch.clear();
                 return;
             }
-            Progress::Moved => {}
-            Progress::Blocked(_) => wait(gathering),
+            Progress::Moved => gathering.learn(router.room(lane), router.capacity(lane)),
+            Progress::Blocked(full) => {
+                lane = full as usize;
+                gathering.wait(rt);
+            }
         }
     }
     unreachable!()
-}
-
-// How often the processor pauses before a full lane is tried again. Its worker takes some records meanwhile.
-const PAUSES: u32 = 32;
-
-// A lane is full: its shard may be waiting for room on its lane back.
-fn wait(gathering: &mut Gathering)
-    ensures { IsFurther gathering.old gathering.new }
-{
-    gathering.take_turns();
-    for _ in 0..PAUSES {
-        spin_loop();
-    }
-    thread::yield_now();
 }

@@ -5,6 +5,8 @@ mod ends;
 mod item;
 #[cfg(test)]
 mod tests;
+mod waiting;
 
 pub use ends::{BLOCK, End, Sender, Taker, lane};
 pub use item::Item;
+pub use waiting::Waiting;

@@ -21,6 +21,10 @@ part_of b k = part_at b.parts.items k
 abbrev pub longest_of : Batch → ℕ
 longest_of b = b.longest
 
+-- and never will a lane have more than these
+abbrev pub most_of : Batch → ℕ
+most_of b = b.most
+
 -- the lane whose records are being sent
 abbrev pub batch_turn : Batch → ℕ
 batch_turn b = b.turn
@@ -52,6 +56,7 @@ IsSentWhole b = (k : ℕ) → k < batch_lanes b → unsent_part b k ≡ []
 -- the records are the same, for the same lanes
 pub record HasSameParts (old new : Batch) : Type 0 where
   pub lanes : batch_lanes new ≡ batch_lanes old
+  pub most : most_of new ≡ most_of old
   pub parts : (k : ℕ) → part_of new k ≡ part_of old k
 
 -- of each lane's records as many were sent

@@ -17,23 +17,29 @@ pub struct Batch {
     parts: Vec<Part>,
     // no part is longer
     longest: usize,
+    // nor ever longer than this
+    most: usize,
     // the lane whose part is being sent, and how many records of that part were sent
     turn: usize,
     sent: usize,
     ghost some: { 1 ≤ vec_len parts },
-    ghost within: { longest ≤ BLOCK },
+    ghost within: { longest ≤ most },
+    ghost most_within: { (1 ≤ most) × (most ≤ BLOCK) },
     ghost no_longer: { AreNoLonger longest parts.items },
     ghost turn_within: { turn ≤ vec_len parts },
     ghost sent_within: { sent ≤ length (part_at parts.items turn) },
 }
 
 impl Batch {
-    ghost use Rattle.route.specs.Batches.{batch_lanes, longest_of, part_of, batch_turn, sent_count, unsent_part, HasStaged, HasSameParts, IsUnsent, IsSentWhole};
+    ghost use Rattle.route.specs.Batches.{batch_lanes, longest_of, most_of, part_of, batch_turn, sent_count, unsent_part, HasStaged, HasSameParts, IsUnsent, IsSentWhole};
 
-    /// Nothing yet, for so many lanes. It takes memory for all that it may have, and none after that.
-    pub fn new(alloc: Global, lanes: usize) -> Result<Batch, NoMemory>
-        requires { 1 ≤ lanes }
+    /// Nothing yet, for so many lanes, and for at most so many records on each. It takes memory for all that it may have,
+    /// and none after that.
+    pub fn new(alloc: Global, lanes: usize, most: usize) -> Result<Batch, NoMemory>
+        requires lanes { 1 ≤ lanes }
+        requires most { (1 ≤ most) × (most ≤ BLOCK) }
         ensures lanes { IfOk result (λ b. batch_lanes b ≡ lanes) }
+        ensures most { IfOk result (λ b. most_of b ≡ most) }
         ensures empty { IfOk result (HasStaged []) }
         ensures longest { IfOk result (λ b. longest_of b ≡ 0) }
         ensures unsent { IfOk result IsUnsent }
@@ -45,6 +51,7 @@ impl Batch {
         Ok(Batch {
             parts,
             longest: 0,
+            most,
             turn: 0,
             sent: 0,
         })
@@ -56,8 +63,9 @@ impl Batch {
         requires { IsUnsent self.old }
         ensures joined { IsTrue result → (us : List Placed) → HasStaged us self.old → HasStaged (us ++ placed ∷ []) self.new }
         ensures refused { IsFalse result → self.new ≡ self.old }
-        ensures full { IsFalse result → longest_of self.old ≡ BLOCK }
+        ensures full { IsFalse result → longest_of self.old ≡ most_of self.old }
         ensures lanes { batch_lanes self.new ≡ batch_lanes self.old }
+        ensures most { most_of self.new ≡ most_of self.old }
         ensures unsent { IsUnsent self.new }
     {
         let lanes = self.parts.len();
@@ -73,11 +81,12 @@ impl Batch {
         ensures here { IsTrue result → part_of self.new lane ≡ part_of self.old lane ++ placed ∷ [] }
         ensures others { IsTrue result → (k : ℕ) → (k ≡ lane → ⊥) → part_of self.new k ≡ part_of self.old k }
         ensures refused { IsFalse result → self.new ≡ self.old }
-        ensures full { IsFalse result → longest_of self.old ≡ BLOCK }
+        ensures full { IsFalse result → longest_of self.old ≡ most_of self.old }
         ensures lanes { batch_lanes self.new ≡ batch_lanes self.old }
+        ensures most { most_of self.new ≡ most_of self.old }
         ensures unsent { IsUnsent self.new }
     {
-        if self.parts[lane].len() == BLOCK {
+        if self.parts[lane].len() == self.most {
             return false;
         }
         push_on(&mut self.parts, lane, placed);
@@ -89,11 +98,12 @@ impl Batch {
         requires { IsUnsent self.old }
         ensures each { IsTrue result → (k : ℕ) → k < batch_lanes self.old → part_of self.new k ≡ part_of self.old k ++ placed ∷ [] }
         ensures refused { IsFalse result → self.new ≡ self.old }
-        ensures full { IsFalse result → longest_of self.old ≡ BLOCK }
+        ensures full { IsFalse result → longest_of self.old ≡ most_of self.old }
         ensures lanes { batch_lanes self.new ≡ batch_lanes self.old }
+        ensures most { most_of self.new ≡ most_of self.old }
         ensures unsent { IsUnsent self.new }
     {
-        if self.longest == BLOCK {
+        if self.longest == self.most {
             return false;
         }
         push_on_all(&mut self.parts, placed);
@@ -150,6 +160,7 @@ impl Batch {
     pub fn clear(&mut self)
         ensures empty { HasStaged [] self.new }
         ensures longest { longest_of self.new ≡ 0 }
+        ensures most { (most_of self.new ≡ most_of self.old) × (1 ≤ most_of self.new) }
         ensures unsent { IsUnsent self.new }
         ensures lanes { batch_lanes self.new ≡ batch_lanes self.old }
     {

@@ -4,7 +4,7 @@ ghost use Rattle.lane.specs.Lanes.{put_of, taker_lane, end_lane};
 ghost use Rattle.route.specs.Routers.{lanes_of, pending_of, marked_of};
 
 use super::*;
-use lane::{End, Item, Sender, Taker, lane};
+use lane::{BLOCK, End, Item, Sender, Taker, lane};
 use std::alloc::Global;
 use std::process::Abort;
 use std::sync::Wait;
@@ -89,7 +89,7 @@ fn batch_on_two_lanes(rt: HostRuntime) -> Result<(), Fail> {
     senders.push(first)?;
     senders.push(second)?;
     let mut router = Router::new(rt.alloc(), senders)?;
-    let mut batch = Batch::new(rt.alloc(), 2)?;
+    let mut batch = Batch::new(rt.alloc(), 2, BLOCK)?;
     assert_eq!(rt; router.send_step(&mut batch), Progress::Idle);
     assert!(rt; batch.add(at(1, Record::Spawn)));
     assert!(rt; batch.add(at(2, Record::Write(5))));
@@ -118,7 +118,7 @@ fn batch_on_two_lanes(rt: HostRuntime) -> Result<(), Fail> {
 
 #[test]
 fn batch_is_full(rt: HostRuntime) -> Result<(), Fail> {
-    let mut batch = Batch::new(rt.alloc(), 3)?;
+    let mut batch = Batch::new(rt.alloc(), 3, BLOCK)?;
     for place in 1..65 {
         assert!(rt; batch.add(at(place, Record::Write(3 * place))));
     }
@@ -127,6 +127,12 @@ fn batch_is_full(rt: HostRuntime) -> Result<(), Fail> {
     assert!(rt; batch.add(at(65, Record::Read(1))));
     batch.clear();
     assert!(rt; batch.add(at(66, Record::Sync)));
+    let mut of_two = Batch::new(rt.alloc(), 3, 2)?;
+    assert!(rt; of_two.add(at(1, Record::Spawn)));
+    assert!(rt; of_two.add(at(2, Record::Read(4))));
+    assert!(rt; !of_two.add(at(3, Record::Read(1))));
+    assert!(rt; of_two.add(at(3, Record::Read(2))));
+    assert!(rt; !of_two.add(at(4, Record::Sync)));
     Ok(())
 }
 

@@ -6,9 +6,8 @@ ghost use Rattle.lane.specs.Items.{has_mark};
 ghost use Rattle.lane.specs.Lanes.{lane_of, end_lane, put_of, all_put};
 
 use crate::Back;
-use lane::{BLOCK, End, Sender};
+use lane::{BLOCK, End, Sender, Waiting};
 use std::sync::Wait;
-use std::thread;
 use trace::Race;
 
 /// A lane back, and the races that are to be put there at once.
@@ -115,13 +114,14 @@ fn put_one<R: Wait>(rt: &R, back: &mut Sender<Back>, value: Back)
     ensures put { put_of back.new ≡ put_of back.old ++ One value ∷ [] }
     ensures unmarked { has_mark (put_of back.new) ≡ false }
 {
-    let mut waiting = value;
+    let mut left = value;
+    let mut waiting = Waiting::new();
     for _ in rt.forever() {
-        match back.put(waiting) {
+        match back.put(left) {
             Ok(()) => return,
-            Err(value) => waiting = value,
+            Err(value) => left = value,
         }
-        thread::yield_now();
+        waiting.wait(rt);
     }
     unreachable!()
 }
@@ -132,11 +132,12 @@ fn mark<R: Wait>(rt: &R, mut back: Sender<Back>) -> End<Back>
     ensures lane { end_lane result ≡ lane_of back }
     ensures put { all_put result ≡ put_of back ++ Finish ∷ [] }
 {
+    let mut waiting = Waiting::new();
     for _ in rt.forever() {
         if back.mark() {
             return back.end();
         }
-        thread::yield_now();
+        waiting.wait(rt);
     }
     unreachable!()
 }

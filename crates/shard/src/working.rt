@@ -9,13 +9,9 @@ use crate::gate::Gate;
 use crate::state::Shard;
 use crate::telling::Telling;
 use crate::worker::Worker;
-use lane::{BLOCK, End, Item, Sender, Taker};
+use lane::{BLOCK, End, Item, Sender, Taker, Waiting};
 use std::hash::BuildHasher;
-use std::hint::spin_loop;
 use std::sync::Wait;
-use std::thread;
-use std::thread::Parker;
-use std::time::Duration;
 use trace::Placed;
 
 /// What a worker answers: its taker, the receipt of its lane back, and its shard.
@@ -50,14 +46,9 @@ pub fn work<R: Wait, S: BuildHasher + Drop, G: Gate>(
         telling: Telling::new(back),
         stopped: false,
     };
-    let parker = Parker::new();
-    let few = few_of(taker.capacity());
+    let mut waiting = Waiting::new();
     let mut block = [Item::Finish; BLOCK];
-    let mut tired: u32 = 0;
     for _ in rt.forever() {
-        if taker.ready() == 0 && tired < AWAKE {
-            gather();
-        }
         let count = taker.take_block(&mut block);
         worker.take_block(rt, gate, &block[..count]);
         if taker.ended() {
@@ -72,62 +63,7 @@ pub fn work<R: Wait, S: BuildHasher + Drop, G: Gate>(
                 shard,
             };
         }
-        if count == 0 {
-            rest(rt, &parker, tired);
-        }
-        tired = tired_after(tired, count, few);
+        waiting.after_look(rt, count.saturating_add(taker.ready()), taker.capacity());
     }
     unreachable!()
-}
-
-// How often the processor pauses before a look at the other end of the lane.
-const PAUSES: u32 = 128;
-
-// Lets some records gather before a look at the other end. A lane that holds a record or two at a time passes between
-// two processors at each.
-fn gather() {
-    for _ in 0..PAUSES {
-        spin_loop();
-    }
-}
-
-// How tired a worker is that naps. An empty lane tires it by one, so that the worker of a busy lane looks on for longer
-// than the router takes to read ahead: a look with its pauses took less than a microsecond where it was measured, and
-// processors differ in that. A take of few items tires it by more, since more are to be had at once after a nap. A take of
-// many wakes it by one, and a whole block by more; but what came during a nap doesn't keep it awake for long.
-const AWAKE: u32 = 64;
-
-fn tired_after(tired: u32, count: usize, few: usize) -> u32 {
-    match count {
-        0 => tired.saturating_add(1).min(AWAKE),
-        _ if count < few => tired.saturating_add(BY_FEW).min(AWAKE),
-        BLOCK => tired.saturating_sub(BY_BLOCK),
-        _ => tired.saturating_sub(1),
-    }
-}
-
-// By how much a take of few items tires.
-const BY_FEW: u32 = 8;
-
-// By how much a take of a whole block wakes.
-const BY_BLOCK: u32 = 16;
-
-// Fewer items than these are few, on a lane that holds so many. What may come during a nap has room on a lane of the
-// usual capacity; on a smaller one the router would have to wait, so there only an empty lane tires.
-const FEW: usize = 16;
-
-fn few_of(capacity: usize) -> usize {
-    (capacity / BLOCK).min(FEW).max(1)
-}
-
-// How long a nap takes, in microseconds.
-const NAP: u64 = 50;
-
-// Waits where the lane was empty. Other threads run first; a tired worker naps.
-fn rest<R: Wait>(rt: &R, parker: &Parker, tired: u32) {
-    if tired < AWAKE {
-        thread::yield_now();
-    } else {
-        parker.park_timeout(rt, Duration::from_micros(NAP));
-    }
 }

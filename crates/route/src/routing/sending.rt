@@ -22,6 +22,26 @@ impl Router {
         self.pending.is_some()
     }
 
+    /// For how many records more the sender of the lane knows to have room; 0 where there is no such lane.
+    pub fn room(&self, lane: usize) -> usize
+        ensures { result ≡ room_on self.now lane }
+    {
+        match self.senders.get(lane) {
+            Some(sender) => sender.room(),
+            None => 0,
+        }
+    }
+
+    /// How many records the lane holds at most; 0 where there is no such lane.
+    pub fn capacity(&self, lane: usize) -> usize
+        ensures { result ≡ capacity_on self.now lane }
+    {
+        match self.senders.get(lane) {
+            Some(sender) => sender.capacity(),
+            None => 0,
+        }
+    }
+
     /// Takes a record to be sent. It is put by the next steps.
     pub fn offer(&mut self, placed: Placed)
         requires idle { pending_of self.old ≡ None }

@@ -22,7 +22,7 @@ loop-preserved-in-Moved g c =
       idle = c.send_step.ensures.pending;
       unmarked = c.send_step.ensures.marked;
       lanes = on_lanes_trans _ _ _ i.lanes c.send_step.ensures.lanes;
-      further = i.further;
+      further = further_trans _ _ _ i.further c.learn.ensures;
     }
 
 pub loop-preserved : goal.loop-preserved

@@ -5,7 +5,7 @@ use Rattle.shard.proofs.telling.put_one.Given as goal
 
 abbrev pub invariant-loop : goal.invariant-loop
 invariant-loop g l = record {
-  same : l.waiting ≡ l.fn.value;
+  same : l.left ≡ l.fn.value;
   lane : lane_of l.back ≡ lane_of l.initial.back;
   put : put_of l.back ≡ put_of l.initial.back;
   unmarked : has_mark (put_of l.back) ≡ false;

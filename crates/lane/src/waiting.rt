@@ -1,0 +1,129 @@
+//! How an end of a lane waits for the other one.
+use std::hint::spin_loop;
+use std::sync::Wait;
+use std::thread::Parker;
+use std::time::Duration;
+
+/// How an end of a lane waits for the other one, be it for items or for room.
+///
+/// It looks again after a short pause, so many times, and then it naps. A thread that only yields gives a whole slice of
+/// time away where other programs want the processor, and a lane is filled in less than a hundredth of a slice. How often
+/// it looks before it naps, and how long a nap takes, goes by what the last waits were good for: looks that found what
+/// they waited for make more looks, naps make fewer; a nap after which the lane is nearly full, or nearly empty for a
+/// sender, was too long, and one after which little has changed too short.
+#[derive(Drop)]
+pub struct Waiting {
+    parker: Parker,
+    // how many looks come before a nap, and how many of them are left
+    looks: u32,
+    left: u32,
+    // how long a nap takes, in microseconds
+    nap: u64,
+    // how many waits are naps from the start, since others want the processor
+    busy: u32,
+    last: Rest,
+}
+
+// What was done since the other end last came further.
+#[derive(Clone, Copy)]
+enum Rest {
+    Nothing,
+    Pause,
+    Nap,
+}
+
+// How often the processor pauses before the next look.
+const PAUSES: u32 = 64;
+
+const FEWEST_LOOKS: u32 = 8;
+
+const MOST_LOOKS: u32 = 128;
+
+// In microseconds.
+const SHORTEST_NAP: u64 = 50;
+
+const LONGEST_NAP: u64 = 800;
+
+// How many waits are naps where a pause took so long that another program must have had the processor.
+const BUSY: u32 = 256;
+
+// A lane of fewer items may be filled or emptied in any pause.
+const TELLING: usize = 512;
+
+impl Waiting {
+    /// An end that hasn't waited yet.
+    pub const fn new() -> Waiting {
+        Waiting {
+            parker: Parker::new(),
+            looks: FEWEST_LOOKS,
+            left: FEWEST_LOOKS,
+            nap: SHORTEST_NAP,
+            busy: 0,
+            last: Rest::Nothing,
+        }
+    }
+
+    /// Waits a little where a look showed nothing; else learns from what it showed: so many items or so much room, of as
+    /// much as the lane has.
+    #[inline(always)]
+    pub fn after_look<R: Wait>(&mut self, rt: &R, shown: usize, capacity: usize) {
+        if shown == 0 {
+            self.wait(rt);
+        } else {
+            self.learn(shown, capacity);
+        }
+    }
+
+    /// Waits a little.
+    pub fn wait<R: Wait>(&mut self, rt: &R) {
+        if self.busy == 0 && self.left > 0 {
+            self.left -= 1;
+            self.last = Rest::Pause;
+            pause();
+        } else {
+            self.busy = self.busy.saturating_sub(1);
+            self.last = Rest::Nap;
+            self.parker
+                .park_timeout(rt, Duration::from_micros(self.nap));
+        }
+    }
+
+    /// Learns from how far the other end came: so many items or so much room, of as much as the lane has.
+    #[inline(always)]
+    pub fn learn(&mut self, shown: usize, capacity: usize) {
+        match self.last {
+            Rest::Nothing => {}
+            Rest::Pause => self.learn_from_pause(shown, capacity),
+            Rest::Nap => self.learn_from_nap(shown, capacity),
+        }
+    }
+
+    fn learn_from_pause(&mut self, shown: usize, capacity: usize) {
+        if TELLING <= capacity && capacity - capacity / 4 <= shown {
+            self.busy = BUSY;
+        }
+        // few items are no reason to look on
+        if capacity / 64 <= shown {
+            self.looks = self.looks.saturating_mul(2).min(MOST_LOOKS);
+            self.left = self.looks;
+        }
+        self.last = Rest::Nothing;
+    }
+
+    fn learn_from_nap(&mut self, shown: usize, capacity: usize) {
+        if capacity / 2 <= shown {
+            self.nap = (self.nap / 2).max(SHORTEST_NAP);
+        } else if shown <= capacity / 8 {
+            self.nap = self.nap.saturating_mul(2).min(LONGEST_NAP);
+        }
+        self.looks = (self.looks / 2).max(FEWEST_LOOKS);
+        self.left = self.looks;
+        self.last = Rest::Nothing;
+    }
+}
+
+fn pause() {
+    for _ in 0..PAUSES {
+        spin_loop();
+    }
+}
