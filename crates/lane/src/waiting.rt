@@ -1,16 +1,18 @@
 //! How an end of a lane waits for the other one.
 use std::hint::spin_loop;
 use std::sync::Wait;
+use std::thread;
 use std::thread::Parker;
 use std::time::Duration;
 
 /// How an end of a lane waits for the other one, be it for items or for room.
 ///
-/// It looks again after a short pause, so many times, and then it naps. A thread that only yields gives a whole slice of
-/// time away where other programs want the processor, and a lane is filled in less than a hundredth of a slice. How often
-/// it looks before it naps, and how long a nap takes, goes by what the last waits were good for: looks that found what
-/// they waited for make more looks, naps make fewer; a nap after which the lane is nearly full, or nearly empty for a
-/// sender, was too long, and one after which little has changed too short.
+/// It lets other threads run and looks again, so many times, and then it naps. Where other programs want the processor a
+/// thread that gives way gets it back after a slice of time, and a lane is filled in less than a hundredth of a slice; so
+/// where that is seen it naps at once for a while, since one that slept gets the processor when it wakes. How often
+/// it looks before it naps, and how long a nap takes, goes by what the last waits showed. Looks that found what they
+/// waited for make more looks. A nap after which half of the lane was filled, or emptied for a sender, was too long, and
+/// more looks would have been better; one after which little has changed was too short.
 #[derive(Drop)]
 pub struct Waiting {
     parker: Parker,
@@ -28,26 +30,29 @@ pub struct Waiting {
 #[derive(Clone, Copy)]
 enum Rest {
     Nothing,
-    Pause,
+    Look,
     Nap,
 }
 
-// How often the processor pauses before the next look.
+// How often the processor pauses before other threads run and the next look comes.
 const PAUSES: u32 = 64;
 
-const FEWEST_LOOKS: u32 = 8;
+const FEWEST_LOOKS: u32 = 4;
 
-const MOST_LOOKS: u32 = 128;
+const MOST_LOOKS: u32 = 64;
 
-// In microseconds.
-const SHORTEST_NAP: u64 = 50;
+// In microseconds. The system adds some fifty.
+const SHORTEST_NAP: u64 = 5;
 
 const LONGEST_NAP: u64 = 800;
 
-// How many waits are naps where a pause took so long that another program must have had the processor.
+// How many waits are naps where giving way took so long that another program must have had the processor.
 const BUSY: u32 = 256;
 
-// A lane of fewer items may be filled or emptied in any pause.
+// Less than this part of the lane is no reason to look on.
+const FEW: usize = 64;
+
+// A lane of fewer items may be filled or emptied while other threads of this program run.
 const TELLING: usize = 512;
 
 impl Waiting {
@@ -55,8 +60,8 @@ impl Waiting {
     pub const fn new() -> Waiting {
         Waiting {
             parker: Parker::new(),
-            looks: FEWEST_LOOKS,
-            left: FEWEST_LOOKS,
+            looks: MOST_LOOKS,
+            left: MOST_LOOKS,
             nap: SHORTEST_NAP,
             busy: 0,
             last: Rest::Nothing,
@@ -78,8 +83,9 @@ impl Waiting {
     pub fn wait<R: Wait>(&mut self, rt: &R) {
         if self.busy == 0 && self.left > 0 {
             self.left -= 1;
-            self.last = Rest::Pause;
+            self.last = Rest::Look;
             pause();
+            thread::yield_now();
         } else {
             self.busy = self.busy.saturating_sub(1);
             self.last = Rest::Nap;
@@ -93,17 +99,16 @@ impl Waiting {
     pub fn learn(&mut self, shown: usize, capacity: usize) {
         match self.last {
             Rest::Nothing => {}
-            Rest::Pause => self.learn_from_pause(shown, capacity),
+            Rest::Look => self.learn_from_look(shown, capacity),
             Rest::Nap => self.learn_from_nap(shown, capacity),
         }
     }
 
-    fn learn_from_pause(&mut self, shown: usize, capacity: usize) {
+    fn learn_from_look(&mut self, shown: usize, capacity: usize) {
         if TELLING <= capacity && capacity - capacity / 4 <= shown {
             self.busy = BUSY;
         }
-        // few items are no reason to look on
-        if capacity / 64 <= shown {
+        if capacity / FEW <= shown {
             self.looks = self.looks.saturating_mul(2).min(MOST_LOOKS);
             self.left = self.looks;
         }
@@ -113,10 +118,11 @@ impl Waiting {
     fn learn_from_nap(&mut self, shown: usize, capacity: usize) {
         if capacity / 2 <= shown {
             self.nap = (self.nap / 2).max(SHORTEST_NAP);
+            self.looks = self.looks.saturating_mul(4).min(MOST_LOOKS);
         } else if shown <= capacity / 8 {
             self.nap = self.nap.saturating_mul(2).min(LONGEST_NAP);
+            self.looks = (self.looks / 2).max(FEWEST_LOOKS);
         }
-        self.looks = (self.looks / 2).max(FEWEST_LOOKS);
         self.left = self.looks;
         self.last = Rest::Nothing;
     }
