@@ -6,9 +6,9 @@ use Rattle.trace.specs.Devices.{HasRisen}
 use Rattle.collect.specs.Reports.{IsReportList}
 use Rattle.collect.specs.ReportText.{rtext}
 use Rattle.collect.proofs.Listed.{no_report}
-use Rattle.spbags.specs.declared.reports.ReportRefusal.{ReportRefusal}
-use Rattle.spbags.specs.declared.reports.ReportRefusal.TheVariants.{Read, TooLarge, Bad, NoMemory}
-use Rattle.spbags.specs.ReportBytes.{IsRefusal}
+use Rattle.texts.specs.declared.reports.ReportRefusal.{ReportRefusal}
+use Rattle.texts.specs.declared.reports.ReportRefusal.TheVariants.{Read, TooLarge, Bad, NoMemory}
+use Rattle.texts.specs.ReportBytes.{IsRefusal}
 
 consumed_within : (xs : List ℕ) (after : Option (List ℕ)) (came : List ℕ) → Consumes (Some xs) after came → length came ≤ length xs
 consumed_within xs None came p = absurd p

@@ -3,13 +3,13 @@ use Rattle.std.specs.Prelude.{◌≡◌, ◌⊎◌, ◌^◌, ℕ, List, Option, 
 use Rattle.trace.specs.declared.records.Record.{Record}
 use Rattle.trace.specs.Accesses.{RaceAt}
 use Rattle.trace.specs.Runs.{OfTrace}
-use Rattle.spbags.specs.declared.asking.Asked.{Asked}
-use Rattle.spbags.specs.declared.asking.Asked.TheVariants as asked
+use Rattle.words.specs.declared.asking.Asked.{Asked}
+use Rattle.words.specs.declared.asking.Asked.TheVariants as asked
 use Rattle.spbags.specs.declared.input.Input.{Input}
-use Rattle.spbags.specs.Asked.{trace_name, report_name, asks_report}
+use Rattle.words.specs.Asked.{trace_name, report_name, asks_report}
 use Rattle.spbags.specs.Inputs.{IsMissing, StandsFor}
 use Rattle.spbags.specs.Questions.{AnswersCheck, AnswersPairs, AnswersMeasure, AnswersConfirm}
-use Rattle.spbags.specs.ReportBytes.{GivesReport}
+use Rattle.texts.specs.ReportBytes.{GivesReport}
 
 -- the trace and the report are what the names stand for that were asked with; or both are missing
 pub record AreNamed {F E : Type 0} (Gives : List ℕ → Result F E → Type 0) (asked : Asked) (trace report : Input F) : Type 0 where

@@ -17,9 +17,9 @@ use Rattle.audit.specs.declared.answers.Confirm.TheVariants.{Yes, No}
 use Rattle.audit.specs.Measures.{IsMeasure}
 use Rattle.audit.specs.Pairs.{ArePairs}
 use Rattle.audit.specs.Confirms.{Confirms}
-use Rattle.spbags.specs.declared.asking.Asked.{Asked}
-use Rattle.spbags.specs.declared.asking.Asked.TheVariants as asked
-use Rattle.spbags.specs.Texts.{pairs_text, measure_text, confirm_text}
+use Rattle.words.specs.declared.asking.Asked.{Asked}
+use Rattle.words.specs.declared.asking.Asked.TheVariants as asked
+use Rattle.texts.specs.Texts.{pairs_text, measure_text, confirm_text}
 
 -- `check`: the verdict on the trace, which is its report by the dag; the locations reported are the racy ones. The
 -- status is 0 where there is none, and 1 exactly where some location has a race.

@@ -10,15 +10,13 @@ ghost use Rattle.collect.specs.ReportText.{rtext};
 ghost use Rattle.trace.specs.Runs.{OfTrace};
 ghost use Rattle.detect.specs.Ran.{RunReports};
 ghost use Rattle.detect.specs.Sent.{FailsInRun};
-ghost use Rattle.spbags.specs.Answers.{IsUntouched, Puts, Took, TookFront, WasGiven, Tells};
-ghost use Rattle.spbags.specs.Asked.{depth_of, asks_report};
+ghost use Rattle.texts.specs.Sinks.{IsUntouched, Puts, Took, TookFront, WasGiven, Tells};
+ghost use Rattle.words.specs.Asked.{depth_of, asks_report};
 ghost use Rattle.spbags.specs.Questions.{Answers, AnswersCheck, Fails, IsWant};
-ghost use Rattle.spbags.specs.Messages.{message, cannot_write, help_of, refusal};
+ghost use Rattle.texts.specs.Messages.{message, cannot_write};
+ghost use Rattle.words.specs.Faults.{help_of, refusal};
 
-use crate::asking::{Asked, Check};
-use crate::messages::{put, say, say_fault};
 use crate::questions::{answer_measure, answer_pairs};
-use crate::words::WordsFault;
 use collect::{Report, write_report};
 use detect::{Plan, Run, detect};
 use shard::Open;
@@ -26,7 +24,9 @@ use std::alloc::{AllocError, Global};
 use std::hash::{BuildHasherDefault, FoldHasher};
 use std::sync::Wait;
 use std::thread::Threads;
+use texts::{put, say, say_fault};
 use trace::{Fault, Limits, Sink, Source, WriteFault};
+use words::{Asked, Check, WordsFault};
 
 /// The most records that a trace may have: 2^48.
 pub const MOST_RECORDS: u64 = 1 << 48;

@@ -7,25 +7,23 @@ ghost use Rattle.trace.specs.declared.faults.Fault.{Fault};
 ghost use Rattle.trace.specs.declared.faults.Fault.TheVariants.{NoMemory};
 ghost use Rattle.trace.specs.declared.records.Record.{Record};
 ghost use Rattle.trace.specs.Runs.{FailsBy, OfTrace};
-ghost use Rattle.spbags.specs.Answers.{IsUntouched, Took, TookFront, WasGiven};
+ghost use Rattle.texts.specs.Sinks.{IsUntouched, Took, TookFront, WasGiven};
 ghost use Rattle.trace.specs.Accesses.{RaceAt};
 ghost use Rattle.collect.specs.Reports.{IsReportList};
 ghost use Rattle.collect.specs.ReportText.{rtext};
-ghost use Rattle.spbags.specs.declared.reports.ReportRefusal.{ReportRefusal};
-ghost use Rattle.spbags.specs.Asked.{depth_of, asks_report};
-ghost use Rattle.spbags.specs.Messages.{message, report_message, cannot_write};
+ghost use Rattle.texts.specs.declared.reports.ReportRefusal.{ReportRefusal};
+ghost use Rattle.words.specs.Asked.{depth_of, asks_report};
+ghost use Rattle.texts.specs.Messages.{message, report_message, cannot_write};
 ghost use Rattle.spbags.specs.Questions.{AnswersConfirm, status_of};
-ghost use Rattle.spbags.specs.ReportBytes.{GivesReport, IsRefusal};
+ghost use Rattle.texts.specs.ReportBytes.{GivesReport, IsRefusal};
 
 use crate::answers::{finish, limits_of};
-use crate::asking::Asked;
-use crate::messages::{say_fault, say_refusal};
-use crate::reports::report_from;
-use crate::texts::put_confirm;
 use audit::{Confirm, confirm};
 use collect::Report;
 use std::alloc::Global;
+use texts::{put_confirm, report_from, say_fault, say_refusal};
 use trace::{Sink, Source};
+use words::Asked;
 
 /// Answers whether every entry of a report is a race of a trace, and gives the exit status: 0 for yes, 1 for no, 2 for
 /// a fault. The report is read first, and where it is faulty the trace isn't read.

@@ -6,9 +6,9 @@ ghost use Rattle.std.specs.Io.KnownBytes.{ReadConsumes};
 ghost use Rattle.spbags.specs.Files.{AreNamed};
 ghost use Rattle.spbags.specs.Inputs.{IsMissing, StandsFor, known_bytes};
 
-use crate::asking::Asked;
 use std::io;
 use std::io::{ErrorKind, Read, Stdin};
+use words::Asked;
 
 /// What a name on the command line stands for.
 #[derive(Drop)]

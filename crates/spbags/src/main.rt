@@ -4,27 +4,20 @@
 ghost use Rattle.std.specs.Prelude.{◌<◌, ◌≤◌, ℕ, List};
 ghost use Rattle.std.specs.Fn.{FnReturnsAt};
 ghost use Rattle.spbags.specs.declared.input.Input.{Input};
-ghost use Rattle.spbags.specs.Answers.{IsUntouched, Took};
+ghost use Rattle.texts.specs.Sinks.{IsUntouched, Took};
 ghost use Rattle.spbags.specs.Files.{AreNamed, AnswersOf};
 ghost use Rattle.spbags.specs.Inputs.{known_bytes};
 
 mod answers;
-mod asking;
-mod commands;
 mod confirms;
 mod input;
-mod messages;
 mod questions;
-mod reports;
 #[cfg(test)]
 mod tests;
-mod texts;
-mod words;
 
-use answers::{answer, refuse};
-use asking::Asked;
-use confirms::answer_confirm;
-use input::{Inputs, open_asked};
+pub use answers::{MOST_RECORDS, answer, limits_of, refuse};
+pub use confirms::answer_confirm;
+pub use input::{Input, Inputs, open_asked};
 use std::fs::File;
 use std::io::{BufReader, BufWriter, ErrorKind, Read};
 use std::process::ExitCode;
@@ -32,7 +25,7 @@ use std::sync::Wait;
 use std::thread::Threads;
 use std::{env, io};
 use trace::{Counted, Sink};
-use words::{WordsFault, read_words};
+pub use words::{Asked, Check, Confirm, Measure, Pairs, VERSION, WordsFault, read_words};
 
 fn main(rt: HostRuntime) -> ExitCode {
     let alloc = rt.alloc();

@@ -7,15 +7,14 @@ ghost use Rattle.trace.specs.declared.faults.Fault.{Fault};
 ghost use Rattle.trace.specs.declared.faults.Fault.TheVariants.{NoMemory};
 ghost use Rattle.trace.specs.declared.records.Record.{Record};
 ghost use Rattle.trace.specs.Runs.{FailsBy, OfTrace};
-ghost use Rattle.spbags.specs.Answers.{IsUntouched, Took, TookFront, WasGiven};
-ghost use Rattle.spbags.specs.Messages.{message, cannot_write};
+ghost use Rattle.texts.specs.Sinks.{IsUntouched, Took, TookFront, WasGiven};
+ghost use Rattle.texts.specs.Messages.{message, cannot_write};
 ghost use Rattle.spbags.specs.Questions.{AnswersPairs, AnswersMeasure};
 
 use crate::answers::{finish, limits_of, status_of_found};
-use crate::messages::say_fault;
-use crate::texts::{put_measure, put_pairs};
 use audit::{measure, pairs};
 use std::alloc::Global;
+use texts::{put_measure, put_pairs, say_fault};
 use trace::{Access, Sink, Source};
 
 // All races of a location, and the exit status: 0 where there is none.

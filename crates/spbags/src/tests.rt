@@ -8,10 +8,7 @@ mod rows;
 mod told;
 mod words;
 
-use crate::answers::{answer, refuse};
-use crate::asking::Asked;
-use crate::confirms::answer_confirm;
-use crate::words::read_words;
+use crate::{Asked, answer, answer_confirm, read_words, refuse};
 use devices::{Full, Slow};
 use std::alloc::{AllocError, Global};
 use std::process::Abort;

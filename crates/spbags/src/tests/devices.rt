@@ -50,30 +50,6 @@ impl Read for Broken<'_> {
     }
 }
 
-/// A reader of many bytes, none of which is kept: they are those that the buffers hold. Then it fails, or tells the end.
-#[derive(Drop)]
-pub struct Large {
-    left: usize,
-    fails: bool,
-}
-
-impl Large {
-    pub fn new(size: usize, fails: bool) -> Large {
-        Large { left: size, fails }
-    }
-}
-
-impl Read for Large {
-    fn read(&mut self, buffer: &mut [u8]) -> io::Result<usize> {
-        if self.left == 0 && self.fails {
-            return Err(io::Error::from(ErrorKind::Other));
-        }
-        let count = self.left.min(buffer.len());
-        self.left -= count;
-        Ok(count)
-    }
-}
-
 /// A writer that takes one byte a call, and fails when it holds some.
 #[derive(Drop)]
 pub struct Full<'a> {

@@ -1,7 +1,6 @@
 //! The files that the words name, as the system opens them.
 use super::{Ran, assert_left, words_of};
-use crate::answer_asked;
-use crate::words::read_words;
+use crate::{answer_asked, read_words};
 use std::env::temp_dir;
 use std::test::Fail;
 use std::{fs, process};

@@ -1,7 +1,6 @@
 //! Worked rows of `pairs`, `measure` and `confirm`.
-use super::devices::{Broken, Large, Slow};
+use super::devices::{Broken, Slow};
 use super::{Ran, assert_left, flood, run, run_on, run_with_report, trace_of};
-use crate::reports::MOST_BYTES;
 use std::alloc::{AllocError, Global};
 use std::io::ErrorKind;
 use std::sync::Wait;
@@ -228,29 +227,6 @@ fn confirm_from<T: Threads + Wait + Sync, Q: Source>(
 ) -> Result<Ran, AllocError> {
     let mut trace = Counted::new(Slow::new(b"x\n", 1));
     run_on(rt, alloc, "confirm a b", &mut trace, report, usize::MAX)
-}
-
-#[test]
-fn limits_the_bytes_of_a_report(rt: HostRuntime) -> Result<(), Fail> {
-    // The reader fails where more is read than tells that the report is too large.
-    let table = [
-        (MOST_BYTES - 1, "spbags: cannot read\n"),
-        (MOST_BYTES, "spbags: cannot read\n"),
-        (MOST_BYTES + 1, "spbags: report too large\n"),
-        (MOST_BYTES + 4096, "spbags: report too large\n"),
-    ];
-    for (size, want) in table {
-        let ran = confirm_from(&rt, rt.alloc(), &mut Counted::new(Large::new(size, true)))?;
-        let case = format!(in rt.alloc(); "{size}")?;
-        assert_left(&rt, &ran, 2, b"", want.as_bytes(), case.as_str());
-    }
-    let most = confirm_from(
-        &rt,
-        rt.alloc(),
-        &mut Counted::new(Large::new(MOST_BYTES, false)),
-    )?;
-    assert_left(&rt, &most, 2, b"", b"spbags: report line 1: bad\n", "most");
-    Ok(())
 }
 
 #[test]

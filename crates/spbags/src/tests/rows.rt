@@ -1,8 +1,7 @@
 //! Worked rows: traces, and what `check` says of them.
 use super::devices::{Broken, Full, Slow};
 use super::{Ran, assert_left, flood, run, run_on, trace_of};
-use crate::answers::refuse;
-use crate::words::WordsFault;
+use crate::{WordsFault, refuse};
 use std::alloc::{AllocError, Global};
 use std::io::ErrorKind;
 use std::sync::Wait;

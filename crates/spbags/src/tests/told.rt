@@ -2,14 +2,12 @@
 ghost use Rattle.std.specs.Prelude.{◌≡◌, ◌<◌, ℕ, List, false};
 ghost use Rattle.trace.specs.declared.records.Record.{Record};
 ghost use Rattle.trace.specs.Text.{text, AllFit};
-ghost use Rattle.spbags.specs.Answers.{IsUntouched, Took};
-ghost use Rattle.spbags.specs.Asked.{asks_report};
+ghost use Rattle.texts.specs.Sinks.{IsUntouched, Took};
+ghost use Rattle.words.specs.Asked.{asks_report};
 ghost use Rattle.spbags.specs.Questions.{Answers};
 
 use super::{Ran, assert_left, trace_of, words_of};
-use crate::answers::answer;
-use crate::asking::Asked;
-use crate::words::read_words;
+use crate::{Asked, answer, read_words};
 use std::alloc::Global;
 use std::sync::Wait;
 use std::test::Fail;

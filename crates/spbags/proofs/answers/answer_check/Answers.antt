@@ -4,7 +4,7 @@ use Rattle.collect.specs.ReportText.{rtext}
 use Rattle.trace.specs.Runs.{OfTrace}
 use Rattle.spbags.specs.Questions.{AnswersCheck}
 use Rattle.spbags.proofs.Statuses.{check_answered}
-use Rattle.spbags.proofs.Tellings.{tells_whole, tells_front}
+use Rattle.texts.proofs.Tellings.{tells_whole, tells_front}
 use Rattle.spbags.proofs.answers.answer_check.Goals as goal
 
 pub returns-in-Ok-clause-told : goal.returns-in-Ok-clause-told

@@ -1,4 +1,4 @@
-use Rattle.spbags.proofs.Sinks.{puts_flushed}
+use Rattle.texts.proofs.Sinks.{puts_flushed}
 use Rattle.spbags.proofs.answers.passed_on.Goals as goal
 
 pub returns : goal.returns

@@ -1,8 +1,8 @@
 use Rattle.std.proofs.Common.{◌≡◌, inl, inr, subst}
-use Rattle.spbags.specs.declared.reports.ReportRefusal.{ReportRefusal}
-use Rattle.spbags.specs.declared.reports.ReportRefusal.TheVariants.{NoMemory}
-use Rattle.spbags.specs.Answers.{WasGiven}
-use Rattle.spbags.specs.Messages.{report_message}
+use Rattle.texts.specs.declared.reports.ReportRefusal.{ReportRefusal}
+use Rattle.texts.specs.declared.reports.ReportRefusal.TheVariants.{NoMemory}
+use Rattle.texts.specs.Sinks.{WasGiven}
+use Rattle.texts.specs.Messages.{report_message}
 use Rattle.spbags.proofs.Refusals.{honest_refusal}
 use Rattle.spbags.proofs.confirms.answer_confirm.Goals as goal
 

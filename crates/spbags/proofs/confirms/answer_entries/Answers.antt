@@ -1,7 +1,8 @@
 use Rattle.std.proofs.Common.{◌<◌, inr, arith, refl}
-use Rattle.spbags.specs.Texts.{confirm_text}
+use Rattle.texts.specs.Texts.{confirm_text}
 use Rattle.spbags.specs.Questions.{status_of}
-use Rattle.spbags.proofs.Tellings.{tells_front, says_so, status_low}
+use Rattle.texts.proofs.Tellings.{tells_front}
+use Rattle.spbags.proofs.Tellings.{says_so, status_low}
 use Rattle.spbags.proofs.confirms.answer_entries.Goals as goal
 
 pub returns-in-Ok-clause-failed : goal.returns-in-Ok-clause-failed

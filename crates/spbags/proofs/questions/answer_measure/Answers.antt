@@ -1,6 +1,7 @@
 use Rattle.std.proofs.Common.{inr, arith, refl}
-use Rattle.spbags.specs.Texts.{measure_text}
-use Rattle.spbags.proofs.Tellings.{tells_front, says_so}
+use Rattle.texts.specs.Texts.{measure_text}
+use Rattle.texts.proofs.Tellings.{tells_front}
+use Rattle.spbags.proofs.Tellings.{says_so}
 use Rattle.spbags.proofs.questions.answer_measure.Goals as goal
 
 pub returns-in-Ok-clause-failed : goal.returns-in-Ok-clause-failed

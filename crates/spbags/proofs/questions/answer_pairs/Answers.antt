@@ -2,10 +2,11 @@ use Rattle.std.proofs.Common.{ℕ, List, inr, refl, sym, subst}
 use Rattle.trace.specs.declared.records.Access.{Access}
 use Rattle.trace.specs.Runs.{OfTrace}
 use Rattle.audit.specs.Pairs.{ArePairs}
-use Rattle.spbags.specs.Texts.{pairs_text}
+use Rattle.texts.specs.Texts.{pairs_text}
 use Rattle.spbags.specs.Questions.{AnswersPairs}
 use Rattle.spbags.proofs.Statuses.{pairs_one}
-use Rattle.spbags.proofs.Tellings.{tells_whole, tells_front, says_so}
+use Rattle.texts.proofs.Tellings.{tells_whole, tells_front}
+use Rattle.spbags.proofs.Tellings.{says_so}
 use Rattle.spbags.proofs.questions.answer_pairs.Goals as goal
 
 pub returns-in-Ok-clause-told : goal.returns-in-Ok-clause-told

@@ -1,0 +1,4 @@
+pub mod Sinks
+pub mod Messages
+pub mod ReportBytes
+pub mod Texts

@@ -1,0 +1,12 @@
+//! What the program writes, byte for byte, and the report that it reads.
+#![tactic(auto)]
+
+mod answers;
+mod messages;
+mod reports;
+#[cfg(test)]
+mod tests;
+
+pub use answers::{put_confirm, put_measure, put_pairs};
+pub use messages::{put, say, say_fault, say_refusal};
+pub use reports::{MOST_BYTES, ReportRefusal, report_from};

@@ -1,0 +1,113 @@
+//! The lines for standard error.
+ghost use Rattle.std.specs.Prelude.{◌≡◌, ◌++◌, ◌≤◌, length, drop, decimal};
+ghost use Rattle.texts.specs.Sinks.{Puts, WasGiven};
+ghost use Rattle.texts.specs.Messages.{message, report_message, text_ending, nest_ending};
+
+use crate::reports::ReportRefusal;
+use itoa::write_digits;
+use trace::{Fault, NestKind, Sink, TextKind, WriteFault, put_all};
+
+/// Writes the line for a fault. Where that fails there is nobody left to tell.
+pub fn say_fault<E: Sink>(fault: &Fault, err: &mut E)
+    ensures { WasGiven (message fault.now) (E.held err.old) (E.held err.new) (E.failures err.old) (E.failures err.new) }
+{
+    match fault {
+        Fault::Text(text) => say_at(b"spbags: line ", text.line, text_words(text.kind), err),
+        Fault::Nest(nest) => say_at(b"spbags: place ", nest.place, nest_words(nest.kind), err),
+        Fault::Read => say(b"spbags: cannot read\n", err),
+        Fault::NoMemory => say(b"spbags: out of memory\n", err),
+        Fault::NoThread => say(b"spbags: no thread\n", err),
+    }
+}
+
+/// Writes a line. Where that fails there is nobody left to tell.
+pub fn say<E: Sink>(line: &[u8], err: &mut E)
+    ensures { WasGiven line.now (E.held err.old) (E.held err.new) (E.failures err.old) (E.failures err.new) }
+{
+    let _ = put(line, err);
+}
+
+/// Writes the line for a report that isn't read. Where that fails there is nobody left to tell.
+pub fn say_refusal<E: Sink>(refusal: ReportRefusal, err: &mut E)
+    ensures { WasGiven (report_message refusal) (E.held err.old) (E.held err.new) (E.failures err.old) (E.failures err.new) }
+{
+    match refusal {
+        ReportRefusal::Read => say(b"spbags: cannot read\n", err),
+        ReportRefusal::TooLarge => say(b"spbags: report too large\n", err),
+        ReportRefusal::Bad { line } => say_at(b"spbags: report line ", line, b": bad\n", err),
+        ReportRefusal::NoMemory => say(b"spbags: out of memory\n", err),
+    }
+}
+
+// No line is longer: it has at most 20 bytes, 20 digits and 19 bytes.
+const LONGEST: usize = 59;
+
+// Writes a line with a number in it.
+fn say_at<E: Sink>(head: &[u8], number: u64, ending: &[u8], err: &mut E)
+    requires head { length head.now ≤ 20 }
+    requires ending { length ending.now ≤ 19 }
+    ensures { WasGiven (head.now ++ decimal number ++ ending.now) (E.held err.old) (E.held err.new) (E.failures err.old) (E.failures err.new) }
+{
+    let _ = put_at(head, number, ending, err);
+}
+
+/// Puts a number between two texts into a sink.
+pub fn put_at<W: Sink>(
+    head: &[u8],
+    number: u64,
+    ending: &[u8],
+    sink: &mut W,
+) -> Result<(), WriteFault>
+    requires head { length head.now ≤ 20 }
+    requires ending { length ending.now ≤ 19 }
+    ensures { Puts result (head.now ++ decimal number ++ ending.now) (W.held sink.old) (W.held sink.new) (W.failures sink.old) (W.failures sink.new) }
+{
+    let mut bytes = [0; LONGEST];
+    let start = build_line(&mut bytes, head, number, ending);
+    put(&bytes[start..], sink)
+}
+
+// Builds a line up to the end of the buffer, and answers where it starts.
+fn build_line(bytes: &mut [u8; LONGEST], head: &[u8], number: u64, ending: &[u8]) -> usize
+    requires head { length head.now ≤ 20 }
+    requires ending { length ending.now ≤ 19 }
+    ensures within { result ≤ 59 }
+    ensures built { drop result bytes.new ≡ head.now ++ decimal number ++ ending.now }
+{
+    let end = LONGEST - ending.len();
+    bytes[end..].copy_from_slice(ending);
+    let digits = write_digits(number, bytes, end);
+    let start = digits - head.len();
+    bytes[start..digits].copy_from_slice(head);
+    start
+}
+
+/// Puts bytes into a sink.
+pub fn put<W: Sink>(bytes: &[u8], sink: &mut W) -> Result<(), WriteFault>
+    ensures { Puts result bytes.now (W.held sink.old) (W.held sink.new) (W.failures sink.old) (W.failures sink.new) }
+{
+    put_all(sink, bytes)
+}
+
+fn text_words(kind: TextKind) -> &'static [u8]
+    ensures ending { result.now ≡ text_ending kind }
+    ensures short { length result.now ≤ 19 }
+{
+    match kind {
+        TextKind::Header => b": header\n",
+        TextKind::Line => b": bad line\n",
+        TextKind::TooMany => b": too many records\n",
+        TextKind::Truncated => b": truncated\n",
+    }
+}
+
+fn nest_words(kind: NestKind) -> &'static [u8]
+    ensures ending { result.now ≡ nest_ending kind }
+    ensures short { length result.now ≤ 19 }
+{
+    match kind {
+        NestKind::AfterEnd => b": after end\n",
+        NestKind::TooDeep => b": too deep\n",
+        NestKind::Unfinished => b": unfinished\n",
+    }
+}

@@ -1,0 +1,107 @@
+//! What is asked: a command with its numbers and its names, each in its range.
+ghost use Rattle.std.specs.Prelude.{◌≡◌, ◌<◌, ◌≤◌, string_len, string_bytes, codes};
+
+/// What the words ask for.
+#[derive(Debug, Drop, PartialEq, Eq)]
+pub enum Asked {
+    /// The races of a trace.
+    Check(Check),
+    /// All races of one location.
+    Pairs(Pairs),
+    /// The numbers of a trace.
+    Measure(Measure),
+    /// Whether the entries of a report are races.
+    Confirm(Confirm),
+}
+
+/// `check`: the races of a trace.
+#[derive(Debug, Drop, PartialEq, Eq)]
+pub struct Check {
+    /// How many threads the locations are divided among.
+    pub shards: u32,
+    /// How many records may wait for a thread.
+    pub capacity: u32,
+    /// How deep procedures may nest.
+    pub depth: u32,
+    /// The name of the trace's file; `-` is standard input.
+    pub trace: String,
+    ghost shards_within: { (1 ≤ shards) × (shards ≤ 64) },
+    ghost capacity_within: { (1 ≤ capacity) × (capacity ≤ 65536) },
+    ghost depth_within: { depth ≤ 1000000 },
+    ghost trace_named: { 0 < string_len trace },
+}
+
+/// `pairs`: all races of one location.
+#[derive(Debug, Drop, PartialEq, Eq)]
+pub struct Pairs {
+    /// How deep procedures may nest.
+    pub depth: u32,
+    /// The name of the trace's file; `-` is standard input.
+    pub trace: String,
+    /// The location.
+    pub location: u64,
+    ghost depth_within: { depth ≤ 1000000 },
+    ghost trace_named: { 0 < string_len trace },
+}
+
+/// `measure`: the numbers of a trace.
+#[derive(Debug, Drop, PartialEq, Eq)]
+pub struct Measure {
+    /// How deep procedures may nest.
+    pub depth: u32,
+    /// The name of the trace's file; `-` is standard input.
+    pub trace: String,
+    ghost depth_within: { depth ≤ 1000000 },
+    ghost trace_named: { 0 < string_len trace },
+}
+
+/// `confirm`: whether the entries of a report are races.
+#[derive(Debug, Drop, PartialEq, Eq)]
+pub struct Confirm {
+    /// How deep procedures may nest.
+    pub depth: u32,
+    /// The name of the trace's file; `-` is standard input.
+    pub trace: String,
+    /// The name of the report's file; `-` is standard input, where it isn't the trace's.
+    pub report: String,
+    ghost depth_within: { depth ≤ 1000000 },
+    ghost trace_named: { 0 < string_len trace },
+    ghost report_named: { 0 < string_len report },
+    ghost one_standard: { string_bytes trace ≡ codes "-" → string_bytes report ≡ codes "-" → ⊥ },
+}
+
+impl Asked {
+    ghost use Rattle.words.specs.Asked.{asks_report, trace_name, report_name};
+
+    /// The name of the trace's file.
+    pub fn trace(&self) -> &str
+        ensures { result.now ≡ trace_name self.now }
+    {
+        match self {
+            Asked::Check(check) => check.trace.as_str(),
+            Asked::Pairs(pairs) => pairs.trace.as_str(),
+            Asked::Measure(measure) => measure.trace.as_str(),
+            Asked::Confirm(confirm) => confirm.trace.as_str(),
+        }
+    }
+
+    /// Whether a report is read too.
+    pub fn asks_report(&self) -> bool
+        ensures { result ≡ asks_report self.now }
+    {
+        match self {
+            Asked::Check(_) | Asked::Pairs(_) | Asked::Measure(_) => false,
+            Asked::Confirm(_) => true,
+        }
+    }
+
+    /// The name of the report's file; an empty one where none is read.
+    pub fn report(&self) -> &str
+        ensures { result.now ≡ report_name self.now }
+    {
+        match self {
+            Asked::Check(_) | Asked::Pairs(_) | Asked::Measure(_) => "",
+            Asked::Confirm(confirm) => confirm.report.as_str(),
+        }
+    }
+}

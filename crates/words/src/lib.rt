@@ -1,0 +1,12 @@
+//! The words of a command line, and what they ask for.
+#![tactic(auto)]
+
+mod asking;
+mod commands;
+mod reading;
+#[cfg(test)]
+mod tests;
+
+pub use asking::{Asked, Check, Confirm, Measure, Pairs};
+pub use commands::VERSION;
+pub use reading::{WordsFault, read_words};

@@ -1,0 +1,204 @@
+//! The command line: what its words ask for.
+ghost use Rattle.std.specs.Prelude.{◌<◌, ◌≤◌, string_len, IfOk};
+ghost use Rattle.words.specs.Asked.{IsInRange};
+
+use crate::asking::{Asked, Check, Confirm, Measure, Pairs};
+use crate::commands::program;
+use clap::error::ErrorKind;
+use clap::{ArgMatches, Error};
+use std::alloc::Global;
+use thiserror::Error as ErrorTexts;
+use trace::decimal_of;
+
+/// Why the words ask for nothing that can be answered.
+#[derive(Debug, Drop, ErrorTexts)]
+pub enum WordsFault {
+    /// They are no command line of the program.
+    #[error("bad command line")]
+    Bad,
+    /// They ask for a text of the program's own: help, or its version.
+    #[error("{0}")]
+    Help(String),
+    /// A growth was refused.
+    #[error("out of memory")]
+    NoMemory,
+}
+
+/// The most shards that may be asked for.
+pub const MOST_SHARDS: u64 = 64;
+
+/// The shards where no number is asked for.
+pub const USUAL_SHARDS: u32 = 4;
+
+/// The greatest capacity that may be asked for.
+pub const GREATEST_CAPACITY: u64 = 65_536;
+
+/// The capacity where none is asked for.
+pub const USUAL_CAPACITY: u32 = 1024;
+
+/// The greatest depth that may be asked for.
+pub const GREATEST_DEPTH: u64 = 1_000_000;
+
+/// The depth where none is asked for.
+pub const USUAL_DEPTH: u32 = 65_536;
+
+/// Reads the words of a command line, without the program's name.
+#[tactic(auto, using(crate::proofs::Ranges::in_range))]
+pub fn read_words(alloc: Global, words: &[String]) -> Result<Asked, WordsFault>
+    ensures { IfOk result IsInRange }
+{
+    let program = match program(alloc) {
+        Ok(program) => program,
+        Err(_) => return Err(WordsFault::NoMemory),
+    };
+    let matches = match program.try_get_matches_from(words) {
+        Ok(matches) => matches,
+        Err(error) => return Err(fault_of(alloc, &error)),
+    };
+    asked_of(alloc, &matches)
+}
+
+// What is asked by the command that was found.
+fn asked_of(alloc: Global, matches: &ArgMatches<'_>) -> Result<Asked, WordsFault> {
+    if let Some(found) = matches.subcommand_matches("check") {
+        return check_of(alloc, found);
+    }
+    if let Some(found) = matches.subcommand_matches("pairs") {
+        return pairs_of(alloc, found);
+    }
+    if let Some(found) = matches.subcommand_matches("measure") {
+        return measure_of(alloc, found);
+    }
+    match matches.subcommand_matches("confirm") {
+        Some(found) => confirm_of(alloc, found),
+        None => Err(WordsFault::Bad),
+    }
+}
+
+// What a parse that gave nothing says: a text that was asked for, or that the words are bad.
+fn fault_of(alloc: Global, error: &Error) -> WordsFault {
+    match error.kind() {
+        ErrorKind::DisplayHelp | ErrorKind::DisplayVersion => match error.to_string(alloc) {
+            Ok(text) => WordsFault::Help(text),
+            Err(_) => WordsFault::NoMemory,
+        },
+        ErrorKind::OutOfMemory => WordsFault::NoMemory,
+        _ => WordsFault::Bad,
+    }
+}
+
+fn check_of(alloc: Global, found: &ArgMatches<'_>) -> Result<Asked, WordsFault> {
+    let shards = shards_of(found)?;
+    let capacity = capacity_of(found)?;
+    let depth = depth_of(found)?;
+    let trace = name_of(alloc, found, "FILE")?;
+    Ok(Asked::Check(Check {
+        shards,
+        capacity,
+        depth,
+        trace,
+    }))
+}
+
+fn pairs_of(alloc: Global, found: &ArgMatches<'_>) -> Result<Asked, WordsFault> {
+    let depth = depth_of(found)?;
+    let trace = name_of(alloc, found, "FILE")?;
+    let location = location_of(found)?;
+    Ok(Asked::Pairs(Pairs {
+        depth,
+        trace,
+        location,
+    }))
+}
+
+fn measure_of(alloc: Global, found: &ArgMatches<'_>) -> Result<Asked, WordsFault> {
+    let depth = depth_of(found)?;
+    let trace = name_of(alloc, found, "FILE")?;
+    Ok(Asked::Measure(Measure { depth, trace }))
+}
+
+// What `confirm` is asked. Standard input can't be both of its files.
+fn confirm_of(alloc: Global, found: &ArgMatches<'_>) -> Result<Asked, WordsFault> {
+    let depth = depth_of(found)?;
+    let trace = name_of(alloc, found, "TRACE")?;
+    let report = name_of(alloc, found, "REPORT")?;
+    if trace.as_str() == "-" && report.as_str() == "-" {
+        return Err(WordsFault::Bad);
+    }
+    Ok(Asked::Confirm(Confirm {
+        depth,
+        trace,
+        report,
+    }))
+}
+
+// The name of a file. An empty name is no name.
+fn name_of(alloc: Global, found: &ArgMatches<'_>, argument: &str) -> Result<String, WordsFault>
+    ensures { IfOk result (λ name. 0 < string_len name) }
+{
+    let Some(name) = found.get_str(argument) else {
+        return Err(WordsFault::Bad);
+    };
+    if name.is_empty() {
+        return Err(WordsFault::Bad);
+    }
+    match String::from_str(alloc, name) {
+        Ok(name) => Ok(name),
+        Err(_) => Err(WordsFault::NoMemory),
+    }
+}
+
+// A location, spelled as a trace spells it.
+fn location_of(found: &ArgMatches<'_>) -> Result<u64, WordsFault> {
+    let Some(digits) = found.get_str("L") else {
+        return Err(WordsFault::Bad);
+    };
+    match decimal_of(digits.as_bytes()) {
+        Some(location) => Ok(location),
+        None => Err(WordsFault::Bad),
+    }
+}
+
+// How many threads the locations are divided among.
+fn shards_of(found: &ArgMatches<'_>) -> Result<u32, WordsFault>
+    ensures { IfOk result (λ shards. (1 ≤ shards) × (shards ≤ 64)) }
+{
+    match number_of(found, "shards")? {
+        None => Ok(USUAL_SHARDS),
+        Some(shards) if 1 <= shards && shards <= MOST_SHARDS => Ok(shards as u32),
+        Some(_) => Err(WordsFault::Bad),
+    }
+}
+
+// How many records may wait for a thread.
+fn capacity_of(found: &ArgMatches<'_>) -> Result<u32, WordsFault>
+    ensures { IfOk result (λ capacity. (1 ≤ capacity) × (capacity ≤ 65536)) }
+{
+    match number_of(found, "capacity")? {
+        None => Ok(USUAL_CAPACITY),
+        Some(capacity) if 1 <= capacity && capacity <= GREATEST_CAPACITY => Ok(capacity as u32),
+        Some(_) => Err(WordsFault::Bad),
+    }
+}
+
+// How deep procedures may nest.
+fn depth_of(found: &ArgMatches<'_>) -> Result<u32, WordsFault>
+    ensures { IfOk result (λ depth. depth ≤ 1000000) }
+{
+    match number_of(found, "depth")? {
+        None => Ok(USUAL_DEPTH),
+        Some(depth) if depth <= GREATEST_DEPTH => Ok(depth as u32),
+        Some(_) => Err(WordsFault::Bad),
+    }
+}
+
+// The number that an option gives, spelled as a trace spells its numbers; `None` where the option is left out.
+fn number_of(found: &ArgMatches<'_>, option: &str) -> Result<Option<u64>, WordsFault> {
+    let Some(digits) = found.get_str(option) else {
+        return Ok(None);
+    };
+    match decimal_of(digits.as_bytes()) {
+        Some(number) => Ok(Some(number)),
+        None => Err(WordsFault::Bad),
+    }
+}
