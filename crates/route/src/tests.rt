@@ -91,6 +91,7 @@ fn batch_on_two_lanes(rt: HostRuntime) -> Result<(), Fail> {
     let mut router = Router::new(rt.alloc(), senders)?;
     let mut batch = Batch::new(rt.alloc(), 2, BLOCK)?;
     assert_eq!(rt; router.send_step(&mut batch), Progress::Idle);
+    batch.clear();
     assert!(rt; batch.add(at(1, Record::Spawn)));
     assert!(rt; batch.add(at(2, Record::Write(5))));
     assert!(rt; batch.add(at(3, Record::Read(4))));
