@@ -1,12 +1,12 @@
 //! The program from its words to its bytes, by worked rows: nothing here is taken from its own output.
 
+mod command_lines;
 mod devices;
 mod examples;
 mod files;
 mod questions;
 mod rows;
 mod told;
-mod words;
 
 use crate::{Asked, answer, answer_confirm, read_words, refuse};
 use devices::{Full, Slow};
