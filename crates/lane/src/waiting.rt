@@ -9,20 +9,26 @@ use std::time::Duration;
 ///
 /// It lets other threads run and looks again, so many times, and then it naps. Where other programs want the processor a
 /// thread that gives way gets it back after a slice of time, and a lane is filled in less than a hundredth of a slice; so
-/// where that is seen it naps at once for a while, since one that slept gets the processor when it wakes. How often
-/// it looks before it naps, and how long a nap takes, goes by what the last waits showed. Looks that found what they
-/// waited for make more looks. A nap after which half of the lane was filled, or emptied for a sender, was too long, and
-/// more looks would have been better; one after which little has changed was too short.
+/// where that is seen it naps at once for a while, since one that slept gets the processor when it wakes: for the longer
+/// the more often it is seen. How often it looks before it naps, and how long a nap takes, goes by what the last waits
+/// showed. Looks that found what they waited for make more looks. A nap after which half of the lane was filled, or
+/// emptied for a sender, was too long, and more looks would have been better; one after which little has changed was
+/// too short.
 #[derive(Drop)]
 pub struct Waiting {
     parker: Parker,
-    // how many looks come before a nap, and how many of them are left
+    // how many looks come before a nap, how many of them are left, and how many there may be
     looks: u32,
     left: u32,
-    // how long a nap takes, in microseconds
+    most_looks: u32,
+    // how long a nap takes, and how long the shortest one, in microseconds
     nap: u64,
-    // how many waits are naps from the start, since others want the processor
+    shortest_nap: u64,
+    // how many waits are naps from the start, since others want the processor; how many will be when that is seen again;
+    // and how many looks since then came in time
     busy: u32,
+    next_busy: u32,
+    in_time: u32,
     last: Rest,
 }
 
@@ -42,12 +48,17 @@ const FEWEST_LOOKS: u32 = 4;
 const MOST_LOOKS: u32 = 64;
 
 // In microseconds. The system adds some fifty.
-const SHORTEST_NAP: u64 = 5;
+const SHORTEST_NAP: u64 = 3;
 
 const LONGEST_NAP: u64 = 800;
 
-// How many waits are naps where giving way took so long that another program must have had the processor.
-const BUSY: u32 = 256;
+// How many waits are naps where giving way took so long that another program must have had the processor: at first, and
+// where it takes so long again and again. After so many looks in time it is half as many.
+const SHORTEST_BUSY: u32 = 4;
+
+const LONGEST_BUSY: u32 = 1024;
+
+const IN_TIME: u32 = 64;
 
 // Less than this part of the lane is no reason to look on.
 const FEW: usize = 64;
@@ -57,13 +68,25 @@ const TELLING: usize = 512;
 
 impl Waiting {
     /// An end that hasn't waited yet.
-    pub const fn new() -> Waiting {
+    pub fn new() -> Waiting {
+        Waiting::beside(1)
+    }
+
+    /// An end that hasn't waited yet, one of so many in as many threads. They share the processors, and what a lane holds
+    /// lasts the longer the more there are: so with n of them each looks n times less often, and naps n times as long.
+    pub fn beside(ends: u64) -> Waiting {
+        let ends = ends.clamp(1, MOST_LOOKS as u64);
+        let most_looks = MOST_LOOKS / ends as u32;
         Waiting {
             parker: Parker::new(),
-            looks: MOST_LOOKS,
-            left: MOST_LOOKS,
-            nap: SHORTEST_NAP,
+            looks: most_looks,
+            left: most_looks,
+            most_looks,
+            nap: SHORTEST_NAP * ends,
+            shortest_nap: SHORTEST_NAP * ends,
             busy: 0,
+            next_busy: SHORTEST_BUSY,
+            in_time: 0,
             last: Rest::Nothing,
         }
     }
@@ -106,22 +129,39 @@ impl Waiting {
 
     fn learn_from_look(&mut self, shown: usize, capacity: usize) {
         if TELLING <= capacity && capacity - capacity / 4 <= shown {
-            self.busy = BUSY;
+            self.nap_for_long();
+        } else {
+            self.came_in_time();
         }
         if capacity / FEW <= shown {
-            self.looks = self.looks.saturating_mul(2).min(MOST_LOOKS);
+            self.looks = self.looks.saturating_mul(2).min(self.most_looks);
             self.left = self.looks;
         }
         self.last = Rest::Nothing;
     }
 
+    // Others had the processor meanwhile.
+    fn nap_for_long(&mut self) {
+        self.busy = self.next_busy;
+        self.next_busy = self.next_busy.saturating_mul(2).min(LONGEST_BUSY);
+        self.in_time = 0;
+    }
+
+    fn came_in_time(&mut self) {
+        self.in_time = self.in_time.saturating_add(1);
+        if self.in_time >= IN_TIME {
+            self.next_busy = (self.next_busy / 2).max(SHORTEST_BUSY);
+            self.in_time = 0;
+        }
+    }
+
     fn learn_from_nap(&mut self, shown: usize, capacity: usize) {
         if capacity / 2 <= shown {
-            self.nap = (self.nap / 2).max(SHORTEST_NAP);
-            self.looks = self.looks.saturating_mul(4).min(MOST_LOOKS);
+            self.nap = (self.nap / 2).max(self.shortest_nap);
+            self.looks = self.looks.saturating_mul(4).min(self.most_looks);
         } else if shown <= capacity / 8 {
             self.nap = self.nap.saturating_mul(2).min(LONGEST_NAP);
-            self.looks = (self.looks / 2).max(FEWEST_LOOKS);
+            self.looks = (self.looks / 2).max(FEWEST_LOOKS).min(self.most_looks);
         }
         self.left = self.looks;
         self.last = Rest::Nothing;

@@ -17,6 +17,8 @@ use trace::{NoMemory, Placed, Race, Record};
 #[derive(Drop)]
 pub struct Shard<S: BuildHasher + Drop> {
     index: u32,
+    /// Of how many it is one.
+    shards: u64,
     bags: Bags,
     shadow: Shadow<S>,
     last_place: u64,
@@ -63,6 +65,7 @@ impl<S: BuildHasher + Drop> Shard<S> {
     {
         Ok(Shard {
             index,
+            shards,
             bags: Bags::new(alloc)?,
             shadow: Shadow::for_shards(alloc, hasher, shards),
             last_place: 0,
@@ -120,6 +123,11 @@ impl<S: BuildHasher + Drop> Shard<S> {
         ensures { result ≡ self.now.index }
     {
         self.index
+    }
+
+    /// Of how many shards it is one.
+    pub(crate) fn shards(&self) -> u64 {
+        self.shards
     }
 
     /// How many records were taken: those applied, and those that `work` took and didn't apply. At

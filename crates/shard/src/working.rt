@@ -41,12 +41,12 @@ pub fn work<R: Wait, S: BuildHasher + Drop, G: Gate>(
     requires none_put { put_of back ≡ [] }
     ensures { DidWork taker back result }
 {
+    let mut waiting = Waiting::beside(shard.shards());
     let mut worker = Worker {
         shard,
         telling: Telling::new(back),
         stopped: false,
     };
-    let mut waiting = Waiting::new();
     let mut block = [Item::Finish; BLOCK];
     for _ in rt.forever() {
         let count = taker.take_block(&mut block);
