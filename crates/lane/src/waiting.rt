@@ -58,7 +58,7 @@ const SHORTEST_BUSY: u32 = 4;
 
 const LONGEST_BUSY: u32 = 1024;
 
-const IN_TIME: u32 = 64;
+const IN_TIME: u32 = 256;
 
 // Less than this part of the lane is no reason to look on.
 const FEW: usize = 64;
@@ -143,7 +143,7 @@ impl Waiting {
     // Others had the processor meanwhile.
     fn nap_for_long(&mut self) {
         self.busy = self.next_busy;
-        self.next_busy = self.next_busy.saturating_mul(2).min(LONGEST_BUSY);
+        self.next_busy = self.next_busy.saturating_mul(4).min(LONGEST_BUSY);
         self.in_time = 0;
     }
 
