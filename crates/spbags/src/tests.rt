@@ -3,13 +3,14 @@
 mod command_lines;
 mod devices;
 mod examples;
+mod failures;
 mod files;
 mod questions;
 mod rows;
 mod told;
 
 use crate::{Asked, answer, answer_confirm, read_words, refuse};
-use devices::{Full, Slow};
+use devices::{ENDLESS, Full, Room, Slow};
 use std::alloc::{AllocError, Global};
 use std::process::Abort;
 use std::sync::Wait;
@@ -47,7 +48,7 @@ pub fn run_with_report<T: Threads + Wait + Sync>(
 ) -> Result<Ran, AllocError> {
     let mut trace = Counted::new(Slow::new(trace, step));
     let mut report = Counted::new(Slow::new(report, step));
-    run_on(rt, alloc, line, &mut trace, &mut report, usize::MAX)
+    run_on(rt, alloc, line, &mut trace, &mut report, ENDLESS)
 }
 
 /// Runs the program on these devices, with so much room on standard output.
@@ -57,7 +58,7 @@ pub fn run_on<T: Threads + Wait + Sync, R: Source, Q: Source>(
     line: &str,
     trace: &mut R,
     report: &mut Q,
-    room: usize,
+    room: Room,
 ) -> Result<Ran, AllocError> {
     let mut out = Vec::new(alloc);
     let mut err = Vec::new(alloc);

@@ -1,6 +1,51 @@
-//! Readers and writers that hand on little at a time, and fail when they are told to.
+//! Readers and writers that hand on little at a time, and of which one call fails.
 use std::io;
 use std::io::{ErrorKind, Read, Write};
+
+/// Every kind of error.
+pub const KINDS: [ErrorKind; 41] = [
+    ErrorKind::NotFound,
+    ErrorKind::PermissionDenied,
+    ErrorKind::ConnectionRefused,
+    ErrorKind::ConnectionReset,
+    ErrorKind::HostUnreachable,
+    ErrorKind::NetworkUnreachable,
+    ErrorKind::ConnectionAborted,
+    ErrorKind::NotConnected,
+    ErrorKind::AddrInUse,
+    ErrorKind::AddrNotAvailable,
+    ErrorKind::NetworkDown,
+    ErrorKind::BrokenPipe,
+    ErrorKind::AlreadyExists,
+    ErrorKind::WouldBlock,
+    ErrorKind::NotADirectory,
+    ErrorKind::IsADirectory,
+    ErrorKind::DirectoryNotEmpty,
+    ErrorKind::ReadOnlyFilesystem,
+    ErrorKind::FilesystemLoop,
+    ErrorKind::StaleNetworkFileHandle,
+    ErrorKind::InvalidInput,
+    ErrorKind::InvalidData,
+    ErrorKind::TimedOut,
+    ErrorKind::WriteZero,
+    ErrorKind::StorageFull,
+    ErrorKind::NotSeekable,
+    ErrorKind::QuotaExceeded,
+    ErrorKind::FileTooLarge,
+    ErrorKind::ResourceBusy,
+    ErrorKind::ExecutableFileBusy,
+    ErrorKind::Deadlock,
+    ErrorKind::CrossesDevices,
+    ErrorKind::TooManyLinks,
+    ErrorKind::InvalidFilename,
+    ErrorKind::ArgumentListTooLong,
+    ErrorKind::Interrupted,
+    ErrorKind::Unsupported,
+    ErrorKind::UnexpectedEof,
+    ErrorKind::OutOfMemory,
+    ErrorKind::InProgress,
+    ErrorKind::Other,
+];
 
 /// A reader that hands at most some bytes a call.
 #[derive(Drop)]
@@ -25,41 +70,75 @@ impl Read for Slow<'_> {
     }
 }
 
-/// A reader that hands its bytes and then fails, where another would tell the end.
+/// A reader that hands one byte a call, and of which one call fails. It goes on as if that call hadn't been.
 #[derive(Drop)]
-pub struct Broken<'a> {
+pub struct Halting<'a> {
     rest: Slow<'a>,
+    calls: usize,
+    fails_at: usize,
     kind: ErrorKind,
 }
 
-impl<'a> Broken<'a> {
-    pub fn new(bytes: &'a [u8], kind: ErrorKind) -> Broken<'a> {
-        Broken {
+impl<'a> Halting<'a> {
+    pub fn new(bytes: &'a [u8], fails_at: usize, kind: ErrorKind) -> Halting<'a> {
+        Halting {
             rest: Slow::new(bytes, 1),
+            calls: 0,
+            fails_at,
             kind,
         }
     }
 }
 
-impl Read for Broken<'_> {
+impl Read for Halting<'_> {
     fn read(&mut self, buffer: &mut [u8]) -> io::Result<usize> {
-        if self.rest.rest.is_empty() {
+        let call = self.calls;
+        self.calls = call.saturating_add(1);
+        if call == self.fails_at {
             return Err(io::Error::from(self.kind));
         }
         self.rest.read(buffer)
     }
 }
 
-/// A writer that takes one byte a call, and fails when it holds some.
+/// How many bytes a writer takes before a call fails, and how that does: with an error, or where there is none by
+/// taking nothing.
+#[derive(Clone, Copy)]
+pub struct Room {
+    pub bytes: usize,
+    pub error: Option<ErrorKind>,
+}
+
+/// Room for every answer.
+pub const ENDLESS: Room = Room {
+    bytes: usize::MAX,
+    error: None,
+};
+
+/// A writer that takes one byte a call. One call fails, and it goes on as if that call hadn't been.
 #[derive(Drop)]
 pub struct Full<'a> {
     held: &'a mut Vec<u8>,
-    room: usize,
+    room: Room,
+    failed: bool,
 }
 
 impl<'a> Full<'a> {
-    pub fn new(held: &'a mut Vec<u8>, room: usize) -> Full<'a> {
-        Full { held, room }
+    pub fn new(held: &'a mut Vec<u8>, room: Room) -> Full<'a> {
+        Full {
+            held,
+            room,
+            failed: false,
+        }
+    }
+
+    // Whether this is the call that fails.
+    fn fails(&mut self) -> bool {
+        if self.failed || self.held.len() < self.room.bytes {
+            return false;
+        }
+        self.failed = true;
+        true
     }
 }
 
@@ -68,15 +147,18 @@ impl Write for Full<'_> {
         if buffer.is_empty() {
             return Ok(0);
         }
-        if self.held.len() >= self.room {
-            return Err(io::Error::from(ErrorKind::StorageFull));
+        if self.fails() {
+            return match self.room.error {
+                Some(kind) => Err(io::Error::from(kind)),
+                None => Ok(0),
+            };
         }
         self.held.push(buffer[0])?;
         Ok(1)
     }
 
     fn flush(&mut self) -> io::Result<()> {
-        if self.held.len() >= self.room {
+        if self.fails() {
             return Err(io::Error::from(ErrorKind::StorageFull));
         }
         Ok(())

@@ -1,12 +1,6 @@
 //! Worked rows of `pairs`, `measure` and `confirm`.
-use super::devices::{Broken, Slow};
-use super::{Ran, assert_left, flood, run, run_on, run_with_report, trace_of};
-use std::alloc::{AllocError, Global};
-use std::io::ErrorKind;
-use std::sync::Wait;
+use super::{assert_left, flood, run, run_with_report, trace_of};
 use std::test::Fail;
-use std::thread::Threads;
-use trace::{Counted, Source};
 
 const WRITE_WRITE: &str = "spawn, write 5, return, write 5, return";
 
@@ -216,60 +210,5 @@ fn refuses_bad_reports_first(rt: HostRuntime) -> Result<(), Fail> {
     }
     let ran = run_with_report(&rt, rt.alloc(), "confirm - b", b"x\n", b"races 0\n", 4096)?;
     assert_left(&rt, &ran, 2, b"", b"spbags: line 1: header\n", "races 0");
-    Ok(())
-}
-
-// Confirms a report from this source, of what is no trace.
-fn confirm_from<T: Threads + Wait + Sync, Q: Source>(
-    rt: &T,
-    alloc: Global,
-    report: &mut Q,
-) -> Result<Ran, AllocError> {
-    let mut trace = Counted::new(Slow::new(b"x\n", 1));
-    run_on(rt, alloc, "confirm a b", &mut trace, report, usize::MAX)
-}
-
-#[test]
-fn tells_a_failed_report(rt: HostRuntime) -> Result<(), Fail> {
-    let report = b"races 1\nrace 5 write 2 write 4\n";
-    for cut in 0..=report.len() {
-        let (front, _) = report.split_at(cut);
-        let mut source = Counted::new(Broken::new(front, ErrorKind::Other));
-        let ran = confirm_from(&rt, rt.alloc(), &mut source)?;
-        let case = format!(in rt.alloc(); "at {cut}")?;
-        assert_left(&rt, &ran, 2, b"", b"spbags: cannot read\n", case.as_str());
-    }
-    Ok(())
-}
-
-#[test]
-fn tells_a_full_output(rt: HostRuntime) -> Result<(), Fail> {
-    let trace = trace_of(rt.alloc(), THREE_WRITES)?;
-    let table = [
-        ("check -", "races 1\nrace 3 write 2 write 5\n"),
-        (
-            "pairs - 3",
-            "pairs 3\npair write 2 write 5\npair write 2 write 7\npair write 5 write 7\n",
-        ),
-        ("measure -", "work 8\nspan 5\nspawns 2\ndepth 1\n"),
-        ("confirm - b", "no 1\n"),
-    ];
-    for (line, answer) in table {
-        for room in 0..=answer.len() {
-            let (front, _) = answer.as_bytes().split_at(room);
-            let mut source = Counted::new(Slow::new(trace.as_slice(), 4096));
-            let mut report = Counted::new(Slow::new(b"races 1\nrace 4 write 5 write 7\n", 1));
-            let ran = run_on(&rt, rt.alloc(), line, &mut source, &mut report, room)?;
-            let case = format!(in rt.alloc(); "{line}: room for {room}")?;
-            assert_left(
-                &rt,
-                &ran,
-                2,
-                front,
-                b"spbags: cannot write\n",
-                case.as_str(),
-            );
-        }
-    }
     Ok(())
 }

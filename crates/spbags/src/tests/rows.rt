@@ -1,13 +1,7 @@
 //! Worked rows: traces, and what `check` says of them.
-use super::devices::{Broken, Full, Slow};
-use super::{Ran, assert_left, flood, run, run_on, trace_of};
-use crate::{WordsFault, refuse};
+use super::{assert_left, flood, run, trace_of};
 use std::alloc::{AllocError, Global};
-use std::io::ErrorKind;
-use std::sync::Wait;
 use std::test::Fail;
-use std::thread::Threads;
-use trace::Counted;
 
 // Traces by their records, and the lines of their reports after the head.
 const ROWS: [(&str, &str); 17] = [
@@ -226,67 +220,20 @@ fn nested(alloc: Global, depth: u32) -> Result<Vec<u8>, AllocError> {
 
 #[test]
 fn keeps_to_its_depth(rt: HostRuntime) -> Result<(), Fail> {
-    for (line, depth) in [("check -", 65536), ("check --depth 0 -", 0)] {
+    let numbers = "work 131073\nspan 131073\nspawns 65536\ndepth 65536\n";
+    let table = [
+        ("check -", 65536, "races 0\n"),
+        ("measure -", 65536, numbers),
+        ("check --depth 0 -", 0, "races 0\n"),
+    ];
+    for (line, depth, answer) in table {
         let text = nested(rt.alloc(), depth)?;
         let ran = run(&rt, rt.alloc(), line, text.as_slice(), 4096)?;
-        assert_left(&rt, &ran, 0, b"races 0\n", b"", line);
+        assert_left(&rt, &ran, 0, answer.as_bytes(), b"", line);
         let text = nested(rt.alloc(), depth + 1)?;
         let ran = run(&rt, rt.alloc(), line, text.as_slice(), 4096)?;
         let want = format!(in rt.alloc(); "spbags: place {}: too deep\n", depth + 1)?;
         assert_left(&rt, &ran, 2, b"", want.as_bytes(), line);
     }
-    Ok(())
-}
-
-#[test]
-fn tells_a_failed_reader(rt: HostRuntime) -> Result<(), Fail> {
-    let whole = trace_of(rt.alloc(), "spawn, write 5, return, write 5, return")?;
-    let table = [
-        ("trace 1\nx\n", "spbags: line 2: bad line\n"),
-        ("trace 1\nreturn\nsync\n", "spbags: place 2: after end\n"),
-        ("trace 1\nretu", "spbags: cannot read\n"),
-        ("trace 1\nreturn\n", "spbags: cannot read\n"),
-        ("", "spbags: cannot read\n"),
-    ];
-    for (trace, want) in table {
-        let ran = run_broken(&rt, rt.alloc(), trace.as_bytes(), ErrorKind::Other)?;
-        assert_left(&rt, &ran, 2, b"", want.as_bytes(), trace);
-    }
-    for cut in 0..whole.len() {
-        let (front, _) = whole.split_at(cut);
-        let case = format!(in rt.alloc(); "at {cut}")?;
-        for kind in [ErrorKind::Interrupted, ErrorKind::Other] {
-            let ran = run_broken(&rt, rt.alloc(), front, kind)?;
-            assert_left(&rt, &ran, 2, b"", b"spbags: cannot read\n", case.as_str());
-        }
-    }
-    Ok(())
-}
-
-// Checks a trace whose reader fails after these bytes.
-fn run_broken<T: Threads + Wait + Sync>(
-    rt: &T,
-    alloc: Global,
-    bytes: &[u8],
-    kind: ErrorKind,
-) -> Result<Ran, AllocError> {
-    let mut trace = Counted::new(Broken::new(bytes, kind));
-    let mut report = Counted::new(Slow::new(b"", 1));
-    run_on(rt, alloc, "check -", &mut trace, &mut report, usize::MAX)
-}
-
-// A full standard error changes nothing else, and help may fail too.
-#[test]
-fn tells_a_full_output_of_help(rt: HostRuntime) -> Result<(), Fail> {
-    let mut out = Vec::new(rt.alloc());
-    let mut err = Vec::new(rt.alloc());
-    let fault = WordsFault::Help(String::from_str(rt.alloc(), "a text")?);
-    let status = refuse(
-        &fault,
-        &mut Counted::new(Full::new(&mut out, 3)),
-        &mut Counted::new(Full::new(&mut err, 6)),
-    );
-    let ran = Ran { status, out, err };
-    assert_left(&rt, &ran, 2, b"a t", b"spbags", "help");
     Ok(())
 }
