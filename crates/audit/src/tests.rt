@@ -1,3 +1,4 @@
-//! The questions on the worked rows.
+//! The questions on the worked rows, whole and cut, and on readers that fail.
 
+mod cuttings;
 mod rows;

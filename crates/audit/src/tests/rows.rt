@@ -6,36 +6,37 @@ use std::alloc::Global;
 use std::process::Abort;
 use std::test::Fail;
 use trace::{
-    Counted, Fault, Kind, Limits, NestFault, NestKind, Record, WriteFault, write_header,
+    Counted, Fault, Kind, Limits, NestFault, NestKind, Record, Source, WriteFault, write_header,
     write_record,
 };
 
 const EMPTY: &[u8] = b"trace 1\nreturn\n";
 
-const WRITE_WRITE: &[u8] = b"trace 1\nspawn\nwrite 5\nreturn\nwrite 5\nreturn\n";
+pub const WRITE_WRITE: &[u8] = b"trace 1\nspawn\nwrite 5\nreturn\nwrite 5\nreturn\n";
 
-const SYNC_ORDERS: &[u8] = b"trace 1\nspawn\nwrite 5\nreturn\nsync\nwrite 5\nreturn\n";
+pub const SYNC_ORDERS: &[u8] = b"trace 1\nspawn\nwrite 5\nreturn\nsync\nwrite 5\nreturn\n";
 
-const SYNC_IN_SIBLING: &[u8] =
+pub const SYNC_IN_SIBLING: &[u8] =
     b"trace 1\nspawn\nwrite 1\nreturn\nspawn\nsync\nwrite 1\nreturn\nreturn\n";
 
-const TWO_READERS_THEN_WRITE: &[u8] =
+pub const TWO_READERS_THEN_WRITE: &[u8] =
     b"trace 1\nspawn\nread 9\nreturn\nspawn\nread 9\nreturn\nwrite 9\nreturn\n";
 
-const GRANDCHILD_SYNCED: &[u8] =
+pub const GRANDCHILD_SYNCED: &[u8] =
     b"trace 1\nspawn\nspawn\nwrite 1\nreturn\nreturn\nsync\nread 1\nreturn\n";
 
-const THREE_WRITES: &[u8] =
+pub const THREE_WRITES: &[u8] =
     b"trace 1\nspawn\nwrite 3\nreturn\nspawn\nwrite 3\nreturn\nwrite 3\nreturn\n";
 
-const READER_MOVES_TO_CHILD: &[u8] = b"trace 1\nread 9\nspawn\nread 9\nreturn\nwrite 9\nreturn\n";
+pub const READER_MOVES_TO_CHILD: &[u8] =
+    b"trace 1\nread 9\nspawn\nread 9\nreturn\nwrite 9\nreturn\n";
 
 const THREE_SHARDS: &[u8] = b"trace 1\nspawn\nwrite 8\nwrite 2\nreturn\nread 8\nread 2\nreturn\n";
 
 const READ_THEN_WRITE_IN_CHILD: &[u8] =
     b"trace 1\nspawn\nread 7\nwrite 7\nreturn\nwrite 7\nreturn\n";
 
-const LIMITS: Limits = Limits {
+pub const LIMITS: Limits = Limits {
     records: 1 << 48,
     depth: 9,
 };
@@ -76,11 +77,17 @@ fn measures(rt: HostRuntime) {
 }
 
 /// The places and kinds of a pair.
-type Told = ((Kind, u64), (Kind, u64));
+pub type Told = ((Kind, u64), (Kind, u64));
 
-fn listed(alloc: Global, text: &[u8], location: u64) -> Result<Vec<Told>, Fault> {
+/// All races of a location.
+pub fn listed<R: Source>(
+    alloc: Global,
+    limits: Limits,
+    reader: &mut R,
+    location: u64,
+) -> Result<Vec<Told>, Fault> {
     let mut told = Vec::new(alloc);
-    for (first, second) in &pairs(alloc, LIMITS, &mut Counted::new(text), location)? {
+    for (first, second) in &pairs(alloc, limits, reader, location)? {
         let pair = ((first.kind, first.place), (second.kind, second.place));
         told.push(pair).map_err(|_| Fault::NoMemory)?;
     }
@@ -125,7 +132,7 @@ fn pairs_of_locations(rt: HostRuntime) -> Result<(), Fail> {
         ("sync-orders", SYNC_ORDERS, 5, &[]),
     ];
     for (name, text, location, wanted) in rows {
-        let told = listed(rt.alloc(), text, location)?;
+        let told = listed(rt.alloc(), LIMITS, &mut Counted::new(text), location)?;
         assert_eq!(rt; told.as_slice(), wanted, "{name}, location {location}");
     }
     Ok(())
@@ -235,20 +242,23 @@ fn thousand_races(rt: HostRuntime) -> Result<(), Fail> {
 fn check_only_pair(rt: &impl Abort, alloc: Global, text: &[u8], k: u64) -> Result<(), Fail> {
     let k = k.min(1000);
     let wanted = [((Kind::Write, 2 + k), (Kind::Write, 1003 + k))];
-    assert_eq!(rt; listed(alloc, text, 2 * k)?.as_slice(), wanted.as_slice());
+    assert_eq!(rt;
+        listed(alloc, LIMITS, &mut Counted::new(text), 2 * k)?.as_slice(),
+        wanted.as_slice()
+    );
     Ok(())
 }
 
 // A fault is the whole answer.
 #[test]
 fn faults(rt: HostRuntime) -> Result<(), Fail> {
-    let text = b"trace 1\nwrite 5\n";
+    let text: &[u8] = b"trace 1\nwrite 5\n";
     let unfinished = Fault::Nest(NestFault {
         place: 2,
         kind: NestKind::Unfinished,
     });
     assert_eq!(rt; measured(rt.alloc(), text), Err(unfinished));
-    assert!(rt; listed(rt.alloc(), text, 5).is_err());
+    assert!(rt; listed(rt.alloc(), LIMITS, &mut Counted::new(text), 5).is_err());
     let answer = confirmed(rt.alloc(), text, b"races 0\n");
     assert_eq!(rt; answer, Err(unfinished));
     Ok(())
