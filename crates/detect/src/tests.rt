@@ -3,6 +3,7 @@
 
 mod answers;
 mod by_definition;
+mod cuttings;
 mod faulty_rows;
 mod reported_rows;
 mod rows;

@@ -1,9 +1,12 @@
-//! A child and its parent write the same 1,000 locations: the same 1,000 races, in one thread and with shards.
+//! A child and its parent write the same 1,000 locations: the same 1,000 races, in one thread and with shards; and none
+//! where the trace has a fault at its end.
 
-use super::answers::{run, text_of, text_plain};
+use super::answers::{Pieces, run, run_from, text_of, text_plain};
+use shard::Gate;
 use std::alloc::{AllocError, Global};
+use std::sync::atomic::{AtomicU64, Ordering};
 use std::test::Fail;
-use trace::Limits;
+use trace::{Fault, Limits, NestFault, NestKind};
 
 pub const LIMITS: Limits = Limits {
     records: 2003,
@@ -47,10 +50,52 @@ fn thousand_races(rt: HostRuntime) -> Result<(), Fail> {
 }
 
 #[test]
-fn thousand_races_by_two(rt: HostRuntime) -> Result<(), Fail> {
+fn thousand_races_by_shards(rt: HostRuntime) -> Result<(), Fail> {
     let trace = trace_text(rt.alloc())?;
-    let run = run(&rt, rt.alloc(), 2, LIMITS, &trace)?;
-    assert_eq!(rt; run.taken.as_slice(), [2003, 3].as_slice());
-    assert_eq!(rt; text_of(rt.alloc(), &run.report)?, report_text(rt.alloc())?);
+    let report = report_text(rt.alloc())?;
+    for (shards, first_took) in [(1, 2003), (2, 2003), (64, 67)] {
+        assert!(rt; 1 <= shards && shards <= 64);
+        let run = run(&rt, rt.alloc(), shards, LIMITS, &trace)?;
+        assert_eq!(rt; text_of(rt.alloc(), &run.report)?, report, "{shards}");
+        assert_eq!(rt; run.taken.first(), Some(&first_took), "{shards}");
+        assert_eq!(rt;
+            run.taken.get(1),
+            if shards == 1 { None } else { Some(&3) },
+            "{shards}"
+        );
+    }
+    Ok(())
+}
+
+/// A gate that counts the records that pass it.
+#[derive(Drop)]
+struct Counting {
+    passed: AtomicU64,
+}
+
+impl Gate for Counting {
+    fn pass(&self, _shard: u32, _place: u64) {
+        self.passed.fetch_add(1, Ordering::SeqCst);
+    }
+}
+
+// Both workers have come to their ends: one took 2,002 records, and the other a spawn and a return.
+#[test]
+fn fault_after_a_flood(rt: HostRuntime) -> Result<(), Fail> {
+    let trace = trace_text(rt.alloc())?;
+    let gate = Counting {
+        passed: AtomicU64::new(0),
+    };
+    let mut pieces = Pieces {
+        bytes: trace.strip_suffix(b"return\n").ok_or("no last record")?,
+        size: 4096,
+    };
+    let run = run_from(&rt, rt.alloc(), 2, LIMITS, &mut pieces, &gate);
+    let fault = Fault::Nest(NestFault {
+        place: 2003,
+        kind: NestKind::Unfinished,
+    });
+    assert_eq!(rt; run.err(), Some(fault));
+    assert_eq!(rt; gate.passed.load(Ordering::SeqCst), 2004);
     Ok(())
 }
