@@ -1,11 +1,13 @@
-//! The worked rows and the tables of faults, whole and cut after every byte, and sources that fail.
+//! The worked rows and the tables of faults, whole and cut after every byte; sources and sinks that fail.
 
 ghost use Rattle.std.specs.Prelude.{None};
 
-use crate::devices::{Failed, Source};
+use crate::devices::{Counted, Failed, Source};
 use crate::faults::{Fault, NestFault, NestKind, TextFault, TextKind};
 use crate::feeding::Feed;
 use crate::records::{Limits, Placed, Record};
+use crate::writers::{write_header, write_record};
+use std::io::{self, ErrorKind, Write};
 
 // Hands out the bytes, so many at each call, and fails once they have all come, if that is asked. A call
 // after the failure would hand out the end of the input.
@@ -81,7 +83,7 @@ fn read_all(
 #[test]
 fn first_faults(rt: HostRuntime) {
     let most = 1 << 48;
-    let rows: [(&[u8], u64, u32, Result<u64, Fault>); 30] = [
+    let rows: [(&[u8], u64, u32, Result<u64, Fault>); 31] = [
         (b"trace 1\nreturn\n", most, 9, Ok(1)),
         (
             b"trace 1\r\nreturn\n",
@@ -217,6 +219,7 @@ fn first_faults(rt: HostRuntime) {
         ),
         (b"trace 1\nspawn\r\n", most, 9, Err(text(2, TextKind::Line))),
         (b"trace 1\n\xff\n", most, 9, Err(text(2, TextKind::Line))),
+        (b"trace 1\n\0\n", most, 9, Err(text(2, TextKind::Line))),
     ];
     for (bytes, records, depth, answer) in rows {
         for size in [1, 2, 7, 4096] {
@@ -255,5 +258,76 @@ fn failing_sources(rt: HostRuntime) {
             Err(Fault::Read),
             "at call {calls}"
         );
+    }
+}
+
+// Takes one byte at each call. The call after so many fails, with an error or by taking none, and the next go on.
+#[derive(Drop)]
+struct Drip {
+    bytes: [u8; 32],
+    count: usize,
+    most: usize,
+    error: Option<ErrorKind>,
+    failed: bool,
+}
+
+impl Write for Drip {
+    fn write(&mut self, buffer: &[u8]) -> io::Result<usize> {
+        if self.count == self.most && !self.failed {
+            self.failed = true;
+            return match self.error {
+                Some(kind) => Err(io::Error::from(kind)),
+                None => Ok(0),
+            };
+        }
+        if buffer.is_empty() || self.count >= 32 {
+            return Ok(0);
+        }
+        self.bytes[self.count] = buffer[0];
+        self.count += 1;
+        Ok(1)
+    }
+
+    fn flush(&mut self) -> io::Result<()> {
+        Ok(())
+    }
+}
+
+#[test]
+fn failing_sinks(rt: HostRuntime) {
+    let lines: [(Option<Record>, &[u8]); 6] = [
+        (None, b"trace 1\n"),
+        (Some(Record::Spawn), b"spawn\n"),
+        (Some(Record::Return), b"return\n"),
+        (Some(Record::Sync), b"sync\n"),
+        (Some(Record::Read(0)), b"read 0\n"),
+        (
+            Some(Record::Write(u64::MAX)),
+            b"write 18446744073709551615\n",
+        ),
+    ];
+    for (what, line) in lines {
+        for most in 0..=line.len() {
+            for error in [Some(ErrorKind::Interrupted), Some(ErrorKind::Other), None] {
+                let mut drip = Drip {
+                    bytes: [0; 32],
+                    count: 0,
+                    most,
+                    error,
+                    failed: false,
+                };
+                let written = match what {
+                    None => write_header(&mut Counted::new(&mut drip)),
+                    Some(record) => write_record(&record, &mut Counted::new(&mut drip)),
+                };
+                assert_eq!(rt;
+                    written.is_ok(),
+                    most == line.len(),
+                    "{line:?} after {most}"
+                );
+                assert_eq!(rt; drip.count, most, "{line:?} after {most}");
+                assert_eq!(rt; drip.bytes[..most], line[..most], "{line:?} after {most}");
+            }
+        }
     }
 }
