@@ -1,31 +1,35 @@
 //! The rows of the report's text, the collector's example, and writers that fail.
 
-use crate::{Collector, Report, ReportFault, read_report, write_report};
+use crate::{Collector, ReportFault, read_report, write_report};
 use shard::Back;
 use std::alloc::Global;
 use std::io::{self, ErrorKind, Write};
 use std::test::Fail;
-use trace::{Access, Counted, Kind, NoMemory, Race, WriteFault};
+use trace::{Access, Counted, Kind, NoMemory, Race};
 
-const WRITE_WRITE: &[u8; 31] = b"races 1\nrace 5 write 2 write 4\n";
+const WRITE_WRITE: &[u8] = b"races 1\nrace 5 write 2 write 4\n";
 
-// Takes one byte at each call, so many in all. After them it fails, or takes none.
+// Takes one byte at each call. The call after so many fails, with an error or by taking none, and the next go on.
 #[derive(Drop)]
 struct Drip {
     bytes: [u8; 64],
     count: usize,
     most: usize,
-    fails: bool,
+    error: Option<ErrorKind>,
+    failed: bool,
 }
 
 impl Write for Drip {
     fn write(&mut self, buffer: &[u8]) -> io::Result<usize> {
-        if buffer.is_empty() || self.count >= self.most || self.count >= 64 {
-            return if self.fails {
-                Err(io::Error::from(ErrorKind::Other))
-            } else {
-                Ok(0)
+        if self.count == self.most && !self.failed {
+            self.failed = true;
+            return match self.error {
+                Some(kind) => Err(io::Error::from(kind)),
+                None => Ok(0),
             };
+        }
+        if buffer.is_empty() || self.count >= 64 {
+            return Ok(0);
         }
         self.bytes[self.count] = buffer[0];
         self.count += 1;
@@ -37,35 +41,26 @@ impl Write for Drip {
     }
 }
 
-fn dripping(most: usize, fails: bool) -> Drip {
-    Drip {
-        bytes: [0; 64],
-        count: 0,
-        most,
-        fails,
-    }
-}
-
-fn write(report: &Report, drip: &mut Drip) -> Result<(), WriteFault> {
-    write_report(report, &mut Counted::new(drip))
-}
-
 #[test]
 fn cut_after_each_byte(rt: HostRuntime) -> Result<(), Fail> {
     let report = read_report(rt.alloc(), WRITE_WRITE)?;
-    for most in 0..32 {
-        let mut failing = dripping(most, true);
-        let mut idle = dripping(most, false);
-        let (first, second) = (write(&report, &mut failing), write(&report, &mut idle));
-        assert_eq!(rt; first.is_ok(), most == 31);
-        assert_eq!(rt; second.is_ok(), most == 31);
-        assert_eq!(rt; failing.count, most);
-        assert_eq!(rt; idle.count, most);
-        for (place, byte) in WRITE_WRITE.iter().enumerate() {
-            if place < most {
-                assert_eq!(rt; failing.bytes[place], *byte);
-                assert_eq!(rt; idle.bytes[place], *byte);
-            }
+    for most in 0..=WRITE_WRITE.len() {
+        for error in [Some(ErrorKind::Interrupted), Some(ErrorKind::Other), None] {
+            let mut drip = Drip {
+                bytes: [0; 64],
+                count: 0,
+                most,
+                error,
+                failed: false,
+            };
+            let written = write_report(&report, &mut Counted::new(&mut drip));
+            assert_eq!(rt; written.is_ok(), most == 31, "{error:?} after {most}");
+            assert_eq!(rt; drip.count, most, "{error:?} after {most}");
+            assert_eq!(rt;
+                drip.bytes[..most],
+                WRITE_WRITE[..most],
+                "{error:?} after {most}"
+            );
         }
     }
     Ok(())
