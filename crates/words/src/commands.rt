@@ -54,6 +54,9 @@ The trace is read from FILE, or from standard input where FILE is `-`. The first
 races; a line follows for each, as `pair write 2 write 6`: the kinds and places of its two accesses. The lines are
 sorted by the second place, then by the first. Place k stands on line k + 1 of the trace.
 
+The answer comes when the whole trace was read. Every access of L is compared with each earlier one of L, also where
+there is no race: twice as many accesses take four times as long. They are kept in memory, and so are the races.
+
 Example:
   spbags pairs run.trace 5
 

@@ -225,7 +225,7 @@ fn helps(rt: HostRuntime) -> Result<(), Fail> {
 }
 
 // Command lines that ask for help, and what it has to say.
-const HELPS: [(&str, &str); 17] = [
+const HELPS: [(&str, &str); 19] = [
     ("--help", "trace 1"),
     ("--help", "`spawn`, `sync`, `return`"),
     ("--help", "`read L` or `write L`"),
@@ -240,6 +240,8 @@ const HELPS: [(&str, &str); 17] = [
     ("pairs --help", "0 to 1000000, 65536 where"),
     ("pairs --help", "0 to 18446744073709551615"),
     ("pairs --help", "Place k stands on line k + 1"),
+    ("pairs --help", "comes when the whole trace was read"),
+    ("pairs --help", "four times as long"),
     ("measure --help", "0 to 1000000, 65536 where"),
     ("confirm --help", "0 to 1000000, 65536 where"),
     ("confirm --help", "67108864 bytes"),
