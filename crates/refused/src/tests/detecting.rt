@@ -1,0 +1,120 @@
+//! Detection, in one thread and with threads.
+ghost use Rattle.std.specs.Prelude.{◌≡◌, ◌≤◌, IfOk, vec_len};
+
+use super::{Hasher, tell};
+use collect::Report;
+use detect::{Plan, Run, detect, detect_plain};
+use shard::Open;
+use std::alloc::{AllocError, Global};
+use std::process::Abort;
+use std::sync::Wait;
+use std::thread::Threads;
+use trace::{Counted, Fault, Limits, TextFault, TextKind};
+
+const LIMITS: Limits = Limits {
+    records: 1 << 48,
+    depth: 9,
+};
+
+/// A race: its location, and the places of its accesses.
+type Told = (u64, u64, u64);
+
+/// Rows `write-write`, `sync-in-sibling` and `three-shards`, with their races.
+const ROWS: [(&[u8], &[Told]); 3] = [
+    (
+        b"trace 1\nspawn\nwrite 5\nreturn\nwrite 5\nreturn\n",
+        &[(5, 2, 4)],
+    ),
+    (
+        b"trace 1\nspawn\nwrite 1\nreturn\nspawn\nsync\nwrite 1\nreturn\nreturn\n",
+        &[(1, 2, 6)],
+    ),
+    (
+        b"trace 1\nspawn\nwrite 8\nwrite 2\nreturn\nread 8\nread 2\nreturn\n",
+        &[(2, 3, 6), (8, 2, 5)],
+    ),
+];
+
+/// Row `three-shards` with a bad last line.
+const FAULTY: &[u8] = b"trace 1\nspawn\nwrite 8\nwrite 2\nreturn\nread 8\nread 2\nword\n";
+
+fn hashers(alloc: Global, count: u32) -> Result<Vec<Hasher>, AllocError>
+    ensures { IfOk result (λ hashers. vec_len hashers ≡ count) }
+{
+    let mut hashers = Vec::new(alloc);
+    for _ in 0..count {
+        hashers.push(Hasher::default())?;
+    }
+    Ok(hashers)
+}
+
+fn run<T: Threads + Wait + Sync>(
+    rt: &T,
+    alloc: Global,
+    shards: u32,
+    bytes: &[u8],
+) -> Result<Run, Fault>
+    requires { (1 ≤ shards) × (shards ≤ 64) }
+{
+    let Ok(hashers) = hashers(alloc, shards) else {
+        return Err(Fault::NoMemory);
+    };
+    let mut source = Counted::new(bytes);
+    let plan = Plan::new(shards, 1, LIMITS);
+    detect(rt, alloc, plan, &mut source, &Open, hashers)
+}
+
+/// Either the report is that of the row, or the fault is a refusal.
+fn judge<R: Print + Abort>(rt: &R, found: Result<Report, Fault>, races: &[Told]) {
+    match found {
+        Ok(report) => {
+            assert_eq!(rt; report.races().len(), races.len());
+            for (race, told) in report.races().iter().zip(races) {
+                assert_eq!(rt; (race.location, race.first.place, race.second.place), *told);
+            }
+        }
+        Err(Fault::NoMemory) => tell(rt, "memory"),
+        Err(Fault::NoThread) => tell(rt, "thread"),
+        Err(_) => assert!(rt; false),
+    }
+}
+
+#[test]
+fn plain(rt: HostRuntime) {
+    for (bytes, races) in ROWS {
+        let mut source = Counted::new(bytes);
+        let found = detect_plain(rt.alloc(), LIMITS, &mut source, Hasher::default());
+        judge(&rt, found, races);
+    }
+}
+
+#[test]
+fn sharded(rt: HostRuntime) {
+    for shards in [1, 2, 3u32] {
+        assert!(rt; 1 <= shards && shards <= 64);
+        for (bytes, races) in ROWS {
+            let found = run(&rt, rt.alloc(), shards, bytes);
+            judge(&rt, found.map(|run| run.report), races);
+        }
+    }
+}
+
+// A refusal comes before the fault of the trace, wherever it was met.
+#[test]
+fn refused_and_faulty(rt: HostRuntime) {
+    for shards in [1, 2, 3u32] {
+        assert!(rt; 1 <= shards && shards <= 64);
+        match run(&rt, rt.alloc(), shards, FAULTY) {
+            Ok(_) => assert!(rt; false),
+            Err(Fault::NoMemory) => tell(&rt, "memory"),
+            Err(Fault::NoThread) => tell(&rt, "thread"),
+            Err(fault) => {
+                let wanted = TextFault {
+                    line: 8,
+                    kind: TextKind::Line,
+                };
+                assert_eq!(rt; fault, Fault::Text(wanted));
+            }
+        }
+    }
+}

@@ -1,0 +1,76 @@
+//! Lanes and a router: only the calls that make them ask for memory.
+
+use super::tell;
+use lane::{Item, lane};
+use route::{Progress, Router};
+use std::alloc::Global;
+use std::process::Abort;
+use trace::{NoMemory, Placed, Record};
+
+fn at(place: u64, what: Record) -> Placed {
+    Placed { place, what }
+}
+
+fn lane_calls<R: Abort>(rt: &R, alloc: Global, with: bool) -> Result<(), NoMemory> {
+    let (mut sender, mut taker) = lane::<u32>(alloc, 4)?;
+    if with {
+        assert_eq!(rt; sender.put(7), Ok(()));
+        assert!(rt; sender.put_block(&[8, 9]));
+        assert!(rt; !sender.marked() && sender.room() == 1);
+        taker.beside(&mut sender);
+        assert_eq!(rt; (taker.ready(), taker.take()), (3, Some(Item::One(7))));
+        assert!(rt; sender.mark());
+        let mut end = sender.end();
+        taker.settle(&mut end);
+        let mut items = [Item::Finish; 8];
+        assert_eq!(rt; taker.take_block(&mut items), 3);
+        assert_eq!(rt; taker.take(), None);
+    }
+    Ok(())
+}
+
+#[test]
+fn lanes_without(rt: HostRuntime) {
+    if lane_calls(&rt, rt.alloc(), false).is_err() {
+        tell(&rt, "lane");
+    }
+}
+
+#[test]
+fn lanes_with(rt: HostRuntime) {
+    if lane_calls(&rt, rt.alloc(), true).is_err() {
+        tell(&rt, "lane");
+    }
+}
+
+fn router_calls<R: Abort>(rt: &R, alloc: Global, with: bool) -> Result<(), NoMemory> {
+    let (first, mut taker) = lane::<Placed>(alloc, 4)?;
+    let mut senders = Vec::new(alloc);
+    senders.push(first).map_err(|_| NoMemory)?;
+    let mut router = Router::new(alloc, senders)?;
+    if with {
+        router.offer(at(1, Record::Spawn));
+        assert!(rt; router.pending());
+        assert_eq!(rt; router.step(), Progress::Moved);
+        assert_eq!(rt; router.step(), Progress::Idle);
+        assert_eq!(rt; taker.take(), Some(Item::One(at(1, Record::Spawn))));
+        assert_eq!(rt; router.mark_all_step(), Progress::Moved);
+        assert_eq!(rt; router.mark_all_step(), Progress::Idle);
+        assert_eq!(rt; router.into_ends().len(), 1);
+    }
+    Ok(())
+}
+
+#[test]
+fn routers_without(rt: HostRuntime) {
+    if router_calls(&rt, rt.alloc(), false).is_err() {
+        tell(&rt, "router");
+    }
+}
+
+#[test]
+fn routers_with(rt: HostRuntime) {
+    if router_calls(&rt, rt.alloc(), true).is_err() {
+        tell(&rt, "router");
+    }
+}
