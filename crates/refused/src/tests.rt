@@ -2,13 +2,18 @@ mod collecting;
 mod detecting;
 mod lanes;
 mod nesting;
-mod sharding;
+mod nothing;
+mod rows;
 mod touching;
-mod traces;
+mod working;
 
 use std::hash::{BuildHasherDefault, FoldHasher};
+use trace::Race;
 
 pub type Hasher = BuildHasherDefault<FoldHasher>;
+
+/// A race: its location, and the places of its accesses.
+pub type Told = (u64, u64, u64);
 
 /// How often a call is made before it has to succeed: a run refuses two growths at most.
 pub const TRIES: u32 = 3;
@@ -16,4 +21,8 @@ pub const TRIES: u32 = 3;
 /// Tells that a call was refused.
 pub fn tell<R: Print>(rt: &R, what: &str) {
     let _ = rt.println(format_args!("refused {what}"));
+}
+
+pub fn told(race: Race) -> Told {
+    (race.location, race.first.place, race.second.place)
 }

@@ -7,44 +7,34 @@ use std::alloc::Global;
 use std::process::Abort;
 use trace::{Access, Counted, Kind, Race};
 
+/// How many locations have a race.
+const LOCATIONS: u64 = 100;
+
 fn race<R: Abort>(rt: &R, location: u64, second: u64) -> Race {
     assert!(rt; 2 < second && second < 1000);
+    let kind = Kind::Write;
     Race {
         location,
-        first: Access {
-            kind: Kind::Write,
-            place: 2,
-        },
+        first: Access { kind, place: 2 },
         second: Access {
-            kind: Kind::Write,
+            kind,
             place: second,
         },
     }
 }
 
 /// Takes. A refusal changes nothing, and with memory the same call succeeds.
-fn take<R: Print + Abort>(rt: &R, collector: &mut Collector, race: Race) {
-    let mut done = false;
+pub fn take<R: Print + Abort>(rt: &R, collector: &mut Collector, race: Race) {
     for _ in 0..TRIES {
-        if !done {
-            done = collector.take(Back::Race(race)).is_ok();
-            if !done {
-                tell(rt, "take");
-            }
+        if collector.take(Back::Race(race)).is_ok() {
+            return;
         }
+        tell(rt, "take");
     }
-    assert!(rt; done);
+    assert!(rt; false);
 }
 
-fn collected<R: Print + Abort>(rt: &R, alloc: Global) -> Option<Report> {
-    let mut collector = Collector::new(alloc);
-    for location in 0..100 {
-        let location = location * 7 % 100;
-        let (later, earlier) = (race(rt, location, 9), race(rt, location, 5));
-        take(rt, &mut collector, later);
-        take(rt, &mut collector, earlier);
-        take(rt, &mut collector, later);
-    }
+pub fn finish<R: Print>(rt: &R, collector: Collector) -> Option<Report> {
     match collector.finish() {
         Ok(report) => Some(report),
         Err(_) => {
@@ -54,16 +44,28 @@ fn collected<R: Print + Abort>(rt: &R, alloc: Global) -> Option<Report> {
     }
 }
 
+fn collected<R: Print + Abort>(rt: &R, alloc: Global) -> Option<Report> {
+    let mut collector = Collector::new(alloc);
+    for number in 0..LOCATIONS {
+        let location = number * 7 % LOCATIONS;
+        for second in [9, 5, 9u64] {
+            let race = race(rt, location, second);
+            take(rt, &mut collector, race);
+        }
+    }
+    finish(rt, collector)
+}
+
 #[test]
 fn collects_without(rt: HostRuntime) {
     let _ = collected(&rt, rt.alloc());
 }
 
-// The report is written where the write takes no memory: into an array.
+// The report is written where the writer takes no memory: into an array, which is too short for it.
 #[test]
 fn collects_with(rt: HostRuntime) {
     if let Some(report) = collected(&rt, rt.alloc()) {
-        assert_eq!(rt; report.races().len(), 100);
+        assert_eq!(rt; report.races().len() as u64, LOCATIONS);
         for (index, race) in report.races().iter().enumerate() {
             assert_eq!(rt; (race.location, race.second.place), (index as u64, 5));
         }

@@ -7,10 +7,6 @@ use std::alloc::Global;
 use std::process::Abort;
 use trace::{NoMemory, Placed, Record};
 
-fn at(place: u64, what: Record) -> Placed {
-    Placed { place, what }
-}
-
 fn lane_calls<R: Abort>(rt: &R, alloc: Global, with: bool) -> Result<(), NoMemory> {
     let (mut sender, mut taker) = lane::<u32>(alloc, 4)?;
     if with {
@@ -29,31 +25,21 @@ fn lane_calls<R: Abort>(rt: &R, alloc: Global, with: bool) -> Result<(), NoMemor
     Ok(())
 }
 
-#[test]
-fn lanes_without(rt: HostRuntime) {
-    if lane_calls(&rt, rt.alloc(), false).is_err() {
-        tell(&rt, "lane");
-    }
-}
-
-#[test]
-fn lanes_with(rt: HostRuntime) {
-    if lane_calls(&rt, rt.alloc(), true).is_err() {
-        tell(&rt, "lane");
-    }
-}
-
 fn router_calls<R: Abort>(rt: &R, alloc: Global, with: bool) -> Result<(), NoMemory> {
     let (first, mut taker) = lane::<Placed>(alloc, 4)?;
     let mut senders = Vec::new(alloc);
     senders.push(first).map_err(|_| NoMemory)?;
     let mut router = Router::new(alloc, senders)?;
     if with {
-        router.offer(at(1, Record::Spawn));
+        let placed = Placed {
+            place: 1,
+            what: Record::Spawn,
+        };
+        router.offer(placed);
         assert!(rt; router.pending());
         assert_eq!(rt; router.step(), Progress::Moved);
         assert_eq!(rt; router.step(), Progress::Idle);
-        assert_eq!(rt; taker.take(), Some(Item::One(at(1, Record::Spawn))));
+        assert_eq!(rt; taker.take(), Some(Item::One(placed)));
         assert_eq!(rt; router.mark_all_step(), Progress::Moved);
         assert_eq!(rt; router.mark_all_step(), Progress::Idle);
         assert_eq!(rt; router.into_ends().len(), 1);
@@ -61,16 +47,21 @@ fn router_calls<R: Abort>(rt: &R, alloc: Global, with: bool) -> Result<(), NoMem
     Ok(())
 }
 
-#[test]
-fn routers_without(rt: HostRuntime) {
-    if router_calls(&rt, rt.alloc(), false).is_err() {
-        tell(&rt, "router");
+fn calls<R: Print + Abort>(rt: &R, alloc: Global, with: bool) {
+    if lane_calls(rt, alloc, with).is_err() {
+        tell(rt, "lane");
+    }
+    if router_calls(rt, alloc, with).is_err() {
+        tell(rt, "router");
     }
 }
 
 #[test]
-fn routers_with(rt: HostRuntime) {
-    if router_calls(&rt, rt.alloc(), true).is_err() {
-        tell(&rt, "router");
-    }
+fn calls_without(rt: HostRuntime) {
+    calls(&rt, rt.alloc(), false);
+}
+
+#[test]
+fn calls_with(rt: HostRuntime) {
+    calls(&rt, rt.alloc(), true);
 }

@@ -10,22 +10,20 @@ fn numbers(bags: &Bags) -> (u64, u64, u64) {
 }
 
 /// Spawns. A refusal changes nothing, and with memory the same call succeeds.
-fn spawn<R: Print + Abort>(rt: &R, bags: &mut Bags) {
+pub fn spawn<R: Print + Abort>(rt: &R, bags: &mut Bags) {
     let before = numbers(bags);
-    let mut done = false;
     for _ in 0..TRIES {
-        if !done && bags.count() < 1000 {
-            done = bags.spawn().is_ok();
-            if !done {
-                tell(rt, "spawn");
-                assert_eq!(rt; numbers(bags), before);
-            }
+        assert!(rt; bags.count() < 1000);
+        if bags.spawn().is_ok() {
+            return;
         }
+        tell(rt, "spawn");
+        assert_eq!(rt; numbers(bags), before);
     }
-    assert!(rt; done);
+    assert!(rt; false);
 }
 
-fn ret<R: Abort>(rt: &R, bags: &mut Bags) {
+pub fn ret<R: Abort>(rt: &R, bags: &mut Bags) {
     assert!(rt; bags.active() > 1);
     bags.ret();
 }
@@ -35,48 +33,10 @@ fn in_p<R: Abort>(rt: &R, bags: &Bags, procedure: u64) -> bool {
     bags.in_p(procedure)
 }
 
-fn begun<R: Print + Abort>(rt: &R, alloc: Global) -> Option<Bags> {
-    for _ in 0..TRIES {
-        match Bags::new(alloc) {
-            Ok(bags) => return Some(bags),
-            Err(_) => tell(rt, "bags"),
-        }
-    }
-    None
-}
-
-// The bags of row `two-readers-then-write`, then those of row `sync-in-sibling`, both in a procedure that has three above
-// it: so the rows' own spawns ask for memory too.
-#[test]
-fn bags_again(rt: HostRuntime) {
-    let Some(mut bags) = begun(&rt, rt.alloc()) else {
-        assert!(rt; false);
-        return;
-    };
-    for _ in 0..3 {
-        spawn(&rt, &mut bags);
-    }
-    spawn(&rt, &mut bags);
-    ret(&rt, &mut bags);
-    spawn(&rt, &mut bags);
-    assert_eq!(rt; (in_p(&rt, &bags, 4), in_p(&rt, &bags, 5)), (true, false));
-    ret(&rt, &mut bags);
-    assert_eq!(rt; (in_p(&rt, &bags, 4), in_p(&rt, &bags, 5)), (true, true));
-    assert_eq!(rt; numbers(&bags), (3, 6, 4));
-    bags.sync();
-    assert_eq!(rt; (in_p(&rt, &bags, 4), in_p(&rt, &bags, 5)), (false, false));
-    spawn(&rt, &mut bags);
-    ret(&rt, &mut bags);
-    spawn(&rt, &mut bags);
-    bags.sync();
-    assert_eq!(rt; (in_p(&rt, &bags, 6), in_p(&rt, &bags, 7)), (true, false));
-    assert_eq!(rt; numbers(&bags), (7, 8, 5));
-}
-
-/// Spawns a hundred procedures, each by the one before it; between the spawns every other call is made.
+/// Spawns a hundred procedures, each by the one before it; with the other calls these are made too.
 fn nest<R: Print + Abort>(rt: &R, alloc: Global, with: bool) {
-    let Some(mut bags) = begun(rt, alloc) else {
-        assert!(rt; false);
+    let Ok(mut bags) = Bags::new(alloc) else {
+        tell(rt, "bags");
         return;
     };
     for depth in 0..100u64 {

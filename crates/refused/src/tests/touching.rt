@@ -1,14 +1,36 @@
 //! Shadow memory.
 
-use super::{Hasher, TRIES, tell};
+use super::{Hasher, TRIES, tell, told};
 use bags::Bags;
 use shadow::Shadow;
 use std::alloc::Global;
 use std::process::Abort;
-use trace::{Kind, Race};
+use trace::{Kind, NoMemory, Race};
+
+/// How many locations are written, each in a block of its own.
+const STEPS: u64 = 100;
+
+/// Touches once.
+fn try_touch<R: Print + Abort>(
+    rt: &R,
+    shadow: &mut Shadow<Hasher>,
+    bags: &Bags,
+    location: u64,
+    kind: Kind,
+    place: u64,
+) -> Result<Option<Race>, NoMemory> {
+    let before = (shadow.last_place(), shadow.least_count());
+    assert!(rt; before.0 < place && place <= 1 << 48 && before.1 <= bags.count());
+    let touched = shadow.touch(bags, location, kind, place);
+    if touched.is_err() {
+        tell(rt, "touch");
+        assert_eq!(rt; (shadow.last_place(), shadow.least_count()), before);
+    }
+    touched
+}
 
 /// Touches. A refusal changes nothing, and with memory the same call succeeds.
-fn touch<R: Print + Abort>(
+pub fn touch<R: Print + Abort>(
     rt: &R,
     shadow: &mut Shadow<Hasher>,
     bags: &Bags,
@@ -16,85 +38,81 @@ fn touch<R: Print + Abort>(
     kind: Kind,
     place: u64,
 ) -> Option<Race> {
-    let before = (shadow.last_place(), shadow.least_count());
     for _ in 0..TRIES {
-        assert!(rt; shadow.last_place() < place && place <= 1 << 48);
-        assert!(rt; shadow.least_count() <= bags.count());
-        match shadow.touch(bags, location, kind, place) {
-            Ok(race) => return race,
-            Err(_) => {
-                tell(rt, "touch");
-                assert_eq!(rt; (shadow.last_place(), shadow.least_count()), before);
-            }
+        if let Ok(race) = try_touch(rt, shadow, bags, location, kind, place) {
+            return race;
         }
     }
     assert!(rt; false);
     None
 }
 
-fn places(race: Option<Race>) -> Option<(u64, u64, u64)> {
-    race.map(|race| (race.location, race.first.place, race.second.place))
+/// A child writes each location. A touch that is refused is made again, or else the location is missed.
+fn write<R: Print + Abort>(
+    rt: &R,
+    shadow: &mut Shadow<Hasher>,
+    bags: &Bags,
+    again: bool,
+) -> Option<u64> {
+    let mut missed = None;
+    for step in 0..STEPS {
+        let (location, place) = (step * 1000, step + 2);
+        if again {
+            let race = touch(rt, shadow, bags, location, Kind::Write, place);
+            assert_eq!(rt; race, None);
+        } else {
+            match try_touch(rt, shadow, bags, location, Kind::Write, place) {
+                Ok(race) => assert_eq!(rt; race, None),
+                Err(_) => missed = Some(step),
+            }
+        }
+    }
+    missed
 }
 
-// A child writes many locations, in blocks of their own, and its parent writes them again. A touch that is refused is made
-// again at once, or not at all: then nothing may be kept of its location, and the parent meets no race there.
-fn write_twice<R: Print + Abort>(rt: &R, alloc: Global, again: bool, parent: bool) {
+/// Its parent writes them again. There is a race on each but the one that was missed, of which nothing may be kept.
+fn write_again<R: Print + Abort>(
+    rt: &R,
+    shadow: &mut Shadow<Hasher>,
+    bags: &Bags,
+    missed: Option<u64>,
+) {
+    for step in 0..STEPS {
+        let (location, place) = (step * 1000, step + 2 + STEPS);
+        let race = touch(rt, shadow, bags, location, Kind::Write, place);
+        if missed == Some(step) {
+            assert_eq!(rt; race, None);
+        } else {
+            assert_eq!(rt; race.map(told), Some((location, step + 2, place)));
+        }
+    }
+}
+
+fn child_and_parent<R: Print + Abort>(rt: &R, alloc: Global, again: bool, parent: bool) {
     let mut shadow = Shadow::with_hasher(alloc, Hasher::default());
     let Ok(mut bags) = Bags::new(alloc) else {
         tell(rt, "bags");
         return;
     };
-    if bags.spawn().is_err() {
-        tell(rt, "spawn");
-        return;
-    }
-    let mut missed = None;
-    for step in 0..STEPS {
-        let place = step + 2;
-        assert!(rt; shadow.last_place() < place && place <= 1 << 48);
-        assert!(rt; shadow.least_count() <= bags.count());
-        match shadow.touch(&bags, step * 1000, Kind::Write, place) {
-            Ok(race) => assert_eq!(rt; places(race), None),
-            Err(_) => {
-                tell(rt, "touch");
-                if again {
-                    let race = touch(rt, &mut shadow, &bags, step * 1000, Kind::Write, place);
-                    assert_eq!(rt; places(race), None);
-                } else {
-                    missed = Some(step);
-                }
-            }
-        }
-    }
-    assert!(rt; bags.active() > 1);
-    bags.ret();
+    super::nesting::spawn(rt, &mut bags);
+    let missed = write(rt, &mut shadow, &bags, again);
+    super::nesting::ret(rt, &mut bags);
     if parent {
-        for step in 0..STEPS {
-            let place = step + 2 + STEPS;
-            let race = touch(rt, &mut shadow, &bags, step * 1000, Kind::Write, place);
-            let told = Some((step * 1000, step + 2, place));
-            assert_eq!(rt;
-                places(race),
-                if missed == Some(step) { None } else { told }
-            );
-        }
+        write_again(rt, &mut shadow, &bags, missed);
     }
 }
 
-/// How many locations are written.
-const STEPS: u64 = 100;
-
 #[test]
 fn touches_without(rt: HostRuntime) {
-    write_twice(&rt, rt.alloc(), true, false);
+    child_and_parent(&rt, rt.alloc(), true, false);
 }
 
 #[test]
 fn touches_with(rt: HostRuntime) {
-    write_twice(&rt, rt.alloc(), true, true);
+    child_and_parent(&rt, rt.alloc(), true, true);
 }
 
 #[test]
 fn touches_missed(rt: HostRuntime) {
-    write_twice(&rt, rt.alloc(), false, true);
+    child_and_parent(&rt, rt.alloc(), false, true);
 }

@@ -1,0 +1,66 @@
+//! Calls that ask for no memory at all.
+
+use super::Hasher;
+use collect::Collector;
+use detect::Plan;
+use shadow::Shadow;
+use std::alloc::Global;
+use std::process::Abort;
+use trace::{
+    Counted, Feed, Limits, Nest, Reader, Record, decimal_of, is_parallel, write_header,
+    write_record,
+};
+
+const TEXT: &[u8] = b"trace 1\nspawn\nwrite 5\nsync\nread 18446744073709551615\nreturn\nreturn\n";
+
+const LIMITS: Limits = Limits {
+    records: 9,
+    depth: 9,
+};
+
+fn read<R: Abort>(rt: &R) {
+    let mut feed = Feed::new(LIMITS, Counted::new(TEXT));
+    let mut count = 0u64;
+    for _ in 0..9 {
+        if let Ok(Some(placed)) = feed.next() {
+            count = placed.place;
+        }
+    }
+    assert_eq!(rt; count, 6);
+    assert_eq!(rt; feed.next(), Ok(None));
+    let mut reader = Reader::new(9);
+    assert!(rt; reader.step(TEXT).is_ok());
+    assert!(rt; reader.end().is_ok());
+    assert_eq!(rt; decimal_of(b"77"), Some(77));
+}
+
+fn nest<R: Abort>(rt: &R) {
+    let mut nest = Nest::new(9);
+    assert!(rt; nest.accept(Record::Return).is_ok());
+    assert!(rt; nest.accept(Record::Sync).is_err());
+    assert!(rt; nest.end().is_ok() && nest.count() == 1);
+    assert!(rt; !is_parallel(&[Record::Sync, Record::Return], 1, 2));
+}
+
+fn write<R: Abort>(rt: &R) {
+    let mut room = [0u8; 64];
+    let mut text: &mut [u8] = &mut room;
+    let mut sink = Counted::new(&mut text);
+    assert!(rt; write_header(&mut sink).is_ok());
+    assert!(rt; write_record(&Record::Read(77), &mut sink).is_ok());
+}
+
+fn make<R: Abort>(rt: &R, alloc: Global) {
+    let shadow = Shadow::with_hasher(alloc, Hasher::default());
+    assert_eq!(rt; (shadow.last_place(), shadow.least_count()), (0, 1));
+    let _ = Collector::new(alloc);
+    let _ = Plan::new(64, 65536, LIMITS);
+}
+
+#[test]
+fn calls(rt: HostRuntime) {
+    read(&rt);
+    nest(&rt);
+    write(&rt);
+    make(&rt, rt.alloc());
+}

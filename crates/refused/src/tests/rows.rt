@@ -1,0 +1,156 @@
+//! Rows of which a call that is refused is made again. Each ends with the row's answer.
+
+use super::collecting::{finish, take};
+use super::nesting::{ret, spawn};
+use super::touching::touch;
+use super::{Hasher, TRIES, Told, tell, told};
+use bags::Bags;
+use collect::{Collector, Report};
+use shadow::Shadow;
+use shard::Shard;
+use std::alloc::Global;
+use std::process::Abort;
+use trace::Record::{Read, Return, Spawn, Sync, Write};
+use trace::{Kind, Placed, Race, Record};
+
+/// Rows `two-readers-then-write`, `sync-in-sibling` and `three-writes`, and the race of each.
+const ROWS: [([Record; 8], Told); 3] = [
+    (
+        [
+            Spawn,
+            Read(9),
+            Return,
+            Spawn,
+            Read(9),
+            Return,
+            Write(9),
+            Return,
+        ],
+        (9, 2, 7),
+    ),
+    (
+        [
+            Spawn,
+            Write(1),
+            Return,
+            Spawn,
+            Sync,
+            Write(1),
+            Return,
+            Return,
+        ],
+        (1, 2, 6),
+    ),
+    (
+        [
+            Spawn,
+            Write(3),
+            Return,
+            Spawn,
+            Write(3),
+            Return,
+            Write(3),
+            Return,
+        ],
+        (3, 2, 5),
+    ),
+];
+
+fn step<R: Print + Abort>(
+    rt: &R,
+    bags: &mut Bags,
+    shadow: &mut Shadow<Hasher>,
+    placed: Placed,
+) -> Option<Race> {
+    match placed.what {
+        Spawn => spawn(rt, bags),
+        Return => ret(rt, bags),
+        Sync => bags.sync(),
+        Read(location) => return touch(rt, shadow, bags, location, Kind::Read, placed.place),
+        Write(location) => return touch(rt, shadow, bags, location, Kind::Write, placed.place),
+    }
+    None
+}
+
+/// The report of a row by bags, shadow memory and a collector. The row's root has three procedures above it, so that the
+/// row's own spawns ask for memory too.
+fn by_parts<R: Print + Abort>(rt: &R, alloc: Global, records: &[Record]) -> Option<Report> {
+    let Ok(mut bags) = Bags::new(alloc) else {
+        tell(rt, "bags");
+        return None;
+    };
+    for _ in 0..3 {
+        spawn(rt, &mut bags);
+    }
+    let mut shadow = Shadow::with_hasher(alloc, Hasher::default());
+    let mut collector = Collector::new(alloc);
+    for (index, what) in records.iter().enumerate() {
+        let (place, what) = (index as u64 + 1, *what);
+        if let Some(race) = step(rt, &mut bags, &mut shadow, Placed { place, what }) {
+            take(rt, &mut collector, race);
+        }
+    }
+    finish(rt, collector)
+}
+
+#[test]
+fn parts(rt: HostRuntime) {
+    for (records, wanted) in ROWS {
+        if let Some(report) = by_parts(&rt, rt.alloc(), &records) {
+            let mut races = 0u64;
+            for race in report.races() {
+                assert_eq!(rt; told(*race), wanted);
+                races = races.saturating_add(1);
+            }
+            assert_eq!(rt; races, 1);
+        }
+    }
+}
+
+/// Applies a record, whose place is one more than the count of those before it. A refusal changes nothing, and with memory
+/// the same call succeeds.
+fn apply<R: Print + Abort>(rt: &R, shard: &mut Shard<Hasher>, placed: Placed) -> Option<Race> {
+    for _ in 0..TRIES {
+        assert!(rt; shard.accepts(placed.place));
+        if let Ok(race) = shard.apply(placed) {
+            return race;
+        }
+        tell(rt, "apply");
+        assert_eq!(rt; shard.taken().saturating_add(1), placed.place);
+    }
+    assert!(rt; false);
+    None
+}
+
+fn by_shard<R: Print + Abort>(rt: &R, alloc: Global, records: &[Record], wanted: Told, with: bool) {
+    let Ok(mut shard) = Shard::new(alloc, 0, Hasher::default()) else {
+        tell(rt, "shard");
+        return;
+    };
+    let mut found = None;
+    for (index, what) in records.iter().enumerate() {
+        let (place, what) = (index as u64 + 1, *what);
+        if let Some(race) = apply(rt, &mut shard, Placed { place, what }) {
+            assert_eq!(rt; (found, race.second.place), (None, place));
+            found = Some(told(race));
+        }
+        if with {
+            assert_eq!(rt; shard.taken(), place);
+        }
+    }
+    assert_eq!(rt; found, Some(wanted));
+}
+
+#[test]
+fn shards_without(rt: HostRuntime) {
+    for (records, wanted) in ROWS {
+        by_shard(&rt, rt.alloc(), &records, wanted, false);
+    }
+}
+
+#[test]
+fn shards_with(rt: HostRuntime) {
+    for (records, wanted) in ROWS {
+        by_shard(&rt, rt.alloc(), &records, wanted, true);
+    }
+}
