@@ -47,7 +47,7 @@ pub fn touch<R: Print + Abort>(
     None
 }
 
-/// A child writes each location. A touch that is refused is made again, or else the location is missed.
+/// A child writes each location. A touch that is refused is made again; or else the first one is missed.
 fn write<R: Print + Abort>(
     rt: &R,
     shadow: &mut Shadow<Hasher>,
@@ -57,15 +57,15 @@ fn write<R: Print + Abort>(
     let mut missed = None;
     for step in 0..STEPS {
         let (location, place) = (step * 1000, step + 2);
-        if again {
-            let race = touch(rt, shadow, bags, location, Kind::Write, place);
-            assert_eq!(rt; race, None);
-        } else {
-            match try_touch(rt, shadow, bags, location, Kind::Write, place) {
-                Ok(race) => assert_eq!(rt; race, None),
-                Err(_) => missed = Some(step),
+        let mut touched = try_touch(rt, shadow, bags, location, Kind::Write, place);
+        if touched.is_err() {
+            if !again && missed.is_none() {
+                missed = Some(step);
+                continue;
             }
+            touched = Ok(touch(rt, shadow, bags, location, Kind::Write, place));
         }
+        assert_eq!(rt; touched, Ok(None));
     }
     missed
 }
