@@ -1,7 +1,6 @@
 //! Detection, in one thread and with threads.
-ghost use Rattle.std.specs.Prelude.{◌≡◌, ◌≤◌, IfOk, vec_len};
 
-use super::{Hasher, tell};
+use super::{Hasher, Told, tell, told};
 use collect::Report;
 use detect::{Plan, Run, detect, detect_plain};
 use shard::Open;
@@ -15,9 +14,6 @@ const LIMITS: Limits = Limits {
     records: 1 << 48,
     depth: 9,
 };
-
-/// A race: its location, and the places of its accesses.
-type Told = (u64, u64, u64);
 
 /// Rows `write-write`, `sync-in-sibling` and `three-shards`, with their races.
 const ROWS: [(&[u8], &[Told]); 3] = [
@@ -38,9 +34,7 @@ const ROWS: [(&[u8], &[Told]); 3] = [
 /// Row `three-shards` with a bad last line.
 const FAULTY: &[u8] = b"trace 1\nspawn\nwrite 8\nwrite 2\nreturn\nread 8\nread 2\nword\n";
 
-fn hashers(alloc: Global, count: u32) -> Result<Vec<Hasher>, AllocError>
-    ensures { IfOk result (λ hashers. vec_len hashers ≡ count) }
-{
+fn hashers(alloc: Global, count: u32) -> Result<Vec<Hasher>, AllocError> {
     let mut hashers = Vec::new(alloc);
     for _ in 0..count {
         hashers.push(Hasher::default())?;
@@ -48,20 +42,18 @@ fn hashers(alloc: Global, count: u32) -> Result<Vec<Hasher>, AllocError>
     Ok(hashers)
 }
 
-fn run<T: Threads + Wait + Sync>(
+fn run<T: Threads + Wait + Sync + Abort>(
     rt: &T,
     alloc: Global,
     shards: u32,
     bytes: &[u8],
-) -> Result<Run, Fault>
-    requires { (1 ≤ shards) × (shards ≤ 64) }
-{
+) -> Result<Run, Fault> {
     let Ok(hashers) = hashers(alloc, shards) else {
         return Err(Fault::NoMemory);
     };
-    let mut source = Counted::new(bytes);
+    assert!(rt; 1 <= shards && shards <= 64 && hashers.len() == shards as usize);
     let plan = Plan::new(shards, 1, LIMITS);
-    detect(rt, alloc, plan, &mut source, &Open, hashers)
+    detect(rt, alloc, plan, &mut Counted::new(bytes), &Open, hashers)
 }
 
 /// Either the report is that of the row, or the fault is a refusal.
@@ -69,8 +61,8 @@ fn judge<R: Print + Abort>(rt: &R, found: Result<Report, Fault>, races: &[Told])
     match found {
         Ok(report) => {
             assert_eq!(rt; report.races().len(), races.len());
-            for (race, told) in report.races().iter().zip(races) {
-                assert_eq!(rt; (race.location, race.first.place, race.second.place), *told);
+            for (race, wanted) in report.races().iter().zip(races) {
+                assert_eq!(rt; told(*race), *wanted);
             }
         }
         Err(Fault::NoMemory) => tell(rt, "memory"),
@@ -91,7 +83,6 @@ fn plain(rt: HostRuntime) {
 #[test]
 fn sharded(rt: HostRuntime) {
     for shards in [1, 2, 3u32] {
-        assert!(rt; 1 <= shards && shards <= 64);
         for (bytes, races) in ROWS {
             let found = run(&rt, rt.alloc(), shards, bytes);
             judge(&rt, found.map(|run| run.report), races);
@@ -99,11 +90,10 @@ fn sharded(rt: HostRuntime) {
     }
 }
 
-// A refusal comes before the fault of the trace, wherever it was met.
+// A refusal comes before the fault of the trace, whichever thread met it.
 #[test]
 fn refused_and_faulty(rt: HostRuntime) {
     for shards in [1, 2, 3u32] {
-        assert!(rt; 1 <= shards && shards <= 64);
         match run(&rt, rt.alloc(), shards, FAULTY) {
             Ok(_) => assert!(rt; false),
             Err(Fault::NoMemory) => tell(&rt, "memory"),
