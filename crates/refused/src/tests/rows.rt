@@ -72,8 +72,8 @@ fn step<R: Print + Abort>(
     None
 }
 
-/// The report of a row by bags, shadow memory and a collector. The row's root has three procedures above it, so that the
-/// row's own spawns ask for memory too.
+/// The report of a row by bags, shadow memory and a collector. The row's root has three procedures above it, so that
+/// the row's own spawns ask for memory too.
 fn by_parts<R: Print + Abort>(rt: &R, alloc: Global, records: &[Record]) -> Option<Report> {
     let Ok(mut bags) = Bags::new(alloc) else {
         tell(rt, "bags");
@@ -107,8 +107,8 @@ fn parts(rt: HostRuntime) {
     }
 }
 
-/// Applies a record, whose place is one more than the count of those before it. A refusal changes nothing, and with memory
-/// the same call succeeds.
+/// Applies a record, whose place is one more than the count of those before it. A refusal changes nothing, and with
+/// memory the same call succeeds.
 fn apply<R: Print + Abort>(rt: &R, shard: &mut Shard<Hasher>, placed: Placed) -> Option<Race> {
     for _ in 0..TRIES {
         assert!(rt; shard.accepts(placed.place));

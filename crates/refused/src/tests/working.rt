@@ -31,8 +31,8 @@ fn fill<R: Abort>(rt: &R, mut sender: Sender<Placed>, records: &[Record]) {
     assert!(rt; !sender.marked() && sender.mark());
 }
 
-/// Records with one race, and the mark, by a worker. Whatever it is refused, it takes them all, and its lane back has the
-/// race or the refusal, and the mark.
+/// Records with one race, and the mark, by a worker. Whatever it is refused, it takes them all, and its lane back has
+/// the race or the refusal, and the mark.
 fn run<R: Print + Wait + Abort>(
     rt: &R,
     alloc: Global,
