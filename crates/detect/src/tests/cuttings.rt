@@ -8,13 +8,20 @@ use super::reported_rows::{LIMITS, REPORTED, WRITE_WRITE};
 use crate::detect_plain;
 use shard::Open;
 use std::alloc::Global;
+use std::process::Abort;
 use std::sync::Wait;
-use std::test::Fail;
 use std::thread::Threads;
 use trace::{Failed, Fault, Limits, Source};
 
-/// Hands out the bytes up to the cut, and then the others. Between them a call fails, where that is asked: the calls
-/// after it go on as if it hadn't been.
+/// Where a text is cut. A call fails there, where that is asked, and then the bytes come one by one.
+#[derive(Clone, Copy)]
+struct Cut<'a> {
+    text: &'a [u8],
+    place: usize,
+    fails: bool,
+}
+
+/// Hands out the bytes up to the cut, and then the others. The calls after one that fails go on as if it hadn't been.
 #[derive(Drop)]
 struct TwoPieces<'a> {
     first: Pieces<'a>,
@@ -24,15 +31,16 @@ struct TwoPieces<'a> {
 }
 
 impl<'a> TwoPieces<'a> {
-    fn new(bytes: &'a [u8], cut: usize, size: usize, fails: bool) -> TwoPieces<'a> {
-        let (first, second) = bytes.split_at(cut.min(bytes.len()));
+    fn of(cut: Cut<'a>) -> TwoPieces<'a> {
+        let (first, second) = cut.text.split_at(cut.place.min(cut.text.len()));
+        let size = if cut.fails { 1 } else { 4096 };
         TwoPieces {
             first: Pieces { bytes: first, size },
             second: Pieces {
                 bytes: second,
                 size,
             },
-            fails,
+            fails: cut.fails,
             failed: 0,
         }
     }
@@ -56,17 +64,15 @@ impl<'a> Source for TwoPieces<'a> {
     }
 }
 
-/// One thread, one shard and three.
-const WAYS: [Option<u32>; 3] = [None, Some(1), Some(3)];
-
 /// The text of the report by so many shards, or by one thread.
 fn text_from<T: Threads + Wait + Sync>(
     rt: &T,
     alloc: Global,
     shards: Option<u32>,
     limits: Limits,
-    mut pieces: TwoPieces<'_>,
+    cut: Cut<'_>,
 ) -> Result<Vec<u8>, Fault> {
+    let mut pieces = TwoPieces::of(cut);
     let report = match shards {
         None => detect_plain(alloc, limits, &mut pieces, Hasher::default())?,
         Some(shards) => {
@@ -77,34 +83,49 @@ fn text_from<T: Threads + Wait + Sync>(
     text_of(alloc, &report)
 }
 
+/// Asserts what one thread, one shard and three answer.
+fn assert_answers<T: Threads + Wait + Sync + Abort>(
+    rt: &T,
+    alloc: Global,
+    limits: Limits,
+    cut: Cut<'_>,
+    wanted: Result<&[u8], Fault>,
+) {
+    for shards in [None, Some(1), Some(3)] {
+        let text = text_from(rt, alloc, shards, limits, cut);
+        let told = match &text {
+            Ok(text) => Ok(text.as_slice()),
+            Err(fault) => Err(*fault),
+        };
+        let Cut { text, place, .. } = cut;
+        assert_eq!(rt; told, wanted, "{text:?} at {place} by {shards:?}");
+    }
+}
+
 #[test]
-fn reports_of_two_pieces(rt: HostRuntime) -> Result<(), Fail> {
+fn reports_of_two_pieces(rt: HostRuntime) {
     for row in REPORTED {
-        for cut in 0..=row.text.len() {
-            for shards in WAYS {
-                let pieces = TwoPieces::new(row.text, cut, 4096, false);
-                let text = text_from(&rt, rt.alloc(), shards, LIMITS, pieces)?;
-                assert_eq!(rt;
-                    text.as_slice(),
-                    row.report,
-                    "{} at {cut} by {shards:?}",
-                    row.name
-                );
-            }
+        for place in 0..=row.text.len() {
+            let cut = Cut {
+                text: row.text,
+                place,
+                fails: false,
+            };
+            assert_answers(&rt, rt.alloc(), LIMITS, cut, Ok(row.report));
         }
     }
-    Ok(())
 }
 
 #[test]
 fn faults_of_two_pieces(rt: HostRuntime) {
     for row in FAULTY {
-        for cut in 0..=row.text.len() {
-            for shards in WAYS {
-                let pieces = TwoPieces::new(row.text, cut, 4096, false);
-                let text = text_from(&rt, rt.alloc(), shards, row.limits, pieces);
-                assert_eq!(rt; text, Err(row.fault), "{} at {cut} by {shards:?}", row.name);
-            }
+        for place in 0..=row.text.len() {
+            let cut = Cut {
+                text: row.text,
+                place,
+                fails: false,
+            };
+            assert_answers(&rt, rt.alloc(), row.limits, cut, Err(row.fault));
         }
     }
 }
@@ -112,11 +133,13 @@ fn faults_of_two_pieces(rt: HostRuntime) {
 // A call that fails isn't tried again, and no answer comes of what was read before.
 #[test]
 fn each_call_fails(rt: HostRuntime) {
-    for call in 0..=WRITE_WRITE.len() {
-        for shards in WAYS {
-            let pieces = TwoPieces::new(WRITE_WRITE, call, 1, true);
-            let text = text_from(&rt, rt.alloc(), shards, LIMITS, pieces);
-            assert_eq!(rt; text, Err(Fault::Read), "at {call} by {shards:?}");
-        }
+    let text = WRITE_WRITE;
+    for place in 0..=text.len() {
+        let cut = Cut {
+            text,
+            place,
+            fails: true,
+        };
+        assert_answers(&rt, rt.alloc(), LIMITS, cut, Err(Fault::Read));
     }
 }
