@@ -105,12 +105,10 @@ fn assert_answers<T: Threads + Wait + Sync + Abort>(
 #[test]
 fn reports_of_two_pieces(rt: HostRuntime) {
     for row in REPORTED {
-        for place in 0..=row.text.len() {
-            let cut = Cut {
-                text: row.text,
-                place,
-                fails: false,
-            };
+        let text = row.text;
+        for place in 0..=text.len() {
+            let fails = false;
+            let cut = Cut { text, place, fails };
             assert_answers(&rt, rt.alloc(), LIMITS, cut, Ok(row.report));
         }
     }
@@ -119,12 +117,10 @@ fn reports_of_two_pieces(rt: HostRuntime) {
 #[test]
 fn faults_of_two_pieces(rt: HostRuntime) {
     for row in FAULTY {
-        for place in 0..=row.text.len() {
-            let cut = Cut {
-                text: row.text,
-                place,
-                fails: false,
-            };
+        let text = row.text;
+        for place in 0..=text.len() {
+            let fails = false;
+            let cut = Cut { text, place, fails };
             assert_answers(&rt, rt.alloc(), row.limits, cut, Err(row.fault));
         }
     }
