@@ -106,7 +106,7 @@ fn assert_answers<T: Threads + Wait + Sync + Abort>(
 fn reports_of_two_pieces(rt: HostRuntime) {
     for row in REPORTED {
         let text = row.text;
-        for place in 0..=text.len() {
+        for place in 0..text.len() {
             let fails = false;
             let cut = Cut { text, place, fails };
             assert_answers(&rt, rt.alloc(), LIMITS, cut, Ok(row.report));
@@ -118,7 +118,7 @@ fn reports_of_two_pieces(rt: HostRuntime) {
 fn faults_of_two_pieces(rt: HostRuntime) {
     for row in FAULTY {
         let text = row.text;
-        for place in 0..=text.len() {
+        for place in 0..text.len() {
             let fails = false;
             let cut = Cut { text, place, fails };
             assert_answers(&rt, rt.alloc(), row.limits, cut, Err(row.fault));
@@ -130,12 +130,12 @@ fn faults_of_two_pieces(rt: HostRuntime) {
 #[test]
 fn each_call_fails(rt: HostRuntime) {
     let text = WRITE_WRITE;
-    for place in 0..=text.len() {
-        let cut = Cut {
-            text,
-            place,
-            fails: true,
-        };
+    let fails = true;
+    for place in 0..text.len() {
+        let cut = Cut { text, place, fails };
         assert_answers(&rt, rt.alloc(), LIMITS, cut, Err(Fault::Read));
     }
+    let place = text.len();
+    let at_end = Cut { text, place, fails };
+    assert_answers(&rt, rt.alloc(), LIMITS, at_end, Err(Fault::Read));
 }
