@@ -1,6 +1,7 @@
 -- Bytes that come in pieces: however they were cut a reader gives the same records, and the first fault of
 -- the bytes so far stays the first when more come.
 use Rattle.std.proofs.Common.{◌≡◌, ℕ, ◌+◌, ◌<◌, ◌≤◌, Bool, true, false, List, [], ◌∷◌, ◌++◌, length, Some, Err, ◌⊎◌, inl, inr, arith, refl, sym, ◌∙◌, ap, subst, append_assoc, length-append}
+use Rattle.std.specs.Io.KnownBytes.{IsAtEnd}
 use Rattle.std.specs.List.{flat_map}
 use Rattle.std.proofs.lemmas.Grind.{flat_map-append}
 use Rattle.std.proofs.lemmas.List.{append-nil}
@@ -13,6 +14,7 @@ use Rattle.trace.specs.Text.{header, Fits, AllFit, ended, line, text, IsOpen}
 use Rattle.trace.specs.Faults.{IsJudged, IsNoRecord, IsBadLine, bad_header, bad_line, too_many, IsMisplaced, AreNested, IsBadPlace, bad_place, IsFirstFault, IsFaultOfAll, IsTruncated}
 use Rattle.trace.specs.Faults as faults
 use Rattle.trace.specs.Traces.{IsWellNested}
+use Rattle.trace.specs.Devices.{Change}
 use Rattle.trace.specs.Feeding.{Feeding, IsFaultThen, IsFaultFed, IsFed}
 use Rattle.trace.specs.Reading.{Reading, AreBytes, HasRead}
 use Rattle.trace.proofs.Lists.{all-push}
@@ -102,18 +104,19 @@ pub truncated_not_text : (records : ℕ) (w : List Record) (bytes : List ℕ) (f
 truncated_not_text records w bytes f hw cut e = let P : List ℕ → Type 0 = λ x. IsTruncated records x f in no_truncated records w f hw (subst P e cut)
 
 -- a fault that a feed finds is none of the text of a well nested trace, of which these bytes are the front
-fault_then : (records depths : ℕ) (u : List Record) (bytes left : List ℕ) (f : Fault) → AllFit u → IsWellNested u records depths → bytes ++ left ≡ text u → IsFaultThen records depths bytes (Some left) f → ⊥
-fault_then records depths u bytes left f hu h e (inl first) = no_fault_in_front records depths u bytes left f hu h (sym e) first
-fault_then records depths u bytes left f hu h e (inr (at_end, fault)) =
+fault_then : (records depths : ℕ) (u : List Record) (bytes left : List ℕ) (c : Change) (f : Fault) → AllFit u → IsWellNested u records depths → bytes ++ left ≡ text u → c.new.bytes ≡ Some left → IsFaultThen records depths bytes c f → ⊥
+fault_then records depths u bytes left c f hu h e is (inl first) = no_fault_in_front records depths u bytes left f hu h (sym e) first
+fault_then records depths u bytes left c f hu h e is (inr (used_up, fault)) =
     let P : List ℕ → Type 0 = λ x. IsFaultOfAll records depths x f in
+    let at_end : left ≡ [] = subst IsAtEnd is used_up in
     no_fault_of_text records depths u f hu h (subst P (sym (append-nil bytes) ∙ ap (λ x. bytes ++ x) (sym at_end) ∙ e) fault)
 
-only_read_of : (records depths before after : ℕ) (u : List Record) (bytes left : List ℕ) (f : Fault) → AllFit u → IsWellNested u records depths → bytes ++ left ≡ text u → IsFaultFed records depths bytes (Some left) before after f → f ≡ Read
-only_read_of records depths before after u bytes left (Text f) hu h e fault = absurd (fault_then records depths u bytes left (Text f) hu h e fault.0)
-only_read_of records depths before after u bytes left (Nest f) hu h e fault = absurd (fault_then records depths u bytes left (Nest f) hu h e fault.0)
-only_read_of records depths before after u bytes left Read hu h e fault = refl
-only_read_of records depths before after u bytes left NoMemory hu h e fault = absurd fault
-only_read_of records depths before after u bytes left NoThread hu h e fault = absurd fault
+only_read_of : (records depths : ℕ) (u : List Record) (bytes left : List ℕ) (c : Change) (f : Fault) → AllFit u → IsWellNested u records depths → bytes ++ left ≡ text u → c.new.bytes ≡ Some left → IsFaultFed records depths bytes c f → f ≡ Read
+only_read_of records depths u bytes left c (Text f) hu h e is fault = absurd (fault_then records depths u bytes left c (Text f) hu h e is fault.0)
+only_read_of records depths u bytes left c (Nest f) hu h e is fault = absurd (fault_then records depths u bytes left c (Nest f) hu h e is fault.0)
+only_read_of records depths u bytes left c Read hu h e is fault = refl
+only_read_of records depths u bytes left c NoMemory hu h e is fault = absurd fault
+only_read_of records depths u bytes left c NoThread hu h e is fault = absurd fault
 
-pub only_read : (records depths before after : ℕ) (u w : List Record) (bytes left : List ℕ) (feed : Feeding) (f : Fault) → AllFit u → IsWellNested u records depths → bytes ++ left ≡ text u → IsFed records depths w bytes (Some left) before after feed (Err f) → f ≡ Read
-only_read records depths before after u w bytes left feed f hu h e fed = only_read_of records depths before after u bytes left f hu h e fed.0
+pub only_read : (records depths : ℕ) (u w : List Record) (bytes left : List ℕ) (c : Change) (feed : Feeding) (f : Fault) → AllFit u → IsWellNested u records depths → bytes ++ left ≡ text u → c.new.bytes ≡ Some left → IsFed records depths w bytes c feed (Err f) → f ≡ Read
+only_read records depths u w bytes left c feed f hu h e is fed = only_read_of records depths u bytes left c f hu h e is fed.0

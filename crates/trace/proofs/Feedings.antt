@@ -14,6 +14,7 @@ use Rattle.trace.specs.Faults.{HasEnded, IsMisplaced, AreNested, IsBadLine, IsBa
 use Rattle.trace.specs.Faults as faults
 use Rattle.trace.specs.Reading.{Reading, AreBytes, HasRead}
 use Rattle.trace.specs.Nesting.{Nesting, HasNested}
+use Rattle.trace.specs.Devices.{Device, ◌⇝◌, Gave}
 use Rattle.trace.specs.Feeding.{Feeding, before_all, HasUsed, HasFed}
 use Rattle.trace.proofs.Lists.{all-front, all-last}
 use Rattle.trace.proofs.Readings.{open_nil}
@@ -132,12 +133,12 @@ read_all w bytes s h nothing =
     subst P e h.has_used.has_read
 
 -- bytes have come in two steps
-pub filled : (o m n : Option (List ℕ)) (w : List Record) (bytes : List ℕ) (s t : Feeding) → (came : List ℕ) × Consumes o m came × HasFed w (bytes ++ came) s → (came : List ℕ) × Consumes m n came × (t ≡ record s { coming = s.coming ++ came })
-    → (came : List ℕ) × Consumes o n came × HasFed w (bytes ++ came) t
+pub filled : (o m n : Device) (w : List Record) (bytes : List ℕ) (s t : Feeding) → (came : List ℕ) × Gave (o ⇝ m) came × HasFed w (bytes ++ came) s → (came : List ℕ) × Gave (m ⇝ n) came × (t ≡ record s { coming = s.coming ++ came })
+    → (came : List ℕ) × Gave (o ⇝ n) came × HasFed w (bytes ++ came) t
 filled o m n w bytes s t (a, ca, fed) (b, cb, is) =
     let P : Feeding → Type 0 = λ x. HasFed w ((bytes ++ a) ++ b) x in
     let Q : List ℕ → Type 0 = λ x. HasFed w x t in
-    (a ++ b, consumes_more o m n a b ca cb, subst Q (append_assoc bytes a b) (subst P (sym is) (fed_more w (bytes ++ a) b s fed)))
+    (a ++ b, consumes_more o.bytes m.bytes n.bytes a b ca cb, subst Q (append_assoc bytes a b) (subst P (sym is) (fed_more w (bytes ++ a) b s fed)))
 
 -- the limits are the same
 pub at_limits : (P : ℕ → ℕ → Type 0) (a b c d : ℕ) → a ≡ b → c ≡ d → P a c → P b d

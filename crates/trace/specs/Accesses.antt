@@ -1,8 +1,9 @@
--- Accesses of a location, and pairs of them.
-use Rattle.std.specs.Prelude.{ℕ, ◌<◌, ◌≤◌, ◌^◌, Bool, true, false, ◌||◌, IsTrue}
+-- Promised: accesses of a location, and pairs of them.
+use Rattle.std.specs.Prelude.{ℕ, ◌<◌, ◌≤◌, Bool, true, false, ◌||◌, IsTrue}
 use Rattle.trace.specs.declared.records.Kind.{Kind}
 use Rattle.trace.specs.declared.records.Kind.TheVariants.{Read, Write}
 use Rattle.trace.specs.declared.records.Access.{Access}
+use Rattle.trace.specs.Bounds.{most_records}
 
 -- whether an access writes
 abbrev pub writes : Kind → Bool
@@ -19,5 +20,5 @@ pub record RaceAt : Type 0 where
 pub record IsRaceShape (first second : Access) : Type 0 where
   pub from_one : 1 ≤ first.place
   pub in_order : first.place < second.place
-  pub to_limit : second.place ≤ 2 ^ 48
+  pub to_limit : second.place ≤ most_records
   pub one_writes : IsTrue (writes first.kind || writes second.kind)

@@ -1,4 +1,4 @@
--- The dag of a trace: its edges and paths, and which places are parallel.
+-- Promised: the dag of a trace: its edges and paths, and which places are parallel.
 use Rattle.std.specs.Prelude.{◌≡◌, ◌≢◌, ℕ, ◌+◌, ◌<◌, ◌≤◌, ◌↔◌, List, [], ◌∷◌, Some, ◌⊎◌}
 use Rattle.trace.specs.declared.records.Record.{Record}
 use Rattle.trace.specs.declared.records.Record.TheVariants.{Spawn, Return, Sync}

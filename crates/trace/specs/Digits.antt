@@ -1,4 +1,4 @@
--- Digits taken two at a time.
+-- Private: digits taken two at a time.
 use Rattle.std.specs.Prelude.{ℕ, ◌+◌, ◌*◌, List, [], ◌∷◌}
 
 -- the digits in base b, of which each two write one digit in base b * b

@@ -1,4 +1,4 @@
--- The first fault of bytes that should be the text of a trace, within limits.
+-- Promised: the first fault of bytes that should be the text of a trace, within limits.
 use Rattle.std.specs.Prelude.{◌≡◌, ◌≢◌, ℕ, suc, ◌+◌, ◌<◌, ◌≤◌, List, [], ◌∷◌, ◌++◌, length}
 use Rattle.trace.specs.declared.records.Record.{Record}
 use Rattle.trace.specs.declared.faults.TextFault.{TextFault}

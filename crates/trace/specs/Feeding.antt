@@ -1,6 +1,5 @@
--- What a feed has read of its source, and what its answers say.
+-- Promised: what a feed has read of its source, and what its answers say.
 use Rattle.std.specs.Prelude.{◌≡◌, ℕ, ◌+◌, List, [], ◌∷◌, ◌++◌, length, Option, Some, None, Result, Ok, Err, ◌⊎◌}
-use Rattle.std.specs.Io.KnownBytes.{IsAtEnd}
 use Rattle.trace.specs.declared.records.Record.{Record}
 use Rattle.trace.specs.declared.records.Placed.{Placed}
 use Rattle.trace.specs.declared.faults.Fault.{Fault}
@@ -10,7 +9,7 @@ use Rattle.trace.specs.declared.feeding.Ending.TheVariants.{Running, Good, Bad}
 use Rattle.trace.specs.Traces.{IsWellNested}
 use Rattle.trace.specs.Text.{text, AllFit}
 use Rattle.trace.specs.Faults.{IsFirstFault, IsFaultOfAll}
-use Rattle.trace.specs.Devices.{HasRisen}
+use Rattle.trace.specs.Devices.{Device, Change, IsSteady, HasFailed, Gave, IsUsedUp}
 use Rattle.trace.specs.Reading.{Reading, at_first_byte, HasRead}
 use Rattle.trace.specs.Nesting.{Nesting, at_first_place, HasNested}
 
@@ -38,27 +37,36 @@ pub record HasFed (w : List Record) (bytes : List ℕ) (s : Feeding) : Type 0 wh
 
 -- a fault of the text or the nesting is the first fault of the bytes so far, or at the end of the input
 -- that of all bytes
-abbrev pub IsFaultThen : ℕ → ℕ → List ℕ → Option (List ℕ) → Fault → Type 0
-IsFaultThen records depths bytes rest f = IsFirstFault records depths bytes f ⊎ (IsAtEnd rest × IsFaultOfAll records depths bytes f)
+abbrev pub IsFaultThen : ℕ → ℕ → List ℕ → Change → Fault → Type 0
+IsFaultThen records depths bytes c f = IsFirstFault records depths bytes f ⊎ (IsUsedUp c.new × IsFaultOfAll records depths bytes f)
 
--- What a fault says of the bytes that have come, of what the source has left, and of its count of failures.
--- `Read` comes only where the source failed, and the bytes before that hold no fault.
-abbrev pub IsFaultFed : ℕ → ℕ → List ℕ → Option (List ℕ) → ℕ → ℕ → Fault → Type 0
-IsFaultFed records depths bytes rest before after (faults.Text f) = IsFaultThen records depths bytes rest (faults.Text f) × (after ≡ before)
-IsFaultFed records depths bytes rest before after (faults.Nest f) = IsFaultThen records depths bytes rest (faults.Nest f) × (after ≡ before)
-IsFaultFed records depths bytes rest before after faults.Read = ((g : Fault) → IsFirstFault records depths bytes g → ⊥) × HasRisen before after
-IsFaultFed records depths bytes rest before after faults.NoMemory = ⊥
-IsFaultFed records depths bytes rest before after faults.NoThread = ⊥
+-- What a fault says of the bytes that have come, and of what their source went through. `Read` comes only where
+-- the source failed, and the bytes before that hold no fault.
+abbrev pub IsFaultFed : ℕ → ℕ → List ℕ → Change → Fault → Type 0
+IsFaultFed records depths bytes c (faults.Text f) = IsFaultThen records depths bytes c (faults.Text f) × IsSteady c
+IsFaultFed records depths bytes c (faults.Nest f) = IsFaultThen records depths bytes c (faults.Nest f) × IsSteady c
+IsFaultFed records depths bytes c faults.Read = ((g : Fault) → IsFirstFault records depths bytes g → ⊥) × HasFailed c
+IsFaultFed records depths bytes c faults.NoMemory = ⊥
+IsFaultFed records depths bytes c faults.NoThread = ⊥
 
 -- the end of the input: the bytes are the text of w, and w is well nested within the limits
-pub record IsWhole (records depths : ℕ) (w : List Record) (bytes : List ℕ) (rest : Option (List ℕ)) : Type 0 where
-  pub at_end : IsAtEnd rest
+pub record IsWhole (records depths : ℕ) (w : List Record) (bytes : List ℕ) (source : Device) : Type 0 where
+  pub used_up : IsUsedUp source
   pub bytes_are : bytes ≡ text w
   pub fits : AllFit w
   pub well_nested : IsWellNested w records depths
 
 -- What a feed's answer says that had given the records w: the next record in its place, the end, or a fault.
-abbrev pub IsFed : ℕ → ℕ → List Record → List ℕ → Option (List ℕ) → ℕ → ℕ → Feeding → Result (Option Placed) Fault → Type 0
-IsFed records depths w bytes rest before after new (Ok (Some p)) = (p.place ≡ length w + 1) × HasFed (w ++ p.what ∷ []) bytes new × (after ≡ before)
-IsFed records depths w bytes rest before after new (Ok None) = IsWhole records depths w bytes rest × (new.ending ≡ Good) × (after ≡ before)
-IsFed records depths w bytes rest before after new (Err f) = IsFaultFed records depths bytes rest before after f × (new.ending ≡ Bad f)
+abbrev pub IsFed : ℕ → ℕ → List Record → List ℕ → Change → Feeding → Result (Option Placed) Fault → Type 0
+IsFed records depths w bytes c new (Ok (Some p)) = (p.place ≡ length w + 1) × HasFed (w ++ p.what ∷ []) bytes new × IsSteady c
+IsFed records depths w bytes c new (Ok None) = IsWhole records depths w bytes c.new × (new.ending ≡ Good) × IsSteady c
+IsFed records depths w bytes c new (Err f) = IsFaultFed records depths bytes c f × (new.ending ≡ Bad f)
+
+-- What comes next from a source, after any records w that were given of these bytes.
+abbrev pub GivesNext : Feeding → Feeding → Change → Result (Option Placed) Fault → Type 0
+GivesNext old new c result = (w : List Record) (bytes : List ℕ) → HasFed w bytes old
+    → (came : List ℕ) × Gave c came × IsFed old.reading.limit old.nesting.max_depth w (bytes ++ came) c new result
+
+pub record HasSameLimits (old new : Feeding) : Type 0 where
+  pub records : new.reading.limit ≡ old.reading.limit
+  pub depths : new.nesting.max_depth ≡ old.nesting.max_depth

@@ -1,3 +1,4 @@
+pub mod Bounds
 pub mod Accesses
 pub mod Traces
 pub mod Text
@@ -11,6 +12,8 @@ pub mod Digits
 pub mod Reading
 pub mod Nesting
 pub mod Cuts
+pub mod Fronts
 pub mod Feeding
 pub mod Writers
 pub mod Runs
+pub mod Watching

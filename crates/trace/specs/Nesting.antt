@@ -1,4 +1,4 @@
--- What a nest keeps of the records that it has accepted.
+-- Promised: what a nest keeps of the records that it has accepted.
 use Rattle.std.specs.Prelude.{◌≡◌, ℕ, suc, Bool, false, List, length, ◌↔◌, IsTrue}
 use Rattle.trace.specs.declared.records.Record.{Record}
 use Rattle.trace.specs.Traces.{depth}

@@ -1,4 +1,4 @@
--- Races of a trace, the race that is told of a location, and the report of a trace.
+-- Promised: races of a trace, the race that is told of a location, and the report of a trace.
 use Rattle.std.specs.Prelude.{◌≡◌, ℕ, suc, ◌<◌, ◌≤◌, ◌↔◌, List, map, Option, Some, None, ◌⊎◌, Contains}
 use Rattle.std.specs.List.Sorted.{IsStrictlyIncreasing}
 use Rattle.trace.specs.declared.records.Record.{Record}

@@ -1,7 +1,10 @@
--- What a reader of a trace's text has read: whole records, and an unfinished line.
-use Rattle.std.specs.Prelude.{◌≡◌, ℕ, ◌+◌, ◌≤◌, Bool, true, false, List, [], ◌++◌, length, Option, None}
+-- Promised: what a reader of a trace's text has read: whole records, and an unfinished line.
+use Rattle.std.specs.Prelude.{◌≡◌, ℕ, ◌+◌, ◌≤◌, Bool, true, false, List, [], ◌++◌, length, take, Option, None, Some, Result, IfOk, IfErr}
+use Rattle.std.specs.Option.{option_to_list}
 use Rattle.trace.specs.declared.records.Record.{Record}
 use Rattle.trace.specs.declared.faults.TextFault.{TextFault}
+use Rattle.trace.specs.declared.reading.Taken.{Taken}
+use Rattle.trace.specs.Bounds.{most_records, longest_line}
 use Rattle.trace.specs.Text.{header, ended, text, AllFit, IsOpen}
 
 -- a reader: its limit on records, whether the header has come, how many records it has given, the bytes
@@ -42,3 +45,18 @@ header_length false = 0
 
 abbrev pub held_back : Reading → ℕ
 held_back s = header_length s.begun + length s.rest
+
+-- What a step of a reader makes of a piece. It uses a front of the piece, all of it where it gives no record; what
+-- isn't a record's is held back, and never more than a line; and it counts the records that it gives. A fault is
+-- kept, and is of a line that is begun.
+pub record HasStepped (old new : Reading) (piece : List ℕ) (result : Result Taken TextFault) : Type 0 where
+  pub used : IfOk result (λ t. t.used ≤ length piece)
+  pub whole : IfOk result (λ t. t.what ≡ None → t.used ≡ length piece)
+  pub held_back : IfOk result (λ t. t.what ≡ None → held_back new ≡ held_back old + t.used)
+  pub short : length new.rest ≤ longest_line
+  pub limit : new.limit ≡ old.limit
+  pub count : IfOk result (λ t. new.count ≡ old.count + length (option_to_list t.what))
+  pub fault_count : IfErr result (λ _. new.count ≡ old.count)
+  pub most : new.count ≤ most_records
+  pub line : old.fault ≡ None → IfErr result (λ f. f.line ≤ old.count + 2)
+  pub kept : IfErr result (λ f. new.fault ≡ Some f)

@@ -1,4 +1,4 @@
--- A shard's share of a list of records.
+-- Promised: a shard's share of a list of records.
 use Rattle.std.specs.Prelude.{ℕ, ◌%◌, Bool, true, List, filter, ◌==◌}
 use Rattle.trace.specs.declared.records.Record.{Record}
 use Rattle.trace.specs.declared.records.Record.TheVariants.{Spawn, Return, Sync, Read, Write}

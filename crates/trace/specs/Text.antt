@@ -1,8 +1,9 @@
--- The text of a trace: a header line, and a line for each record.
+-- Promised: the text of a trace: a header line, and a line for each record.
 use Rattle.std.specs.Prelude.{◌≢◌, ℕ, ◌<◌, ◌≤◌, ◌^◌, List, [], ◌∷◌, ◌++◌, length, All, codes, decimal}
 use Rattle.std.specs.List.{flat_map, AllByRecursion}
 use Rattle.trace.specs.declared.records.Record.{Record}
 use Rattle.trace.specs.declared.records.Record.TheVariants.{Spawn, Return, Sync, Read, Write}
+use Rattle.trace.specs.Bounds.{longest_line}
 
 -- the byte that ends a line
 abbrev pub newline : ℕ
@@ -48,4 +49,4 @@ IsUnended bytes = All (λ b. b ≢ newline) bytes
 -- an unfinished line that isn't judged yet: no line end, and no more bytes than the longest line has
 pub record IsOpen (rest : List ℕ) : Type 0 where
   pub unended : IsUnended rest
-  pub short : length rest ≤ 26
+  pub short : length rest ≤ longest_line

@@ -1,4 +1,4 @@
--- Traces: lists of records, whose places count from 1; depth, and what a well nested trace is.
+-- Promised: traces, which are lists of records whose places count from 1; depth, and what a well nested trace is.
 use Rattle.std.specs.Prelude.{◌≡◌, ℕ, zero, suc, ◌-◌, ◌<◌, ◌≤◌, List, [], ◌∷◌, length, take, sum_by, slice_get, Option, Some, None}
 use Rattle.trace.specs.declared.records.Record.{Record}
 use Rattle.trace.specs.declared.records.Record.TheVariants.{Spawn, Return, Sync, Read, Write}

@@ -1,6 +1,17 @@
--- What a writer leaves in a sink where it fails.
-use Rattle.std.specs.Prelude.{◌≡◌, ℕ, List, ◌++◌, Option}
-use Rattle.std.specs.Io.KnownBytes.{Appends}
+-- Promised: what a sink got: bytes, a beginning of them, or nothing.
+use Rattle.std.specs.Prelude.{◌≡◌, ℕ, List, ◌++◌, ◌⊎◌, Option, Result, MatchResult}
+use Rattle.std.specs.Io.KnownBytes.{Keeps, Appends}
+use Rattle.trace.specs.Devices.{Change, IsSteady, HasFailed}
+
+-- it got nothing
+pub record IsUntouched (c : Change) : Type 0 where
+  pub bytes : Keeps c.old.bytes c.new.bytes
+  pub steady : IsSteady c
+
+-- it took these bytes
+pub record Took (whole : List ℕ) (c : Change) : Type 0 where
+  pub bytes : Appends c.old.bytes c.new.bytes whole
+  pub steady : IsSteady c
 
 -- a beginning of the bytes was appended, and nothing else
 pub record AppendsFront (old new : Option (List ℕ)) (bytes : List ℕ) : Type 0 where
@@ -8,3 +19,16 @@ pub record AppendsFront (old new : Option (List ℕ)) (bytes : List ℕ) : Type 
   pub back : List ℕ
   pub split : front ++ back ≡ bytes
   pub appended : Appends old new front
+
+-- it failed, and took a beginning of these bytes
+pub record TookFront (whole : List ℕ) (c : Change) : Type 0 where
+  pub bytes : AppendsFront c.old.bytes c.new.bytes whole
+  pub failed : HasFailed c
+
+-- it was given these bytes, and may have failed
+abbrev pub WasGiven : List ℕ → Change → Type 0
+WasGiven bytes c = Took bytes c ⊎ TookFront bytes c
+
+-- Ok where it took these bytes, and Err where it failed
+abbrev pub Puts : {T E : Type 0} → Result T E → List ℕ → Change → Type 0
+Puts r bytes c = MatchResult r (λ _. Took bytes c) (λ _. TookFront bytes c)

@@ -1,7 +1,8 @@
-ghost use Rattle.std.specs.Prelude.{◌≡◌, ℕ, ◌<◌, List, length, Option, IfOk};
+//! Devices: the sources and sinks that texts are read from and written to, with a count of their failures.
+ghost use Rattle.std.specs.Prelude.{◌≡◌, ◌<◌, length, IfOk};
 ghost use Rattle.std.specs.Io.{ReadsAtMost, WritesAtMost};
 ghost use Rattle.std.specs.Io.KnownBytes.{ReadConsumes, WriteAppends, Keeps};
-ghost use Rattle.trace.specs.Devices.{Counts};
+ghost use Rattle.trace.specs.Devices.{Device, ◌⇝◌, Counts};
 
 use std::io::{Read, Write};
 
@@ -11,40 +12,36 @@ pub struct Failed;
 
 /// What bytes are read from.
 pub trait Source {
-    /// The bytes that are still to come, where the source tells them.
-    ghost rest: { Self → Option (List ℕ) };
-
-    /// How often it has failed. The count stays at 2^64 - 1.
-    ghost failures: { Self → ℕ };
+    /// The bytes that are still to come, where the source tells them, and how often it has failed. That count
+    /// stays at 2^64 - 1.
+    ghost state: { Self → Device };
 
     /// Puts the next bytes at the front of the buffer, and answers how many. With room in the buffer
     /// 0 is the end of the input.
     fn get(&mut self, buffer: &mut [u8]) -> Result<usize, Failed>
         ensures bound { ReadsAtMost result buffer.new }
-        ensures bytes { ReadConsumes (rest self.old) (rest self.new) result buffer.new }
-        ensures count { Counts result (failures self.old) (failures self.new) };
+        ensures bytes { ReadConsumes (state self.old).bytes (state self.new).bytes result buffer.new }
+        ensures count { Counts result (state self.old ⇝ state self.new) };
 }
 
 /// What bytes are written to.
 pub trait Sink {
-    /// The bytes that it holds, where the sink tells them.
-    ghost held: { Self → Option (List ℕ) };
-
-    /// How often it has failed. The count stays at 2^64 - 1.
-    ghost failures: { Self → ℕ };
+    /// The bytes that it holds, where the sink tells them, and how often it has failed. That count stays at
+    /// 2^64 - 1.
+    ghost state: { Self → Device };
 
     /// Takes bytes from the front of the buffer, and answers how many. A sink that takes none of a
     /// buffer that isn't empty has failed.
     fn put(&mut self, buffer: &[u8]) -> Result<usize, Failed>
         ensures bound { WritesAtMost result buffer.now }
         ensures some { IfOk result (λ n. 0 < length buffer.now → 0 < n) }
-        ensures bytes { WriteAppends (held self.old) (held self.new) result buffer.now }
-        ensures count { Counts result (failures self.old) (failures self.new) };
+        ensures bytes { WriteAppends (state self.old).bytes (state self.new).bytes result buffer.now }
+        ensures count { Counts result (state self.old ⇝ state self.new) };
 
     /// Passes on what it holds back.
     fn flush(&mut self) -> Result<(), Failed>
-        ensures bytes { Keeps (held self.old) (held self.new) }
-        ensures count { Counts result (failures self.old) (failures self.new) };
+        ensures bytes { Keeps (state self.old).bytes (state self.new).bytes }
+        ensures count { Counts result (state self.old ⇝ state self.new) };
 }
 
 /// A reader or a writer with a count of its failures.
@@ -65,9 +62,7 @@ impl<D> Counted<D> {
 }
 
 impl<D: Read> Source for Counted<D> {
-    ghost rest = { λ s. D.remaining s.device };
-
-    ghost failures = { λ s. s.failed };
+    ghost state = { λ s. record { bytes = D.remaining s.device; failures = s.failed } };
 
     fn get(&mut self, buffer: &mut [u8]) -> Result<usize, Failed> {
         match self.device.read(buffer) {
@@ -81,9 +76,7 @@ impl<D: Read> Source for Counted<D> {
 }
 
 impl<D: Write> Sink for Counted<D> {
-    ghost held = { λ s. D.contents s.device };
-
-    ghost failures = { λ s. s.failed };
+    ghost state = { λ s. record { bytes = D.contents s.device; failures = s.failed } };
 
     fn put(&mut self, buffer: &[u8]) -> Result<usize, Failed> {
         match self.device.write(buffer) {
@@ -107,9 +100,7 @@ impl<D: Write> Sink for Counted<D> {
 }
 
 impl<S: Source> Source for &mut S {
-    ghost rest = { λ s. S.rest s.now };
-
-    ghost failures = { λ s. S.failures s.now };
+    ghost state = { λ s. S.state s.now };
 
     fn get(&mut self, buffer: &mut [u8]) -> Result<usize, Failed> {
         (**self).get(buffer)
@@ -117,9 +108,7 @@ impl<S: Source> Source for &mut S {
 }
 
 impl<W: Sink> Sink for &mut W {
-    ghost held = { λ s. W.held s.now };
-
-    ghost failures = { λ s. W.failures s.now };
+    ghost state = { λ s. W.state s.now };
 
     fn put(&mut self, buffer: &[u8]) -> Result<usize, Failed> {
         (**self).put(buffer)

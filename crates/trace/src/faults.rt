@@ -1,6 +1,26 @@
+//! What may be wrong with a trace, with what it is read from and with what is written to.
+ghost use Rattle.std.specs.Prelude.{◌≡◌};
+ghost use Rattle.trace.specs.declared.faults.Fault.{Fault};
+ghost use Rattle.trace.specs.declared.faults.Fault.TheVariants as faults;
+
+use crate::devices::Failed;
+use std::alloc::{AllocError, AllocFailed};
+
 /// A growth was refused: the memory is used up.
 #[derive(Clone, Copy, Debug, PartialEq, Eq)]
 pub struct NoMemory;
+
+impl From<AllocError> for NoMemory {
+    fn from(_: AllocError) -> NoMemory {
+        NoMemory
+    }
+}
+
+impl<T: Drop> From<AllocFailed<T>> for NoMemory {
+    fn from(_: AllocFailed<T>) -> NoMemory {
+        NoMemory
+    }
+}
 
 /// What is wrong with a line of a trace's text.
 #[derive(Clone, Copy, Debug, PartialEq, Eq)]
@@ -55,6 +75,20 @@ pub enum Fault {
     NoThread,
 }
 
+impl From<NoMemory> for Fault {
+    ghost from_gives = { λ _ fault. fault ≡ faults.NoMemory };
+
+    fn from(_: NoMemory) -> Fault {
+        Fault::NoMemory
+    }
+}
+
 /// The writer failed, or took no byte.
 #[derive(Clone, Copy, Debug, PartialEq, Eq)]
 pub struct WriteFault;
+
+impl From<Failed> for WriteFault {
+    fn from(_: Failed) -> WriteFault {
+        WriteFault
+    }
+}

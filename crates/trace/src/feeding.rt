@@ -1,10 +1,11 @@
-ghost use Rattle.std.specs.Prelude.{◌≡◌, ◌≢◌, ℕ, ◌+◌, ◌≤◌, ◌<◌, ◌^◌, List, [], ◌++◌, ◌∷◌, length, take, Option, Ok, Err, Some, None, IfOk, IfErr, OnErr, true, false, IfSome};
+//! Placed records from a source of bytes: a reader and a nest behind one buffer, and how they have ended.
+ghost use Rattle.std.specs.Prelude.{◌≡◌, ◌≢◌, ℕ, ◌+◌, ◌≤◌, ◌<◌, List, [], ◌++◌, ◌∷◌, length, take, Option, Ok, Err, Some, None, IfOk, IfErr, OnErr, true, false, IfSome};
 ghost use Rattle.std.specs.Option.{option_to_list};
-ghost use Rattle.std.specs.Io.KnownBytes.{Consumes, IsAtEnd, Keeps};
 ghost use Rattle.trace.specs.declared.records.Record.{Record};
-ghost use Rattle.trace.specs.Devices.{Counts, HasRisen};
+ghost use Rattle.trace.specs.Devices.{Change, ◌⇝◌, Counts, Gave, IsUsedUp, IsSteady};
 ghost use Rattle.trace.specs.Faults.{IsBadLine, IsFirstFault};
 ghost use Rattle.trace.specs.Reading.{held_back};
+ghost use Rattle.trace.specs.Bounds.{most_records, longest_line};
 
 use crate::devices::{Failed, Source};
 use crate::faults::{Fault, TextFault};
@@ -45,7 +46,7 @@ impl Model for Intake {
 }
 
 impl Intake {
-    ghost use Rattle.trace.specs.Feeding.{before_all, HasUsed, HasFed, IsFed};
+    ghost use Rattle.trace.specs.Feeding.{before_all, HasUsed, HasFed, IsFed, GivesNext, HasSameLimits};
     ghost use Rattle.trace.specs.Nesting.{HasNested};
     ghost use Rattle.trace.specs.declared.feeding.Ending.TheVariants.{Running, Good, Bad};
 
@@ -68,12 +69,10 @@ impl Intake {
     /// fault, and after `None` every call answers `None`.
     #[inline(always)]
     pub fn next_from<S: Source>(&mut self, source: &mut S) -> Result<Option<Placed>, Fault>
-        ensures fed { (w : List Record) (bytes : List ℕ) → HasFed w bytes self.old →
-            (came : List ℕ) × Consumes (S.rest source.old) (S.rest source.new) came
-            × IsFed self.old.reading.limit self.old.nesting.max_depth w (bytes ++ came) (S.rest source.new) (S.failures source.old) (S.failures source.new) self.new result }
+        ensures fed { GivesNext self.old self.new (S.state source.old ⇝ S.state source.new) result }
         ensures good { self.old.ending ≡ Good → (result ≡ Ok None) × (self.new ≡ self.old) × (source.new ≡ source.old) }
         ensures bad { (f : Fault) → self.old.ending ≡ Bad f → (result ≡ Err f) × (self.new ≡ self.old) × (source.new ≡ source.old) }
-        ensures limits { (self.new.reading.limit ≡ self.old.reading.limit) × (self.new.nesting.max_depth ≡ self.old.nesting.max_depth) }
+        ensures limits { HasSameLimits self.old self.new }
     {
         match self.ending {
             Ending::Running => self.read_on(source),
@@ -90,7 +89,7 @@ impl Intake {
             IfSome result (λ p. (p.place ≡ length w + 1) × HasFed (w ++ p.what ∷ []) bytes self.new) }
         ensures none { result ≡ None → self.new ≡ self.old }
         ensures ended { self.old.ending ≢ Running → result ≡ None }
-        ensures limits { (self.new.reading.limit ≡ self.old.reading.limit) × (self.new.nesting.max_depth ≡ self.old.nesting.max_depth) }
+        ensures limits { HasSameLimits self.old self.new }
     {
         let Ending::Running = self.ending else {
             return None;
@@ -111,10 +110,8 @@ impl Intake {
     #[inline(always)]
     fn read_on<S: Source>(&mut self, source: &mut S) -> Result<Option<Placed>, Fault>
         requires { self.old.ending ≡ Running }
-        ensures fed { (w : List Record) (bytes : List ℕ) → HasFed w bytes self.old →
-            (came : List ℕ) × Consumes (S.rest source.old) (S.rest source.new) came
-            × IsFed self.old.reading.limit self.old.nesting.max_depth w (bytes ++ came) (S.rest source.new) (S.failures source.old) (S.failures source.new) self.new result }
-        ensures limits { (self.new.reading.limit ≡ self.old.reading.limit) × (self.new.nesting.max_depth ≡ self.old.nesting.max_depth) }
+        ensures fed { GivesNext self.old self.new (S.state source.old ⇝ S.state source.new) result }
+        ensures limits { HasSameLimits self.old self.new }
     {
         loop {
             match self.fill(source) {
@@ -133,11 +130,11 @@ impl Intake {
     // Gets the next bytes of the source where all that have come were used. Whether there are any.
     #[inline(always)]
     fn fill<S: Source>(&mut self, source: &mut S) -> Result<bool, Failed>
-        ensures came { (came : List ℕ) × Consumes (S.rest source.old) (S.rest source.new) came × (self.new ≡ record self.old { coming = self.old.coming ++ came }) }
+        ensures came { (came : List ℕ) × Gave (S.state source.old ⇝ S.state source.new) came × (self.new ≡ record self.old { coming = self.old.coming ++ came }) }
         ensures some { result ≡ Ok true → 0 < length self.new.coming }
-        ensures none { result ≡ Ok false → (self.new.coming ≡ []) × IsAtEnd (S.rest source.new) }
+        ensures none { result ≡ Ok false → (self.new.coming ≡ []) × IsUsedUp (S.state source.new) }
         ensures failed { OnErr result (self.new.coming ≡ []) }
-        ensures count { Counts result (S.failures source.old) (S.failures source.new) }
+        ensures count { Counts result (S.state source.old ⇝ S.state source.new) }
     {
         if self.start < self.end {
             return Ok(true);
@@ -161,12 +158,12 @@ impl Intake {
             IfErr result (λ f. IsBadLine self.old.reading.limit bytes f) }
         ensures none { IfOk result (λ what. what ≡ None → self.new.coming ≡ []) }
         ensures held_back { IfOk result (λ what. what ≡ None → held_back self.new.reading ≡ held_back self.old.reading + length self.old.coming) }
-        ensures short { length self.new.reading.rest ≤ 26 }
+        ensures short { length self.new.reading.rest ≤ longest_line }
         ensures nesting { self.new.nesting ≡ self.old.nesting }
         ensures ending { self.new.ending ≡ self.old.ending }
         ensures line { (w : List Record) (bytes : List ℕ) → HasUsed w bytes self.old → IfErr result (λ f. f.line ≤ length w + 2) }
         ensures limit { self.new.reading.limit ≡ self.old.reading.limit }
-        ensures room { IfOk result (λ what. self.new.nesting.count + length (option_to_list what) ≤ 2 ^ 48) }
+        ensures room { IfOk result (λ what. self.new.nesting.count + length (option_to_list what) ≤ most_records) }
         ensures behind { IfOk result (λ what. self.new.nesting.count + length (option_to_list what) ≤ self.new.reading.count) }
     {
         let bytes: &[u8] = &self.buffer;
@@ -182,12 +179,12 @@ impl Intake {
     // Gives a record its place.
     #[inline(always)]
     fn place(&mut self, what: Record) -> Result<Option<Placed>, Fault>
-        requires room { self.old.nesting.count < 2 ^ 48 }
+        requires room { self.old.nesting.count < most_records }
         requires behind { self.old.nesting.count < self.old.reading.count }
         requires running { self.old.ending ≡ Running }
-        ensures fed { (w : List Record) (bytes : List ℕ) (rest : Option (List ℕ)) (count : ℕ) → HasUsed (w ++ what ∷ []) bytes self.old → HasNested w self.old.nesting →
-            IsFed self.old.reading.limit self.old.nesting.max_depth w bytes rest count count self.new result }
-        ensures limits { (self.new.reading.limit ≡ self.old.reading.limit) × (self.new.nesting.max_depth ≡ self.old.nesting.max_depth) }
+        ensures fed { (w : List Record) (bytes : List ℕ) (c : Change) → IsSteady c → HasUsed (w ++ what ∷ []) bytes self.old → HasNested w self.old.nesting →
+            IsFed self.old.reading.limit self.old.nesting.max_depth w bytes c self.new result }
+        ensures limits { HasSameLimits self.old self.new }
     {
         match self.nest.accept(what) {
             Ok(placed) => Ok(Some(placed)),
@@ -198,9 +195,9 @@ impl Intake {
     // At the end of the input: the reader is asked first, then the nest.
     fn finish(&mut self) -> Result<Option<Placed>, Fault>
         requires nothing { self.old.coming ≡ [] }
-        ensures fed { (w : List Record) (bytes : List ℕ) (rest : Option (List ℕ)) (count : ℕ) → IsAtEnd rest → HasFed w bytes self.old →
-            IsFed self.old.reading.limit self.old.nesting.max_depth w bytes rest count count self.new result }
-        ensures limits { (self.new.reading.limit ≡ self.old.reading.limit) × (self.new.nesting.max_depth ≡ self.old.nesting.max_depth) }
+        ensures fed { (w : List Record) (bytes : List ℕ) (c : Change) → IsSteady c → IsUsedUp c.new → HasFed w bytes self.old →
+            IsFed self.old.reading.limit self.old.nesting.max_depth w bytes c self.new result }
+        ensures limits { HasSameLimits self.old self.new }
     {
         if let Err(fault) = self.reader.end() {
             return Err(self.fail(Fault::Text(fault)));
@@ -229,7 +226,7 @@ pub struct Feed<R> {
 }
 
 impl<R: Source> Feed<R> {
-    ghost use Rattle.trace.specs.Feeding.{before_all, HasFed, IsFed};
+    ghost use Rattle.trace.specs.Feeding.{before_all, GivesNext, HasSameLimits};
     ghost use Rattle.trace.specs.declared.feeding.Ending.TheVariants.{Good, Bad};
 
     /// Nothing has been read.
@@ -245,12 +242,10 @@ impl<R: Source> Feed<R> {
 
     /// As `Intake::next_from`, from its own source.
     pub fn next(&mut self) -> Result<Option<Placed>, Fault>
-        ensures fed { (w : List Record) (bytes : List ℕ) → HasFed w bytes self.old.intake →
-            (came : List ℕ) × Consumes (R.rest self.old.reader) (R.rest self.new.reader) came
-            × IsFed self.old.intake.reading.limit self.old.intake.nesting.max_depth w (bytes ++ came) (R.rest self.new.reader) (R.failures self.old.reader) (R.failures self.new.reader) self.new.intake result }
+        ensures fed { GivesNext self.old.intake self.new.intake (R.state self.old.reader ⇝ R.state self.new.reader) result }
         ensures good { self.old.intake.ending ≡ Good → (result ≡ Ok None) × (self.new ≡ self.old) }
         ensures bad { (f : Fault) → self.old.intake.ending ≡ Bad f → (result ≡ Err f) × (self.new ≡ self.old) }
-        ensures limits { (self.new.intake.reading.limit ≡ self.old.intake.reading.limit) × (self.new.intake.nesting.max_depth ≡ self.old.intake.nesting.max_depth) }
+        ensures limits { HasSameLimits self.old.intake self.new.intake }
     {
         self.intake.next_from(&mut self.reader)
     }

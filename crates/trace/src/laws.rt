@@ -9,6 +9,7 @@ ghost use Rattle.trace.specs.declared.faults.Fault.TheVariants.{Read};
 ghost use Rattle.trace.specs.Traces.{IsPlace, IsWellNested};
 ghost use Rattle.trace.specs.Text.{text, AllFit};
 ghost use Rattle.trace.specs.Faults.{IsFirstFault, IsFaultOfAll};
+ghost use Rattle.trace.specs.Devices.{Change};
 ghost use Rattle.trace.specs.Feeding.{Feeding, IsFed};
 ghost use Rattle.trace.specs.Reading.{Reading, HasRead};
 ghost use Rattle.trace.specs.Dag.{IsParallel, Leads};
@@ -65,7 +66,7 @@ pub fn texts()
     ensures none_in_front { (records depths : ℕ) (w : List Record) (bytes more : List ℕ) (f : Fault)
         → AllFit w → IsWellNested w records depths → text w ≡ bytes ++ more
         → IsFirstFault records depths bytes f → ⊥ }
-    ensures only_read { (records depths before after : ℕ) (u w : List Record) (bytes left : List ℕ) (feed : Feeding) (f : Fault)
+    ensures only_read { (records depths : ℕ) (u w : List Record) (bytes left : List ℕ) (c : Change) (feed : Feeding) (f : Fault)
         → AllFit u → IsWellNested u records depths → bytes ++ left ≡ text u
-        → IsFed records depths w bytes (Some left) before after feed (Err f) → f ≡ Read }
+        → c.new.bytes ≡ Some left → IsFed records depths w bytes c feed (Err f) → f ≡ Read }
 {}

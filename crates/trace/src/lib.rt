@@ -14,6 +14,7 @@ pub mod reading;
 pub mod records;
 #[cfg(test)]
 mod tests;
+pub mod watching;
 pub mod writers;
 
 pub use devices::{Counted, Failed, Sink, Source};
@@ -24,4 +25,5 @@ pub use numbers::decimal_of;
 pub use parallel::is_parallel;
 pub use reading::{Reader, Taken};
 pub use records::{Access, Kind, Limits, Placed, Race, Record};
+pub use watching::{Watch, read_to_end};
 pub use writers::{put_all, write_header, write_record};

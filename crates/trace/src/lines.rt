@@ -1,6 +1,9 @@
+//! The lines of a trace's text: what record a line spells, and where the next line ends.
 ghost use Rattle.std.specs.Prelude.{◌≡◌, ◌++◌, ◌+◌, ◌≤◌, ◌<◌, length, take, IfSome, IfNone, codes, IsTrue, ◌↔◌};
 ghost use Rattle.std.specs.Int.{w32, from_le_bytes};
-ghost use Rattle.trace.specs.Text.{spell, line, header, Fits};
+ghost use Rattle.trace.specs.Bounds.{longest_line};
+ghost use Rattle.trace.specs.Fronts.{IsFront};
+ghost use Rattle.trace.specs.Text.{spell, header, Fits};
 ghost use Rattle.trace.specs.Faults.{IsNoRecord};
 ghost use Rattle.trace.specs.Cuts.{IsCut};
 
@@ -75,10 +78,8 @@ pub struct Front {
 /// `None` says nothing.
 #[inline(always)]
 pub fn front_of(piece: &[u8]) -> Option<Front>
-    requires { 27 ≤ length piece.now }
-    ensures within { IfSome result (λ f. f.used ≤ length piece.now) }
-    ensures line { IfSome result (λ f. take f.used piece.now ≡ line f.record) }
-    ensures fits { IfSome result (λ f. Fits f.record) }
+    requires { longest_line < length piece.now }
+    ensures { IfSome result (IsFront piece.now) }
 {
     if piece[0] == b'r' {
         if piece[4] == b' ' {
@@ -96,7 +97,7 @@ pub fn front_of(piece: &[u8]) -> Option<Front>
 // The first four bytes as one number, so that they are compared at once.
 #[inline(always)]
 fn word_of(piece: &[u8]) -> u32
-    requires { 27 ≤ length piece.now }
+    requires { longest_line < length piece.now }
     ensures { result ≡ from_le_bytes w32 piece.now }
 {
     u32::from_le_bytes([piece[0], piece[1], piece[2], piece[3]])
@@ -104,10 +105,8 @@ fn word_of(piece: &[u8]) -> u32
 
 #[inline(always)]
 fn read_of(piece: &[u8]) -> Option<Front>
-    requires { 27 ≤ length piece.now }
-    ensures within { IfSome result (λ f. f.used ≤ length piece.now) }
-    ensures line { IfSome result (λ f. take f.used piece.now ≡ line f.record) }
-    ensures fits { IfSome result (λ f. Fits f.record) }
+    requires { longest_line < length piece.now }
+    ensures { IfSome result (IsFront piece.now) }
 {
     if word_of(piece) != u32::from_le_bytes([b'r', b'e', b'a', b'd']) {
         return None;
@@ -126,10 +125,8 @@ fn read_of(piece: &[u8]) -> Option<Front>
 
 #[inline(always)]
 fn write_of(piece: &[u8]) -> Option<Front>
-    requires { 27 ≤ length piece.now }
-    ensures within { IfSome result (λ f. f.used ≤ length piece.now) }
-    ensures line { IfSome result (λ f. take f.used piece.now ≡ line f.record) }
-    ensures fits { IfSome result (λ f. Fits f.record) }
+    requires { longest_line < length piece.now }
+    ensures { IfSome result (IsFront piece.now) }
 {
     if word_of(piece) != u32::from_le_bytes([b'w', b'r', b'i', b't']) {
         return None;
@@ -148,10 +145,8 @@ fn write_of(piece: &[u8]) -> Option<Front>
 
 #[inline(always)]
 fn return_of(piece: &[u8]) -> Option<Front>
-    requires { 27 ≤ length piece.now }
-    ensures within { IfSome result (λ f. f.used ≤ length piece.now) }
-    ensures line { IfSome result (λ f. take f.used piece.now ≡ line f.record) }
-    ensures fits { IfSome result (λ f. Fits f.record) }
+    requires { longest_line < length piece.now }
+    ensures { IfSome result (IsFront piece.now) }
 {
     match piece {
         [b'r', b'e', b't', b'u', b'r', b'n', b'\n', ..] => Some(Front {
@@ -164,10 +159,8 @@ fn return_of(piece: &[u8]) -> Option<Front>
 
 #[inline(always)]
 fn spawn_or_sync_of(piece: &[u8]) -> Option<Front>
-    requires { 27 ≤ length piece.now }
-    ensures within { IfSome result (λ f. f.used ≤ length piece.now) }
-    ensures line { IfSome result (λ f. take f.used piece.now ≡ line f.record) }
-    ensures fits { IfSome result (λ f. Fits f.record) }
+    requires { longest_line < length piece.now }
+    ensures { IfSome result (IsFront piece.now) }
 {
     match piece {
         [b's', b'p', b'a', b'w', b'n', b'\n', ..] => Some(Front {

@@ -1,5 +1,7 @@
-ghost use Rattle.std.specs.Prelude.{◌≡◌, ℕ, ◌≤◌, ◌+◌, ◌<◌, ◌^◌, ◌++◌, ◌∷◌, [], List, length, IfOk, IfErr, OnOk, OnErr, MatchResult};
+//! How the procedures of a trace nest: each record gets its place, and none may stand where no procedure runs.
+ghost use Rattle.std.specs.Prelude.{◌≡◌, ℕ, ◌≤◌, ◌+◌, ◌<◌, ◌++◌, ◌∷◌, [], List, length, IfOk, IfErr, OnOk, OnErr, MatchResult};
 ghost use Rattle.trace.specs.declared.records.Record.{Record};
+ghost use Rattle.trace.specs.Bounds.{most_records};
 
 use crate::faults::{NestFault, NestKind};
 use crate::records::{Placed, Record};
@@ -15,14 +17,15 @@ pub struct Nest {
 }
 
 impl Model for Nest {
-    ghost use Rattle.std.specs.Prelude.{◌≤◌, ◌^◌};
+    ghost use Rattle.std.specs.Prelude.{◌≤◌};
+    ghost use Rattle.trace.specs.Bounds.{most_records};
     ghost use Rattle.trace.specs.Nesting.{Nesting};
 
     ghost Value = { Nesting };
 
     ghost view = { λ n. record { max_depth = n.max_depth; count = n.count; depth = n.depth; ended = n.ended } };
 
-    ghost invariant = { λ n. (n.count ≤ 2 ^ 48) × (n.depth ≤ n.max_depth) };
+    ghost invariant = { λ n. (n.count ≤ most_records) × (n.depth ≤ n.max_depth) };
 }
 
 impl Nest {
@@ -53,7 +56,7 @@ impl Nest {
     /// Gives the next record its place, unless it is misplaced there. A refused record changes nothing.
     #[inline(always)]
     pub fn accept(&mut self, what: Record) -> Result<Placed, NestFault>
-        requires { self.old.count < 2 ^ 48 }
+        requires { self.old.count < most_records }
         ensures place { IfOk result (λ p. p ≡ record { place = self.old.count + 1; what = what }) }
         ensures accepted { (u : List Record) → HasNested u self.old → OnOk result (HasNested (u ++ what ∷ []) self.new) }
         ensures misplaced { (u : List Record) → HasNested u self.old → IfErr result (λ f. IsMisplaced self.old.max_depth u what f.kind) }

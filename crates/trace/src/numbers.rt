@@ -1,3 +1,4 @@
+//! Decimals: the numbers in the lines of a trace, and in the words of a command.
 ghost use Rattle.std.specs.Prelude.{◌≡◌, ◌≢◌, ℕ, ◌<◌, ◌≤◌, ◌^◌, length, take, slice_index, IfSome, IfNone, decimal};
 ghost use Rattle.trace.specs.Text.{newline};
 ghost use Rattle.std.specs.Str.Parse.{AllDigits, digits_value};

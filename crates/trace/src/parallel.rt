@@ -1,3 +1,4 @@
+//! Whether two places of a trace are parallel, told from the records between them.
 ghost use Rattle.std.specs.Prelude.{◌≡◌, ℕ, ◌<◌, ◌≤◌, ◌↔◌, true, length};
 ghost use Rattle.trace.specs.Traces.{IsWellNested};
 ghost use Rattle.trace.specs.Dag.{JoinsAt, IsParallel};

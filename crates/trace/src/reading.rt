@@ -1,8 +1,10 @@
-ghost use Rattle.std.specs.Prelude.{◌≡◌, ◌≢◌, ◌≤◌, ◌+◌, ◌<◌, ◌^◌, ◌++◌, ◌∷◌, [], ℕ, List, length, take, IfOk, IfErr, IfSome, IfNone, OnOk, OnErr, Some, None, Ok, Err, true, false, IsTrue, ◌↔◌};
+//! The reader of a trace's text, which comes in pieces of any size. It keeps the bytes of the line that isn't ended yet.
+ghost use Rattle.std.specs.Prelude.{◌≡◌, ◌≢◌, ◌≤◌, ◌+◌, ◌<◌, ◌++◌, ◌∷◌, [], ℕ, List, length, take, IfOk, IfErr, IfSome, IfNone, OnOk, OnErr, Some, None, Ok, Err, true, false, IsTrue, ◌↔◌};
 ghost use Rattle.std.specs.Option.{option_to_list};
 ghost use Rattle.trace.specs.declared.records.Record.{Record};
 ghost use Rattle.trace.specs.Text.{text, header, spell, Fits};
 ghost use Rattle.trace.specs.Faults.{IsBadLine, IsTruncated, IsNoRecord};
+ghost use Rattle.trace.specs.Bounds.{most_records, longest_line};
 
 use crate::faults::{TextFault, TextKind};
 use crate::lines::{Cut, Front, LONGEST, cut_of, front_of, is_header, record_of};
@@ -19,18 +21,19 @@ pub struct Taken {
 // The bytes of an unfinished line.
 #[derive(Drop)]
 struct Held {
-    bytes: [u8; 26],
+    bytes: [u8; LONGEST],
     len: usize,
 }
 
 impl Model for Held {
     ghost use Rattle.std.specs.Prelude.{◌≤◌, ℕ, List, take};
+    ghost use Rattle.trace.specs.Bounds.{longest_line};
 
     ghost Value = { List ℕ };
 
     ghost view = { λ h. take h.len h.bytes };
 
-    ghost invariant = { λ h. h.len ≤ 26 };
+    ghost invariant = { λ h. h.len ≤ longest_line };
 }
 
 impl Held {
@@ -38,14 +41,14 @@ impl Held {
         ensures { result ≡ [] }
     {
         Held {
-            bytes: [0; 26],
+            bytes: [0; LONGEST],
             len: 0,
         }
     }
 
     fn len(&self) -> usize
         ensures len { result ≡ length self.now }
-        ensures short { length self.now ≤ 26 }
+        ensures short { length self.now ≤ longest_line }
     {
         self.len
     }
@@ -58,7 +61,7 @@ impl Held {
     }
 
     fn push_all(&mut self, more: &[u8])
-        requires { length self.old + length more.now ≤ 26 }
+        requires { length self.old + length more.now ≤ longest_line }
         ensures { self.new ≡ self.old ++ more.now }
     {
         put_at(&mut self.bytes, self.len, more);
@@ -83,7 +86,7 @@ fn put_at(buffer: &mut [u8], start: usize, bytes: &[u8])
 
 // The record that the held bytes and those of the end spell together; then nothing is held.
 fn record_with(held: &mut Held, end: &[u8]) -> Option<Record>
-    requires { length held.old + length end.now ≤ 26 }
+    requires { length held.old + length end.now ≤ longest_line }
     ensures found { IfSome result (λ r. held.old ++ end.now ≡ spell r) }
     ensures fits { IfSome result Fits }
     ensures none { IfNone result (IsNoRecord (held.old ++ end.now)) }
@@ -109,22 +112,23 @@ pub struct Reader {
 }
 
 impl Model for Reader {
-    ghost use Rattle.std.specs.Prelude.{◌≤◌, ◌^◌, length};
+    ghost use Rattle.std.specs.Prelude.{◌≤◌, length};
+    ghost use Rattle.trace.specs.Bounds.{most_records, longest_line};
     ghost use Rattle.trace.specs.Reading.{Reading};
 
     ghost Value = { Reading };
 
     ghost view = { λ r. record { limit = r.limit; begun = r.begun; count = r.count; rest = r.held; fault = r.fault } };
 
-    ghost invariant = { λ r. (r.limit ≤ 2 ^ 48) × (r.count ≤ r.limit) × (length r.held ≤ 26) };
+    ghost invariant = { λ r. (r.limit ≤ most_records) × (r.count ≤ r.limit) × (length r.held ≤ longest_line) };
 }
 
 impl Reader {
-    ghost use Rattle.trace.specs.Reading.{at_first_byte, HasRead, IsBetweenLines, held_back};
+    ghost use Rattle.trace.specs.Reading.{at_first_byte, HasRead, HasStepped, IsBetweenLines, held_back};
 
     /// A reader of a text of at most so many records, of which nothing has come.
     pub fn new(max_records: u64) -> Self
-        requires { max_records ≤ 2 ^ 48 }
+        requires { max_records ≤ most_records }
         ensures { result ≡ at_first_byte max_records }
     {
         Reader {
@@ -141,8 +145,7 @@ impl Reader {
     /// call answers that fault.
     #[inline(always)]
     pub fn step(&mut self, piece: &[u8]) -> Result<Taken, TextFault>
-        ensures used { IfOk result (λ t. t.used ≤ length piece.now) }
-        ensures whole { IfOk result (λ t. t.what ≡ None → t.used ≡ length piece.now) }
+        ensures stepped { HasStepped self.old self.new piece.now result }
         ensures taken { (w : List Record) (bytes : List ℕ) → HasRead w bytes self.old →
             IfOk result (λ t. HasRead (w ++ option_to_list t.what) (bytes ++ take t.used piece.now) self.new) }
         // where a record is given, the bytes used end with its line
@@ -150,15 +153,7 @@ impl Reader {
             IfOk result (λ t. IfSome t.what (λ r. bytes ++ take t.used piece.now ≡ text (w ++ r ∷ []))) }
         ensures fault { (w : List Record) (bytes : List ℕ) → HasRead w bytes self.old →
             IfErr result (λ f. IsBadLine self.old.limit (bytes ++ piece.now) f) }
-        ensures line { self.old.fault ≡ None → IfErr result (λ f. f.line ≤ self.old.count + 2) }
-        ensures kept { IfErr result (λ f. self.new.fault ≡ Some f) }
         ensures again { IfSome self.old.fault (λ f. (result ≡ Err f) × (self.new ≡ self.old)) }
-        ensures held_back { IfOk result (λ t. t.what ≡ None → held_back self.new ≡ held_back self.old + t.used) }
-        ensures short { length self.new.rest ≤ 26 }
-        ensures limit { self.new.limit ≡ self.old.limit }
-        ensures count { IfOk result (λ t. self.new.count ≡ self.old.count + length (option_to_list t.what)) }
-        ensures fault_count { IfErr result (λ _. self.new.count ≡ self.old.count) }
-        ensures most { self.new.count ≤ 2 ^ 48 }
     {
         if let Some(front) = self.front(piece) {
             self.count_one();
@@ -180,8 +175,8 @@ impl Reader {
         ensures at_line { IfSome result (λ _. IsBetweenLines self.now) }
         ensures below { IfSome result (λ _. self.now.count < self.now.limit) }
         ensures no_fault { IfSome result (λ _. self.now.fault ≡ None) }
-        ensures limit { self.now.limit ≤ 2 ^ 48 }
-        ensures short { length self.now.rest ≤ 26 }
+        ensures limit { self.now.limit ≤ most_records }
+        ensures short { length self.now.rest ≤ longest_line }
     {
         if self.begun && self.fault.is_none() && self.count < self.limit && self.held.len() == 0 {
             if piece.len() > LONGEST {
@@ -202,22 +197,13 @@ impl Reader {
 
     #[cold]
     fn any_step(&mut self, piece: &[u8]) -> Result<Taken, TextFault>
-        ensures used { IfOk result (λ t. t.used ≤ length piece.now) }
-        ensures whole { IfOk result (λ t. t.what ≡ None → t.used ≡ length piece.now) }
+        ensures stepped { HasStepped self.old self.new piece.now result }
         ensures taken { (w : List Record) (bytes : List ℕ) → HasRead w bytes self.old →
             IfOk result (λ t. HasRead (w ++ option_to_list t.what) (bytes ++ take t.used piece.now) self.new) }
         ensures at_line { IfOk result (λ t. IfSome t.what (λ _. IsBetweenLines self.new)) }
         ensures fault { (w : List Record) (bytes : List ℕ) → HasRead w bytes self.old →
             IfErr result (λ f. IsBadLine self.old.limit (bytes ++ piece.now) f) }
-        ensures line { self.old.fault ≡ None → IfErr result (λ f. f.line ≤ self.old.count + 2) }
-        ensures kept { IfErr result (λ f. self.new.fault ≡ Some f) }
         ensures again { IfSome self.old.fault (λ f. (result ≡ Err f) × (self.new ≡ self.old)) }
-        ensures held_back { IfOk result (λ t. t.what ≡ None → held_back self.new ≡ held_back self.old + t.used) }
-        ensures short { length self.new.rest ≤ 26 }
-        ensures limit { self.new.limit ≡ self.old.limit }
-        ensures count { IfOk result (λ t. self.new.count ≡ self.old.count + length (option_to_list t.what)) }
-        ensures fault_count { IfErr result (λ _. self.new.count ≡ self.old.count) }
-        ensures most { self.new.count ≤ 2 ^ 48 }
     {
         if let Some(fault) = self.fault {
             return Err(fault);
@@ -256,10 +242,10 @@ impl Reader {
         ensures kept { IfErr result (λ f. self.new.fault ≡ Some f) }
         ensures no_fault { OnOk result (self.new.fault ≡ None) }
         ensures held_back { IfOk result (λ n. held_back self.new ≡ held_back self.old + n) }
-        ensures short { length self.new.rest ≤ 26 }
+        ensures short { length self.new.rest ≤ longest_line }
         ensures limit { self.new.limit ≡ self.old.limit }
         ensures count { self.new.count ≡ self.old.count }
-        ensures most { self.new.count ≤ 2 ^ 48 }
+        ensures most { self.new.count ≤ most_records }
     {
         match cut_of(self.held.len(), piece) {
             Cut::End(end) => {
@@ -284,21 +270,12 @@ impl Reader {
     fn next(&mut self, piece: &[u8]) -> Result<Taken, TextFault>
         requires begun { self.old.begun ≡ true }
         requires no_fault { self.old.fault ≡ None }
-        ensures used { IfOk result (λ t. t.used ≤ length piece.now) }
-        ensures whole { IfOk result (λ t. t.what ≡ None → t.used ≡ length piece.now) }
+        ensures stepped { HasStepped self.old self.new piece.now result }
         ensures taken { (w : List Record) (bytes : List ℕ) → HasRead w bytes self.old →
             IfOk result (λ t. HasRead (w ++ option_to_list t.what) (bytes ++ take t.used piece.now) self.new) }
         ensures at_line { IfOk result (λ t. IfSome t.what (λ _. IsBetweenLines self.new)) }
         ensures fault { (w : List Record) (bytes : List ℕ) → HasRead w bytes self.old →
             IfErr result (λ f. IsBadLine self.old.limit (bytes ++ piece.now) f) }
-        ensures line { self.old.fault ≡ None → IfErr result (λ f. f.line ≤ self.old.count + 2) }
-        ensures kept { IfErr result (λ f. self.new.fault ≡ Some f) }
-        ensures held_back { IfOk result (λ t. t.what ≡ None → held_back self.new ≡ held_back self.old + t.used) }
-        ensures short { length self.new.rest ≤ 26 }
-        ensures limit { self.new.limit ≡ self.old.limit }
-        ensures count { IfOk result (λ t. self.new.count ≡ self.old.count + length (option_to_list t.what)) }
-        ensures fault_count { IfErr result (λ _. self.new.count ≡ self.old.count) }
-        ensures most { self.new.count ≤ 2 ^ 48 }
     {
         let line = self.count + 2;
         match cut_of(self.held.len(), piece) {

@@ -1,4 +1,6 @@
-ghost use Rattle.std.specs.Prelude.{◌≤◌, ◌^◌};
+//! Records, accesses and races, and the limits within which a trace is read.
+ghost use Rattle.std.specs.Prelude.{◌≤◌};
+ghost use Rattle.trace.specs.Bounds.{most_records};
 
 use std::marker::Model;
 
@@ -65,5 +67,5 @@ impl Model for Race {
 pub struct Limits {
     pub records: u64,
     pub depth: u32,
-    ghost within: { records ≤ 2 ^ 48 },
+    ghost within: { records ≤ most_records },
 }

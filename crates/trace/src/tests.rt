@@ -20,9 +20,7 @@ struct Pieces<'a> {
 }
 
 impl<'a> Source for Pieces<'a> {
-    ghost rest = { λ _. None };
-
-    ghost failures = { λ s. s.failed };
+    ghost state = { λ s. record { bytes = None; failures = s.failed } };
 
     fn get(&mut self, buffer: &mut [u8]) -> Result<usize, Failed> {
         if self.bytes.is_empty() && self.fails {

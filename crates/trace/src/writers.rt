@@ -1,9 +1,8 @@
 //! The writers of a trace's text. On a fault a beginning of the text was written.
-ghost use Rattle.std.specs.Prelude.{◌≡◌, ◌≤◌, [], ◌∷◌, ◌++◌, length, drop, decimal, OnOk, OnErr};
-ghost use Rattle.std.specs.Io.KnownBytes.{Appends};
-ghost use Rattle.trace.specs.Devices.{Counts};
+ghost use Rattle.std.specs.Prelude.{◌≡◌, ◌≤◌, [], ◌∷◌, ◌++◌, length, drop, decimal};
+ghost use Rattle.trace.specs.Devices.{◌⇝◌};
 ghost use Rattle.trace.specs.Text.{newline, header, ended, line};
-ghost use Rattle.trace.specs.Writers.{AppendsFront};
+ghost use Rattle.trace.specs.Writers.{Puts};
 
 use crate::devices::Sink;
 use crate::faults::WriteFault;
@@ -12,34 +11,26 @@ use itoa::write_digits;
 
 /// Puts all bytes to the sink, in as many calls as it wants.
 pub fn put_all<W: Sink>(sink: &mut W, bytes: &[u8]) -> Result<(), WriteFault>
-    ensures whole { OnOk result (Appends (W.held sink.old) (W.held sink.new) bytes.now) }
-    ensures front { OnErr result (AppendsFront (W.held sink.old) (W.held sink.new) bytes.now) }
-    ensures count { Counts result (W.failures sink.old) (W.failures sink.new) }
+    ensures { Puts result bytes.now (W.state sink.old ⇝ W.state sink.new) }
 {
     let mut rest = bytes;
     while !rest.is_empty() {
-        match sink.put(rest) {
-            Ok(taken) => rest = &rest[taken..],
-            Err(_) => return Err(WriteFault),
-        }
+        let taken = sink.put(rest)?;
+        rest = &rest[taken..];
     }
     Ok(())
 }
 
 /// Writes the header line of a trace.
 pub fn write_header<W: Sink>(sink: &mut W) -> Result<(), WriteFault>
-    ensures whole { OnOk result (Appends (W.held sink.old) (W.held sink.new) (ended header)) }
-    ensures front { OnErr result (AppendsFront (W.held sink.old) (W.held sink.new) (ended header)) }
-    ensures count { Counts result (W.failures sink.old) (W.failures sink.new) }
+    ensures { Puts result (ended header) (W.state sink.old ⇝ W.state sink.new) }
 {
     put_all(sink, b"trace 1\n")
 }
 
 /// Writes the line of a record.
 pub fn write_record<W: Sink>(what: &Record, sink: &mut W) -> Result<(), WriteFault>
-    ensures whole { OnOk result (Appends (W.held sink.old) (W.held sink.new) (line what.now)) }
-    ensures front { OnErr result (AppendsFront (W.held sink.old) (W.held sink.new) (line what.now)) }
-    ensures count { Counts result (W.failures sink.old) (W.failures sink.new) }
+    ensures { Puts result (line what.now) (W.state sink.old ⇝ W.state sink.new) }
 {
     match what {
         Record::Spawn => put_all(sink, b"spawn\n"),
@@ -56,11 +47,7 @@ const LONGEST: usize = 27;
 // Puts the line of an access.
 fn put_access<W: Sink>(sink: &mut W, word: &[u8], location: u64) -> Result<(), WriteFault>
     requires { length word.now ≤ 6 }
-    ensures whole { OnOk result (Appends (W.held sink.old) (W.held sink.new)
-        (ended (word.now ++ decimal location))) }
-    ensures front { OnErr result (AppendsFront (W.held sink.old) (W.held sink.new)
-        (ended (word.now ++ decimal location))) }
-    ensures count { Counts result (W.failures sink.old) (W.failures sink.new) }
+    ensures { Puts result (ended (word.now ++ decimal location)) (W.state sink.old ⇝ W.state sink.new) }
 {
     let mut bytes = [b'\n'; LONGEST];
     let start = build_access(&mut bytes, word, location);

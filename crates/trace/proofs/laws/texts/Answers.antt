@@ -11,5 +11,5 @@ returns c = record {
   one_fault = λ records depths bytes f g h k. one_fault records depths bytes f g h k;
   none = λ records depths w f fit h fault. no_fault_of_text records depths w f fit h fault;
   none_in_front = λ records depths w bytes more f fit h e first. no_fault_in_front records depths w bytes more f fit h e first;
-  only_read = λ records depths before after u w bytes left feed f hu h e fed. only_read records depths before after u w bytes left feed f hu h e fed;
+  only_read = λ records depths u w bytes left c feed f hu h e is fed. only_read records depths u w bytes left c feed f hu h e is fed;
 }

@@ -1,11 +1,12 @@
 use Rattle.std.proofs.Common.{◌≡◌, length}
+use Rattle.trace.specs.Devices.{◌⇝◌, IsSteady}
 use Rattle.trace.proofs.Parts.{IsPart}
 use Rattle.trace.proofs.writers.put_all.Given as goal
 
 abbrev pub invariant-loop-rest : goal.invariant-loop-rest
 invariant-loop-rest g l = record {
-  part : IsPart (g.W.Sink.held l.initial.sink) (g.W.Sink.held l.sink) l.initial.rest l.rest;
-  same : g.W.Sink.failures l.sink ≡ g.W.Sink.failures l.initial.sink;
+  part : IsPart (g.W.Sink.state l.initial.sink).bytes (g.W.Sink.state l.sink).bytes l.initial.rest l.rest;
+  steady : IsSteady (g.W.Sink.state l.initial.sink ⇝ g.W.Sink.state l.sink);
 }
 
 abbrev pub decreases-loop-rest : goal.decreases-loop-rest

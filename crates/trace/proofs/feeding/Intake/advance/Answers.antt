@@ -10,5 +10,5 @@ returns-in-Ok-clause-used c w bytes h =
     let i = c.self.inside in
     let s : Feeding = record { reading = c.self.inside.reader; nesting = c.self.inside.nest; coming = take (c.self.inside.end - c.self.inside.start) (drop c.self.inside.start c.self.inside.buffer); ending = c.self.inside.ending } in
     let h' : HasUsed w bytes s = subst (HasUsed w bytes) (sym c.self.view_is) h in
-    let n : c.in-Ok.taken.used ≤ c.self.inside.end - c.self.inside.start = omega (arith, c.in-Ok.ensures.used, length-take (c.self.inside.end - c.self.inside.start) (drop c.self.inside.start c.self.inside.buffer)) in
+    let n : c.in-Ok.taken.used ≤ c.self.inside.end - c.self.inside.start = omega (arith, c.in-Ok.ensures.stepped.used, length-take (c.self.inside.end - c.self.inside.start) (drop c.self.inside.start c.self.inside.buffer)) in
     used_more w bytes s _ h' (w ++ option_to_list c.in-Ok.taken.what) c.in-Ok.taken.used (c.in-Ok.ensures.taken w h'.used h'.has_read) (window_split c.self.inside.buffer c.self.inside.start c.self.inside.end c.in-Ok.taken.used n)

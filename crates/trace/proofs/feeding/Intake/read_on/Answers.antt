@@ -1,4 +1,5 @@
-use Rattle.std.proofs.Common.{◌≡◌, ℕ, List, ◌++◌, Option, Ok, inl, ap, sym, subst, ◌∙◌}
+use Rattle.std.proofs.Common.{◌≡◌, ℕ, ◌+◌, ◌-◌, ◌^◌, min, List, ◌++◌, Option, Ok, inl, ap, sym, subst, ◌∙◌}
+use Rattle.trace.specs.Devices.{Change, ◌⇝◌, HasFailed, IsSteady}
 use Rattle.std.specs.Option.{option_to_list}
 use Rattle.std.proofs.lemmas.List.{append-nil}
 use Rattle.trace.specs.declared.faults.Fault.{Fault}
@@ -12,39 +13,41 @@ use Rattle.trace.proofs.feeding.Intake.read_on.Goals as goal
 
 pub returns-in-Err-clause-fed : goal.returns-in-Err-clause-fed
 returns-in-Err-clause-fed g c w bytes h =
-    let all = filled _ _ _ w bytes c.loop-self.self c.fill.new.self (c.loop-self.invariant.fed w bytes h) c.fill.ensures.came in
+    let all = filled (g.S.Source.state c.args.source.now) (g.S.Source.state c.loop-self.source) (g.S.Source.state c.fill.new.source) w bytes c.loop-self.self c.fill.new.self (c.loop-self.invariant.fed w bytes h) c.fill.ensures.came in
     let limit : c.fill.new.self.reading.limit ≡ c.args.self.now.reading.limit = ap (λ (s : Feeding). s.reading.limit) c.fill.ensures.came.2 ∙ c.loop-self.invariant.limit in
     let depth : c.fill.new.self.nesting.max_depth ≡ c.args.self.now.nesting.max_depth = ap (λ (s : Feeding). s.nesting.max_depth) c.fill.ensures.came.2 ∙ c.loop-self.invariant.depth in
     let P : ℕ → ℕ → Type 0 = λ r d. (f : Fault) → IsFirstFault r d (bytes ++ all.0) f → ⊥ in
     let none : (f : Fault) → IsFirstFault c.args.self.now.reading.limit c.args.self.now.nesting.max_depth (bytes ++ all.0) f → ⊥ =
     at_limits P _ _ _ _ limit depth (no_fault_yet w (bytes ++ all.0) c.fill.new.self.reading c.fill.new.self.nesting (read_all w (bytes ++ all.0) c.fill.new.self all.2 c.in-Err.ensures.failed) all.2.has_nested) in
-    (all.0, all.1, rw (c.fail.ensures.fault, ← c.loop-self.invariant.count) ((none, c.in-Err.ensures.count), ap (λ (s : Feeding). s.ending) c.fail.ensures.kept))
+    let failed : HasFailed (g.S.Source.state c.args.source.now ⇝ g.S.Source.state c.fill.new.source) = subst (λ n. (g.S.Source.state c.fill.new.source).failures ≡ min (n + 1) (2 ^ 64 - 1)) c.loop-self.invariant.steady c.in-Err.ensures.count in
+    (all.0, all.1, rw c.fail.ensures.fault ((none, failed), ap (λ (s : Feeding). s.ending) c.fail.ensures.kept))
 
 pub returns-in-Ok-false-clause-fed : goal.returns-in-Ok-false-clause-fed
 returns-in-Ok-false-clause-fed g c w bytes h =
-    let all = filled _ _ _ w bytes c.loop-self.self c.fill.new.self (c.loop-self.invariant.fed w bytes h) c.fill.ensures.came in
+    let all = filled (g.S.Source.state c.args.source.now) (g.S.Source.state c.loop-self.source) (g.S.Source.state c.fill.new.source) w bytes c.loop-self.self c.fill.new.self (c.loop-self.invariant.fed w bytes h) c.fill.ensures.came in
     let limit : c.fill.new.self.reading.limit ≡ c.args.self.now.reading.limit = ap (λ (s : Feeding). s.reading.limit) c.fill.ensures.came.2 ∙ c.loop-self.invariant.limit in
     let depth : c.fill.new.self.nesting.max_depth ≡ c.args.self.now.nesting.max_depth = ap (λ (s : Feeding). s.nesting.max_depth) c.fill.ensures.came.2 ∙ c.loop-self.invariant.depth in
-    let count : g.S.Source.failures c.fill.new.source ≡ g.S.Source.failures c.args.source.now = c.in-Ok-false.ensures.count ∙ c.loop-self.invariant.count in
-    let P : ℕ → ℕ → Type 0 = λ r d. IsFed r d w (bytes ++ all.0) (g.S.Source.rest c.fill.new.source) (g.S.Source.failures c.args.source.now) (g.S.Source.failures c.args.source.now) c.finish.new.self c.finish.result in
-    (all.0, all.1, rw count (at_limits P _ _ _ _ limit depth (c.finish.ensures.fed w (bytes ++ all.0) _ _ ((c.in-Ok-false.ensures.none (ap Ok c.in-Ok-false.field-0-test)).1) all.2)))
+    let change : Change = g.S.Source.state c.args.source.now ⇝ g.S.Source.state c.fill.new.source in
+    let steady : IsSteady change = c.in-Ok-false.ensures.count ∙ c.loop-self.invariant.steady in
+    let P : ℕ → ℕ → Type 0 = λ r d. IsFed r d w (bytes ++ all.0) change c.finish.new.self c.finish.result in
+    (all.0, all.1, at_limits P _ _ _ _ limit depth (c.finish.ensures.fed w (bytes ++ all.0) change steady ((c.in-Ok-false.ensures.none (ap Ok c.in-Ok-false.field-0-test)).1) all.2))
 
 pub returns-in-Err-advance-clause-fed : goal.returns-in-Err-advance-clause-fed
 returns-in-Err-advance-clause-fed g c w bytes h =
-    let all = filled _ _ _ w bytes c.loop-self.self c.fill.new.self (c.loop-self.invariant.fed w bytes h) c.fill.ensures.came in
+    let all = filled (g.S.Source.state c.args.source.now) (g.S.Source.state c.loop-self.source) (g.S.Source.state c.fill.new.source) w bytes c.loop-self.self c.fill.new.self (c.loop-self.invariant.fed w bytes h) c.fill.ensures.came in
     let limit : c.fill.new.self.reading.limit ≡ c.args.self.now.reading.limit = ap (λ (s : Feeding). s.reading.limit) c.fill.ensures.came.2 ∙ c.loop-self.invariant.limit in
     let depth : c.fill.new.self.nesting.max_depth ≡ c.args.self.now.nesting.max_depth = ap (λ (s : Feeding). s.nesting.max_depth) c.fill.ensures.came.2 ∙ c.loop-self.invariant.depth in
-    let count : g.S.Source.failures c.fill.new.source ≡ g.S.Source.failures c.args.source.now = c.in-Ok-true.ensures.count ∙ c.loop-self.invariant.count in
+    let steady : IsSteady (g.S.Source.state c.args.source.now ⇝ g.S.Source.state c.fill.new.source) = c.in-Ok-true.ensures.count ∙ c.loop-self.invariant.steady in
     let P : ℕ → ℕ → Type 0 = λ r d. IsFirstFault r d (bytes ++ all.0) (Text c.in-Err-advance.fault) in
     let first : IsFirstFault c.args.self.now.reading.limit c.args.self.now.nesting.max_depth (bytes ++ all.0) (Text c.in-Err-advance.fault) =
     at_limits P _ _ _ _ limit depth (first_line_fault w (bytes ++ all.0) c.fill.new.self all.2.has_used all.2.has_nested c.in-Err-advance.fault (c.in-Err-advance.ensures.fault w _ all.2.has_used) (c.in-Err-advance.ensures.line w _ all.2.has_used)) in
-    (all.0, all.1, rw c.fail-in-Err-advance.ensures.fault ((inl first, count), ap (λ (s : Feeding). s.ending) c.fail-in-Err-advance.ensures.kept))
+    (all.0, all.1, rw c.fail-in-Err-advance.ensures.fault ((inl first, steady), ap (λ (s : Feeding). s.ending) c.fail-in-Err-advance.ensures.kept))
 
 pub loop-self-preserved : goal.loop-self-preserved
 loop-self-preserved g c =
     record {
       fed = λ w bytes h.
-          let all = filled _ _ _ w bytes c.loop-self.self c.fill.new.self (c.loop-self.invariant.fed w bytes h) c.fill.ensures.came in
+          let all = filled (g.S.Source.state c.args.source.now) (g.S.Source.state c.loop-self.source) (g.S.Source.state c.fill.new.source) w bytes c.loop-self.self c.fill.new.self (c.loop-self.invariant.fed w bytes h) c.fill.ensures.came in
           let P : List Record → Type 0 = λ v. HasUsed v (bytes ++ all.0) c.advance.new.self in
           let Q : Nesting → Type 0 = HasNested w in
           let R : Option Record → Type 0 = λ o. HasUsed (w ++ option_to_list o) (bytes ++ all.0) c.advance.new.self in (
@@ -56,7 +59,7 @@ loop-self-preserved g c =
               running = c.in-Ok-None.ensures.ending ∙ all.2.running;
             },
           );
-      count = c.in-Ok-true.ensures.count ∙ c.loop-self.invariant.count;
+      steady = c.in-Ok-true.ensures.count ∙ c.loop-self.invariant.steady;
       running = c.in-Ok-None.ensures.ending ∙ ap (λ (s : Feeding). s.ending) c.fill.ensures.came.2 ∙ c.loop-self.invariant.running;
       limit = c.in-Ok-None.ensures.limit ∙ ap (λ (s : Feeding). s.reading.limit) c.fill.ensures.came.2 ∙ c.loop-self.invariant.limit;
       depth = ap (λ (n : Nesting). n.max_depth) c.in-Ok-None.ensures.nesting ∙ ap (λ (s : Feeding). s.nesting.max_depth) c.fill.ensures.came.2 ∙ c.loop-self.invariant.depth;
@@ -64,11 +67,12 @@ loop-self-preserved g c =
 
 pub returns-in-Ok-Some-clause-fed : goal.returns-in-Ok-Some-clause-fed
 returns-in-Ok-Some-clause-fed g c w bytes h =
-    let all = filled _ _ _ w bytes c.loop-self.self c.fill.new.self (c.loop-self.invariant.fed w bytes h) c.fill.ensures.came in
+    let all = filled (g.S.Source.state c.args.source.now) (g.S.Source.state c.loop-self.source) (g.S.Source.state c.fill.new.source) w bytes c.loop-self.self c.fill.new.self (c.loop-self.invariant.fed w bytes h) c.fill.ensures.came in
     let limit : c.advance.new.self.reading.limit ≡ c.args.self.now.reading.limit = c.in-Ok-Some.ensures.limit ∙ ap (λ (s : Feeding). s.reading.limit) c.fill.ensures.came.2 ∙ c.loop-self.invariant.limit in
     let depth : c.advance.new.self.nesting.max_depth ≡ c.args.self.now.nesting.max_depth = ap (λ (n : Nesting). n.max_depth) c.in-Ok-Some.ensures.nesting ∙ ap (λ (s : Feeding). s.nesting.max_depth) c.fill.ensures.came.2 ∙ c.loop-self.invariant.depth in
-    let count : g.S.Source.failures c.fill.new.source ≡ g.S.Source.failures c.args.source.now = c.in-Ok-true.ensures.count ∙ c.loop-self.invariant.count in
+    let change : Change = g.S.Source.state c.args.source.now ⇝ g.S.Source.state c.fill.new.source in
+    let steady : IsSteady change = c.in-Ok-true.ensures.count ∙ c.loop-self.invariant.steady in
     let nested : HasNested w c.advance.new.self.nesting = subst (HasNested w) (sym c.in-Ok-Some.ensures.nesting) all.2.has_nested in
-    let P : ℕ → ℕ → Type 0 = λ r d. IsFed r d w (bytes ++ all.0) (g.S.Source.rest c.fill.new.source) (g.S.Source.failures c.args.source.now) (g.S.Source.failures c.args.source.now) c.place.new.self c.place.result in
+    let P : ℕ → ℕ → Type 0 = λ r d. IsFed r d w (bytes ++ all.0) change c.place.new.self c.place.result in
     let R : Option Record → Type 0 = λ o. HasUsed (w ++ option_to_list o) (bytes ++ all.0) c.advance.new.self in
-    (all.0, all.1, rw count (at_limits P _ _ _ _ limit depth (c.place.ensures.fed w (bytes ++ all.0) _ _ (subst R c.in-Ok-Some.field-0-is (c.in-Ok-Some.ensures.used w (bytes ++ all.0) all.2.has_used)) nested)))
+    (all.0, all.1, at_limits P _ _ _ _ limit depth (c.place.ensures.fed w (bytes ++ all.0) change steady (subst R c.in-Ok-Some.field-0-is (c.in-Ok-Some.ensures.used w (bytes ++ all.0) all.2.has_used)) nested))

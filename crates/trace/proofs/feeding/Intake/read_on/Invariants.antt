@@ -1,5 +1,5 @@
 use Rattle.std.proofs.Common.{◌≡◌, ◌-◌, ℕ, List, ◌++◌}
-use Rattle.std.specs.Io.KnownBytes.{Consumes}
+use Rattle.trace.specs.Devices.{◌⇝◌, Gave, IsSteady}
 use Rattle.trace.specs.declared.records.Record.{Record}
 use Rattle.trace.specs.declared.feeding.Ending.TheVariants.{Running}
 use Rattle.trace.specs.Reading.{held_back}
@@ -8,8 +8,8 @@ use Rattle.trace.proofs.feeding.Intake.read_on.Given as goal
 
 abbrev pub invariant-loop-self : goal.invariant-loop-self
 invariant-loop-self g l = record {
-  fed : (w : List Record) (bytes : List ℕ) → HasFed w bytes l.fn.self → (came : List ℕ) × Consumes (g.S.Source.rest l.fn.source) (g.S.Source.rest l.source) came × HasFed w (bytes ++ came) l.self;
-  count : g.S.Source.failures l.source ≡ g.S.Source.failures l.fn.source;
+  fed : (w : List Record) (bytes : List ℕ) → HasFed w bytes l.fn.self → (came : List ℕ) × Gave (g.S.Source.state l.fn.source ⇝ g.S.Source.state l.source) came × HasFed w (bytes ++ came) l.self;
+  steady : IsSteady (g.S.Source.state l.fn.source ⇝ g.S.Source.state l.source);
   running : l.self.ending ≡ Running;
   limit : l.self.reading.limit ≡ l.fn.self.reading.limit;
   depth : l.self.nesting.max_depth ≡ l.fn.self.nesting.max_depth;

@@ -1,0 +1,20 @@
+use Rattle.std.proofs.Common.{◌-◌, ◌≡◌, ℕ, List}
+use Rattle.trace.specs.declared.records.Record.{Record}
+use Rattle.trace.specs.Devices.{◌⇝◌, Gave, IsSteady}
+use Rattle.trace.specs.Feeding.{HasFed}
+use Rattle.trace.proofs.watching.read_to_end.Given as goal
+
+abbrev pub invariant-records : goal.invariant-records
+invariant-records g l = record {
+  trace : List Record;
+  came : List ℕ;
+  gave : Gave (g.R.Source.state l.fn.reader ⇝ g.R.Source.state l.reader) came;
+  fed : HasFed trace came l.intake;
+  seen : g.W.Watch.has_seen l.fn.watch trace l.watch;
+  steady : IsSteady (g.R.Source.state l.fn.reader ⇝ g.R.Source.state l.reader);
+  records : l.intake.reading.limit ≡ l.fn.limits.records;
+  depths : l.intake.nesting.max_depth ≡ l.fn.limits.depth;
+}
+
+abbrev pub decreases-records : goal.decreases-records
+decreases-records g l = l.fn.limits.records - l.intake.reading.count

@@ -1,0 +1,42 @@
+//! Shows the records of a trace, one after another, to what is kept of them.
+ghost use Rattle.std.specs.Prelude.{◌∷◌, ◌++◌, List, [], OnOk};
+ghost use Rattle.trace.specs.declared.records.Record.{Record};
+ghost use Rattle.trace.specs.Devices.{◌⇝◌};
+ghost use Rattle.trace.specs.Runs.{EndsReading, IsWantOfMemory};
+ghost use Rattle.trace.specs.Watching.{ComesAfter};
+
+use crate::devices::Source;
+use crate::faults::{Fault, NoMemory};
+use crate::feeding::Intake;
+use crate::records::{Limits, Placed};
+
+/// What is kept of the records that were shown.
+pub trait Watch {
+    /// From its first state on it was shown these records, and this is its state now.
+    ghost has_seen: { Self → List Record → Self → Type 0 };
+
+    /// Takes the next record. After a refused growth it is of no more use.
+    fn take(&mut self, placed: Placed) -> Result<(), NoMemory>
+        requires { (first : Self) × (u : List Record) × has_seen first u self.old × ComesAfter u placed }
+        ensures { OnOk result ((first : Self) (u : List Record) → has_seen first u self.old → ComesAfter u placed → has_seen first (u ++ placed.what ∷ []) self.new) };
+}
+
+/// Shows all records of a trace, up to its end, or to the first fault or refused growth.
+#[inline(always)]
+pub fn read_to_end<R: Source, W: Watch>(
+    limits: Limits,
+    reader: &mut R,
+    watch: &mut W,
+) -> Result<(), Fault>
+    requires { W.has_seen watch.old [] watch.old }
+    ensures { EndsReading IsWantOfMemory limits.records limits.depth (R.state reader.old ⇝ R.state reader.new)
+        (λ _ w. W.has_seen watch.old w watch.new) result }
+{
+    let mut intake = Intake::new(limits);
+    'records: loop {
+        match intake.next_from(reader)? {
+            None => return Ok(()),
+            Some(placed) => watch.take(placed)?,
+        }
+    }
+}
