@@ -1,4 +1,4 @@
--- What the ends of a lane say: which lane they are of, what was put, and what was taken.
+-- Promised: what the ends of a lane say: which lane they are of, what was put, and what was taken.
 use Rattle.std.specs.Prelude.{ℕ, List}
 use Rattle.std.specs.declared.alloc.Global.{Global}
 use Rattle.rtrb.specs.Shared.{Names}

@@ -1,4 +1,4 @@
--- Runs of n lanes to which records are sent in batches.
+-- Promised: runs of n lanes to which records are sent in batches.
 use Rattle.std.specs.Prelude.{◌≡◌, ◌≢◌, ℕ, ◌<◌, ◌⊎◌, List, [], ◌∷◌, ◌++◌, map, Contains}
 use Rattle.std.specs.List.{range_with_len, flat_map}
 use Rattle.lane.specs.declared.item.Item.{Item}

@@ -1,4 +1,4 @@
--- What a batch says: its records, lane by lane, and how many of each lane's were sent.
+-- Promised: what a batch says: its records, lane by lane, and how many of each lane's were sent.
 use Rattle.std.specs.Prelude.{◌≡◌, ◌≢◌, ℕ, ◌<◌, ◌≤◌, nat_lt, ◌==◌, if◌then◌else◌, List, [], ◌++◌, length, take, drop, map}
 use Rattle.lane.specs.declared.item.Item.TheVariants.{One}
 use Rattle.trace.specs.declared.records.Placed.{Placed}

@@ -1,4 +1,4 @@
--- What of a batch goes to each lane.
+-- Private: what of a batch goes to each lane.
 use Rattle.std.specs.Prelude.{ℕ, ◌<◌, ◌≤◌, List, [], length, slice_index_or}
 use Rattle.trace.specs.declared.records.Placed.{Placed}
 

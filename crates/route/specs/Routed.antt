@@ -1,4 +1,4 @@
--- What was routed, read off what was put on each of n lanes: `on k` is what was put on lane k.
+-- Promised: what was routed, read off what was put on each of n lanes: `on k` is what was put on lane k.
 use Rattle.std.specs.Prelude.{◌≡◌, ℕ, ◌<◌, ◌↔◌, ◌⊎◌, true, List, [], ◌∷◌, ◌++◌, map, Contains, Option, option_to_list}
 use Rattle.std.specs.List.Sorted.{IsStrictlyIncreasing}
 use Rattle.lane.specs.declared.item.Item.{Item}

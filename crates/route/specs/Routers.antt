@@ -1,4 +1,4 @@
--- What a router says: its lanes, what was put on them, the pending record, and the marks.
+-- Promised: what a router says: its lanes, what was put on them, the pending record, and the marks.
 use Rattle.std.specs.Prelude.{◌≡◌, ℕ, ◌<◌, ◌≤◌, false, List, length, slice_index_or, Option}
 use Rattle.lane.specs.declared.item.Item.{Item}
 use Rattle.lane.specs.Lanes.{LaneId}

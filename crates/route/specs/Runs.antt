@@ -1,4 +1,4 @@
--- Runs of n lanes: what is put on them and taken from them, event by event.
+-- Promised: runs of n lanes: what is put on them and taken from them, event by event.
 use Rattle.std.specs.Prelude.{◌≡◌, ℕ, ◌<◌, ◌%◌, ◌==◌, false, if◌then◌else◌, List, [], ◌∷◌, ◌++◌, map, fold, drop}
 use Rattle.std.specs.List.{range_with_len, flat_map}
 use Rattle.lane.specs.declared.item.Item.{Item}

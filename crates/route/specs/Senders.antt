@@ -1,5 +1,5 @@
--- Of a list of senders: their lanes, what was put on each, how many items each lane holds at most, and for how many its
--- sender knows to have room.
+-- Private: of a list of senders: their lanes, what was put on each, how many items each lane holds at most, and for how
+-- many its sender knows to have room.
 use Rattle.std.specs.Prelude.{ℕ, List, map}
 use Rattle.lane.specs.declared.item.Item.{Item}
 use Rattle.lane.specs.declared.ends.Sender.{Sender}

@@ -1,4 +1,4 @@
--- What stands on each lane while records are sent, and the lanes that a record goes to.
+-- Private: what stands on each lane while records are sent, and the lanes that a record goes to.
 use Rattle.std.specs.Prelude.{◌≡◌, ℕ, ◌<◌, ◌%◌, ◌&&◌, nat_lt, if◌then◌else◌, List, [], ◌∷◌, ◌++◌, length, map, slice_index_or, slice_set, Option, Some, None}
 use Rattle.lane.specs.declared.item.Item.{Item}
 use Rattle.lane.specs.declared.item.Item.TheVariants.{One, Finish}

@@ -44,7 +44,7 @@ impl Batch {
         ensures longest { IfOk result (λ b. longest_of b ≡ 0) }
         ensures unsent { IfOk result IsUnsent }
     {
-        let mut parts = Vec::with_capacity(alloc, lanes).map_err(|_| NoMemory)?;
+        let mut parts = Vec::with_capacity(alloc, lanes)?;
         for _ in 0..lanes {
             parts.push_reserved(Part::new(alloc)?);
         }

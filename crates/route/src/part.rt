@@ -31,7 +31,7 @@ impl Part {
     pub fn new(alloc: Global) -> Result<Part, NoMemory>
         ensures { IfOk result (λ part. part ≡ []) }
     {
-        let records = Vec::with_capacity(alloc, BLOCK).map_err(|_| NoMemory)?;
+        let records = Vec::with_capacity(alloc, BLOCK)?;
         Ok(Part { records })
     }
 

@@ -1,5 +1,6 @@
 //! The router, and what it keeps.
 ghost use Rattle.std.specs.Prelude.{◌≡◌, ◌<◌, ◌≤◌, true, vec_len, vec_capacity};
+ghost use Rattle.trace.specs.Bounds.{most_shards};
 ghost use Rattle.std.specs.Option.{ForSome};
 ghost use Rattle.trace.specs.Shares.{goes_placed};
 ghost use Rattle.route.specs.Sending.{HaveMarks};
@@ -24,7 +25,7 @@ pub struct Router {
     // how many lanes have their mark
     marked: usize,
     ghost some: { 1 ≤ vec_len senders },
-    ghost within: { vec_len senders ≤ 64 },
+    ghost within: { vec_len senders ≤ most_shards },
     ghost no_ends: { vec_len ends ≡ 0 },
     ghost room: { vec_len senders ≤ vec_capacity ends },
     ghost turn: { next < vec_len senders },

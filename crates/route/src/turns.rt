@@ -1,5 +1,6 @@
 //! The lanes that a record goes to, in their order.
 ghost use Rattle.std.specs.Prelude.{◌≡◌, ℕ, ◌<◌, ◌≤◌, ◌+◌, ◌%◌, true, false, IfSome, IfNone};
+ghost use Rattle.trace.specs.Bounds.{most_shards};
 ghost use Rattle.trace.specs.Shares.{goes};
 ghost use Rattle.route.specs.Sending.{first_lane, location_of};
 
@@ -46,7 +47,7 @@ pub fn lane_of(location: u64, count: usize) -> usize
 /// The next lane after this one that the record goes to.
 pub fn lane_after(what: Record, lane: usize, count: usize) -> Option<usize>
     requires within { lane < count }
-    requires most { count ≤ 64 }
+    requires most { count ≤ most_shards }
     requires goes { goes lane count what ≡ true }
     ensures some { IfSome result (λ j. (j ≡ lane + 1) × (j < count) × (goes j count what ≡ true)) }
     ensures none { IfNone result ((k : ℕ) → lane < k → k < count → goes k count what ≡ false) }

@@ -1,4 +1,4 @@
--- Kept names of earlier accesses, and what an access can race with.
+-- Private: kept names of earlier accesses, and what an access can race with.
 use Rattle.std.specs.Prelude.{ℕ, ◌<◌, ◌≤◌, ◌||◌, IsTrue}
 use Rattle.std.specs.Option.{ForSome}
 use Rattle.trace.specs.declared.records.Kind.{Kind}

@@ -1,5 +1,5 @@
--- Where the cell of a location lies: cells lie in blocks of eight.
-use Rattle.std.specs.Prelude.{◌≡◌, ℕ, ◌+◌, ◌*◌, ◌/◌, ◌%◌, ◌==◌, ◌&&◌, if◌then◌else◌, List, [], Some, nat_eq, slice_get, slice_index_or, unwrap_or}
+-- Private: where the cell of a location lies: cells lie in blocks of eight.
+use Rattle.std.specs.Prelude.{◌≡◌, ℕ, ◌+◌, ◌*◌, ◌/◌, ◌%◌, ◌==◌, ◌&&◌, if◌then◌else◌, List, [], Option, Some, None, nat_eq, slice_get, slice_index_or, unwrap_or}
 use Rattle.std.specs.Map.{lookup}
 use Rattle.shadow.specs.Cells.{Cell, untouched}
 
@@ -31,6 +31,11 @@ cell_of n blocks l = cell_in blocks (page_of n l) (seat_of n l)
 -- the block of this number stands at this place of the list
 abbrev pub IsBlockAt : List (ℕ × List Cell) → ℕ → ℕ → Type 0
 IsBlockAt blocks place page = slice_get blocks place ≡ Some (page, block_of blocks page)
+
+-- the place where the block of this number stands, or that there is none
+abbrev pub IsLookedUp : List (ℕ × List Cell) → ℕ → Option ℕ → Type 0
+IsLookedUp blocks page (Some place) = IsBlockAt blocks place page
+IsLookedUp blocks page None = block_of blocks page ≡ []
 
 -- this is kept in one seat of one block, and all else as it was
 abbrev pub HasPut : ℕ → ℕ → Cell → List (ℕ × List Cell) → List (ℕ × List Cell) → Type 0

@@ -1,4 +1,4 @@
--- What is kept of a location, and the read rule and the write rule of SP-bags.
+-- Promised: what is kept of a location, and the read rule and the write rule of SP-bags.
 use Rattle.std.specs.Prelude.{ℕ, Bool, true, false, ◌||◌, List, Option, Some, None, is_some, if◌then◌else◌}
 use Rattle.std.specs.Option.{option_or}
 use Rattle.trace.specs.declared.records.Kind.{Kind}

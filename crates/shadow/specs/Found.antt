@@ -1,4 +1,4 @@
--- The races that the rules find in a list of placed records, and the verdict on a trace.
+-- Promised: the races that the rules find in a list of placed records, and the verdict on a trace.
 use Rattle.std.specs.Prelude.{ℕ, List, [], ◌∷◌, ◌++◌, Option, None, ◌==◌, nat_lt, if◌then◌else◌}
 use Rattle.std.specs.Option.{option_to_list}
 use Rattle.trace.specs.declared.records.Record.{Record}

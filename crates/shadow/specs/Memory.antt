@@ -1,4 +1,4 @@
--- Shadow memory: what is kept of each location, and how far the run has come.
+-- Promised: shadow memory: what is kept of each location, and how far the run has come.
 use Rattle.std.specs.Prelude.{◌≡◌, ℕ, ◌+◌, ◌<◌, ◌≤◌, List}
 use Rattle.trace.specs.declared.records.Record.{Record}
 use Rattle.trace.specs.declared.records.Record.TheVariants.{Spawn, Return, Sync, Read, Write}

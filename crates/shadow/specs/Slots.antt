@@ -1,4 +1,4 @@
--- The name that two numbers of a slot stand for.
+-- Private: the name that two numbers of a slot stand for.
 use Rattle.std.specs.Prelude.{ℕ, zero, suc, Option, None, Some}
 use Rattle.shadow.specs.Cells.{Named}
 

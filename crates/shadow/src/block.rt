@@ -1,5 +1,6 @@
 //! Blocks of cells: what is kept of eight locations.
-ghost use Rattle.std.specs.Prelude.{◌≡◌, ◌==◌, ◌<◌, ◌≤◌, ◌+◌, ◌^◌, ℕ, if◌then◌else◌};
+ghost use Rattle.std.specs.Prelude.{◌≡◌, ◌==◌, ◌<◌, ◌≤◌, ◌+◌, ℕ, if◌then◌else◌};
+ghost use Rattle.trace.specs.Bounds.{most_records};
 ghost use Rattle.shadow.specs.Before.{IsCellBefore};
 ghost use Rattle.shadow.specs.Blocks.{cell_at};
 ghost use Rattle.shadow.specs.Cells.{untouched, race_at, touched};
@@ -56,7 +57,7 @@ impl Block {
         requires within { seat < 8 }
         requires earlier { IsCellBefore place bags.now.count (cell_at self.old seat) }
         requires from_one { 1 ≤ place }
-        requires to_limit { place ≤ 2 ^ 48 }
+        requires to_limit { place ≤ most_records }
         ensures race { result ≡ race_at bags.now.active location kind place (cell_at self.old seat) }
         ensures kept { (k : ℕ) → cell_at self.new k
             ≡ (if k == seat then touched bags.now.active kind place (cell_at self.old seat) else cell_at self.old k) }

@@ -1,7 +1,8 @@
 //! The blocks that were touched, by their numbers.
-ghost use Rattle.std.specs.Prelude.{◌≡◌, ◌<◌, ◌≤◌, ◌+◌, ◌^◌, [], IfSome, IfNone, IsTrue, OnOk, OnErr};
+ghost use Rattle.std.specs.Prelude.{◌≡◌, ◌<◌, ◌≤◌, ◌+◌, [], IfSome, IsTrue, OnOk, OnErr};
+ghost use Rattle.trace.specs.Bounds.{most_records};
 ghost use Rattle.shadow.specs.Before.{IsCellBefore};
-ghost use Rattle.shadow.specs.Blocks.{block_of, cell_in, IsBlockAt, HasPut};
+ghost use Rattle.shadow.specs.Blocks.{block_of, cell_in, IsBlockAt, IsLookedUp, HasPut};
 ghost use Rattle.shadow.specs.Cells.{race_at, touched};
 
 use crate::block::Block;
@@ -70,8 +71,7 @@ impl<S: BuildHasher> Blocks<S> {
     pub fn look_up(&mut self, slot: usize, page: u64) -> Option<usize>
         requires { slot < 256 }
         ensures same { self.new ≡ self.old }
-        ensures found { IfSome result (λ i. IsBlockAt self.old i page) }
-        ensures none { IfNone result (block_of self.old page ≡ []) }
+        ensures found { IsLookedUp self.old page result }
     {
         if let Some(place) = self.behind_its_neighbour(slot, page) {
             self.recent[slot] = place;
@@ -99,8 +99,7 @@ impl<S: BuildHasher> Blocks<S> {
     fn search(&mut self, slot: usize, page: u64) -> Option<usize>
         requires { slot < 256 }
         ensures same { self.new ≡ self.old }
-        ensures found { IfSome result (λ i. IsBlockAt self.old i page) }
-        ensures none { IfNone result (block_of self.old page ≡ []) }
+        ensures found { IsLookedUp self.old page result }
     {
         let place = self.map.get_index_of(&page)?;
         self.recent[slot] = place;
@@ -121,7 +120,7 @@ impl<S: BuildHasher> Blocks<S> {
         requires there { IsBlockAt self.old at spot.page }
         requires earlier { IsCellBefore place bags.now.count (cell_in self.old spot.page spot.seat) }
         requires from_one { 1 ≤ place }
-        requires to_limit { place ≤ 2 ^ 48 }
+        requires to_limit { place ≤ most_records }
         ensures race { result ≡ race_at bags.now.active location kind place (cell_in self.old spot.page spot.seat) }
         ensures kept { HasPut spot.page spot.seat (touched bags.now.active kind place (cell_in self.old spot.page spot.seat)) self.old self.new }
         ensures earlier { IsCellBefore (place + 1) bags.now.count (touched bags.now.active kind place (cell_in self.old spot.page spot.seat)) }
@@ -145,7 +144,7 @@ impl<S: BuildHasher> Blocks<S> {
     {
         let mut block = Block::untouched();
         block.put(seat, kept);
-        self.map.insert(page, block).map_err(|_| NoMemory)?;
+        self.map.insert(page, block)?;
         Ok(())
     }
 }

@@ -1,6 +1,7 @@
 //! What is kept of one location, and what an access does to it.
-ghost use Rattle.std.specs.Prelude.{◌≡◌, ◌+◌, ◌<◌, ◌≤◌, ◌^◌, None, true, false, IsTrue, ◌↔◌};
+ghost use Rattle.std.specs.Prelude.{◌≡◌, ◌+◌, ◌<◌, ◌≤◌, None, true, false, IsTrue, ◌↔◌};
 ghost use Rattle.std.specs.Option.{ForSome};
+ghost use Rattle.trace.specs.Bounds.{most_records};
 ghost use Rattle.shadow.specs.Cells.{untouched, race_at, race_with, touched, rival, parallel_access, reader_after, name_of};
 ghost use Rattle.shadow.specs.Before.{IsNameBefore, IsCellBefore, CanRace};
 
@@ -127,7 +128,7 @@ impl Kept {
     pub fn touch(&mut self, bags: &Bags, location: u64, kind: Kind, place: u64) -> Option<Race>
         requires earlier { IsCellBefore place bags.now.count self.old }
         requires from_one { 1 ≤ place }
-        requires to_limit { place ≤ 2 ^ 48 }
+        requires to_limit { place ≤ most_records }
         ensures race { result ≡ race_at bags.now.active location kind place self.old }
         ensures kept { self.new ≡ touched bags.now.active kind place self.old }
         ensures earlier { IsCellBefore (place + 1) bags.now.count self.new }

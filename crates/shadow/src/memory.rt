@@ -1,5 +1,6 @@
 //! Shadow memory: what is kept of each location.
-ghost use Rattle.std.specs.Prelude.{◌≡◌, ℕ, ◌<◌, ◌≤◌, ◌^◌, IfOk, OnOk, OnErr};
+ghost use Rattle.std.specs.Prelude.{◌≡◌, ℕ, ◌<◌, ◌≤◌, IfOk, OnOk, OnErr};
+ghost use Rattle.trace.specs.Bounds.{most_records};
 ghost use Rattle.shadow.specs.Cells.{untouched, race_at, touched};
 ghost use Rattle.shadow.specs.Found.{with_cell};
 
@@ -84,7 +85,7 @@ impl<S: BuildHasher> Shadow<S> {
         place: u64,
     ) -> Result<Option<Race>, NoMemory>
         requires later { last_place_of self.old < place }
-        requires to_limit { place ≤ 2 ^ 48 }
+        requires to_limit { place ≤ most_records }
         requires no_fewer { least_count_of self.old ≤ bags.now.count }
 
         ensures race { IfOk result (λ race. race ≡ race_at bags.now.active location kind place (kept_of self.old location)) }

@@ -1,7 +1,8 @@
 //! The rules of SP-bags over the records of a run, one record after another.
-ghost use Rattle.std.specs.Prelude.{◌≡◌, ℕ, ◌<◌, ◌≤◌, ◌^◌, List, [], ◌∷◌, ◌++◌, IfOk, OnOk, OnErr};
+ghost use Rattle.std.specs.Prelude.{◌≡◌, ℕ, ◌<◌, ◌≤◌, List, [], ◌∷◌, ◌++◌, IfOk, OnOk, OnErr};
 ghost use Rattle.std.specs.Option.{option_to_list};
 ghost use Rattle.trace.specs.declared.records.Placed.{Placed};
+ghost use Rattle.trace.specs.Bounds.{most_records};
 ghost use Rattle.shadow.specs.Found.{found};
 ghost use Rattle.shadow.specs.Memory.{AreReadyFor, HaveSeen, IsSameMemory, MayGrow};
 
@@ -22,7 +23,7 @@ pub fn apply<S: BuildHasher>(
     placed: Placed,
 ) -> Result<Option<Race>, NoMemory>
     requires ready { AreReadyFor bags.old shadow.old placed.place }
-    requires to_limit { placed.place ≤ 2 ^ 48 }
+    requires to_limit { placed.place ≤ most_records }
 
     ensures seen { OnOk result ((u : List Placed) → HaveSeen u bags.old shadow.old → HaveSeen (u ++ placed ∷ []) bags.new shadow.new) }
     ensures found { IfOk result (λ race. (u : List Placed) → HaveSeen u bags.old shadow.old → found (u ++ placed ∷ []) ≡ found u ++ option_to_list race) }

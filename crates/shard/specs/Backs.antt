@@ -1,4 +1,4 @@
--- What shards hand back.
+-- Promised: what shards hand back.
 use Rattle.std.specs.Prelude.{Bool, true, false, List, [], ◌∷◌}
 use Rattle.trace.specs.Accesses.{RaceAt}
 use Rattle.shard.specs.declared.Back.{Back}

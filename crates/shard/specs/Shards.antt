@@ -1,5 +1,6 @@
--- A shard: its bags and its shadow memory, and how far it has come.
+-- Promised: a shard: its bags and its shadow memory, and how far it has come.
 use Rattle.std.specs.Prelude.{◌≡◌, ℕ, ◌-◌, ◌<◌, ◌≤◌, ◌^◌, Bool, false, List, [], length, min, ◌==◌}
+use Rattle.trace.specs.Bounds.{most_records}
 use Rattle.trace.specs.declared.records.Record.{Record}
 use Rattle.trace.specs.declared.records.Record.TheVariants.{Spawn, Return, Sync, Read, Write}
 use Rattle.trace.specs.declared.records.Placed.{Placed}
@@ -19,7 +20,7 @@ pub record ShardState : Type 0 where
 -- a record may come at this place
 pub record Accepts (s : ShardState) (place : ℕ) : Type 0 where
   pub later : s.last_place < place
-  pub to_limit : place ≤ 2 ^ 48
+  pub to_limit : place ≤ most_records
   pub running : s.ended ≡ false
 
 -- the bags and the shadow memory are those after the records u

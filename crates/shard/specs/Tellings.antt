@@ -1,4 +1,4 @@
--- What a worker has told: what it has put on its lane back, and then what it has gathered.
+-- Private: what a worker has told: what it has put on its lane back, and then what it has gathered.
 use Rattle.std.specs.Prelude.{List, ◌++◌, map, take}
 use Rattle.lane.specs.declared.item.Item.{Item}
 use Rattle.lane.specs.declared.item.Item.TheVariants.{One}

@@ -1,4 +1,4 @@
--- What a worker has done when it answers.
+-- Promised: what a worker has done when it answers.
 use Rattle.std.specs.Prelude.{◌≡◌, List, [], ◌∷◌, ◌++◌, length, map}
 use Rattle.trace.specs.declared.records.Placed.{Placed}
 use Rattle.lane.specs.declared.item.Item.{Item}

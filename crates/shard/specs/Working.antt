@@ -1,5 +1,6 @@
--- What a worker is given, and what it hands back.
+-- Promised: what a worker is given, and what it hands back.
 use Rattle.std.specs.Prelude.{◌≡◌, ℕ, ◌+◌, ◌-◌, ◌<◌, ◌≤◌, ◌^◌, ◌↔◌, ◌⊎◌, Bool, true, false, List, [], ◌∷◌, ◌++◌, length, map}
+use Rattle.trace.specs.Bounds.{most_records}
 use Rattle.trace.specs.declared.records.Record.{Record}
 use Rattle.trace.specs.declared.records.Record.TheVariants.{Return}
 use Rattle.trace.specs.declared.records.Placed.{Placed}
@@ -21,7 +22,7 @@ whats u = map (λ p. p.what) u
 -- the places rise from above this one, to 2^48 at most
 abbrev pub RiseFrom : ℕ → List Placed → Type 0
 RiseFrom place [] = Unit {0}
-RiseFrom place (p ∷ u) = (place < p.place) × (p.place ≤ 2 ^ 48) × RiseFrom p.place u
+RiseFrom place (p ∷ u) = (place < p.place) × (p.place ≤ most_records) × RiseFrom p.place u
 
 -- as a trace, a share, and a beginning of either are: the places rise, and the root's return is nowhere but last
 pub record AreInOrder (u : List Placed) : Type 0 where
@@ -45,7 +46,7 @@ Answers u put = (AreInOrder u × (put ≡ told (found u))) ⊎ HasStopped u put
 -- after a place, and where so many procedures are active: the places rise, and nothing follows the root's return
 abbrev pub Follow : ℕ → ℕ → List Placed → Type 0
 Follow place active [] = Unit {0}
-Follow place active (p ∷ u) = (place < p.place) × (p.place ≤ 2 ^ 48) × (p.what ≡ Return → active ≡ 1 → u ≡ []) × Follow p.place ((active + opens p.what) - closes p.what) u
+Follow place active (p ∷ u) = (place < p.place) × (p.place ≤ most_records) × (p.what ≡ Return → active ≡ 1 → u ≡ []) × Follow p.place ((active + opens p.what) - closes p.what) u
 
 -- the records that a shard may take from here on
 pub record MayTake (s : ShardState) (rest : List Placed) : Type 0 where
@@ -72,7 +73,7 @@ pub record IsOfShare (u : List Placed) : Type 0 where
   pub limit : ℕ
   pub depths : ℕ
   pub nested : IsWellNested trace limit depths
-  pub to_limit : limit ≤ 2 ^ 48
+  pub to_limit : limit ≤ most_records
   pub begins : IsBeginning u (share shard shards (placed trace))
 
 -- the races found in u and the mark, or where memory was refused a beginning of them, one NoMemory and the mark

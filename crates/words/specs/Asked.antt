@@ -1,11 +1,12 @@
--- What the words of a command line may ask for.
+-- Promised: what the words of a command line may ask for.
 use Rattle.std.specs.Prelude.{◌≡◌, ℕ, ◌<◌, ◌≤◌, List, [], Bool, true, false, codes, string_len, string_bytes}
+use Rattle.trace.specs.Bounds.{IsShardCount, IsCapacity}
 use Rattle.words.specs.declared.asking.Asked.{Asked}
 use Rattle.words.specs.declared.asking.Asked.TheVariants.{Check, Pairs, Measure, Confirm}
 
 -- each number lies in its range, each file that the command reads has a name, and standard input is one of them at most
 abbrev pub IsInRange : Asked → Type 0
-IsInRange (Check c) = ((1 ≤ c.shards) × (c.shards ≤ 64)) × ((1 ≤ c.capacity) × (c.capacity ≤ 65536)) × (c.depth ≤ 1000000) × (0 < string_len c.trace)
+IsInRange (Check c) = IsShardCount c.shards × IsCapacity c.capacity × (c.depth ≤ 1000000) × (0 < string_len c.trace)
 IsInRange (Pairs p) = (p.depth ≤ 1000000) × (0 < string_len p.trace)
 IsInRange (Measure m) = (m.depth ≤ 1000000) × (0 < string_len m.trace)
 IsInRange (Confirm c) = (c.depth ≤ 1000000) × (0 < string_len c.trace) × (0 < string_len c.report)

@@ -1,4 +1,4 @@
--- What is said of words that ask for nothing that can be answered.
+-- Promised: what is said of words that ask for nothing that can be answered.
 use Rattle.std.specs.Prelude.{ℕ, List, codes, [], Option, None, Some, string_bytes}
 use Rattle.words.specs.declared.reading.WordsFault.{WordsFault}
 use Rattle.words.specs.declared.reading.WordsFault.TheVariants as words

@@ -1,5 +1,6 @@
 //! What is asked: a command with its numbers and its names, each in its range.
 ghost use Rattle.std.specs.Prelude.{◌≡◌, ◌<◌, ◌≤◌, string_len, string_bytes, codes};
+ghost use Rattle.trace.specs.Bounds.{IsShardCount, IsCapacity};
 
 /// What the words ask for.
 #[derive(Debug, Drop, PartialEq, Eq)]
@@ -25,8 +26,8 @@ pub struct Check {
     pub depth: u32,
     /// The name of the trace's file; `-` is standard input.
     pub trace: String,
-    ghost shards_within: { (1 ≤ shards) × (shards ≤ 64) },
-    ghost capacity_within: { (1 ≤ capacity) × (capacity ≤ 65536) },
+    ghost shards_within: { IsShardCount shards },
+    ghost capacity_within: { IsCapacity capacity },
     ghost depth_within: { depth ≤ 1000000 },
     ghost trace_named: { 0 < string_len trace },
 }

@@ -1,12 +1,13 @@
 //! The command line: what its words ask for.
 ghost use Rattle.std.specs.Prelude.{◌<◌, ◌≤◌, string_len, IfOk};
+ghost use Rattle.trace.specs.Bounds.{IsShardCount, IsCapacity};
 ghost use Rattle.words.specs.Asked.{IsInRange};
 
 use crate::asking::{Asked, Check, Confirm, Measure, Pairs};
 use crate::commands::program;
 use clap::error::ErrorKind;
 use clap::{ArgMatches, Error};
-use std::alloc::Global;
+use std::alloc::{AllocError, Global};
 use thiserror::Error as ErrorTexts;
 use trace::decimal_of;
 
@@ -22,6 +23,12 @@ pub enum WordsFault {
     /// A growth was refused.
     #[error("out of memory")]
     NoMemory,
+}
+
+impl From<AllocError> for WordsFault {
+    fn from(_: AllocError) -> WordsFault {
+        WordsFault::NoMemory
+    }
 }
 
 /// The most shards that may be asked for.
@@ -47,10 +54,7 @@ pub const USUAL_DEPTH: u32 = 65_536;
 pub fn read_words(alloc: Global, words: &[String]) -> Result<Asked, WordsFault>
     ensures { IfOk result IsInRange }
 {
-    let program = match program(alloc) {
-        Ok(program) => program,
-        Err(_) => return Err(WordsFault::NoMemory),
-    };
+    let program = program(alloc)?;
     let matches = match program.try_get_matches_from(words) {
         Ok(matches) => matches,
         Err(error) => return Err(fault_of(alloc, &error)),
@@ -142,10 +146,8 @@ fn name_of(alloc: Global, found: &ArgMatches<'_>, argument: &str) -> Result<Stri
     if name.is_empty() {
         return Err(WordsFault::Bad);
     }
-    match String::from_str(alloc, name) {
-        Ok(name) => Ok(name),
-        Err(_) => Err(WordsFault::NoMemory),
-    }
+    let name = String::from_str(alloc, name)?;
+    Ok(name)
 }
 
 // A location, spelled as a trace spells it.
@@ -161,7 +163,7 @@ fn location_of(found: &ArgMatches<'_>) -> Result<u64, WordsFault> {
 
 // How many threads the locations are divided among.
 fn shards_of(found: &ArgMatches<'_>) -> Result<u32, WordsFault>
-    ensures { IfOk result (λ shards. (1 ≤ shards) × (shards ≤ 64)) }
+    ensures { IfOk result IsShardCount }
 {
     match number_of(found, "shards")? {
         None => Ok(USUAL_SHARDS),
@@ -172,7 +174,7 @@ fn shards_of(found: &ArgMatches<'_>) -> Result<u32, WordsFault>
 
 // How many records may wait for a thread.
 fn capacity_of(found: &ArgMatches<'_>) -> Result<u32, WordsFault>
-    ensures { IfOk result (λ capacity. (1 ≤ capacity) × (capacity ≤ 65536)) }
+    ensures { IfOk result IsCapacity }
 {
     match number_of(found, "capacity")? {
         None => Ok(USUAL_CAPACITY),

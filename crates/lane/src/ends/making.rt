@@ -1,5 +1,6 @@
 //! How a lane is made.
 ghost use Rattle.std.specs.Prelude.{◌≡◌, ◌≤◌, [], IfOk};
+ghost use Rattle.trace.specs.Bounds.{IsCapacity};
 ghost use Rattle.lane.specs.Lanes.{lane_of, taker_lane, put_of, taken_of, capacity_of, taker_capacity};
 
 use super::{BLOCK, Sender, Taker};
@@ -13,12 +14,12 @@ pub fn lane<T: Copy + Send>(
     alloc: Global,
     capacity: usize,
 ) -> Result<(Sender<T>, Taker<T>), NoMemory>
-    requires { (1 ≤ capacity) × (capacity ≤ 65536) }
+    requires { IsCapacity capacity }
     ensures lane { IfOk result (λ r. lane_of r.0 ≡ taker_lane r.1) }
     ensures empty { IfOk result (λ r. (put_of r.0 ≡ []) × (taken_of r.1 ≡ [])) }
     ensures capacity { IfOk result (λ r. (capacity_of r.0 ≡ capacity) × (taker_capacity r.1 ≡ capacity)) }
 {
-    let block = Vec::with_capacity(alloc, BLOCK).map_err(|_| NoMemory)?;
+    let block = Vec::with_capacity(alloc, BLOCK)?;
     let Ok((sending, taking)) = RingBuffer::with_protocol::<Global, MarkLast>(alloc, capacity)
     else {
         return Err(NoMemory);

@@ -1,5 +1,6 @@
 //! How a router is made.
 ghost use Rattle.std.specs.Prelude.{◌≡◌, ◌≤◌, [], All, IfOk, vec_len};
+ghost use Rattle.trace.specs.Bounds.{most_shards};
 ghost use Rattle.lane.specs.Lanes.{put_of};
 ghost use Rattle.route.specs.Senders.{lanes, capacities};
 ghost use Rattle.route.specs.Routers.{lanes_of, capacities_of, lane_count, pending_of, marked_of, HasSent};
@@ -14,7 +15,7 @@ impl Router {
     /// that; a refusal drops the senders.
     pub fn new(alloc: Global, senders: Vec<Sender<Placed>>) -> Result<Router, NoMemory>
         requires some { 1 ≤ vec_len senders }
-        requires within { vec_len senders ≤ 64 }
+        requires within { vec_len senders ≤ most_shards }
         requires empty { All (λ s. put_of s ≡ []) senders.items }
         ensures lanes { IfOk result (λ r. lanes_of r ≡ lanes senders.items) }
         ensures capacities { IfOk result (λ r. capacities_of r ≡ capacities senders.items) }
@@ -23,7 +24,7 @@ impl Router {
         ensures unmarked { IfOk result (λ r. marked_of r ≡ 0) }
         ensures sent { IfOk result (HasSent []) }
     {
-        let ends = Vec::with_capacity(alloc, senders.len()).map_err(|_| NoMemory)?;
+        let ends = Vec::with_capacity(alloc, senders.len())?;
         Ok(Router {
             senders,
             ends,

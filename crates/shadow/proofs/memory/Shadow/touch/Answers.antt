@@ -41,7 +41,7 @@ returns-in-None-clause-kept g c =
     let l = c.args.location in
     let first = c.touch-told.new.self in
     let put : HasPut (page_of n l) (seat_of n l) first es c.add.new.self = rw (c.look_up.ensures.same, c.spot_of-spot.ensures.page, c.spot_of-spot.ensures.seat) at c.in_ok-add-in-None.ensures.ok in
-    let none : block_of es (page_of n l) ≡ [] = rw c.spot_of-spot.ensures.page at c.in-None.ensures.none in
+    let none : block_of es (page_of n l) ≡ [] = rw c.spot_of-spot.ensures.page at c.in-None.ensures.found in
     let empty : cell_of n es l ≡ untouched = ap (λ b. cell_at b (seat_of n l)) none in
     let is = c.touch-told.ensures.kept ∙ ap (touched c.args.bags.now.active c.args.kind c.args.place) (c.untouched-kept.ensures ∙ sym empty) in
     rw (← c.self.view_is) (put_is_of n es _ l _ c.self.inside.shards_within (subst (λ x. HasPut (page_of n l) (seat_of n l) x es c.add.new.self) is put))
