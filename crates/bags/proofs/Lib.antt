@@ -1,3 +1,4 @@
 pub mod Stack
 pub mod BagPaths
 pub mod RangeLemmas
+pub mod Halving

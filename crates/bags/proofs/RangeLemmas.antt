@@ -1,6 +1,7 @@
 -- Runs of numbers that lie side by side, and what a sync, a return and a look-up do to ranges.
-use Rattle.std.proofs.Common.{◌≡◌, ℕ, zero, suc, ◌+◌, ◌-◌, ◌<◌, ◌≤◌, Bool, false, ◌||◌, ◌&&◌, eqb, ltb, leb, List, [], ◌∷◌, ◌++◌, reverse, length, set, get_or, Option, Some, None, IsSome, refl, sym, ap, subst, ◌∙◌, arith}
-use Rattle.std.proofs.lemmas.Bool.{lt-leb}
+use Rattle.std.proofs.Common.{◌≡◌, ℕ, zero, suc, ◌+◌, ◌-◌, ◌<◌, ◌≤◌, Bool, true, false, not, IsTrue, ◌↔◌, ◌||◌, ◌&&◌, eqb, ltb, leb, List, [], ◌∷◌, ◌++◌, reverse, length, set, get_or, Option, Some, None, IsSome, refl, sym, ap, subst, ◌∙◌, arith}
+use Rattle.std.proofs.lemmas.Bool.{lt-leb, le-leb, both_ways}
+use Rattle.std.proofs.Math.Nat.{lt_of_not-le}
 use Rattle.std.proofs.lemmas.Bool.Decides.{nat_tests}
 use Rattle.std.proofs.lemmas.List.{length-reverse, reverse-append, reverse-reverse, get_or-reverse}
 use Rattle.std.proofs.Math.Seq.{set-append_seam}
@@ -207,44 +208,71 @@ in_p_keeper count xs x k p held low at known not_above above =
     rw (own_at-reverse xs i x (omega arith), place) (above later) in
     sym (in_p_kept count (reverse xs) (length xs - 1 - k) p x held.ranges (omega arith) known (rw is kept) next ∙ ap (λ f. leb f.parallel_from p) is)
 
--- the executing procedure keeps what is not below it
-pub in_p_newest : (count : ℕ) (xs : List Ranges) (x : Ranges) (n p : ℕ) → AreHeld count xs → n ≡ length xs → 0 < n → x ≡ get_or xs (n - 1) x → p < count → x.own ≤ p
-    → leb x.parallel_from p ≡ in_p (procedures_of count xs).active p
-in_p_newest count xs x n p held len some at known kept =
-    let low : n - 1 < length xs = omega arith in
-    let own : x.own ≡ own_at xs (n - 1) = ap (λ f. f.own) at ∙ own_at_is xs (n - 1) x low in
-    in_p_keeper count xs x (n - 1) p held low at known (omega arith) (λ h. absurd (omega arith))
-
 pub held_some : (count : ℕ) (xs : List Ranges) → AreHeld count xs → 0 < length xs
 held_some count [] held = let none : count ≡ 0 = held.ranges in let some : 1 ≤ count = held.some in absurd (omega arith)
 held_some count (f ∷ fs) held = omega arith
 
--- what the root's P-bag holds is not below the next active procedure
-root_before : (next : ℕ) (fs : List Ranges) (d : Ranges) → AreRanges next fs → 1 < length fs → (get_or fs (length fs - 1) d).parallel_from ≤ own_at fs (length fs - 2)
-root_before next [] d h more = absurd (omega arith)
-root_before next (f ∷ []) d h more = absurd (omega arith)
-root_before next (f ∷ g ∷ []) d h more = h.2.1
-root_before next (f ∷ g ∷ e ∷ fs) d h more =
-    let rest = root_before f.own (g ∷ e ∷ fs) d h.2 (omega arith) in
-    let last : length (f ∷ g ∷ e ∷ fs) - 1 ≡ suc (length (g ∷ e ∷ fs) - 1) = omega arith in
-    let next_to_last : length (f ∷ g ∷ e ∷ fs) - 2 ≡ suc (length (g ∷ e ∷ fs) - 2) = omega arith in
-    rw (last, next_to_last) rest
+own_below : (next : ℕ) (fs : List Ranges) (j : ℕ) (d : Ranges) → AreRanges next fs → j < length fs → (get_or fs j d).own < (get_or fs j d).parallel_from
+own_below next [] j d h low = absurd (omega arith)
+own_below next (f ∷ fs) zero d h low = h.0
+own_below next (f ∷ fs) (suc j) d h low = own_below f.own fs j d h.2 (omega arith)
+
+before_next : (next : ℕ) (fs : List Ranges) (j : ℕ) (d : Ranges) → AreRanges next fs → suc j < length fs → (get_or fs (suc j) d).parallel_from ≤ own_at fs j
+before_next next [] j d h low = absurd (omega arith)
+before_next next (f ∷ []) j d h low = absurd (omega arith)
+before_next next (f ∷ g ∷ fs) zero d h low = h.2.1
+before_next next (f ∷ g ∷ fs) (suc j) d h low = before_next f.own (g ∷ fs) j d h.2 (omega arith)
+
+-- no S-bag is empty
+pub held_own : (count : ℕ) (xs : List Ranges) (x : Ranges) (k : ℕ) → AreHeld count xs → k < length xs → x ≡ get_or xs k x → x.own < x.parallel_from
+held_own count xs x k held low at =
+    let len : length (reverse xs) ≡ length xs = length-reverse xs in
+    let back : length xs - 1 - (length xs - 1 - k) ≡ k = omega arith in
+    let is : get_or (reverse xs) (length xs - 1 - k) x ≡ x = get_or-reverse xs (length xs - 1 - k) x (omega arith) ∙ ap (λ n. get_or xs n x) back ∙ sym at in
+    rw is at (own_below count (reverse xs) (length xs - 1 - k) x held.ranges (omega arith))
+
+-- a P-bag holds nothing from the next active procedure on
+pub held_next : (count : ℕ) (xs : List Ranges) (x : Ranges) (k : ℕ) → AreHeld count xs → k + 1 < length xs → x ≡ get_or xs k x → x.parallel_from ≤ own_at xs (k + 1)
+held_next count xs x k held low at =
+    let len : length (reverse xs) ≡ length xs = length-reverse xs in
+    let back : length xs - 1 - suc (length xs - 1 - (k + 1)) ≡ k = omega arith in
+    let place : length xs - 1 - (length xs - 1 - (k + 1)) ≡ k + 1 = omega arith in
+    let is : get_or (reverse xs) (suc (length xs - 1 - (k + 1))) x ≡ x = get_or-reverse xs (suc (length xs - 1 - (k + 1))) x (omega arith) ∙ ap (λ n. get_or xs n x) back ∙ sym at in
+    let own : own_at (reverse xs) (length xs - 1 - (k + 1)) ≡ own_at xs (k + 1) = own_at-reverse xs (length xs - 1 - (k + 1)) x (omega arith) ∙ ap (own_at xs) place in
+    let bound : (get_or (reverse xs) (suc (length xs - 1 - (k + 1))) x).parallel_from ≡ x.parallel_from = ap (λ (f : Ranges). f.parallel_from) is in
+    omega (arith, before_next count (reverse xs) (length xs - 1 - (k + 1)) x held.ranges (omega arith))
+
+-- the executing procedure's P-bag holds all from its beginning on
+pub in_p_executing : (count : ℕ) (xs : List Ranges) (x : Ranges) (n p : ℕ) → AreHeld count xs → n ≡ length xs → x ≡ get_or xs (n - 1) x → p < count → x.parallel_from ≤ p
+    → true ≡ in_p (procedures_of count xs).active p
+in_p_executing count xs x n p held len at known from =
+    let some : 0 < length xs = held_some count xs held in
+    let low : n - 1 < length xs = omega arith in
+    let own : x.own ≡ own_at xs (n - 1) = ap (λ f. f.own) at ∙ own_at_is xs (n - 1) x low in
+    let below : x.own < x.parallel_from = held_own count xs x (n - 1) held low at in
+    sym (le-leb x.parallel_from p from) ∙ in_p_keeper count xs x (n - 1) p held low at known (omega arith) (λ h. absurd (omega arith))
 
 -- the root keeps what is below its P-bag, in its S-bag
 pub in_p_root : (count : ℕ) (xs : List Ranges) (x : Ranges) (p : ℕ) → AreHeld count xs → x ≡ get_or xs 0 x → p < count → p < x.parallel_from → false ≡ in_p (procedures_of count xs).active p
 in_p_root count xs x p held at known below =
     let root = own_at_root count xs held in
-    let len : length (reverse xs) ≡ length xs = length-reverse xs in
-    let next : 0 + 1 < length xs → p < own_at xs (0 + 1)
-    = λ more.
-    let before = root_before count (reverse xs) x held.ranges (omega arith) in
-    let first : length xs - 1 - (length (reverse xs) - 1) ≡ 0 = omega arith in
-    let second : length xs - 1 - (length (reverse xs) - 2) ≡ 0 + 1 = omega arith in
-    let is : get_or (reverse xs) (length (reverse xs) - 1) x ≡ x = get_or-reverse xs (length (reverse xs) - 1) x (omega arith) ∙ ap (λ n. get_or xs n x) first ∙ sym at in
-    let own : own_at (reverse xs) (length (reverse xs) - 2) ≡ own_at xs (0 + 1) = own_at-reverse xs (length (reverse xs) - 2) x (omega arith) ∙ ap (own_at xs) second in
-    let bound : (get_or (reverse xs) (length (reverse xs) - 1) x).parallel_from ≡ x.parallel_from = ap (λ (f : Ranges). f.parallel_from) is in
-    omega arith in
-    sym (lt-leb x.parallel_from p below) ∙ in_p_keeper count xs x 0 p held (held_some count xs held) at known (omega arith) next
+    sym (lt-leb x.parallel_from p below)
+    ∙ in_p_keeper count xs x 0 p held (held_some count xs held) at known (omega arith) (λ more. omega (arith, held_next count xs x 0 held more at))
+
+-- between the beginnings of two P-bags, one after the other, lie the first one and the second one's S-bag
+pub in_p_between : (count : ℕ) (xs : List Ranges) (x y : Ranges) (k n p : ℕ) (in_second : Bool) → AreHeld count xs → n ≡ k + 1 → n < length xs → x ≡ get_or xs k x → y ≡ get_or xs n y → p < count
+    → x.parallel_from ≤ p → p < y.parallel_from → (IsTrue in_second ↔ (y.own ≤ p)) → not in_second ≡ in_p (procedures_of count xs).active p
+in_p_between count xs x y k n p true held follows low at next known from upto says =
+    let own : y.own ≡ own_at xs n = ap (λ f. f.own) next ∙ own_at_is xs n y low in
+    let kept : y.own ≤ p = says.0 refl in
+    sym (lt-leb y.parallel_from p upto) ∙ in_p_keeper count xs y n p held low next known (omega arith) (λ more. omega (arith, held_next count xs y n held more next))
+in_p_between count xs x y k n p false held follows low at next known from upto says =
+    let own : y.own ≡ own_at xs n = ap (λ f. f.own) next ∙ own_at_is xs n y low in
+    let above : p < y.own = lt_of_not-le (λ q. both_ways false refl (says.1 q)) in
+    let first : x.own ≡ own_at xs k = ap (λ f. f.own) at ∙ own_at_is xs k x (omega arith) in
+    let below : x.own < x.parallel_from = held_own count xs x k held (omega arith) at in
+    let second : own_at xs (k + 1) ≡ own_at xs n = ap (own_at xs) (sym follows) in
+    sym (le-leb x.parallel_from p from) ∙ in_p_keeper count xs x k p held (omega arith) at known (omega arith) (λ more. omega arith)
 
 pub more_than_root : (count : ℕ) (xs : List Ranges) (p : Procedures) → procedures_of count xs ≡ p → 1 < length p.active → 1 < length xs
 more_than_root count xs p is more =

@@ -1,4 +1,4 @@
--- What the P-bags say of paths.
+-- Promised: what the P-bags say of paths.
 use Rattle.std.specs.Prelude.{◌≡◌, ℕ, suc, ◌≤◌, ◌↔◌, Bool, true, List, take, Some}
 use Rattle.trace.specs.declared.records.Record.{Record}
 use Rattle.trace.specs.declared.records.Record.TheVariants.{Return}

@@ -1,4 +1,4 @@
--- The S-bag and the P-bag of each active procedure, by the rules of SP-bags.
+-- Promised: the S-bag and the P-bag of each active procedure, by the rules of SP-bags.
 use Rattle.std.specs.Prelude.{ℕ, zero, suc, ◌+◌, Bool, List, [], ◌∷◌, take, refl}
 use Rattle.std.specs.List.{list_any}
 use Rattle.std.specs.Ordering.{nat_cmp}

@@ -1,4 +1,4 @@
--- The bags as they are held: two numbers for each active procedure.
+-- Private: the bags as they are held: two numbers for each active procedure.
 use Rattle.std.specs.Prelude.{◌≡◌, ℕ, ◌-◌, ◌<◌, ◌≤◌, List, [], ◌∷◌, reverse}
 use Rattle.std.specs.List.{range_with_len}
 use Rattle.std.specs.FinSet as set

@@ -1,4 +1,4 @@
--- The numbers of the active procedures, the root's first.
+-- Private: the numbers of the active procedures, the root's first.
 use Rattle.std.specs.Prelude.{ℕ, zero, suc, List, [], ◌∷◌}
 use Rattle.bags.specs.declared.Ranges.{Ranges}
 

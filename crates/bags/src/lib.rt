@@ -4,26 +4,29 @@
 //! active procedure say what all the bags hold.
 #![tactic(auto)]
 
-ghost use Rattle.std.specs.Prelude.{◌≡◌, ◌+◌, ◌<◌, ◌≤◌, ◌^◌, length, IfOk, IfSome, OnOk, OnErr};
+ghost use Rattle.std.specs.Prelude.{◌≡◌, ◌+◌, ◌*◌, ◌<◌, ◌≤◌, ◌^◌, length, IfOk, OnOk, OnErr};
+ghost use Rattle.trace.specs.Bounds.{most_records};
 ghost use Rattle.bags.specs.Search.{own_at};
+ghost use Rattle.bags.specs.Numbers.{digits};
 
 use std::alloc::Global;
 use std::marker::Model;
 use trace::NoMemory;
 
+mod first;
 pub mod laws;
 
 /// The numbers of an active procedure. Its S-bag holds the procedures from its own number on, and its
 /// P-bag those from `parallel_from` on, up to the number of the next active procedure.
 #[derive(Clone, Copy)]
 struct Ranges {
-    own: u64,
+    own: first::First,
     parallel_from: u64,
 }
 
 /// The bags of the active procedures of a serial run, which begins in its root.
 ///
-/// `current`, `count`, `active`, `in_p`, `sync` and `ret` take no memory.
+/// `current`, `count`, `active`, `held`, `in_p`, `in_p_counted`, `sync` and `ret` take no memory.
 #[derive(Drop)]
 pub struct Bags {
     /// The active procedures; the last one executes.
@@ -47,7 +50,7 @@ impl Model for Bags {
 
 impl Bags {
     ghost use Rattle.bags.specs.Paths.{TellsPaths};
-    ghost use Rattle.bags.specs.Procedures.{at_start, event, in_p, current};
+    ghost use Rattle.bags.specs.Procedures.{at_start, event, in_p};
     ghost use Rattle.trace.specs.declared.records.Record.TheVariants.{Spawn, Sync, Return};
 
     /// The bags at the start: the root alone is active.
@@ -56,24 +59,24 @@ impl Bags {
     {
         let mut nested = Vec::new(alloc);
         let root = Ranges {
-            own: 0,
+            own: first::First::new(0),
             parallel_from: 1,
         };
-        nested.push(root).map_err(|_| NoMemory)?;
+        nested.push(root)?;
         Ok(Bags { nested, count: 1 })
     }
 
     /// The executing procedure spawns a child, which executes from here on.
     pub fn spawn(&mut self) -> Result<(), NoMemory>
-        requires { self.old.count ≤ 2 ^ 48 }
+        requires { self.old.count ≤ most_records }
         ensures ok { OnOk result (self.new ≡ event self.old Spawn) }
         ensures err { OnErr result (self.new ≡ self.old) }
     {
         let child = Ranges {
-            own: self.count,
+            own: first::First::new(self.count),
             parallel_from: self.count + 1,
         };
-        self.nested.push(child).map_err(|_| NoMemory)?;
+        self.nested.push(child)?;
         self.count += 1;
         Ok(())
     }
@@ -94,14 +97,6 @@ impl Bags {
         let _ = self.nested.pop();
     }
 
-    /// The number of the executing procedure.
-    pub fn current(&self) -> u64
-        ensures executes { result ≡ current self.now.active }
-        ensures known { result < self.now.count }
-    {
-        self.nested[self.nested.len() - 1].own
-    }
-
     /// How many procedures there are so far, completed ones among them.
     pub fn count(&self) -> u64
         ensures procedures { result ≡ self.now.count }
@@ -118,7 +113,15 @@ impl Bags {
         self.nested.len() as u64
     }
 
+    /// How many numbers are held in all.
+    pub fn held(&self) -> u64
+        ensures { result ≡ 2 * length self.now.active }
+    {
+        2 * self.nested.len() as u64
+    }
+
     /// Whether a procedure stands in a P-bag: whether it is parallel to what executes next.
+    #[inline(always)]
     pub fn in_p(&self, procedure: u64) -> bool
         requires { procedure < self.now.count }
         ensures bags { result ≡ in_p self.now.active procedure }
@@ -126,76 +129,60 @@ impl Bags {
         // a P-bag exactly where no path leads from its return to that place.
         ensures paths { TellsPaths self.now procedure result }
     {
+        self.in_p_counted(procedure).0
+    }
+
+    /// The answer of `in_p`, and the probes that it took: how often the procedure's number was compared with
+    /// the first number of an active one.
+    #[inline(always)]
+    pub fn in_p_counted(&self, procedure: u64) -> (bool, u32)
+        requires { procedure < self.now.count }
+        ensures bags { result.0 ≡ in_p self.now.active procedure }
+        ensures paths { TellsPaths self.now procedure result.0 }
+        ensures probes { result.1 ≤ digits (length self.now.active) }
+    {
+        let mut probes = 0;
         let executing = self.nested[self.nested.len() - 1];
-        if executing.own <= procedure {
-            return executing.parallel_from <= procedure;
+        if executing.parallel_from <= procedure {
+            return (true, 0);
         }
         if procedure < self.nested[0].parallel_from {
-            return false;
+            return (false, 0);
         }
-        let keeper = keeper_of(&self.nested, procedure);
-        self.nested[keeper].parallel_from <= procedure
+        // So the root doesn't execute. Between where two P-bags begin lie the first one and the next S-bag.
+        let parent = self.nested[self.nested.len() - 2];
+        if parent.parallel_from <= procedure {
+            return (!executing.own.is_at_most(procedure, &mut probes), probes);
+        }
+        let grandparent = self.nested[self.nested.len() - 3];
+        if grandparent.parallel_from <= procedure {
+            return (!parent.own.is_at_most(procedure, &mut probes), probes);
+        }
+        let keeper = keeper_of(&self.nested, procedure, &mut probes);
+        (self.nested[keeper].parallel_from <= procedure, probes)
     }
 }
 
-/// How many active procedures are asked one by one, the executing one first.
-const NEAR: usize = 16;
-
+/// The place of the active procedure that keeps a procedure: the last one whose number is not above it. It is
+/// searched by halves, of which the root's is a power of two and the newest's what is left.
 #[tactic(auto, using(crate::proofs::RangeLemmas::own_at_is))]
-/// The place of the active procedure that keeps a procedure: the last one whose number is not above it.
 #[inline(always)]
-fn keeper_of(ranges: &[Ranges], procedure: u64) -> usize
+fn keeper_of(ranges: &[Ranges], procedure: u64, probes: &mut u32) -> usize
     requires some { 0 < length ranges.now }
     requires root { own_at ranges.now 0 ≤ procedure }
+    requires uncounted { probes.old ≡ 0 }
     ensures within { result < length ranges.now }
     ensures not_above { own_at ranges.now result ≤ procedure }
     ensures next_above { result + 1 < length ranges.now → procedure < own_at ranges.now (result + 1) }
-{
-    match near_keeper_of(ranges, procedure) {
-        Some(keeper) => keeper,
-        None => far_keeper_of(ranges, procedure),
-    }
-}
-
-#[tactic(auto, using(crate::proofs::RangeLemmas::own_at_is))]
-// The keeper where it is among the newest; the answer `None` says nothing.
-#[inline(always)]
-fn near_keeper_of(ranges: &[Ranges], procedure: u64) -> Option<usize>
-    ensures within { IfSome result (λ k. k < length ranges.now) }
-    ensures not_above { IfSome result (λ k. own_at ranges.now k ≤ procedure) }
-    ensures next_above { IfSome result (λ k. k + 1 < length ranges.now → procedure < own_at ranges.now (k + 1)) }
-{
-    let mut above = ranges.len();
-    for _ in 0..NEAR {
-        if above == 0 {
-            return None;
-        }
-        if ranges[above - 1].own <= procedure {
-            return Some(above - 1);
-        }
-        above -= 1;
-    }
-    None
-}
-
-#[tactic(auto, using(crate::proofs::RangeLemmas::own_at_is))]
-// The keeper, by a search among all.
-#[inline(never)]
-fn far_keeper_of(ranges: &[Ranges], procedure: u64) -> usize
-    requires some { 0 < length ranges.now }
-    requires root { own_at ranges.now 0 ≤ procedure }
-    ensures within { result < length ranges.now }
-    ensures not_above { own_at ranges.now result ≤ procedure }
-    ensures next_above { result + 1 < length ranges.now → procedure < own_at ranges.now (result + 1) }
+    ensures probes { probes.new ≤ digits (length ranges.now) }
 {
     let mut keeper = 0;
-    let mut above = ranges.len();
-    while above - keeper > 1 {
-        let middle = keeper + (above - keeper) / 2;
-        if ranges[middle].own <= procedure {
+    let mut span = 2 << ranges.len().ilog2();
+    while span > 1 {
+        span /= 2;
+        let middle = keeper + span;
+        if middle < ranges.len() && ranges[middle].own.is_at_most(procedure, probes) {
             keeper = middle;
-        } else {
-            above = middle;
         }
     }
     keeper
@@ -211,7 +198,7 @@ mod tests {
     /// The call that a record makes.
     fn call(bags: &mut Bags, what: Record) -> Result<(), NoMemory> {
         match what {
-            Record::Spawn if bags.count() < 1000 => bags.spawn()?,
+            Record::Spawn if bags.count() <= 1000 => bags.spawn()?,
             Record::Sync => bags.sync(),
             Record::Return if bags.active() > 1 => bags.ret(),
             _ => (),
@@ -219,15 +206,23 @@ mod tests {
         Ok(())
     }
 
-    /// The procedures that stand in a P-bag.
-    fn parallel(alloc: Global, bags: &Bags) -> Result<Vec<u64>, AllocError> {
+    /// The procedures that stand in a P-bag, and the most probes that a look-up takes.
+    fn looked_up(alloc: Global, bags: &Bags) -> Result<(Vec<u64>, u32), AllocError> {
         let mut procedures = Vec::new(alloc);
+        let mut most = 0;
         for procedure in 0..bags.count() {
-            if bags.in_p(procedure) {
+            let (is_parallel, probes) = bags.in_p_counted(procedure);
+            if is_parallel {
                 procedures.push(procedure)?;
             }
+            most = most.max(probes);
         }
-        Ok(procedures)
+        Ok((procedures, most))
+    }
+
+    /// How many are active, how many there are, and how many numbers are held.
+    fn sizes(bags: &Bags) -> (u64, u64, u64) {
+        (bags.active(), bags.count(), bags.held())
     }
 
     // After each record: the executing procedure, how many are active, how many there are, and
@@ -247,7 +242,7 @@ mod tests {
         ];
         let mut bags = Bags::new(rt.alloc())?;
         assert_eq!(rt; (bags.current(), bags.active(), bags.count()), (0, 1, 1));
-        assert!(rt; parallel(rt.alloc(), &bags)?.is_empty());
+        assert!(rt; looked_up(rt.alloc(), &bags)?.0.is_empty());
         for (what, current, active, count, in_p) in steps {
             call(&mut bags, what)?;
             assert_eq!(rt;
@@ -256,7 +251,7 @@ mod tests {
                 "after {what:?}"
             );
             assert_eq!(rt;
-                parallel(rt.alloc(), &bags)?.as_slice(),
+                looked_up(rt.alloc(), &bags)?.0.as_slice(),
                 in_p,
                 "after {what:?}"
             );
@@ -288,7 +283,72 @@ mod tests {
             call(&mut bags, Record::Return)?;
         }
         let all: Vec<u64> = (1..201).collect(rt.alloc())?;
-        assert_eq!(rt; parallel(rt.alloc(), &bags)?.as_slice(), all.as_slice());
+        assert_eq!(rt; looked_up(rt.alloc(), &bags)?.0.as_slice(), all.as_slice());
+        Ok(())
+    }
+
+    // Row `sync-in-sibling` after place 5, and row `two-readers-then-write` after place 6.
+    #[test]
+    fn numbers_of_rows(rt: HostRuntime) -> Result<(), Fail> {
+        let mut bags = Bags::new(rt.alloc())?;
+        for what in [
+            Record::Spawn,
+            Record::Write(1),
+            Record::Return,
+            Record::Spawn,
+            Record::Sync,
+        ] {
+            call(&mut bags, what)?;
+        }
+        let (in_p, most) = looked_up(rt.alloc(), &bags)?;
+        assert_eq!(rt; sizes(&bags), (2, 3, 4));
+        assert_eq!(rt; in_p.as_slice(), [1].as_slice());
+        assert!(rt; most <= 2);
+
+        let mut bags = Bags::new(rt.alloc())?;
+        for _ in 0..2 {
+            call(&mut bags, Record::Spawn)?;
+            call(&mut bags, Record::Read(1))?;
+            call(&mut bags, Record::Return)?;
+        }
+        let (in_p, most) = looked_up(rt.alloc(), &bags)?;
+        assert_eq!(rt; sizes(&bags), (1, 3, 2));
+        assert_eq!(rt; in_p.as_slice(), [1, 2].as_slice());
+        assert!(rt; most <= 1);
+        Ok(())
+    }
+
+    #[test]
+    fn numbers_of_a_thousand(rt: HostRuntime) -> Result<(), Fail> {
+        let mut bags = Bags::new(rt.alloc())?;
+        for _ in 0..1000 {
+            call(&mut bags, Record::Spawn)?;
+        }
+        let (in_p, most) = looked_up(rt.alloc(), &bags)?;
+        assert_eq!(rt; sizes(&bags), (1001, 1001, 2002));
+        assert!(rt; in_p.is_empty());
+        assert!(rt; most <= 10);
+        for _ in 0..1000 {
+            call(&mut bags, Record::Return)?;
+        }
+        let (in_p, most) = looked_up(rt.alloc(), &bags)?;
+        let all: Vec<u64> = (1..1001).collect(rt.alloc())?;
+        assert_eq!(rt; sizes(&bags), (1, 1001, 2));
+        assert_eq!(rt; in_p.as_slice(), all.as_slice());
+        assert!(rt; most <= 1);
+        Ok(())
+    }
+
+    // The newest of 17 active procedures is told by one probe.
+    #[test]
+    fn newest_of_seventeen(rt: HostRuntime) -> Result<(), Fail> {
+        let mut bags = Bags::new(rt.alloc())?;
+        for _ in 0..16 {
+            call(&mut bags, Record::Spawn)?;
+        }
+        let (is_parallel, probes) = bags.in_p_counted(bags.current());
+        assert_eq!(rt; (bags.active(), is_parallel), (17, false));
+        assert!(rt; probes <= 1);
         Ok(())
     }
 }
