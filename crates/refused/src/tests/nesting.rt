@@ -5,22 +5,31 @@ use bags::Bags;
 use std::alloc::Global;
 use std::process::Abort;
 
+/// How many procedures one test has one after the other.
+const TURNS: u64 = 10_000;
+
 fn numbers(bags: &Bags) -> (u64, u64, u64) {
     (bags.current(), bags.count(), bags.active())
 }
 
 /// Spawns. A refusal changes nothing, and with memory the same call succeeds.
 pub fn spawn<R: Print + Abort>(rt: &R, bags: &mut Bags) {
+    let _ = spawn_tried(rt, bags);
+}
+
+/// The same, and how many tries were refused.
+fn spawn_tried<R: Print + Abort>(rt: &R, bags: &mut Bags) -> u32 {
     let before = numbers(bags);
-    for _ in 0..TRIES {
-        assert!(rt; bags.count() < 1000);
+    for tried in 0..TRIES {
+        assert!(rt; bags.count() <= TURNS);
         if bags.spawn().is_ok() {
-            return;
+            return tried;
         }
         tell(rt, "spawn");
         assert_eq!(rt; numbers(bags), before);
     }
     assert!(rt; false);
+    TRIES
 }
 
 pub fn ret<R: Abort>(rt: &R, bags: &mut Bags) {
@@ -30,7 +39,9 @@ pub fn ret<R: Abort>(rt: &R, bags: &mut Bags) {
 
 fn in_p<R: Abort>(rt: &R, bags: &Bags, procedure: u64) -> bool {
     assert!(rt; procedure < bags.count());
-    bags.in_p(procedure)
+    let (answer, _) = bags.in_p_counted(procedure);
+    assert_eq!(rt; answer, bags.in_p(procedure));
+    answer
 }
 
 /// Spawns a hundred procedures, each by the one before it; with the other calls these are made too.
@@ -44,6 +55,7 @@ fn nest<R: Print + Abort>(rt: &R, alloc: Global, with: bool) {
         if with {
             bags.sync();
             assert_eq!(rt; numbers(&bags), (depth + 1, depth + 2, depth + 2));
+            assert_eq!(rt; bags.held(), 2 * (depth + 2));
             assert!(rt; !in_p(rt, &bags, depth));
         }
     }
@@ -63,4 +75,18 @@ fn bags_without(rt: HostRuntime) {
 #[test]
 fn bags_with(rt: HostRuntime) {
     nest(&rt, rt.alloc(), true);
+}
+
+// A completed procedure leaves nothing: a refusal is met only before the third spawn.
+#[test]
+fn completed(rt: HostRuntime) {
+    let Ok(mut bags) = Bags::new(rt.alloc()) else {
+        tell(&rt, "bags");
+        return;
+    };
+    for turn in 0..TURNS {
+        let refused = spawn_tried(&rt, &mut bags);
+        assert!(rt; refused == 0 || turn < 2);
+        ret(&rt, &mut bags);
+    }
 }
