@@ -31,7 +31,8 @@ use Rattle.audit.specs.declared.confirming.Entry.{Entry}
 use Rattle.audit.specs.declared.confirming.Standing.{Standing}
 use Rattle.audit.specs.declared.confirming.Standing.TheVariants.{Missing, Begun, Confirmed}
 use Rattle.audit.specs.declared.confirming.Confirming.{Confirming}
-use Rattle.audit.specs.Watching.{ComesAfter, WhateverFollows}
+use Rattle.trace.specs.Watching.{ComesAfter}
+use Rattle.audit.specs.Watching.{WhateverFollows}
 use Rattle.audit.specs.Meetings.{HasMet, TellsParallel, Moves}
 use Rattle.audit.specs.Confirms.{TellsRace, Confirms}
 use Rattle.audit.specs.Confirming.{race_of, races_of, entry_of, AreAscending, HasBegun, Stands, AllStand, Touches, AnswersBy, HasConfirmed}

@@ -13,7 +13,7 @@ use Rattle.trace.proofs.Walks.{step_by}
 use Rattle.audit.specs.declared.measuring.Longest.{Longest}
 use Rattle.audit.specs.declared.measuring.Measuring.{Measuring}
 use Rattle.audit.specs.Measures.{is_spawn, IsMeasure, IsSpan, IsGreatestDepth}
-use Rattle.audit.specs.Watching.{ComesAfter}
+use Rattle.trace.specs.Watching.{ComesAfter}
 use Rattle.audit.specs.LongestPaths.{PathTo, IsLongestTo, LastOn, LeadsOn, at_start, own, opened, IsLongestUnjoined, AreActive, IsSpanTo, IsDepthTo, HasMeasuredTo, IsWithin, HasMeasured, through, Advances}
 use Rattle.trace.proofs.Lists.{slice_get-front, slice_get-last}
 use Rattle.audit.proofs.ListLemmas.{slice_get-push, place_there, record_there}

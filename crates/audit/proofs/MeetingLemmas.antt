@@ -16,7 +16,7 @@ use Rattle.trace.proofs.Paths.{access-place}
 use Rattle.trace.proofs.Meetings.{level-at, holds_from, holds-deeper, holds-shorter, Opened, opened_at, opened-holds, opened_below, opened-child, stand_of, OwnSync, own_sync-is, is_own_sync, block_same, block_less, stand-after, stand-le, before-stand, parallel-block}
 use Rattle.audit.specs.declared.meetings.Active.{Active}
 use Rattle.audit.specs.declared.meetings.Meetings.{Meetings}
-use Rattle.audit.specs.Watching.{ComesAfter}
+use Rattle.trace.specs.Watching.{ComesAfter}
 use Rattle.audit.specs.Meetings.{IsActive, AreActive, HasMet, TellsParallel, Moves}
 use Rattle.trace.proofs.Lists.{slice_get-front, slice_get-last, element_at}
 use Rattle.audit.proofs.ListLemmas.{slice_get-push, place_there, record_there}

@@ -21,7 +21,7 @@ use Rattle.trace.proofs.Once.{kind_once, same_access}
 use Rattle.audit.specs.declared.meetings.Meetings.{Meetings}
 use Rattle.audit.specs.declared.pairing.Kept.{Kept}
 use Rattle.audit.specs.declared.pairing.Pairing.{Pairing}
-use Rattle.audit.specs.Watching.{ComesAfter}
+use Rattle.trace.specs.Watching.{ComesAfter}
 use Rattle.audit.specs.Meetings.{HasMet, TellsParallel, Moves}
 use Rattle.audit.specs.Pairs.{IsPair, IsBefore, ArePairs}
 use Rattle.audit.specs.Pairing.{IsKept, IsAmong, AreKept, ArePairsTo, ArePairsWith, AddsPairs, HasPaired}

@@ -1,4 +1,4 @@
--- What is kept of the first records of a trace for the entries of a report.
+-- Private: what is kept of the first records of a trace for the entries of a report.
 use Rattle.std.specs.Prelude.{◌≡◌, ◌≢◌, ℕ, suc, ◌<◌, ◌≤◌, List, length, map, slice_get, Some}
 use Rattle.trace.specs.declared.records.Record.{Record}
 use Rattle.trace.specs.declared.records.Access.{Access}

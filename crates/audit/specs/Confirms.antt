@@ -1,4 +1,4 @@
--- Which entries of a report are races.
+-- Promised: which entries of a report are races.
 use Rattle.std.specs.Prelude.{◌≡◌, ℕ, suc, ◌<◌, List, slice_get, Some, All}
 use Rattle.trace.specs.declared.records.Record.{Record}
 use Rattle.trace.specs.Accesses.{RaceAt}

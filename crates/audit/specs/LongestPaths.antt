@@ -1,4 +1,4 @@
--- What measuring keeps of the first records of a trace: the longest paths in each active procedure.
+-- Private: what measuring keeps of the first records of a trace: the longest paths in each active procedure.
 use Rattle.std.specs.Prelude.{◌≡◌, ◌≢◌, ℕ, suc, ◌+◌, ◌<◌, ◌≤◌, max, List, [], ◌∷◌, ◌++◌, length, count_by, slice_get, Some, ◌⊎◌}
 use Rattle.trace.specs.declared.records.Record.{Record}
 use Rattle.trace.specs.declared.records.Record.TheVariants.{Spawn, Return, Sync, Read, Write}

@@ -1,4 +1,4 @@
--- What is kept of the active procedures, so that it shows where an earlier access and the next place meet.
+-- Private: what is kept of the active procedures, so that it shows where an earlier access and the next place meet.
 use Rattle.std.specs.Prelude.{◌≡◌, ℕ, suc, ◌<◌, ◌≤◌, ◌↔◌, Bool, true, List, ◌∷◌, ◌++◌, length, slice_get, Some, ◌⊎◌, []}
 use Rattle.trace.specs.declared.records.Record.{Record}
 use Rattle.trace.specs.declared.records.Record.TheVariants.{Spawn, Return, Sync, Read, Write}

@@ -1,4 +1,4 @@
--- What is kept of the first records of a trace, so as to list the races of one location.
+-- Private: what is kept of the first records of a trace, so as to list the races of one location.
 use Rattle.std.specs.Prelude.{◌≡◌, ℕ, suc, ◌<◌, ◌≤◌, ◌↔◌, List, length, slice_get, Some, ◌⊎◌, Contains, AllPairs}
 use Rattle.trace.specs.declared.records.Record.{Record}
 use Rattle.trace.specs.declared.records.Access.{Access}

@@ -1,4 +1,4 @@
--- The races of one location.
+-- Promised: the races of one location.
 use Rattle.std.specs.Prelude.{◌≡◌, ℕ, ◌<◌, ◌↔◌, List, ◌⊎◌, Contains, AllPairs}
 use Rattle.trace.specs.declared.records.Record.{Record}
 use Rattle.trace.specs.declared.records.Access.{Access}

@@ -9,10 +9,9 @@ ghost use Rattle.audit.specs.Confirming.{AreAscending, Stands, AnswersBy, entry_
 
 use crate::answers::Confirm;
 use crate::meetings::Meetings;
-use crate::watching::Watch;
 use collect::Report;
 use std::alloc::Global;
-use trace::{Access, Kind, NoMemory, Placed, Race, Record};
+use trace::{Access, Kind, NoMemory, Placed, Race, Record, Watch};
 
 /// How far an entry was found in the trace.
 #[derive(Clone, Copy)]
@@ -48,13 +47,10 @@ impl Confirming {
     pub(crate) fn new(alloc: Global, report: &Report) -> Result<Confirming, NoMemory>
         ensures { IfOk result (HasConfirmed report.now []) }
     {
-        match entries_of(alloc, report.races()) {
-            Ok(entries) => Ok(Confirming {
-                entries,
-                meetings: Meetings::new(alloc),
-            }),
-            Err(refused) => Err(refused),
-        }
+        Ok(Confirming {
+            entries: entries_of(alloc, report.races())?,
+            meetings: Meetings::new(alloc),
+        })
     }
 
     /// Takes an access of a location: there is one entry of it at most.
@@ -108,10 +104,7 @@ fn entries_of(alloc: Global, races: &[Race]) -> Result<Vec<Entry>, NoMemory>
         second: race.second,
         standing: Standing::Missing,
     });
-    match entries.collect(alloc) {
-        Ok(entries) => Ok(entries),
-        Err(_) => Err(NoMemory),
-    }
+    Ok(entries.collect(alloc)?)
 }
 
 /// The index of the entry on a location, if there is one.

@@ -13,7 +13,6 @@ mod meetings;
 mod pairing;
 #[cfg(test)]
 mod tests;
-mod watching;
 
 pub use answers::{Confirm, Measure};
 pub use confirms::confirm;

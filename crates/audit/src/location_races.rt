@@ -1,17 +1,11 @@
 //! All races of one location.
-ghost use Rattle.std.specs.Prelude.{◌≡◌, ℕ, List, Some, IfOk, IfErr};
-ghost use Rattle.trace.specs.declared.records.Record.{Record};
-ghost use Rattle.trace.specs.declared.faults.Fault.TheVariants.{NoMemory};
-ghost use Rattle.trace.specs.Traces.{IsWellNested};
-ghost use Rattle.trace.specs.Text.{text, AllFit};
-ghost use Rattle.trace.specs.Devices.{HasRisen};
-ghost use Rattle.trace.specs.Runs.{OfTrace, FailsBy};
+ghost use Rattle.trace.specs.Devices.{◌⇝◌};
+ghost use Rattle.trace.specs.Runs.{EndsReading, IsWantOfMemory};
 ghost use Rattle.audit.specs.Pairs.{ArePairs};
 
 use crate::pairing::Pairing;
-use crate::watching::read_to_end;
 use std::alloc::Global;
-use trace::{Access, Fault, Limits, Source};
+use trace::{Access, Fault, Limits, Source, read_to_end};
 
 /// Reads a trace to its end and lists all races of a location: by their second places, and those of one second place
 /// by their first places.
@@ -26,24 +20,18 @@ pub fn pairs<R: Source>(
     location: u64,
 ) -> Result<Vec<(Access, Access)>, Fault>
     // All bytes of the reader are the text of a trace that is well nested within the limits, and these are the races.
-    ensures pairs { IfOk result (λ ps. OfTrace limits.records limits.depth (R.rest reader.old) (R.rest reader.new) (λ w. ArePairs w location ps.items)) }
-    // Otherwise no memory was left, or the fault is the first.
-    ensures fault { IfErr result (FailsBy limits.records limits.depth (R.rest reader.old) (R.rest reader.new) (R.failures reader.old) (R.failures reader.new)) }
-    // Such a trace from a reader that doesn't fail is refused for want of memory alone.
-    ensures honest { (w : List Record) → R.rest reader.old ≡ Some (text w) → AllFit w → IsWellNested w limits.records limits.depth
-        → (HasRisen (R.failures reader.old) (R.failures reader.new) → ⊥) → IfErr result (λ f. f ≡ NoMemory) }
+    // Otherwise no memory was left, or the fault is the first; and where the reader holds such a trace and doesn't fail,
+    // no memory was left.
+    ensures { EndsReading IsWantOfMemory limits.records limits.depth (R.state reader.old ⇝ R.state reader.new)
+        (λ ps w. ArePairs w location ps.items) result }
 {
     let mut pairing = Pairing::new(alloc, location);
-    match read_to_end(limits, reader, &mut pairing) {
-        Ok(()) => {
-            let Pairing {
-                location: _,
-                meetings: _,
-                kept: _,
-                pairs,
-            } = pairing;
-            Ok(pairs)
-        }
-        Err(fault) => Err(fault),
-    }
+    read_to_end(limits, reader, &mut pairing)?;
+    let Pairing {
+        location: _,
+        meetings: _,
+        kept: _,
+        pairs,
+    } = pairing;
+    Ok(pairs)
 }

@@ -1,9 +1,9 @@
 //! What measuring keeps of a trace: the longest paths in each active procedure.
-ghost use Rattle.std.specs.Prelude.{◌≡◌, ◌∷◌, ◌++◌, ◌<◌, ◌≤◌, ◌^◌, ℕ, List, [], OnOk};
+ghost use Rattle.std.specs.Prelude.{◌≡◌, ◌∷◌, ◌++◌, ◌<◌, ◌≤◌, ℕ, List, [], OnOk};
+ghost use Rattle.trace.specs.Bounds.{most_records};
 
-use crate::watching::Watch;
 use std::alloc::Global;
-use trace::{NoMemory, Placed, Record};
+use trace::{NoMemory, Placed, Record, Watch};
 
 /// The longest paths in an active procedure, by their numbers of records: the one to the last record that it executed
 /// itself, or to the spawn that opened it, and the one to a return of a child that it hasn't waited for. A number is
@@ -19,8 +19,8 @@ impl Longest {
 
     /// The longest path to the next record of this procedure.
     fn through(self, what: Record) -> u64
-        requires own { self.own < 2 ^ 48 }
-        requires unjoined { self.unjoined < 2 ^ 48 }
+        requires own { self.own < most_records }
+        requires unjoined { self.unjoined < most_records }
         ensures { result ≡ through self what }
     {
         match what {
@@ -77,7 +77,7 @@ impl Measuring {
                     own: length,
                     unjoined: self.executing.unjoined,
                 };
-                self.waiting.push(parent).map_err(|_| NoMemory)?;
+                self.waiting.push(parent)?;
                 self.executing = Longest {
                     own: length,
                     unjoined: 0,

@@ -45,7 +45,7 @@ impl Meetings {
     {
         match placed.what {
             Record::Spawn => {
-                self.waiting.push(self.executing).map_err(|_| NoMemory)?;
+                self.waiting.push(self.executing)?;
                 self.executing = Active {
                     opened: placed.place,
                     synced: placed.place,

@@ -7,9 +7,8 @@ ghost use Rattle.trace.specs.Races.{access};
 ghost use Rattle.audit.specs.Pairing.{AddsPairs};
 
 use crate::meetings::Meetings;
-use crate::watching::Watch;
 use std::alloc::Global;
-use trace::{Access, Kind, NoMemory, Placed, Record};
+use trace::{Access, Kind, NoMemory, Placed, Record, Watch};
 
 /// An access of the location, and how deep the procedure lies that executed it.
 #[derive(Clone, Copy)]
@@ -52,9 +51,7 @@ impl Watch for Pairing {
         if let Some(access) = access_of(placed, self.location) {
             add_pairs(&self.meetings, &self.kept, access, &mut self.pairs)?;
             let depth = self.meetings.depth();
-            self.kept
-                .push(Kept { access, depth })
-                .map_err(|_| NoMemory)?;
+            self.kept.push(Kept { access, depth })?;
         }
         self.meetings.take(placed)
     }
@@ -73,7 +70,7 @@ fn add_pairs(
         if one_writes(first.access.kind, second.kind)
             && meetings.is_parallel(first.access.place, first.depth)
         {
-            pairs.push((first.access, second)).map_err(|_| NoMemory)?;
+            pairs.push((first.access, second))?;
         }
     }
     Ok(())

@@ -1,5 +1,5 @@
 -- Races put into an ascending list, each in the place of an earlier one on its location.
-use Rattle.std.proofs.Common.{◌≡◌, ℕ, ◌<◌, Bool, true, false, cond, eqb, List, [], ◌∷◌, Some, map, refl, arith, sym, ap, ◌∙◌, subst}
+use Rattle.std.proofs.Common.{◌≡◌, ℕ, ◌<◌, Bool, true, false, cond, eqb, List, [], ◌∷◌, Some, map, Result, Ok, Err, OnErr, refl, arith, sym, ap, ◌∙◌, subst}
 use Rattle.std.specs.BTreeMap.{insert_entry, is_at}
 use Rattle.std.specs.Cmp.{ranked}
 use Rattle.std.specs.List.{AllByRecursion}
@@ -14,6 +14,11 @@ use Rattle.collect.specs.Collected.{race_on}
 use Rattle.collect.specs.Keyed.{keyed, IsKeyed}
 use Rattle.collect.specs.Reports.{IsEntry, IsReportList}
 use Rattle.collect.proofs.Ascending.{Above, Above-trans, Ascends, Ascends-from_increasing, increasing_from_ascends}
+
+-- where it holds, it holds on an error
+pub on_err : {T E P : Type 0} (r : Result T E) → P → OnErr r P
+on_err (Ok x) p = tt
+on_err (Err e) p = p
 
 -- by the order of two locations: before the first race, in its place, or further on
 abbrev pub placed_at : Ordering → RaceAt → RaceAt → List RaceAt → List RaceAt → List RaceAt

@@ -4,6 +4,7 @@ pub mod Best
 pub mod Sorted
 pub mod FirstLeast
 pub mod Written
+pub mod Takings
 pub mod Unique
 pub mod Fronts
 pub mod Listed

@@ -1,8 +1,7 @@
 -- Lines that are written one after another.
-use Rattle.std.proofs.Common.{◌≡◌, ℕ, ◌+◌, ◌<◌, ◌≤◌, ◌^◌, List, [], ◌∷◌, ◌++◌, Option, Result, Ok, Err, length, take, drop, get_or, decimal, arith, sym, ap, ◌∙◌, subst, append_assoc, append-nil, take-append-drop}
+use Rattle.std.proofs.Common.{◌≡◌, ℕ, ◌+◌, ◌<◌, ◌≤◌, ◌^◌, List, [], ◌∷◌, ◌++◌, Option, length, take, drop, get_or, decimal, arith, sym, ap, ◌∙◌, subst, append_assoc, append-nil, take-append-drop}
 use Rattle.std.specs.Io.KnownBytes.{Appends}
 use Rattle.std.specs.List.{flat_map}
-use Rattle.std.specs.Result.{OnErr}
 use Rattle.std.proofs.KnownBytes.{Appends-trans}
 use Rattle.std.proofs.lemmas.Fmt.{length-decimal-le}
 use Rattle.std.proofs.lemmas.Grind.{flat_map-append}
@@ -12,10 +11,6 @@ use Rattle.trace.specs.Writers.{AppendsFront}
 -- a place has at most 15 digits
 pub length-decimal-place : (n : ℕ) → n ≤ 2 ^ 48 → length (decimal n) ≤ 15
 length-decimal-place n h = length-decimal-le 15 n (omega arith) (omega arith) (omega arith)
-
-pub OnErr-front : {T E : Type 0} (r : Result T E) (a b : Option (List ℕ)) (xs ys : List ℕ) → xs ≡ ys → AppendsFront a b xs → OnErr r (AppendsFront a b ys)
-OnErr-front (Ok x) a b xs ys e p = tt
-OnErr-front (Err x) a b xs ys e p = subst (AppendsFront a b) e p
 
 pub AppendsFront-more : (a b : Option (List ℕ)) (xs ys : List ℕ) → AppendsFront a b xs → AppendsFront a b (xs ++ ys)
 AppendsFront-more a b xs ys f = record {

@@ -1,4 +1,4 @@
--- What a collector keeps of the races that it was given.
+-- Promised: what a collector keeps of the races that it was given.
 use Rattle.std.specs.Prelude.{◌≡◌, ℕ, ◌<◌, ◌≤◌, Bool, false, List, ◌∷◌, ◌++◌, Contains, ◌↔◌, Option, Some, None, find, fold, ◌==◌, nat_lt, nat_le, if◌then◌else◌}
 use Rattle.std.specs.List.{AllByRecursion}
 use Rattle.std.specs.Option.{option_map_or}

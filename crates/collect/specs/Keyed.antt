@@ -1,4 +1,4 @@
--- Races by their locations, as a map keeps them.
+-- Private: races by their locations, as a map keeps them.
 use Rattle.std.specs.Prelude.{◌≡◌, ℕ, List, map}
 use Rattle.trace.specs.Accesses.{RaceAt}
 use Rattle.collect.specs.Reports.{IsReportList}

@@ -1,4 +1,4 @@
--- The first faulty line of bytes that should be the text of a report. Lines are counted from 1.
+-- Promised: the first faulty line of bytes that should be the text of a report. Lines are counted from 1.
 use Rattle.std.specs.Prelude.{◌≡◌, ◌≢◌, ℕ, ◌+◌, ◌<◌, ◌^◌, List, [], ◌∷◌, ◌++◌, length}
 use Rattle.trace.specs.Accesses.{RaceAt}
 use Rattle.collect.specs.declared.readers.ReportFault.{ReportFault}

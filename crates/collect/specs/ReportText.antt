@@ -1,4 +1,4 @@
--- The text of a report: a head line with the number of races, and a line for each race.
+-- Promised: the text of a report: a head line with the number of races, and a line for each race.
 use Rattle.std.specs.Prelude.{ℕ, List, ◌∷◌, ◌++◌, length, codes, decimal}
 use Rattle.std.specs.List.{flat_map}
 use Rattle.trace.specs.declared.records.Kind.{Kind}

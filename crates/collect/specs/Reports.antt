@@ -1,4 +1,4 @@
--- The lists of races that a report holds.
+-- Promised: the lists of races that a report holds.
 use Rattle.std.specs.Prelude.{ℕ, ◌-◌, ◌<◌, ◌^◌, Bool, true, List, length, map, slice_get, nat_lt}
 use Rattle.std.specs.Option.{option_map_or}
 use Rattle.std.specs.List.{AllByRecursion}

@@ -68,10 +68,8 @@ impl Collector {
         if self.refused {
             return Err(NoMemory);
         }
-        match self.kept.into_values().collect(self.alloc) {
-            Ok(races) => Ok(Report { races }),
-            Err(_) => Err(NoMemory),
-        }
+        let races = self.kept.into_values().collect(self.alloc)?;
+        Ok(Report { races })
     }
 
     fn keep(&mut self, race: Race) -> Result<(), NoMemory>
@@ -82,10 +80,8 @@ impl Collector {
         if self.has_better(&race) {
             return Ok(());
         }
-        match self.kept.insert(race.location, race) {
-            Ok(_) => Ok(()),
-            Err(_) => Err(NoMemory),
-        }
+        self.kept.insert(race.location, race)?;
+        Ok(())
     }
 
     // Whether the race that is kept of this location has a second place that is no later.

@@ -1,5 +1,6 @@
 //! A line of text that is built from its end, in a buffer on the stack.
-ghost use Rattle.std.specs.Prelude.{◌≡◌, ◌+◌, ◌<◌, ◌≤◌, ◌^◌, [], ◌∷◌, ◌++◌, length, decimal};
+ghost use Rattle.std.specs.Prelude.{◌≡◌, ◌+◌, ◌<◌, ◌≤◌, [], ◌∷◌, ◌++◌, length, decimal};
+ghost use Rattle.trace.specs.Bounds.{most_records};
 ghost use Rattle.trace.specs.Text.{newline};
 ghost use Rattle.collect.specs.ReportText.{told};
 
@@ -57,7 +58,7 @@ impl Line {
     }
 
     pub(crate) fn access(&mut self, access: Access)
-        requires place { access.place ≤ 2 ^ 48 }
+        requires place { access.place ≤ most_records }
         requires room { length self.old ≤ 49 }
         ensures text { self.new ≡ told access ++ self.old }
         ensures len { length self.new ≤ length self.old + 21 }

@@ -6,9 +6,11 @@ ghost use Rattle.trace.specs.Accesses.{RaceAt, IsRaceShape};
 ghost use Rattle.collect.specs.Reports.{IsEntry, IsReportList, may_follow};
 ghost use Rattle.collect.specs.ReportText.{space, word, told, head, race_line, rtext};
 ghost use Rattle.collect.specs.ReportFaults.{IsReportFault};
+ghost use Rattle.collect.specs.declared.readers.ReportFault.{ReportFault};
+ghost use Rattle.collect.specs.declared.readers.ReportFault.TheVariants as reports;
 
 use crate::reports::Report;
-use std::alloc::Global;
+use std::alloc::{AllocFailed, Global};
 use trace::{Access, Kind, Race, decimal_of};
 
 /// Why bytes gave no report.
@@ -18,6 +20,14 @@ pub enum ReportFault {
     Bad { line: u64 },
     /// A growth was refused.
     NoMemory,
+}
+
+impl<T: Drop> From<AllocFailed<T>> for ReportFault {
+    ghost from_gives = { λ _ fault. fault ≡ reports.NoMemory };
+
+    fn from(_: AllocFailed<T>) -> ReportFault {
+        ReportFault::NoMemory
+    }
 }
 
 /// Reads the text of a report.
@@ -39,9 +49,7 @@ pub fn read_report(alloc: Global, bytes: &[u8]) -> Result<Report, ReportFault>
                 line: line_after(races.as_slice(), size),
             });
         };
-        if races.push(race).is_err() {
-            return Err(ReportFault::NoMemory);
-        }
+        races.push(race)?;
         rest = after;
     }
     if rest.is_empty() {

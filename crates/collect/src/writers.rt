@@ -1,8 +1,7 @@
 //! The writer of a report's text. On a fault a beginning of the text was written.
-ghost use Rattle.std.specs.Prelude.{◌≡◌, OnOk, OnErr};
-ghost use Rattle.std.specs.Io.KnownBytes.{Appends};
-ghost use Rattle.trace.specs.Devices.{Counts};
-ghost use Rattle.trace.specs.Writers.{AppendsFront};
+ghost use Rattle.std.specs.Prelude.{◌≡◌};
+ghost use Rattle.trace.specs.Devices.{◌⇝◌};
+ghost use Rattle.trace.specs.Writers.{Puts};
 ghost use Rattle.collect.specs.ReportText.{head, race_line, rtext};
 
 use crate::lines::Line;
@@ -11,9 +10,7 @@ use trace::{Race, Sink, WriteFault, put_all};
 
 /// Writes the text of a report. It takes no memory.
 pub fn write_report<W: Sink>(report: &Report, sink: &mut W) -> Result<(), WriteFault>
-    ensures whole { OnOk result (Appends (W.held sink.old) (W.held sink.new) (rtext report.now)) }
-    ensures front { OnErr result (AppendsFront (W.held sink.old) (W.held sink.new) (rtext report.now)) }
-    ensures count { Counts result (W.failures sink.old) (W.failures sink.new) }
+    ensures { Puts result (rtext report.now) (W.state sink.old ⇝ W.state sink.new) }
 {
     let races = report.races();
     write_head(races.len() as u64, sink)?;
@@ -24,9 +21,7 @@ pub fn write_report<W: Sink>(report: &Report, sink: &mut W) -> Result<(), WriteF
 }
 
 fn write_head<W: Sink>(count: u64, sink: &mut W) -> Result<(), WriteFault>
-    ensures whole { OnOk result (Appends (W.held sink.old) (W.held sink.new) (head count)) }
-    ensures front { OnErr result (AppendsFront (W.held sink.old) (W.held sink.new) (head count)) }
-    ensures count { Counts result (W.failures sink.old) (W.failures sink.new) }
+    ensures { Puts result (head count) (W.state sink.old ⇝ W.state sink.new) }
 {
     let mut first = Line::end();
     first.number(count);
@@ -35,9 +30,7 @@ fn write_head<W: Sink>(count: u64, sink: &mut W) -> Result<(), WriteFault>
 }
 
 fn write_race<W: Sink>(race: &Race, sink: &mut W) -> Result<(), WriteFault>
-    ensures whole { OnOk result (Appends (W.held sink.old) (W.held sink.new) (race_line race.now)) }
-    ensures front { OnErr result (AppendsFront (W.held sink.old) (W.held sink.new) (race_line race.now)) }
-    ensures count { Counts result (W.failures sink.old) (W.failures sink.new) }
+    ensures { Puts result (race_line race.now) (W.state sink.old ⇝ W.state sink.new) }
 {
     let line = line_of(race);
     put_all(sink, line.as_bytes())

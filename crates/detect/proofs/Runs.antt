@@ -1,18 +1,17 @@
 -- Runs over the records of a trace: one more record, and the report at the end.
-use Rattle.std.proofs.Common.{◌≡◌, ◌≢◌, ◌↔◌, ℕ, suc, ◌+◌, List, [], ◌∷◌, ◌++◌, length, Option, refl, sym, ◌∙◌, ap, subst, arith, Result, Ok, Err, IfOk, OnOk}
+use Rattle.std.proofs.Common.{◌≡◌, ◌≢◌, ◌↔◌, ℕ, suc, ◌+◌, List, [], ◌∷◌, ◌++◌, ◌<◌, length, refl, sym, ◌∙◌, ap, subst, arith, length-append, Result, Ok, Err, IfOk, OnOk}
 use Rattle.std.proofs.lemmas.List.{append-nil}
-use Rattle.std.specs.Io.KnownBytes.{Consumes}
 use Rattle.std.specs.List.{AllByRecursion}
 use Rattle.shard.specs.declared.Back.{Back}
 use Rattle.shard.specs.declared.Back.TheVariants as backs
 use Rattle.trace.specs.declared.records.Record.{Record}
 use Rattle.trace.specs.declared.records.Placed.{Placed}
 use Rattle.trace.specs.Accesses.{RaceAt}
-use Rattle.trace.specs.Traces.{placed, placed_from}
-use Rattle.trace.specs.Feeding.{IsWhole}
+use Rattle.trace.specs.Traces.{placed, placed_from, IsWellNested}
+use Rattle.trace.specs.Watching.{ComesAfter}
 use Rattle.trace.specs.Races.{IsReport}
 use Rattle.bags.specs.Procedures.{Procedures}
-use Rattle.shadow.specs.Memory.{Memory, HaveSeen}
+use Rattle.shadow.specs.Memory.{Memory, HaveSeen, AreReadyFor}
 use Rattle.shadow.specs.Found.{start, found, put_in, by_location}
 use Rattle.shadow.proofs.FoundLaws.{Apart, found_from-apart}
 use Rattle.shadow.proofs.Headlines.{verdict_is_report, racy}
@@ -20,7 +19,8 @@ use Rattle.collect.specs.Collected.{Kept, Holds, IsCollected, best}
 use Rattle.collect.proofs.Best.{races_of-append, fails-push_race}
 use Rattle.collect.proofs.Sorted.{AreApart, NoneOn, collected_is_sorted}
 use Rattle.detect.specs.Dag.{HasRace, HasLocation}
-use Rattle.detect.specs.Runs.{HasDetected, Reports}
+use Rattle.detect.specs.Reported.{IsReportOf}
+use Rattle.detect.specs.Runs.{HasDetected, HasFollowed}
 
 -- the records of a list that is longer by one
 pub placed-push : (i : ℕ) (w : List Record) (r : Record) → placed_from i (w ++ r ∷ []) ≡ placed_from i w ++ record { place = i + length w; what = r } ∷ []
@@ -60,10 +60,11 @@ pub reported : (u : List Placed) (bags : Procedures) (m : Memory) (c : Kept) (rs
 reported u bags m c rs h collected =
     collected_is_sorted put_in by_location (λ r. refl) (λ r s ss. refl) refl (λ r ss. refl) h.given rs (found u) (collected h.given h.holds) (apart (found u) (found_from-apart start u)) (λ l. ap (best l) h.races)
 
--- the end of a run
-pub reports : (records depths : ℕ) (before after : Option (List ℕ)) (w : List Record) (came : List ℕ) (rs : List RaceAt) → Consumes before after came → IsWhole records depths w came after → rs ≡ by_location (found (placed w)) → Reports records depths before after rs
-reports records depths before after w came rs consumed whole is =
-    record { came = came; consumed = consumed; trace = w; whole = whole; is_verdict = is; is_report = subst (IsReport w) (sym is) (verdict_is_report w whole.well_nested); racy = λ l. let P : List RaceAt → Type 0 = λ xs. HasRace w l ↔ HasLocation xs l in subst P (sym is) (racy w whole.well_nested l) }
+-- the report of a trace by the races found in it
+pub report_of : (w : List Record) {records depths : ℕ} (rs : List RaceAt) → IsWellNested w records depths → rs ≡ by_location (found (placed w)) → IsReportOf w rs
+report_of w rs nested is =
+    let P : List RaceAt → Type 0 = λ xs. IsReport w xs in
+    record { is_verdict = is; is_report = subst P (sym is) (verdict_is_report w nested); racy = λ l. let Q : List RaceAt → Type 0 = λ xs. HasRace w l ↔ HasLocation xs l in subst Q (sym is) (racy w nested l) }
 
 pub reported_if : {E : Type 0} (u : List Placed) (bags : Procedures) (m : Memory) (c : Kept) (r : Result (List RaceAt) E) → HasDetected u bags m c → IfOk r (λ rs. (g : List Back) → Holds g c → IsCollected g rs) → IfOk r (λ rs. rs ≡ by_location (found u))
 reported_if u bags m c (Ok rs) h collected = reported u bags m c rs h collected
@@ -80,3 +81,22 @@ pub placed-next : (w : List Record) (p : Placed) → p.place ≡ length w + 1 �
 placed-next w p is =
     let e : 1 + length w ≡ p.place = omega arith in
     placed-push 1 w p.what ∙ ap (λ n. placed w ++ record { place = n; what = p.what } ∷ []) e
+
+-- one record more of the trace
+pub followed_more : (u : List Record) (p : Placed) (bags bags' : Procedures) (m m' : Memory) (c c' : Kept) → ComesAfter u p → ((next : ℕ) → p.place < next → AreReadyFor bags' m' next) → (HasDetected (placed u) bags m c → HasDetected (placed u ++ p ∷ []) bags' m' c')
+    → HasFollowed u bags m c → HasFollowed (u ++ p.what ∷ []) bags' m' c'
+followed_more u p bags bags' m m' c c' after ready detects h =
+    let P : List Placed → Type 0 = λ v. HasDetected v bags' m' c' in
+    record {
+      detected = subst P (sym (placed-next u p after.place_is)) (detects h.detected);
+      ready = ready _ (omega (arith, after.place_is, length-append u (p.what ∷ [])));
+    }
+
+pub followed_if : (F : Type 0) {T E : Type 0} (p : Placed) (bags bags' : Procedures) (m m' : Memory) (c c' : Kept) (o : Result T E) → ((next : ℕ) → p.place < next → AreReadyFor bags' m' next) → OnOk o ((u : List Placed) → HasDetected u bags m c → HasDetected (u ++ p ∷ []) bags' m' c')
+    → OnOk o ((first : F) (u : List Record) → HasFollowed u bags m c → ComesAfter u p → HasFollowed (u ++ p.what ∷ []) bags' m' c')
+followed_if F p bags bags' m m' c c' (Ok t) ready detects = λ first u h after. followed_more u p bags bags' m m' c c' after ready (detects (placed u)) h
+followed_if F p bags bags' m m' c c' (Err e) ready detects = tt
+
+-- the next record may come
+pub ready_at : (u : List Record) (p : Placed) (bags : Procedures) (m : Memory) (c : Kept) → HasFollowed u bags m c → ComesAfter u p → AreReadyFor bags m p.place
+ready_at u p bags m c h after = subst (AreReadyFor bags m) (sym after.place_is) h.ready

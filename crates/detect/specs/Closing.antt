@@ -1,4 +1,4 @@
--- What the workers and the receipts say, lane by lane.
+-- Private: what the workers and the receipts say, lane by lane.
 use Rattle.std.specs.Prelude.{◌≡◌, ℕ, true, List, [], length, map, slice_index_or}
 use Rattle.trace.specs.declared.records.Placed.{Placed}
 use Rattle.lane.specs.declared.item.Item.{Item}

@@ -1,4 +1,4 @@
--- What is said of the accesses and races of a well nested trace.
+-- Promised: what is said of the accesses and races of a well nested trace.
 use Rattle.std.specs.Prelude.{◌≡◌, ℕ, ◌<◌, ◌≤◌, ◌↔◌, List, map, Some, Contains}
 use Rattle.std.specs.List.Sorted.{IsStrictlyIncreasing}
 use Rattle.trace.specs.declared.records.Record.{Record}

@@ -1,18 +1,21 @@
--- What a run among its workers has come to.
-use Rattle.std.specs.Prelude.{◌≡◌, ℕ, ◌<◌, List, length, map, None, Option, MatchResult}
+-- Private: what a run among its workers has come to.
+use Rattle.std.specs.Prelude.{◌≡◌, ℕ, ◌<◌, List, length, map, None}
+use Rattle.trace.specs.declared.records.Record.{Record}
+use Rattle.trace.specs.Traces.{placed}
+use Rattle.trace.specs.Devices.{Change}
+use Rattle.trace.specs.Runs.{EndsReading, IsWantOfMemoryOrThread}
 use Rattle.lane.specs.Lanes.{LaneId}
-use Rattle.route.specs.Routers.{lanes_of, lane_count, pending_of, marked_of}
+use Rattle.route.specs.Routers.{lanes_of, lane_count, pending_of, marked_of, HasSent}
 use Rattle.detect.specs.declared.made.Done.{Done}
 use Rattle.detect.specs.Gathered.{given_by}
 use Rattle.detect.specs.Gatherings.{back_lanes, HasEnded, IsGathered}
-use Rattle.detect.specs.Sent.{HasSentAll, FailsInRun}
 use Rattle.detect.specs.Working.{AllDid}
 use Rattle.detect.specs.Closing.{taker_lanes, told_lanes}
 
 module _ {S H : Type 0} where
   -- the trace was sent whole and the marks after it; n workers have done their work, and all they told came
-  pub record IsFinished (n records depths : ℕ) (before after : Option (List ℕ)) (done : Done S H) : Type 0 where
-    pub sent : HasSentAll records depths before after done.router
+  pub record IsFinished (n : ℕ) (done : Done S H) (w : List Record) : Type 0 where
+    pub sent : HasSent (placed w) done.router
     pub count : lane_count done.router ≡ n
     pub idle : pending_of done.router ≡ None
     pub marked : marked_of done.router ≡ n
@@ -31,5 +34,6 @@ module _ {S H : Type 0} where
     pub to_shards : taker_lanes done.workers.items ≡ lanes_of done.router
     pub from_shards : told_lanes done.workers.items ≡ back_lanes done.gathering
 
-  abbrev pub IsDone : ℕ → ℕ → ℕ → Option (List ℕ) → Option (List ℕ) → ℕ → ℕ → Done S H → Type 0
-  IsDone n records depths before after count count' done = MatchResult done.outcome (λ _. IsFinished n records depths before after done) (FailsInRun records depths before after count count')
+  -- reading ended well, and so did all n workers; or the fault is why it didn't
+  abbrev pub IsDone : ℕ → ℕ → ℕ → Change → Done S H → Type 0
+  IsDone n records depths change done = EndsReading IsWantOfMemoryOrThread records depths change (λ _. IsFinished n done) done.outcome

@@ -1,4 +1,4 @@
--- What the shards have handed back, lane by lane, and what a collector holds of it.
+-- Private: what the shards have handed back, lane by lane, and what a collector holds of it.
 use Rattle.std.specs.Prelude.{◌≡◌, ℕ, ◌+◌, ◌%◌, Bool, false, List, [], ◌∷◌, ◌++◌, length, map, slice_index_or, slice_set, ⊤}
 use Rattle.std.specs.List.{AllByRecursion}
 use Rattle.shard.specs.declared.Back.{Back}

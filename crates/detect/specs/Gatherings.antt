@@ -1,4 +1,4 @@
--- How what came over the lanes back may go on.
+-- Private: how what came over the lanes back may go on.
 use Rattle.std.specs.Prelude.{◌≡◌, ℕ, true, List, [], map, slice_index_or, vec_len}
 use Rattle.lane.specs.Items.{has_mark}
 use Rattle.lane.specs.Lanes.{LaneId, taker_lane}

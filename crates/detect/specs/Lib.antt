@@ -1,4 +1,5 @@
 pub mod Dag
+pub mod Reported
 pub mod Runs
 pub mod Gathered
 pub mod Gatherings

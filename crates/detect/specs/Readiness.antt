@@ -1,4 +1,4 @@
--- What a run begins with.
+-- Private: what a run begins with.
 use Rattle.std.specs.Prelude.{◌≡◌, ℕ, ◌≤◌, [], length, map, None, vec_len, vec_capacity}
 use Rattle.std.specs.List.{All, AllByRecursion}
 use Rattle.lane.specs.Lanes.{lane_of, put_of, taken_of, taker_lane}

@@ -1,4 +1,4 @@
--- Room for what a run answers of each shard.
+-- Private: room for what a run answers of each shard.
 use Rattle.std.specs.Prelude.{◌≡◌, ℕ, ◌≤◌, vec_len, vec_capacity}
 use Rattle.detect.specs.declared.made.Lists.{Lists}
 

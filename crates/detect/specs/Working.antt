@@ -1,4 +1,4 @@
--- What the workers are given, and what they have done.
+-- Private: what the workers are given, and what they have done.
 use Rattle.std.specs.Prelude.{◌≡◌, List, [], ◌∷◌, map, ⊤}
 use Rattle.std.specs.List.{AllByRecursion}
 use Rattle.trace.specs.declared.records.Placed.{Placed}

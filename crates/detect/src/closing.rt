@@ -1,10 +1,13 @@
 //! The answer of a run.
-ghost use Rattle.std.specs.Prelude.{◌≡◌, ◌≤◌, ◌^◌, ℕ, List, Option, Err, OnOk, IsTrue, IsFalse, map, vec_len};
+ghost use Rattle.std.specs.Prelude.{◌≡◌, ◌≤◌, ℕ, Err, OnOk, IsTrue, IsFalse, map, vec_len};
+ghost use Rattle.trace.specs.Bounds.{most_records};
 ghost use Rattle.trace.specs.declared.faults.Fault.TheVariants.{NoMemory};
+ghost use Rattle.trace.specs.Devices.{Change};
+ghost use Rattle.trace.specs.Runs.{EndsReading, IsWantOfMemoryOrThread};
 ghost use Rattle.lane.specs.Lanes.{taken_of};
 ghost use Rattle.detect.specs.Closing.{taken_by, counts_of};
 ghost use Rattle.detect.specs.Finished.{IsClosed, IsDone};
-ghost use Rattle.detect.specs.Ran.{IsAnswer};
+ghost use Rattle.detect.specs.Ran.{RunAnswers};
 ghost use Rattle.detect.specs.Rooms.{HasRoom};
 
 use crate::made::{Done, Lists};
@@ -19,7 +22,8 @@ use trace::Fault;
 pub(crate) fn close<S: BuildHasher + Drop>(done: Done<S>, lists: Lists) -> Result<Run, Fault>
     requires room { OnOk done.outcome (HasRoom (vec_len done.workers) lists) }
     requires closed { OnOk done.outcome (IsClosed done) }
-    ensures { (n records depths : ℕ) (before after : Option (List ℕ)) (count count' : ℕ) → 1 ≤ n → records ≤ 2 ^ 48 → IsDone n records depths before after count count' done → IsAnswer n records depths before after count count' result }
+    ensures { (n records depths : ℕ) (change : Change) → 1 ≤ n → records ≤ most_records → IsDone n records depths change done
+        → EndsReading IsWantOfMemoryOrThread records depths change (RunAnswers n) result }
 {
     let Done {
         outcome,
@@ -31,10 +35,8 @@ pub(crate) fn close<S: BuildHasher + Drop>(done: Done<S>, lists: Lists) -> Resul
     let mut ends = router.into_ends();
     settle_shards(&mut workers, &mut ends);
     settle_backs(&mut workers, &mut gathering.backs);
-    match gathering.collector.finish() {
-        Ok(report) => Ok(told(report, workers, lists)),
-        Err(_) => Err(Fault::NoMemory),
-    }
+    let report = gathering.collector.finish()?;
+    Ok(told(report, workers, lists))
 }
 
 // Want of memory comes before a refused start and before a fault of the trace.

@@ -1,5 +1,6 @@
 //! What a run needs, all of it made before a worker is started or a byte is read.
 ghost use Rattle.std.specs.Prelude.{◌≡◌, ℕ, ◌+◌, ◌≤◌, vec_len, vec_capacity, IfOk, OnOk};
+ghost use Rattle.trace.specs.Bounds.{IsShardCount, IsCapacity};
 ghost use Rattle.detect.specs.Readiness.{IsReady, IsTied};
 ghost use Rattle.detect.specs.Rooms.{HasRoom};
 ghost use Rattle.lane.specs.declared.ends.TheConstants.{BLOCK};
@@ -21,8 +22,8 @@ pub(crate) fn make<S: BuildHasher + Drop>(
     capacity: u32,
     hashers: Vec<S>,
 ) -> Result<Made<S>, NoMemory>
-    requires capacity { (1 ≤ capacity) × (capacity ≤ 65536) }
-    requires shards { (1 ≤ vec_len hashers) × (vec_len hashers ≤ 64) }
+    requires capacity { IsCapacity capacity }
+    requires shards { IsShardCount (vec_len hashers) }
     ensures { IfOk result (IsReady (vec_len hashers)) }
 {
     let count = hashers.len();
@@ -61,8 +62,8 @@ fn make_ends<S: BuildHasher + Drop>(
     capacity: usize,
     hashers: Vec<S>,
 ) -> Result<Ends<S>, NoMemory>
-    requires capacity { (1 ≤ capacity) × (capacity ≤ 65536) }
-    requires shards { (1 ≤ vec_len hashers) × (vec_len hashers ≤ 64) }
+    requires capacity { IsCapacity capacity }
+    requires shards { IsShardCount (vec_len hashers) }
     ensures { IfOk result (IsTied (vec_len hashers)) }
 {
     let mut ends = Ends {
@@ -87,17 +88,17 @@ fn add_shard<S: BuildHasher + Drop>(
     hasher: S,
     ends: &mut Ends<S>,
 ) -> Result<(), NoMemory>
-    requires capacity { (1 ≤ capacity) × (capacity ≤ 65536) }
+    requires capacity { IsCapacity capacity }
     requires shards { 1 ≤ shards }
     ensures { OnOk result ((n : ℕ) → IsTied n ends.old → IsTied (n + 1) ends.new) }
 {
     let shard = Shard::of_shards(alloc, index, shards, hasher)?;
     let (sender, taker) = lane(alloc, capacity)?;
     let (back, gatherer) = lane(alloc, capacity)?;
-    ends.senders.push(sender).map_err(|_| NoMemory)?;
-    ends.backs.push(gatherer).map_err(|_| NoMemory)?;
-    let job = Job { shard, taker, back };
-    ends.jobs.push(job).map_err(|_| NoMemory)
+    ends.senders.push(sender)?;
+    ends.backs.push(gatherer)?;
+    ends.jobs.push(Job { shard, taker, back })?;
+    Ok(())
 }
 
 /// Room for what a run answers of so many shards.
@@ -113,5 +114,5 @@ pub(crate) fn make_lists(alloc: Global, count: usize) -> Result<Lists, NoMemory>
 fn with_room<X: Drop>(alloc: Global, count: usize) -> Result<Vec<X>, NoMemory>
     ensures { IfOk result (λ v. (vec_len v ≡ 0) × (count ≤ vec_capacity v)) }
 {
-    Vec::with_capacity(alloc, count).map_err(|_| NoMemory)
+    Ok(Vec::with_capacity(alloc, count)?)
 }

@@ -1,5 +1,6 @@
 //! How a run is divided, and its limits.
 ghost use Rattle.std.specs.Prelude.{◌≡◌, ◌≤◌};
+ghost use Rattle.trace.specs.Bounds.{IsShardCount, IsCapacity};
 
 use trace::Limits;
 
@@ -9,15 +10,15 @@ pub struct Plan {
     pub(crate) shards: u32,
     pub(crate) capacity: u32,
     pub(crate) limits: Limits,
-    ghost shards_within: { (1 ≤ shards) × (shards ≤ 64) },
-    ghost capacity_within: { (1 ≤ capacity) × (capacity ≤ 65536) },
+    ghost shards_within: { IsShardCount shards },
+    ghost capacity_within: { IsCapacity capacity },
 }
 
 impl Plan {
     /// A plan for 1 to 64 shards, with lanes that hold 1 to 65536 items, the mark being one.
     pub fn new(shards: u32, capacity: u32, limits: Limits) -> Plan
-        requires shards { (1 ≤ shards) × (shards ≤ 64) }
-        requires capacity { (1 ≤ capacity) × (capacity ≤ 65536) }
+        requires shards { IsShardCount shards }
+        requires capacity { IsCapacity capacity }
         ensures shards { result.shards ≡ shards }
         ensures capacity { result.capacity ≡ capacity }
         ensures limits { result.limits ≡ limits }

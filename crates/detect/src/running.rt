@@ -1,16 +1,17 @@
 //! A run among its workers: they are started, the trace is read and sent, and they are joined.
 ghost use Rattle.std.specs.Prelude.{vec_len};
+ghost use Rattle.trace.specs.Devices.{◌⇝◌};
 ghost use Rattle.detect.specs.Readiness.{IsReady};
 ghost use Rattle.detect.specs.Finished.{IsDone};
 
 use crate::made::{Done, Made};
 use crate::sending::{mark_all, send_all};
-use crate::workers::{NoThread, join_all, start_all};
+use crate::workers::{join_all, start_all};
 use shard::Gate;
 use std::hash::BuildHasher;
 use std::sync::Wait;
 use std::thread::{Scope, Threads};
-use trace::{Fault, Limits, Source};
+use trace::{Limits, Source};
 
 /// Starts the workers, reads the trace and sends it, and joins all workers that were started. After a
 /// refused start nothing is read. Nothing here takes memory but the collector.
@@ -32,7 +33,7 @@ pub(crate) fn run<
 where
     S::Hasher: Send,
     requires { IsReady (vec_len made.jobs) made }
-    ensures { IsDone (vec_len made.jobs) limits.records limits.depth (R.rest reader.old) (R.rest reader.new) (R.failures reader.old) (R.failures reader.new) result }
+    ensures { IsDone (vec_len made.jobs) limits.records limits.depth (R.state reader.old ⇝ R.state reader.new) result }
 {
     let Made {
         mut router,
@@ -44,7 +45,7 @@ where
     } = made;
     let outcome = match start_all(rt, scope, gate, jobs, &mut handles) {
         Ok(()) => send_all(rt, limits, reader, &mut router, &mut batch, &mut gathering),
-        Err(NoThread) => Err(Fault::NoThread),
+        Err(refused) => Err(refused),
     };
     mark_all(rt, &mut router, &mut gathering);
     gathering.finish_lanes(rt, handles.len());

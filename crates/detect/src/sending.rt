@@ -1,11 +1,13 @@
 //! From the reader to the shards: records are sent, and at last the marks.
-ghost use Rattle.std.specs.Prelude.{◌≡◌, ◌≤◌, ◌++◌, ◌∷◌, [], List, IfErr, OnOk};
+ghost use Rattle.std.specs.Prelude.{◌≡◌, ◌≤◌, ◌++◌, ◌∷◌, [], List};
 ghost use Rattle.trace.specs.declared.records.Placed.{Placed};
+ghost use Rattle.trace.specs.Traces.{placed};
+ghost use Rattle.trace.specs.Devices.{◌⇝◌};
+ghost use Rattle.trace.specs.Runs.{EndsReading, IsWantOfMemory};
 ghost use Rattle.route.specs.Batches.{batch_lanes, longest_of, most_of, HasStaged, IsUnsent};
 ghost use Rattle.route.specs.Routers.{lane_count, pending_of, marked_of, HasSent, IsOnLanes};
 ghost use Rattle.detect.specs.Gatherings.{IsFurther};
-ghost use Rattle.trace.specs.Runs.{FailsBy};
-ghost use Rattle.detect.specs.Sent.{HasSentAll, HasSentBut};
+ghost use Rattle.detect.specs.Sent.{HasSentBut};
 
 use crate::gathering::Gathering;
 use route::{Batch, Progress, Router};
@@ -27,8 +29,8 @@ pub(crate) fn send_all<T: Wait, R: Source>(
     requires batch { batch_lanes batch.old ≡ lane_count router.old }
     requires empty { HasStaged [] batch.old }
     requires unsent { IsUnsent batch.old }
-    ensures sent { OnOk result (HasSentAll limits.records limits.depth (R.rest reader.old) (R.rest reader.new) router.new) }
-    ensures fault { IfErr result (FailsBy limits.records limits.depth (R.rest reader.old) (R.rest reader.new) (R.failures reader.old) (R.failures reader.new)) }
+    ensures sent { EndsReading IsWantOfMemory limits.records limits.depth (R.state reader.old ⇝ R.state reader.new)
+        (λ _ w. HasSent (placed w) router.new) result }
     ensures idle { pending_of router.new ≡ None }
     ensures unmarked { marked_of router.new ≡ 0 }
     ensures lanes { IsOnLanes router.old router.new }
@@ -41,10 +43,9 @@ pub(crate) fn send_all<T: Wait, R: Source>(
             None => {
                 // The reader may have to wait for the source, and the shards aren't to wait for it.
                 send_batch(rt, router, gathering, batch);
-                match intake.next_from(reader) {
-                    Err(fault) => return Err(fault),
-                    Ok(None) => return Ok(()),
-                    Ok(Some(placed)) => send(rt, router, gathering, batch, placed),
+                match intake.next_from(reader)? {
+                    None => return Ok(()),
+                    Some(placed) => send(rt, router, gathering, batch, placed),
                 }
             }
         }

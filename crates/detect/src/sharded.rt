@@ -1,14 +1,10 @@
 //! Detection with a thread a shard.
-ghost use Rattle.std.specs.Prelude.{◌≡◌, List, Some, IfOk, IfErr, vec_len, ◌⊎◌};
-ghost use Rattle.trace.specs.declared.records.Record.{Record};
-ghost use Rattle.trace.specs.declared.faults.Fault.TheVariants.{NoMemory, NoThread};
-ghost use Rattle.trace.specs.Traces.{IsWellNested};
-ghost use Rattle.trace.specs.Text.{text, AllFit};
-ghost use Rattle.trace.specs.Devices.{HasRisen};
-ghost use Rattle.detect.specs.Sent.{FailsInRun};
+ghost use Rattle.std.specs.Prelude.{◌≡◌, vec_len};
+ghost use Rattle.trace.specs.Devices.{◌⇝◌};
+ghost use Rattle.trace.specs.Runs.{EndsReading, IsWantOfMemoryOrThread};
 ghost use Rattle.detect.specs.Readiness.{IsReady};
 ghost use Rattle.detect.specs.Finished.{IsDone};
-ghost use Rattle.detect.specs.Ran.{RunReports};
+ghost use Rattle.detect.specs.Ran.{RunAnswers};
 
 use crate::closing::close;
 use crate::made::Done;
@@ -56,25 +52,19 @@ where
     requires { vec_len hashers ≡ plan.shards }
     // All bytes of the reader are the text of a trace that is well nested within the limits. The report is
     // the verdict on it, which is its report by the dag, and each shard took its share of it.
-    ensures report { IfOk result (RunReports plan.shards plan.limits.records plan.limits.depth (R.rest reader.old) (R.rest reader.new)) }
-    // Otherwise no memory was left, no thread could be started, or the fault is the first.
-    ensures fault { IfErr result (FailsInRun plan.limits.records plan.limits.depth (R.rest reader.old) (R.rest reader.new) (R.failures reader.old) (R.failures reader.new)) }
-    // Such a trace from a reader that doesn't fail is refused for want of memory or of a thread alone.
-    ensures honest { (w : List Record) → R.rest reader.old ≡ Some (text w) → AllFit w → IsWellNested w plan.limits.records plan.limits.depth
-        → (HasRisen (R.failures reader.old) (R.failures reader.new) → ⊥) → IfErr result (λ f. (f ≡ NoMemory) ⊎ (f ≡ NoThread)) }
+    // Otherwise no memory was left, no thread could be started, or the fault is the first; and where the reader
+    // holds such a trace and doesn't fail, it is one of the former two.
+    ensures { EndsReading IsWantOfMemoryOrThread plan.limits.records plan.limits.depth (R.state reader.old ⇝ R.state reader.new)
+        (RunAnswers plan.shards) result }
 {
-    let Ok(lists) = make_lists(alloc, hashers.len()) else {
-        return Err(Fault::NoMemory);
-    };
-    let Ok(made) = make(alloc, plan.capacity, hashers) else {
-        return Err(Fault::NoMemory);
-    };
+    let lists = make_lists(alloc, hashers.len())?;
+    let made = make(alloc, plan.capacity, hashers)?;
     let (done, _read) = thread::scope(
         thread::scope_env(),
         rt,
         move |scope| -> (Done<S>, &mut R)
             requires { IsReady (vec_len made.jobs) made }
-            ensures done { IsDone (vec_len made.jobs) plan.limits.records plan.limits.depth (R.rest reader.entry.now) (R.rest result.1.now) (R.failures reader.entry.now) (R.failures result.1.now) result.0 }
+            ensures done { IsDone (vec_len made.jobs) plan.limits.records plan.limits.depth (R.state reader.entry.now ⇝ R.state result.1.now) result.0 }
             ensures reader { result.1.ghost_name ≡ reader.entry.ghost_name }
         {
             let done = run(rt, scope, plan.limits, &mut *reader, gate, made);

@@ -1,5 +1,6 @@
 //! The workers: each is started in the scope of the run, and joined at its end.
-ghost use Rattle.std.specs.Prelude.{◌≡◌, ◌≤◌, ℕ, map, vec_len, vec_capacity, IfOk, OnOk};
+ghost use Rattle.std.specs.Prelude.{◌≡◌, ◌≤◌, ℕ, map, vec_len, vec_capacity, IfErr, OnOk, MatchResult};
+ghost use Rattle.trace.specs.declared.faults.Fault.TheVariants.{NoThread};
 ghost use Rattle.detect.specs.Working.{IsNewJob, AllNew, job_lanes, handle_lanes, DidOn, AllDid};
 
 use crate::jobs::{Job, WorkOf};
@@ -8,9 +9,7 @@ use std::hash::BuildHasher;
 use std::snapshot::Snapshot;
 use std::sync::Wait;
 use std::thread::{PromisedHandle, Scope, Threads};
-
-/// That a thread couldn't be started.
-pub(crate) struct NoThread;
+use trace::Fault;
 
 /// Starts a worker on each job; the handles stand in the order of the jobs. After a refused start the
 /// jobs that are left are dropped.
@@ -20,20 +19,19 @@ pub(crate) fn start_all<'s, E, T: Wait + Sync, G: Gate + Sync, S: BuildHasher + 
     gate: &'s G,
     jobs: Vec<Job<S>>,
     handles: &mut Vec<PromisedHandle<Worked<S>, WorkOf>>,
-) -> Result<(), NoThread>
+) -> Result<(), Fault>
 where
     S::Hasher: Send,
     requires new { AllNew jobs.items }
     requires none { vec_len handles.old ≡ 0 }
     requires room { vec_len jobs ≤ vec_capacity handles.old }
     ensures started { OnOk result (map handle_lanes handles.new.items ≡ map job_lanes jobs.items) }
+    ensures refused { IfErr result (λ fault. fault ≡ NoThread) }
     ensures most { vec_len handles.new ≤ vec_len jobs }
 {
     for job in jobs {
-        match start(rt, scope, gate, job) {
-            Ok(handle) => handles.push_reserved(handle),
-            Err(refused) => return Err(refused),
-        }
+        let handle = start(rt, scope, gate, job)?;
+        handles.push_reserved(handle);
     }
     Ok(())
 }
@@ -43,11 +41,11 @@ fn start<'s, E, T: Wait + Sync, G: Gate + Sync, S: BuildHasher + Send + Drop + '
     scope: &Scope<'s, E>,
     gate: &'s G,
     job: Job<S>,
-) -> Result<PromisedHandle<Worked<S>, WorkOf>, NoThread>
+) -> Result<PromisedHandle<Worked<S>, WorkOf>, Fault>
 where
     S::Hasher: Send,
     requires { IsNewJob job }
-    ensures { IfOk result (λ handle. handle_lanes handle ≡ job_lanes job) }
+    ensures { MatchResult result (λ handle. handle_lanes handle ≡ job_lanes job) (λ fault. fault ≡ NoThread) }
 {
     let Job { shard, taker, back } = job;
     let promise = WorkOf {
@@ -56,7 +54,7 @@ where
     };
     scope
         .spawn_with(promise, move || work(rt, shard, taker, back, gate))
-        .map_err(|_| NoThread)
+        .map_err(|_| Fault::NoThread)
 }
 
 /// Joins the workers; what they answer stands in the order of the handles.

@@ -1,15 +1,17 @@
 //! How the tests detect: from a reader that hands out pieces, to the report's text or the fault.
 ghost use Rattle.std.specs.Prelude.{◌≡◌, ◌≤◌, None, IfOk, vec_len};
-ghost use Rattle.detect.specs.Ran.{IsAnswer};
+ghost use Rattle.trace.specs.Devices.{◌⇝◌};
+ghost use Rattle.trace.specs.Runs.{EndsReading, IsWantOfMemoryOrThread};
+ghost use Rattle.detect.specs.Ran.{RunAnswers};
 
 use crate::{Plan, Run, detect, detect_plain};
 use collect::{Report, write_report};
 use shard::{Gate, Open};
-use std::alloc::{AllocError, Global};
+use std::alloc::Global;
 use std::hash::{BuildHasherDefault, FoldHasher};
 use std::sync::Wait;
 use std::thread::Threads;
-use trace::{Counted, Failed, Fault, Limits, Source};
+use trace::{Counted, Failed, Fault, Limits, NoMemory, Source};
 
 pub type Hasher = BuildHasherDefault<FoldHasher>;
 
@@ -21,9 +23,7 @@ pub struct Pieces<'a> {
 }
 
 impl<'a> Source for Pieces<'a> {
-    ghost rest = { λ _. None };
-
-    ghost failures = { λ s. 0 };
+    ghost state = { λ _. record { bytes = None; failures = 0 } };
 
     fn get(&mut self, buffer: &mut [u8]) -> Result<usize, Failed> {
         let count = self.size.min(self.bytes.len()).min(buffer.len());
@@ -56,12 +56,10 @@ pub fn run_from<T: Threads + Wait + Sync, R: Source, G: Gate + Sync>(
     gate: &G,
 ) -> Result<Run, Fault>
     requires { (1 ≤ shards) × (shards ≤ 64) }
-    ensures { IsAnswer shards limits.records limits.depth (R.rest reader.old) (R.rest reader.new)
-        (R.failures reader.old) (R.failures reader.new) result }
+    ensures { EndsReading IsWantOfMemoryOrThread limits.records limits.depth (R.state reader.old ⇝ R.state reader.new)
+        (RunAnswers shards) result }
 {
-    let Ok(hashers) = hashers(alloc, shards) else {
-        return Err(Fault::NoMemory);
-    };
+    let hashers = hashers(alloc, shards)?;
     detect(
         rt,
         alloc,
@@ -86,7 +84,7 @@ pub fn run<T: Threads + Wait + Sync>(
     run_from(rt, alloc, shards, limits, &mut pieces, &Open)
 }
 
-fn hashers(alloc: Global, count: u32) -> Result<Vec<Hasher>, AllocError>
+fn hashers(alloc: Global, count: u32) -> Result<Vec<Hasher>, NoMemory>
     ensures { IfOk result (λ hashers. vec_len hashers ≡ count) }
 {
     let mut hashers = Vec::new(alloc);

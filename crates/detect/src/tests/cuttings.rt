@@ -47,9 +47,7 @@ impl<'a> TwoPieces<'a> {
 }
 
 impl<'a> Source for TwoPieces<'a> {
-    ghost rest = { λ _. None };
-
-    ghost failures = { λ s. s.failed };
+    ghost state = { λ s. record { bytes = None; failures = s.failed } };
 
     fn get(&mut self, buffer: &mut [u8]) -> Result<usize, Failed> {
         if !self.first.bytes.is_empty() {

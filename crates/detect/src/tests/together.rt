@@ -108,9 +108,7 @@ impl<'a> Following<'a> {
 }
 
 impl<'a> Source for Following<'a> {
-    ghost rest = { λ _. None };
-
-    ghost failures = { λ s. 0 };
+    ghost state = { λ _. record { bytes = None; failures = 0 } };
 
     fn get(&mut self, buffer: &mut [u8]) -> Result<usize, Failed> {
         if !self.first.bytes.is_empty() {

@@ -1,12 +1,11 @@
 //! A source that tells its bytes: what is detected in it is said of these very bytes.
 ghost use Rattle.std.specs.Prelude.{◌≡◌, ◌≤◌, ◌⊎◌, ℕ, List, Some, IfErr, MatchResult};
 ghost use Rattle.trace.specs.declared.records.Record.{Record};
-ghost use Rattle.trace.specs.declared.faults.Fault.TheVariants.{NoMemory, NoThread};
 ghost use Rattle.trace.specs.Traces.{IsWellNested};
 ghost use Rattle.trace.specs.Text.{text, AllFit};
 ghost use Rattle.trace.specs.Faults.{IsFaultOfAll};
-ghost use Rattle.trace.specs.Races.{IsReport};
-ghost use Rattle.shadow.specs.Found.{verdict};
+ghost use Rattle.trace.specs.Runs.{IsWantOfMemory, IsWantOfMemoryOrThread};
+ghost use Rattle.detect.specs.Reported.{IsReportOf};
 
 use super::answers::{Hasher, run_from, text_of};
 use super::faulty_rows::FAULTY;
@@ -29,9 +28,7 @@ struct Told<'a> {
 }
 
 impl<'a> Source for Told<'a> {
-    ghost rest = { λ s. Some s.bytes.now };
-
-    ghost failures = { λ s. 0 };
+    ghost state = { λ s. record { bytes = Some s.bytes.now; failures = 0 } };
 
     fn get(&mut self, buffer: &mut [u8]) -> Result<usize, Failed> {
         let count = self.size.min(self.bytes.len()).min(buffer.len());
@@ -47,10 +44,9 @@ fn report_plain(alloc: Global, limits: Limits, bytes: &[u8], size: usize) -> Res
     requires { 1 ≤ size }
     // Of the text of a well nested trace it is the verdict on that trace, where memory isn't refused.
     ensures report { (w : List Record) → bytes.now ≡ text w → AllFit w → IsWellNested w limits.records limits.depth
-        → MatchResult result (λ report. (report ≡ verdict w) × IsReport w report) (λ fault. fault ≡ NoMemory) }
+        → MatchResult result (IsReportOf w) IsWantOfMemory }
     // Otherwise the fault is the first of these bytes.
-    ensures fault { IfErr result (λ fault. (fault ≡ NoMemory)
-        ⊎ IsFaultOfAll limits.records limits.depth bytes.now fault) }
+    ensures fault { IfErr result (λ fault. IsWantOfMemory fault ⊎ IsFaultOfAll limits.records limits.depth bytes.now fault) }
 {
     let mut told = Told { bytes, size };
     detect_plain(alloc, limits, &mut told, Hasher::default())
@@ -68,16 +64,11 @@ fn report_sharded<T: Threads + Wait + Sync>(
     requires shards { (1 ≤ shards) × (shards ≤ 64) }
     requires size { 1 ≤ size }
     ensures report { (w : List Record) → bytes.now ≡ text w → AllFit w → IsWellNested w limits.records limits.depth
-        → MatchResult result (λ report. (report ≡ verdict w) × IsReport w report)
-        (λ fault. (fault ≡ NoMemory) ⊎ (fault ≡ NoThread)) }
-    ensures fault { IfErr result (λ fault. (fault ≡ NoThread) ⊎ ((fault ≡ NoMemory)
-        ⊎ IsFaultOfAll limits.records limits.depth bytes.now fault)) }
+        → MatchResult result (IsReportOf w) IsWantOfMemoryOrThread }
+    ensures fault { IfErr result (λ fault. IsWantOfMemoryOrThread fault ⊎ IsFaultOfAll limits.records limits.depth bytes.now fault) }
 {
     let mut told = Told { bytes, size };
-    match run_from(rt, alloc, shards, limits, &mut told, &Open) {
-        Ok(run) => Ok(run.report),
-        Err(fault) => Err(fault),
-    }
+    Ok(run_from(rt, alloc, shards, limits, &mut told, &Open)?.report)
 }
 
 #[test]

@@ -1,31 +1,36 @@
-use Rattle.std.proofs.Common.{rules, ◌≡◌, ℕ, vec_len, List, sym, subst, ◌∙◌, arith}
+use Rattle.std.proofs.Common.{◌≡◌, ℕ, vec_len, List, inl, refl, sym, subst, ◌∙◌, arith}
 use Rattle.trace.specs.Accesses.{RaceAt}
 use Rattle.collect.specs.Collected.{IsCollected}
-use Rattle.detect.proofs.RunAnswers.{failed_run, none_refused, closed_of, finished_of, of_good}
+use Rattle.detect.proofs.RunAnswers.{failed_run, none_refused, finished_of, of_good}
+use Rattle.trace.proofs.Runs.{ends_refused, refused_for_want}
 use Rattle.detect.specs.Rooms.{HasRoom}
-use Rattle.detect.proofs.RunReported.{reported_run}
+use Rattle.detect.proofs.RunReported.{run_answers}
 use Rattle.detect.proofs.closing.close.Goals as goal
 
 pub returns-in_err-first_trouble : goal.returns-in_err-first_trouble
-returns-in_err-first_trouble g c n records depths before after count count' some most h =
-    failed_run n records depths before after count count' c.args.done c.args.done.gathering.refused c.first_trouble.result c.from_residual.result _ c.in_err-first_trouble.was (search rules) c.first_trouble.ensures.refused c.first_trouble.ensures.none_refused h
+returns-in_err-first_trouble g c n records depths change some most h =
+    failed_run n records depths change c.args.done c.args.done.gathering.refused c.first_trouble.result c.from_residual.result _ c.in_err-first_trouble.was c.from_residual.ensures.1 c.first_trouble.ensures.refused c.first_trouble.ensures.none_refused h
+
+pub returns-in_err-report : goal.returns-in_err-report
+returns-in_err-report g c n records depths change some most h = ends_refused _ _ _ _ _ _ _ c.from_residual-in_err-report.ensures.1 (refused_for_want _ _ _ _ _ (inl refl))
 
 pub into_ends-ends-requires : goal.into_ends-ends-requires
 into_ends-ends-requires g c =
-    (closed_of c.args.done c.args.done.gathering.refused c.first_trouble.result _ c.in_ok-first_trouble.was c.first_trouble.ensures.refused c.first_trouble.ensures.none_refused c.requires.closed).marked
+    (of_good _ c.args.done.gathering.refused c.args.done.outcome c.first_trouble.result _ c.in_ok-first_trouble.was c.first_trouble.ensures.refused c.first_trouble.ensures.none_refused c.requires.closed).marked
 
 pub settle_shards-requires : goal.settle_shards-requires
 settle_shards-requires g c =
-    (closed_of c.args.done c.args.done.gathering.refused c.first_trouble.result _ c.in_ok-first_trouble.was c.first_trouble.ensures.refused c.first_trouble.ensures.none_refused c.requires.closed).to_shards ∙ sym c.into_ends-ends.ensures.lanes
+    (of_good _ c.args.done.gathering.refused c.args.done.outcome c.first_trouble.result _ c.in_ok-first_trouble.was c.first_trouble.ensures.refused c.first_trouble.ensures.none_refused c.requires.closed).to_shards ∙ sym c.into_ends-ends.ensures.lanes
 
-pub returns-in-Ok : goal.returns-in-Ok
-returns-in-Ok g c n records depths before after count count' some most h =
+pub returns : goal.returns
+returns g c n records depths change some most h =
     let done = c.args.done in
     let good = none_refused done.gathering.refused done.outcome c.first_trouble.result _ c.in_ok-first_trouble.was c.first_trouble.ensures.refused c.first_trouble.ensures.none_refused in
-    let f = finished_of n records depths before after count count' done done.gathering.refused c.first_trouble.result _ c.in_ok-first_trouble.was c.first_trouble.ensures.refused c.first_trouble.ensures.none_refused h in
+    let ends = finished_of n records depths change done done.gathering.refused c.first_trouble.result _ c.in_ok-first_trouble.was c.first_trouble.ensures.refused c.first_trouble.ensures.none_refused h in
+    let f = ends.says in
     let same = c.settle_shards.ensures.same in
     let later = c.settle_backs.ensures.same in
-    reported_run n records depths before after done _ _ c.told.result some most f
+    let answers = run_answers n records depths done ends.trace _ _ c.told.result some most ends.read.whole.well_nested f
     (record {
       puts_are = c.into_ends-ends.ensures.puts;
       told_are = same.told;
@@ -33,10 +38,11 @@ returns-in-Ok g c n records depths before after count count' some most h =
       settled_back = λ k lt. c.settle_backs.ensures.settled k (omega (arith, lt, f.workers, same.count, c.settle_shards.new.workers.ok.0));
     })
     good
-    (λ held holds. let P : List RaceAt → Type 0 = IsCollected held in subst P (sym c.told.ensures.report) (c.in-Ok.ensures.ok held holds))
+    (λ held holds. let P : List RaceAt → Type 0 = IsCollected held in subst P (sym c.told.ensures.report) (c.in_ok-report.ensures.ok held holds))
     (c.told.ensures.taken ∙ later.counts ∙ same.counts)
     (c.told.ensures.lanes ∙ later.taken ∙ same.taken)
-    (omega (arith, c.told.result.lanes.ok.0, c.told.ensures.lane_count, c.settle_backs.new.workers.ok.0, later.count, same.count, f.workers))
+    (omega (arith, c.told.result.lanes.ok.0, c.told.ensures.lane_count, c.settle_backs.new.workers.ok.0, later.count, same.count, f.workers)) in
+    record { trace = ends.trace; read = ends.read; says = answers }
 
 pub told-requires : goal.told-requires
 told-requires g c =

@@ -1,7 +1,7 @@
 use Rattle.std.proofs.Common.{◌≡◌, ◌-◌, ℕ, List, None}
-use Rattle.std.specs.Io.KnownBytes.{Consumes}
 use Rattle.trace.specs.declared.records.Record.{Record}
 use Rattle.trace.specs.Traces.{placed}
+use Rattle.trace.specs.Devices.{◌⇝◌, Gave, IsSteady}
 use Rattle.trace.specs.Feeding.{HasFed}
 use Rattle.route.specs.Routers.{lane_count, pending_of, marked_of, IsOnLanes}
 use Rattle.route.specs.Batches.{batch_lanes, IsUnsent}
@@ -13,7 +13,7 @@ abbrev pub invariant-records : goal.invariant-records
 invariant-records g l = record {
   trace : List Record;
   came : List ℕ;
-  consumed : Consumes (g.R.Source.rest l.fn.reader) (g.R.Source.rest l.reader) came;
+  gave : Gave (g.R.Source.state l.fn.reader ⇝ g.R.Source.state l.reader) came;
   fed : HasFed trace came l.intake;
   sent : HasSentBut l.batch (placed trace) l.router;
   batch : batch_lanes l.batch ≡ lane_count l.router;
@@ -22,7 +22,7 @@ invariant-records g l = record {
   unmarked : marked_of l.router ≡ 0;
   lanes : IsOnLanes l.fn.router l.router;
   further : IsFurther l.fn.gathering l.gathering;
-  count : g.R.Source.failures l.reader ≡ g.R.Source.failures l.fn.reader;
+  steady : IsSteady (g.R.Source.state l.fn.reader ⇝ g.R.Source.state l.reader);
   records : l.intake.reading.limit ≡ l.fn.limits.records;
   depths : l.intake.nesting.max_depth ≡ l.fn.limits.depth;
 }

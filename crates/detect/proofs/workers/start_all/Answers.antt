@@ -22,7 +22,7 @@ loop-job-preserved g c =
     record {
       split = split_more c.loop-job.yielded c.in-Some.job c.next.new.self.rest.items _ _ c.in-Some.ensures.steps.0 i.split;
       new = (subst P c.in-Some.ensures.steps.0 i.new).1;
-      lanes = started_more c.loop-job.handles.items c.in-Ok.handle _ c.loop-job.yielded c.in-Some.job c.push_reserved.ensures.items c.in-Ok.ensures i.lanes;
+      lanes = started_more c.loop-job.handles.items c.in_ok-handle.handle _ c.loop-job.yielded c.in-Some.job c.push_reserved.ensures.items c.in_ok-handle.ensures i.lanes;
       count = omega (arith, i.count, c.push_reserved.ensures.len, ap length c.in-Some.ensures.steps.0);
       room = c.push_reserved.ensures.capacity ∙ i.room;
     }

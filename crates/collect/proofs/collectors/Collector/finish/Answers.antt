@@ -3,5 +3,5 @@ use Rattle.collect.specs.Collected.{IsCollected}
 use Rattle.collect.proofs.FirstLeast.{first_least}
 use Rattle.collect.proofs.collectors.Collector.finish.Goals as goal
 
-pub returns-in-Ok-clause-first_least : goal.returns-in-Ok-clause-first_least
-returns-in-Ok-clause-first_least c = λ g h. let collected : IsCollected g c.in-Ok.races.items = search rules in first_least g _ collected
+pub returns-clause-first_least : goal.returns-clause-first_least
+returns-clause-first_least c = λ g h. let collected : IsCollected g c.in_ok-races.races.items = search rules in first_least g _ collected

@@ -1,14 +1,18 @@
-use Rattle.std.proofs.Common.{sym, subst}
-use Rattle.detect.proofs.ToldBytes.{verdict_on, told_run, no_fault_run}
+use Rattle.std.proofs.Common.{Ok}
+use Rattle.trace.specs.Runs.{IsWantOfMemoryOrThread}
+use Rattle.trace.proofs.Runs.{ends_refused}
+use Rattle.detect.specs.Reported.{IsReportOf}
+use Rattle.detect.specs.Ran.{RunAnswers}
+use Rattle.detect.proofs.ToldBytes.{told_answer, told_refusal}
 use Rattle.detect.proofs.tests.told.report_sharded.Goals as goal
 
-pub returns-in-Ok-clause-report : goal.returns-in-Ok-clause-report
-returns-in-Ok-clause-report g c w is fit nested =
-    let whole = c.in-Ok.ensures in
-    verdict_on _ _ _ _ _ _ w _ whole.consumed whole.whole is fit whole.is_verdict whole.is_report
+pub returns-in_err-run_from-clause-report : goal.returns-in_err-run_from-clause-report
+returns-in_err-run_from-clause-report g c w is fit nested =
+    told_answer _ _ _ _ IsWantOfMemoryOrThread (λ report u. IsReportOf u report) _ (ends_refused _ _ _ _ _ _ _ c.from_residual.ensures.1 c.in_err-run_from.ensures) w is fit nested
 
-pub returns-in-Err-clause-report : goal.returns-in-Err-clause-report
-returns-in-Err-clause-report g c w is fit nested = no_fault_run _ _ _ _ w _ c.in-Err.ensures is fit nested
+pub returns-in_err-run_from-clause-fault : goal.returns-in_err-run_from-clause-fault
+returns-in_err-run_from-clause-fault g c =
+    told_refusal _ _ _ _ IsWantOfMemoryOrThread (λ report u. IsReportOf u report) _ (ends_refused _ _ _ _ _ _ _ c.from_residual.ensures.1 c.in_err-run_from.ensures)
 
-pub returns-in-Err-clause-fault : goal.returns-in-Err-clause-fault
-returns-in-Err-clause-fault g c = told_run _ _ _ _ _ c.in-Err.ensures
+pub returns-clause-report : goal.returns-clause-report
+returns-clause-report g c w is fit nested = (told_answer _ _ _ _ IsWantOfMemoryOrThread (RunAnswers c.args.shards) (Ok _) c.in_ok-run_from.ensures w is fit nested).reported

@@ -1,0 +1,20 @@
+-- How readings that stand on one another end.
+use Rattle.std.proofs.Common.{◌≡◌, ℕ, List, Result, Ok, Err, subst}
+use Rattle.trace.specs.declared.records.Record.{Record}
+use Rattle.trace.specs.declared.faults.Fault.{Fault}
+use Rattle.trace.specs.Devices.{Change}
+use Rattle.trace.specs.Runs.{OfTrace, IsRefused, EndsReading}
+use Rattle.trace.proofs.Runs.{refused_also}
+
+module _ {T : Type 0} (IsWant : Fault → Type 0) (records depths : ℕ) (c : Change) (Says : T → List Record → Type 0) (r : Result T Fault) (ends : EndsReading IsWant records depths c Says r) where
+  pub trace_of : (answer : T) → r ≡ Ok answer → OfTrace records depths c (Says answer)
+  trace_of answer is = let P : Result T Fault → Type 0 = EndsReading IsWant records depths c Says in subst P is ends
+
+  pub refusal_of : (f : Fault) → r ≡ Err f → IsRefused IsWant records depths c f
+  refusal_of f is = let P : Result T Fault → Type 0 = EndsReading IsWant records depths c Says in subst P is ends
+
+-- more may be wanting, and other things are said of the same trace
+pub ends_with : {T : Type 0} (A B : Fault → Type 0) (records depths : ℕ) (c : Change) (Says Tells : T → List Record → Type 0) (r : Result T Fault) → ((f : Fault) → A f → B f) → ((answer : T) (w : List Record) → Says answer w → Tells answer w)
+    → EndsReading A records depths c Says r → EndsReading B records depths c Tells r
+ends_with A B records depths c Says Tells (Ok answer) more tells ends = record { trace = ends.trace; read = ends.read; says = tells answer ends.trace ends.says }
+ends_with A B records depths c Says Tells (Err f) more tells ends = refused_also A B more records depths c f ends
