@@ -1,3 +1,3 @@
 pub mod Statuses
-pub mod Tellings
-pub mod Refusals
+pub mod Endings
+pub mod Named

@@ -1,5 +1,5 @@
 -- What a status says of the races of a trace.
-use Rattle.std.proofs.Common.{◌≡◌, ◌↔◌, ℕ, ◌<◌, List, [], ◌∷◌, refl, arith, subst, ◌≤◌, Option, ◌⊎◌, inl, inr}
+use Rattle.std.proofs.Common.{◌≡◌, ◌↔◌, ℕ, ◌<◌, List, [], ◌∷◌, refl, arith, subst, ◌≤◌, ◌⊎◌, inl, inr}
 use native.Mathlib.Decide.{dec_le}
 use Rattle.std.specs.List.{Contains}
 use Rattle.trace.specs.declared.records.Record.{Record}
@@ -8,13 +8,12 @@ use Rattle.trace.specs.declared.records.Kind.{Kind}
 use Rattle.trace.specs.declared.records.Kind.TheVariants.{Read, Write}
 use Rattle.trace.specs.declared.records.Access.{Access}
 use Rattle.trace.specs.Races.{IsAccess, IsRead, IsWrite}
-use Rattle.trace.specs.Runs.{OfTrace}
 use Rattle.trace.proofs.Lists.{Contains-nil}
 use Rattle.audit.specs.Pairs.{IsPair, ArePairs}
 use Rattle.collect.specs.ReportText.{rtext}
 use Rattle.detect.specs.Dag.{HasRace, HasLocation}
 use Rattle.detect.specs.declared.sharded.Run.{Run}
-use Rattle.detect.specs.Ran.{RunReports}
+use Rattle.detect.specs.Ran.{RunAnswers}
 use Rattle.spbags.specs.Questions.{AnswersCheck}
 
 no_location : (l : ℕ) → HasLocation [] l → ⊥
@@ -41,21 +40,14 @@ one_exactly status races w low none racy = (to, from)
             absurd (no_location l (subst P e ((racy l).0 race)))
         go (no more) = omega arith
 
--- the report of a run over a trace that was read whole answers `check`
-pub check_answered : {shards records depths : ℕ} {before after : Option (List ℕ)} {run : Run} (status : ℕ) → RunReports shards records depths before after run
-    → status < 2 → (status ≡ 0) ↔ (run.report ≡ []) → OfTrace records depths before after (λ w. AnswersCheck w (rtext run.report) status)
-check_answered {shards} {records} {depths} {before} {after} {run} status reports low zero = record {
-  trace = reports.trace;
-  read = record { came = reports.came; consumed = reports.consumed; whole = reports.whole };
-  says = record {
-    races = run.report;
-    is_verdict = reports.is_verdict;
-    is_report = reports.is_report;
-    racy = reports.racy;
-    is_text = refl;
-    zero = zero;
-    one = one_exactly status run.report reports.trace low zero reports.racy;
-  };
+-- the report of a run answers `check`
+pub check_answered : (shards status : ℕ) (run : Run) (w : List Record) → status < 2 → (status ≡ 0) ↔ (run.report ≡ []) → RunAnswers shards run w → AnswersCheck w (rtext run.report) status
+check_answered shards status run w low zero answers = record {
+  races = run.report;
+  reported = answers.reported;
+  is_text = refl;
+  zero = zero;
+  one = one_exactly status run.report w low zero answers.reported.racy;
 }
 
 kind_at : (w : List Record) (l i : ℕ) → IsRead w l i ⊎ IsWrite w l i → (k : Kind) × IsAccess w l i k

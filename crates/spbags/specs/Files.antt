@@ -1,29 +1,27 @@
--- What answers the words, by what their names stand for.
-use Rattle.std.specs.Prelude.{◌≡◌, ◌⊎◌, ◌^◌, ℕ, List, Option, Result, true}
-use Rattle.trace.specs.declared.records.Record.{Record}
-use Rattle.trace.specs.Accesses.{RaceAt}
-use Rattle.trace.specs.Runs.{OfTrace}
+-- Promised: what the names stand for that were asked with, and how the answer ends of what they stand for.
+use Rattle.std.specs.Prelude.{◌≡◌, ◌⊎◌, ℕ, List, Option, Result, true, false}
+use Rattle.trace.specs.Bounds.{most_records}
+use Rattle.trace.specs.Devices.{Device, Change, ◌⇝◌}
 use Rattle.words.specs.declared.asking.Asked.{Asked}
-use Rattle.words.specs.declared.asking.Asked.TheVariants as asked
+use Rattle.words.specs.Asked.{depth_of, trace_name, report_name, asks_report}
 use Rattle.spbags.specs.declared.input.Input.{Input}
-use Rattle.words.specs.Asked.{trace_name, report_name, asks_report}
 use Rattle.spbags.specs.Inputs.{IsMissing, StandsFor}
-use Rattle.spbags.specs.Questions.{AnswersCheck, AnswersPairs, AnswersMeasure, AnswersConfirm}
-use Rattle.texts.specs.ReportBytes.{GivesReport}
+use Rattle.spbags.specs.Questions.{Answers, IsWant}
+use Rattle.spbags.specs.Answered.{IsAnswered, IsConfirmed}
 
 -- the trace and the report are what the names stand for that were asked with; or both are missing
 pub record AreNamed {F E : Type 0} (Gives : List ℕ → Result F E → Type 0) (asked : Asked) (trace report : Input F) : Type 0 where
   pub trace_stands : StandsFor Gives (trace_name asked) trace
   pub report_stands : asks_report asked ≡ true → StandsFor Gives (report_name asked) report ⊎ (IsMissing trace × IsMissing report)
 
--- all bytes were read as a trace, of which this is said
-abbrev pub OfBytes : ℕ → Option (List ℕ) → (List Record → Type 0) → Type 0
-OfBytes depths bytes Says = (left : Option (List ℕ)) × OfTrace (2 ^ 48) depths bytes left Says
+-- a device with these bytes, which no call has failed of
+abbrev pub untried : Option (List ℕ) → Device
+untried bytes = record { bytes = bytes; failures = 0 }
 
--- this text answers what is asked, with this status, of a trace and of a report with these bytes
-abbrev pub AnswersOf : Asked → Option (List ℕ) → Option (List ℕ) → List ℕ → ℕ → Type 0
-AnswersOf (asked.Check c) trace report text status = OfBytes c.depth trace (λ w. AnswersCheck w text status)
-AnswersOf (asked.Pairs p) trace report text status = OfBytes p.depth trace (λ w. AnswersPairs w p.location text status)
-AnswersOf (asked.Measure m) trace report text status = OfBytes m.depth trace (λ w. AnswersMeasure w text status)
-AnswersOf (asked.Confirm c) trace report text status = (entries : List RaceAt) × (left : Option (List ℕ)) × GivesReport report left 0 0 entries
-    × OfBytes c.depth trace (λ w. AnswersConfirm w entries text status)
+-- what is asked was answered of a trace and of a report with these bytes, or there is no answer
+pub record IsAnsweredOf (asked : Asked) (trace report : Option (List ℕ)) (out err : Change) (status : ℕ) : Type 0 where
+  pub trace_left : Device
+  pub report_left : Device
+  pub alone : asks_report asked ≡ false → IsAnswered (IsWant asked) most_records (depth_of asked) (Answers asked) (untried trace ⇝ trace_left) out err status
+  pub with_report : asks_report asked ≡ true
+      → IsConfirmed (trace_left ≡ untried trace) most_records (depth_of asked) (untried trace ⇝ trace_left) (untried report ⇝ report_left) out err status

@@ -1,4 +1,4 @@
--- What a name on the command line stands for.
+-- Promised: what a name on the command line stands for.
 use Rattle.std.specs.Prelude.{◌≡◌, ◌↔◌, ℕ, ⊤, List, Option, None, Result, Ok, Err, codes}
 use Rattle.spbags.specs.declared.input.Input.{Input}
 use Rattle.spbags.specs.declared.input.Input.TheVariants.{File, Standard, Missing}

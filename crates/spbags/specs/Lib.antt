@@ -1,3 +1,4 @@
+pub mod Answered
 pub mod Files
 pub mod Inputs
 pub mod Questions

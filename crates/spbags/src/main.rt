@@ -1,11 +1,10 @@
 //! The program `spbags`: the races of a trace, and questions about it.
 #![tactic(auto)]
 
-ghost use Rattle.std.specs.Prelude.{◌<◌, ◌≤◌, ℕ, List};
 ghost use Rattle.std.specs.Fn.{FnReturnsAt};
+ghost use Rattle.trace.specs.Devices.{◌⇝◌};
 ghost use Rattle.spbags.specs.declared.input.Input.{Input};
-ghost use Rattle.texts.specs.Sinks.{IsUntouched, Took};
-ghost use Rattle.spbags.specs.Files.{AreNamed, AnswersOf};
+ghost use Rattle.spbags.specs.Files.{AreNamed, IsAnsweredOf};
 ghost use Rattle.spbags.specs.Inputs.{known_bytes};
 
 mod answers;
@@ -53,10 +52,8 @@ fn read_arguments(rt: &HostRuntime) -> Result<Asked, WordsFault> {
         Err(error) if error.kind() == ErrorKind::OutOfMemory => return Err(WordsFault::NoMemory),
         Err(_) => return Err(WordsFault::Bad),
     };
-    match arguments.skip(1).collect::<Vec<String>>(rt.alloc()) {
-        Ok(words) => read_words(rt.alloc(), words.as_slice()),
-        Err(_) => Err(WordsFault::NoMemory),
-    }
+    let words = arguments.skip(1).collect::<Vec<String>>(rt.alloc())?;
+    read_words(rt.alloc(), words.as_slice())
 }
 
 // Answers what is asked, from the files of the system.
@@ -89,14 +86,9 @@ where
     F: Read + Drop,
     O: Fn(&str) -> io::Result<F>,
     requires { O.IsAlwaysCallable opener.now }
-    ensures status { result ≤ 2 }
-
-    // Status 0 or 1: what was written answers the words, of what the names stand for that they have.
-    ensures told { result < 2 → (trace : Input F) × (report : Input F) × (text : List ℕ)
-        × AreNamed (FnReturnsAt O.Fn opener.now) asked.now trace report
-        × AnswersOf asked.now (known_bytes F.remaining trace) (known_bytes F.remaining report) text result
-        × Took text (W.held out.old) (W.held out.new) (W.failures out.old) (W.failures out.new)
-        × IsUntouched (E.held err.old) (E.held err.new) (E.failures err.old) (E.failures err.new) }
+    ensures { (trace : Input F) × (report : Input F) × AreNamed (FnReturnsAt O.Fn opener.now) asked.now trace report
+        × IsAnsweredOf asked.now (known_bytes F.remaining trace) (known_bytes F.remaining report)
+        (W.state out.old ⇝ W.state out.new) (E.state err.old ⇝ E.state err.new) result }
 {
     let alloc = rt.alloc();
     let Inputs { trace, report } = open_asked(rt, asked, opener);

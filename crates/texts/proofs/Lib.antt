@@ -1,3 +1,3 @@
 pub mod Lines
 pub mod Sinks
-pub mod Tellings
+pub mod Refusals

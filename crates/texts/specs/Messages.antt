@@ -1,4 +1,4 @@
--- What the program writes on standard error.
+-- Promised: what the program writes on standard error.
 use Rattle.std.specs.Prelude.{ℕ, List, ◌++◌, codes, decimal}
 use Rattle.trace.specs.declared.faults.TextKind.{TextKind}
 use Rattle.trace.specs.declared.faults.TextKind.TheVariants as text

@@ -1,4 +1,4 @@
--- The texts of the answers; that of `check` is the text of its report.
+-- Promised: the texts of the answers; that of `check` is the text of its report.
 use Rattle.std.specs.Prelude.{ℕ, List, ◌++◌, codes, decimal, length}
 use Rattle.std.specs.List.{flat_map}
 use Rattle.trace.specs.declared.records.Access.{Access}

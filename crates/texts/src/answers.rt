@@ -1,7 +1,8 @@
 //! The texts of the answers, as they are put into a sink; that of `check` is written by its report.
 ghost use Rattle.std.specs.Prelude.{◌≡◌, ◌++◌, codes};
+ghost use Rattle.trace.specs.Devices.{◌⇝◌};
+ghost use Rattle.trace.specs.Writers.{Puts};
 ghost use Rattle.collect.specs.ReportText.{told};
-ghost use Rattle.texts.specs.Sinks.{Puts};
 ghost use Rattle.texts.specs.Texts.{pair_line, pairs_text, measure_text, confirm_text};
 
 use crate::messages::{put, put_at};
@@ -10,7 +11,7 @@ use trace::{Access, Kind, Sink, WriteFault};
 
 /// Puts the races of a location into a sink: their number, and a line for each.
 pub fn put_pairs<W: Sink>(pairs: &[(Access, Access)], sink: &mut W) -> Result<(), WriteFault>
-    ensures { Puts result (pairs_text pairs.now) (W.held sink.old) (W.held sink.new) (W.failures sink.old) (W.failures sink.new) }
+    ensures { Puts result (pairs_text pairs.now) (W.state sink.old ⇝ W.state sink.new) }
 {
     put_at(b"pairs ", pairs.len() as u64, b"\n", sink)?;
     for pair in pairs {
@@ -20,7 +21,7 @@ pub fn put_pairs<W: Sink>(pairs: &[(Access, Access)], sink: &mut W) -> Result<()
 }
 
 fn put_pair<W: Sink>(pair: &(Access, Access), sink: &mut W) -> Result<(), WriteFault>
-    ensures { Puts result (pair_line pair.now) (W.held sink.old) (W.held sink.new) (W.failures sink.old) (W.failures sink.new) }
+    ensures { Puts result (pair_line pair.now) (W.state sink.old ⇝ W.state sink.new) }
 {
     put_first(pair.0, sink)?;
     put_second(pair.1, sink)
@@ -28,7 +29,7 @@ fn put_pair<W: Sink>(pair: &(Access, Access), sink: &mut W) -> Result<(), WriteF
 
 // The first access of a race, as it stands in its line.
 fn put_first<W: Sink>(first: Access, sink: &mut W) -> Result<(), WriteFault>
-    ensures { Puts result (codes "pair " ++ told first ++ codes " ") (W.held sink.old) (W.held sink.new) (W.failures sink.old) (W.failures sink.new) }
+    ensures { Puts result (codes "pair " ++ told first ++ codes " ") (W.state sink.old ⇝ W.state sink.new) }
 {
     match first.kind {
         Kind::Read => put_at(b"pair read ", first.place, b" ", sink),
@@ -38,7 +39,7 @@ fn put_first<W: Sink>(first: Access, sink: &mut W) -> Result<(), WriteFault>
 
 // The second access of a race, as it stands in its line.
 fn put_second<W: Sink>(second: Access, sink: &mut W) -> Result<(), WriteFault>
-    ensures { Puts result (told second ++ codes "\n") (W.held sink.old) (W.held sink.new) (W.failures sink.old) (W.failures sink.new) }
+    ensures { Puts result (told second ++ codes "\n") (W.state sink.old ⇝ W.state sink.new) }
 {
     match second.kind {
         Kind::Read => put_at(b"read ", second.place, b"\n", sink),
@@ -48,7 +49,7 @@ fn put_second<W: Sink>(second: Access, sink: &mut W) -> Result<(), WriteFault>
 
 /// Puts the numbers of a trace into a sink, a line for each.
 pub fn put_measure<W: Sink>(measure: &Measure, sink: &mut W) -> Result<(), WriteFault>
-    ensures { Puts result (measure_text measure.now) (W.held sink.old) (W.held sink.new) (W.failures sink.old) (W.failures sink.new) }
+    ensures { Puts result (measure_text measure.now) (W.state sink.old ⇝ W.state sink.new) }
 {
     put_at(b"work ", measure.work, b"\n", sink)?;
     put_at(b"span ", measure.span, b"\n", sink)?;
@@ -58,7 +59,7 @@ pub fn put_measure<W: Sink>(measure: &Measure, sink: &mut W) -> Result<(), Write
 
 /// Puts what is said of a report into a sink.
 pub fn put_confirm<W: Sink>(answer: Confirm, sink: &mut W) -> Result<(), WriteFault>
-    ensures { Puts result (confirm_text answer) (W.held sink.old) (W.held sink.new) (W.failures sink.old) (W.failures sink.new) }
+    ensures { Puts result (confirm_text answer) (W.state sink.old ⇝ W.state sink.new) }
 {
     match answer {
         Confirm::Yes => put(b"yes\n", sink),

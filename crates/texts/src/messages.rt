@@ -1,6 +1,7 @@
 //! The lines for standard error.
 ghost use Rattle.std.specs.Prelude.{◌≡◌, ◌++◌, ◌≤◌, length, drop, decimal};
-ghost use Rattle.texts.specs.Sinks.{Puts, WasGiven};
+ghost use Rattle.trace.specs.Devices.{◌⇝◌};
+ghost use Rattle.trace.specs.Writers.{Puts, WasGiven};
 ghost use Rattle.texts.specs.Messages.{message, report_message, text_ending, nest_ending};
 
 use crate::reports::ReportRefusal;
@@ -9,7 +10,7 @@ use trace::{Fault, NestKind, Sink, TextKind, WriteFault, put_all};
 
 /// Writes the line for a fault. Where that fails there is nobody left to tell.
 pub fn say_fault<E: Sink>(fault: &Fault, err: &mut E)
-    ensures { WasGiven (message fault.now) (E.held err.old) (E.held err.new) (E.failures err.old) (E.failures err.new) }
+    ensures { WasGiven (message fault.now) (E.state err.old ⇝ E.state err.new) }
 {
     match fault {
         Fault::Text(text) => say_at(b"spbags: line ", text.line, text_words(text.kind), err),
@@ -22,14 +23,14 @@ pub fn say_fault<E: Sink>(fault: &Fault, err: &mut E)
 
 /// Writes a line. Where that fails there is nobody left to tell.
 pub fn say<E: Sink>(line: &[u8], err: &mut E)
-    ensures { WasGiven line.now (E.held err.old) (E.held err.new) (E.failures err.old) (E.failures err.new) }
+    ensures { WasGiven line.now (E.state err.old ⇝ E.state err.new) }
 {
     let _ = put(line, err);
 }
 
 /// Writes the line for a report that isn't read. Where that fails there is nobody left to tell.
 pub fn say_refusal<E: Sink>(refusal: ReportRefusal, err: &mut E)
-    ensures { WasGiven (report_message refusal) (E.held err.old) (E.held err.new) (E.failures err.old) (E.failures err.new) }
+    ensures { WasGiven (report_message refusal) (E.state err.old ⇝ E.state err.new) }
 {
     match refusal {
         ReportRefusal::Read => say(b"spbags: cannot read\n", err),
@@ -46,7 +47,7 @@ const LONGEST: usize = 59;
 fn say_at<E: Sink>(head: &[u8], number: u64, ending: &[u8], err: &mut E)
     requires head { length head.now ≤ 20 }
     requires ending { length ending.now ≤ 19 }
-    ensures { WasGiven (head.now ++ decimal number ++ ending.now) (E.held err.old) (E.held err.new) (E.failures err.old) (E.failures err.new) }
+    ensures { WasGiven (head.now ++ decimal number ++ ending.now) (E.state err.old ⇝ E.state err.new) }
 {
     let _ = put_at(head, number, ending, err);
 }
@@ -60,7 +61,7 @@ pub fn put_at<W: Sink>(
 ) -> Result<(), WriteFault>
     requires head { length head.now ≤ 20 }
     requires ending { length ending.now ≤ 19 }
-    ensures { Puts result (head.now ++ decimal number ++ ending.now) (W.held sink.old) (W.held sink.new) (W.failures sink.old) (W.failures sink.new) }
+    ensures { Puts result (head.now ++ decimal number ++ ending.now) (W.state sink.old ⇝ W.state sink.new) }
 {
     let mut bytes = [0; LONGEST];
     let start = build_line(&mut bytes, head, number, ending);
@@ -84,7 +85,7 @@ fn build_line(bytes: &mut [u8; LONGEST], head: &[u8], number: u64, ending: &[u8]
 
 /// Puts bytes into a sink.
 pub fn put<W: Sink>(bytes: &[u8], sink: &mut W) -> Result<(), WriteFault>
-    ensures { Puts result bytes.now (W.held sink.old) (W.held sink.new) (W.failures sink.old) (W.failures sink.new) }
+    ensures { Puts result bytes.now (W.state sink.old ⇝ W.state sink.new) }
 {
     put_all(sink, bytes)
 }

@@ -1,14 +1,12 @@
 //! A report as it is read: all its bytes first, and then its entries.
-ghost use Rattle.std.specs.Prelude.{◌≡◌, ℕ, ◌<◌, ◌≤◌, List, ◌++◌, length, Ok, Some, true, false, ◌⊎◌, IfOk, IfErr, OnOk};
-ghost use Rattle.std.specs.Io.KnownBytes.{Consumes, IsAtEnd, Keeps};
-ghost use Rattle.trace.specs.Accesses.{RaceAt};
-ghost use Rattle.trace.specs.Devices.{HasRisen};
-ghost use Rattle.collect.specs.Reports.{IsReportList};
-ghost use Rattle.collect.specs.ReportText.{rtext};
-ghost use Rattle.texts.specs.ReportBytes.{GivesReport, GivesAll, IsRefusal};
+ghost use Rattle.std.specs.Prelude.{◌≡◌, ℕ, ◌+◌, ◌<◌, ◌≤◌, List, ◌++◌, length, Ok, true, false, ◌⊎◌, IfErr, OnOk, MatchResult};
+ghost use Rattle.std.specs.Io.KnownBytes.{Keeps};
+ghost use Rattle.trace.specs.Devices.{◌⇝◌, Gave, IsUsedUp, IsSteady, HasFailed};
+ghost use Rattle.texts.specs.declared.reports.ReportRefusal.TheVariants as refusals;
+ghost use Rattle.texts.specs.ReportBytes.{GivesReport, GivesAll, IsRefusal, most_report_bytes, refusal_of};
 
 use collect::{Report, ReportFault, read_report};
-use std::alloc::Global;
+use std::alloc::{AllocError, Global};
 use trace::{Failed, Source};
 
 /// The most bytes that a report may have.
@@ -27,24 +25,46 @@ pub enum ReportRefusal {
     NoMemory,
 }
 
+impl From<ReportFault> for ReportRefusal {
+    ghost from_gives = { λ fault refusal. refusal ≡ refusal_of fault };
+
+    fn from(fault: ReportFault) -> ReportRefusal {
+        match fault {
+            ReportFault::Bad { line } => ReportRefusal::Bad { line },
+            ReportFault::NoMemory => ReportRefusal::NoMemory,
+        }
+    }
+}
+
+impl From<Failed> for ReportRefusal {
+    ghost from_gives = { λ _ refusal. refusal ≡ refusals.Read };
+
+    fn from(_: Failed) -> ReportRefusal {
+        ReportRefusal::Read
+    }
+}
+
+impl From<AllocError> for ReportRefusal {
+    ghost from_gives = { λ _ refusal. refusal ≡ refusals.NoMemory };
+
+    fn from(_: AllocError) -> ReportRefusal {
+        ReportRefusal::NoMemory
+    }
+}
+
 /// Reads a report to its end. Of one that has too many bytes one byte too many is read, and no more.
 pub fn report_from<Q: Source>(alloc: Global, source: &mut Q) -> Result<Report, ReportRefusal>
-    // All bytes of the source are the text of the report.
-    ensures given { IfOk result (λ r. GivesReport (Q.rest source.old) (Q.rest source.new) (Q.failures source.old) (Q.failures source.new) r) }
-    ensures refused { IfErr result (IsRefusal (Q.rest source.old) (Q.rest source.new) (Q.failures source.old) (Q.failures source.new)) }
+    ensures { MatchResult result (GivesReport (Q.state source.old ⇝ Q.state source.new)) (IsRefusal (Q.state source.old ⇝ Q.state source.new)) }
 {
     let bytes = bytes_from(alloc, source)?;
-    match read_report(alloc, bytes.as_slice()) {
-        Ok(report) => Ok(report),
-        Err(ReportFault::Bad { line }) => Err(ReportRefusal::Bad { line }),
-        Err(ReportFault::NoMemory) => Err(ReportRefusal::NoMemory),
-    }
+    let report = read_report(alloc, bytes.as_slice())?;
+    Ok(report)
 }
 
 // All bytes of a source.
 fn bytes_from<Q: Source>(alloc: Global, source: &mut Q) -> Result<Vec<u8>, ReportRefusal>
-    ensures given { IfOk result (λ bytes. GivesAll (Q.rest source.old) (Q.rest source.new) (Q.failures source.old) (Q.failures source.new) bytes.items) }
-    ensures refused { IfErr result (IsRefusal (Q.rest source.old) (Q.rest source.new) (Q.failures source.old) (Q.failures source.new)) }
+    ensures { MatchResult result (λ bytes. GivesAll (Q.state source.old ⇝ Q.state source.new) bytes.items)
+        (IsRefusal (Q.state source.old ⇝ Q.state source.new)) }
 {
     let mut bytes = Vec::new(alloc);
     while bytes.len() <= MOST_BYTES {
@@ -57,22 +77,18 @@ fn bytes_from<Q: Source>(alloc: Global, source: &mut Q) -> Result<Vec<u8>, Repor
 
 // Appends the next bytes of a source, and no more than one above the most. Whether there were any.
 fn read_more<Q: Source>(bytes: &mut Vec<u8>, source: &mut Q) -> Result<bool, ReportRefusal>
-    requires { length bytes.old.items ≤ 67108864 }
-    ensures came { OnOk result ((came : List ℕ) × Consumes (Q.rest source.old) (Q.rest source.new) came × (bytes.new.items ≡ bytes.old.items ++ came)) }
-    ensures within { OnOk result (length bytes.new.items ≤ 67108865) }
+    requires { length bytes.old.items ≤ most_report_bytes }
+    ensures came { OnOk result ((came : List ℕ) × Gave (Q.state source.old ⇝ Q.state source.new) came × (bytes.new.items ≡ bytes.old.items ++ came)) }
+    ensures within { OnOk result (length bytes.new.items ≤ most_report_bytes + 1) }
     ensures some { result ≡ Ok true → length bytes.old.items < length bytes.new.items }
-    ensures none { result ≡ Ok false → (bytes.new.items ≡ bytes.old.items) × IsAtEnd (Q.rest source.new) }
-    ensures steady { OnOk result (Q.failures source.new ≡ Q.failures source.old) }
-    ensures refused { IfErr result (λ e. ((e ≡ ReportRefusal.Read) × Keeps (Q.rest source.old) (Q.rest source.new) × HasRisen (Q.failures source.old) (Q.failures source.new)) ⊎ (e ≡ ReportRefusal.NoMemory)) }
+    ensures none { result ≡ Ok false → (bytes.new.items ≡ bytes.old.items) × IsUsedUp (Q.state source.new) }
+    ensures steady { OnOk result (IsSteady (Q.state source.old ⇝ Q.state source.new)) }
+    ensures refused { IfErr result (λ e. ((e ≡ ReportRefusal.Read) × Keeps (Q.state source.old).bytes (Q.state source.new).bytes
+        × HasFailed (Q.state source.old ⇝ Q.state source.new)) ⊎ (e ≡ ReportRefusal.NoMemory)) }
 {
     let mut buffer = [0; 4096];
     let room = buffer.len().min(MOST_BYTES + 1 - bytes.len());
-    let count = match source.get(&mut buffer[..room]) {
-        Ok(count) => count,
-        Err(Failed) => return Err(ReportRefusal::Read),
-    };
-    match bytes.extend_from_slice(&buffer[..count]) {
-        Ok(()) => Ok(count > 0),
-        Err(_) => Err(ReportRefusal::NoMemory),
-    }
+    let count = source.get(&mut buffer[..room])?;
+    bytes.extend_from_slice(&buffer[..count])?;
+    Ok(count > 0)
 }

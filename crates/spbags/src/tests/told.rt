@@ -2,7 +2,8 @@
 ghost use Rattle.std.specs.Prelude.{◌≡◌, ◌<◌, ℕ, List, false};
 ghost use Rattle.trace.specs.declared.records.Record.{Record};
 ghost use Rattle.trace.specs.Text.{text, AllFit};
-ghost use Rattle.texts.specs.Sinks.{IsUntouched, Took};
+ghost use Rattle.trace.specs.Devices.{◌⇝◌};
+ghost use Rattle.trace.specs.Writers.{IsUntouched, Took};
 ghost use Rattle.words.specs.Asked.{asks_report};
 ghost use Rattle.spbags.specs.Questions.{Answers};
 
@@ -27,8 +28,8 @@ fn answer_bytes<T: Threads + Wait + Sync, W: Sink, E: Sink>(
     requires { asks_report asked.now ≡ false }
     ensures { (w : List Record) → bytes.now ≡ text w → AllFit w → result < 2 → (answer : List ℕ)
         × Answers asked.now w answer result
-        × Took answer (W.held out.old) (W.held out.new) (W.failures out.old) (W.failures out.new)
-        × IsUntouched (E.held err.old) (E.held err.new) (E.failures err.old) (E.failures err.new) }
+        × Took answer (W.state out.old ⇝ W.state out.new)
+        × IsUntouched (E.state err.old ⇝ E.state err.new) }
 {
     let mut trace = Counted::new(bytes);
     answer(rt, alloc, asked, &mut trace, out, err)

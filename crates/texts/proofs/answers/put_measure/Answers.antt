@@ -1,6 +1,5 @@
 use Rattle.std.proofs.Common.{◌≡◌, Err, sym, rules}
-use Rattle.texts.proofs.Sinks.{took_into}
-use Rattle.texts.proofs.Tellings.{front_more, took_both, puts_after}
+use Rattle.collect.proofs.Takings.{front_more, took_both, took_into, puts_after}
 use Rattle.texts.proofs.answers.put_measure.Goals as goal
 
 pub returns-in_err-put_at : goal.returns-in_err-put_at
@@ -19,4 +18,4 @@ returns-in_err-put_at-3 g c =
     rw failed (front_more _ (took_into (took_both c.in_ok-put_at.ensures c.in_ok-put_at-2.ensures) c.in_err-put_at-3.ensures))
 
 pub returns : goal.returns
-returns g c = rw (sym c.from.ensures) (puts_after _ _ _ c.put_at-4.result (took_both (took_both c.in_ok-put_at.ensures c.in_ok-put_at-2.ensures) c.in_ok-put_at-3.ensures) c.put_at-4.ensures)
+returns g c = rw (sym c.from.ensures) (puts_after _ _ c.put_at-4.result (took_both (took_both c.in_ok-put_at.ensures c.in_ok-put_at-2.ensures) c.in_ok-put_at-3.ensures) c.put_at-4.ensures)

@@ -1,5 +1,5 @@
 use Rattle.std.proofs.Common.{◌≡◌, Err, rules}
-use Rattle.texts.proofs.Tellings.{front_more, puts_after}
+use Rattle.collect.proofs.Takings.{front_more, puts_after}
 use Rattle.texts.proofs.answers.put_pair.Goals as goal
 
 pub returns-in_err-put_first : goal.returns-in_err-put_first
@@ -8,4 +8,4 @@ returns-in_err-put_first g c =
     rw failed (front_more _ c.in_err-put_first.ensures)
 
 pub returns : goal.returns
-returns g c = puts_after _ _ _ c.put_second.result c.in_ok-put_first.ensures c.put_second.ensures
+returns g c = puts_after _ _ c.put_second.result c.in_ok-put_first.ensures c.put_second.ensures

@@ -1,4 +1,4 @@
-use Rattle.std.proofs.Common.{◌≡◌, subst}
+use Rattle.std.proofs.Common.{◌≡◌, Some, ap, subst}
 use Rattle.trace.specs.Text.{text}
 use Rattle.spbags.specs.Questions.{Answers}
 use Rattle.detect.proofs.ToldBytes.{same_trace}
@@ -7,7 +7,6 @@ use Rattle.spbags.proofs.tests.told.answer_bytes.Goals as goal
 pub returns : goal.returns
 returns g c w is fit low =
     let told = c.answer.ensures.told low in
-    let run = told.1 in
     let bytes : c.new-trace.result.device.now ≡ text w = rw c.new-trace.ensures.device is in
-    let same = same_trace _ _ _ _ _ run.trace w run.read.consumed run.read.whole bytes fit in
-    (told.0, subst (λ (v : _). Answers c.args.asked.now v told.0 c.answer.result) same run.says, told.2, told.3)
+    let same = same_trace _ _ _ told.read.trace w (ap Some bytes) fit told.read.read in
+    (told.text, subst (λ (v : _). Answers c.args.asked.now v told.text c.answer.result) same told.read.says, told.took, told.silent)
