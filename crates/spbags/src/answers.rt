@@ -88,10 +88,7 @@ fn run_on<T: Threads + Wait + Sync, R: Source>(
 }
 
 // A hasher for each shard.
-fn hashers_for(
-    alloc: Global,
-    shards: u32,
-) -> Result<Vec<BuildHasherDefault<FoldHasher>>, NoMemory>
+fn hashers_for(alloc: Global, shards: u32) -> Result<Vec<BuildHasherDefault<FoldHasher>>, NoMemory>
     ensures { IfOk result (λ hashers. vec_len hashers ≡ shards) }
 {
     let mut hashers = Vec::new(alloc);
