@@ -1,9 +1,9 @@
 -- Runs of numbers that lie side by side, and what a sync, a return and a look-up do to ranges.
-use Rattle.std.proofs.Common.{◌≡◌, ℕ, zero, suc, ◌+◌, ◌-◌, ◌<◌, ◌≤◌, Bool, true, false, not, IsTrue, ◌↔◌, ◌||◌, ◌&&◌, eqb, ltb, leb, List, [], ◌∷◌, ◌++◌, reverse, length, set, get_or, Option, Some, None, IsSome, refl, sym, ap, subst, ◌∙◌, arith}
-use Rattle.std.proofs.lemmas.Bool.{lt-leb, le-leb, both_ways}
+use Rattle.std.proofs.Common.{◌≡◌, ℕ, zero, suc, ◌+◌, ◌-◌, ◌<◌, ◌≤◌, Bool, true, false, not, IsTrue, ◌↔◌, ◌||◌, ◌&&◌, eqb, ltb, leb, List, [], ◌∷◌, ◌++◌, reverse, length, take, set, get_or, Option, Some, None, IsSome, inl, inr, refl, sym, ap, subst, ◌∙◌, arith}
+use Rattle.std.proofs.lemmas.Bool.{cases_eq, lt-leb, le-leb, both_ways}
 use Rattle.std.proofs.Math.Nat.{lt_of_not-le}
 use Rattle.std.proofs.lemmas.Bool.Decides.{nat_tests}
-use Rattle.std.proofs.lemmas.List.{length-reverse, reverse-append, reverse-reverse, get_or-reverse}
+use Rattle.std.proofs.lemmas.List.{length-take-le, length-reverse, reverse-append, reverse-reverse, get_or-reverse}
 use Rattle.std.proofs.Math.Seq.{set-append_seam}
 use Rattle.std.specs.List.{list_any, range_with_len}
 use Rattle.std.specs.Option.{option_to_list}
@@ -61,6 +61,12 @@ pub own_at_is : (xs : List Ranges) (i : ℕ) (d : Ranges) → i < length xs → 
 own_at_is [] i d low = absurd (omega arith)
 own_at_is (f ∷ fs) zero d low = refl
 own_at_is (f ∷ fs) (suc i) d low = own_at_is fs i d (omega arith)
+
+pub own_at-take : (n i : ℕ) (xs : List Ranges) → i < n → own_at (take n xs) i ≡ own_at xs i
+own_at-take zero i xs low = absurd (omega arith)
+own_at-take (suc n) i [] low = refl
+own_at-take (suc n) zero (f ∷ fs) low = refl
+own_at-take (suc n) (suc i) (f ∷ fs) low = own_at-take n i fs (omega arith)
 
 pub own_at-reverse : (xs : List Ranges) (i : ℕ) (d : Ranges) → i < length xs → own_at (reverse xs) i ≡ own_at xs (length xs - 1 - i)
 own_at-reverse xs i d low =
@@ -273,6 +279,21 @@ in_p_between count xs x y k n p false held follows low at next known from upto s
     let below : x.own < x.parallel_from = held_own count xs x k held (omega arith) at in
     let second : own_at xs (k + 1) ≡ own_at xs n = ap (own_at xs) (sym follows) in
     sym (le-leb x.parallel_from p from) ∙ in_p_keeper count xs x k p held (omega arith) at known (omega arith) (λ more. omega arith)
+
+-- what the last of the first n keeps, where the P-bag of the last of them begins above it, all of them keep
+pub in_p_older : (count : ℕ) (xs : List Ranges) (x y : Ranges) (n k p : ℕ) → AreHeld count xs → n < length xs → y ≡ get_or xs (n - 1) y → p < y.parallel_from → p < count
+    → k < length (take n xs) → own_at (take n xs) k ≤ p → (k + 1 < length (take n xs) → p < own_at (take n xs) (k + 1)) → x ≡ get_or xs k x
+    → leb x.parallel_from p ≡ in_p (procedures_of count xs).active p
+in_p_older count xs x y n k p held low last upto known within not_above above at =
+    let len : length (take n xs) ≡ n = length-take-le n xs (omega arith) in
+    let kept : own_at (take n xs) k ≡ own_at xs k = own_at-take n k xs (omega arith) in
+    in_p_keeper count xs x k p held (omega arith) at known (omega arith)
+    (λ more. elim (cases_eq (k + 1) n) [
+      | inl e ↦ let next : own_at xs (n - 1 + 1) ≡ own_at xs (k + 1) = ap (own_at xs) (omega arith) in
+          omega (arith, held_next count xs y (n - 1) held (omega arith) last)
+      | inr e ↦ let next : own_at (take n xs) (k + 1) ≡ own_at xs (k + 1) = own_at-take n (k + 1) xs (omega arith) in
+          omega (arith, above (omega arith))
+    ])
 
 pub more_than_root : (count : ℕ) (xs : List Ranges) (p : Procedures) → procedures_of count xs ≡ p → 1 < length p.active → 1 < length xs
 more_than_root count xs p is more =

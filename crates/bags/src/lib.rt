@@ -158,13 +158,14 @@ impl Bags {
         if grandparent.parallel_from <= procedure {
             return (!parent.own.is_at_most(procedure, &mut probes), probes);
         }
-        let keeper = keeper_of(&self.nested, procedure, &mut probes);
+        let older = &self.nested[..self.nested.len() - 2];
+        let keeper = keeper_of(older, procedure, &mut probes);
         (self.nested[keeper].parallel_from <= procedure, probes)
     }
 }
 
 /// The place of the active procedure that keeps a procedure: the last one whose number is not above it. It is
-/// searched by halves, of which the root's is a power of two and the newest's what is left.
+/// searched by halves.
 #[tactic(auto, using(crate::proofs::RangeLemmas::own_at_is))]
 #[inline(always)]
 fn keeper_of(ranges: &[Ranges], procedure: u64, probes: &mut u32) -> usize
@@ -177,12 +178,14 @@ fn keeper_of(ranges: &[Ranges], procedure: u64, probes: &mut u32) -> usize
     ensures probes { probes.new ≤ digits (length ranges.now) }
 {
     let mut keeper = 0;
-    let mut span = 2 << ranges.len().ilog2();
+    let mut span = ranges.len();
     while span > 1 {
-        span /= 2;
-        let middle = keeper + span;
-        if middle < ranges.len() && ranges[middle].own.is_at_most(procedure, probes) {
-            keeper = middle;
+        let half = span / 2;
+        if ranges[keeper + half].own.is_at_most(procedure, probes) {
+            keeper += half;
+            span -= half;
+        } else {
+            span = half;
         }
     }
     keeper

@@ -1,11 +1,12 @@
-use Rattle.std.proofs.Common.{ap, ◌∙◌, ◌+◌, ◌-◌, ◌<◌, ◌≤◌, ◌≡◌, length, List, subst, arith, ℕ}
+use Rattle.std.proofs.Common.{ap, ◌∙◌, ◌+◌, ◌-◌, ◌<◌, ◌≤◌, ◌≡◌, length, take, get_or, List, arith, ℕ}
 use Rattle.std.proofs.lemmas.Grind.{common_steps}
 use Rattle.bags.specs.declared.Ranges.{Ranges}
 use Rattle.bags.specs.Procedures.{Procedures, in_p}
 use Rattle.bags.specs.Search.{own_at}
-use Rattle.bags.specs.Numbers.{digits}
 use Rattle.bags.proofs.BagPaths.{in_p-tells}
-use Rattle.bags.proofs.RangeLemmas.{in_p_executing, in_p_root, in_p_between, in_p_keeper, own_at_root, length-procedures_of}
+use Rattle.bags.proofs.RangeLemmas.{in_p_executing, in_p_root, in_p_between, in_p_older, own_at_root, own_at-take, length-procedures_of}
+use Rattle.bags.proofs.Halving.{digits_of_fewer}
+use Rattle.std.proofs.lemmas.List.{length-take}
 use Rattle.bags.proofs.Bags.in_p_counted.Goals as goal
 
 pub returns-then-executing-procedure-clause-bags : goal.returns-then-executing-procedure-clause-bags
@@ -59,18 +60,27 @@ returns-then-grandparent-procedure-clause-paths c = in_p-tells c.args.self.now c
 pub keeper_of-keeper-requires-clause-root : goal.keeper_of-keeper-requires-clause-root
 keeper_of-keeper-requires-clause-root c =
     let root : own_at c.deref.result.now 0 ≡ 0 = ap (λ (xs : List Ranges). own_at xs 0) c.deref.ensures.value ∙ own_at_root c.self.inside.count c.self.inside.nested.items c.self.invariant in
+    let some : 0 < c.len-4.result - 2 = grind (arith, common_steps) in
+    let first : own_at (take (c.len-4.result - 2) c.deref.result.now) 0 ≡ own_at c.deref.result.now 0 = own_at-take (c.len-4.result - 2) 0 c.deref.result.now some in
     omega arith
 
 pub returns-clause-bags : goal.returns-clause-bags
 returns-clause-bags c =
     let count : c.self.inside.count ≡ c.args.self.now.count = ap (λ (p : Procedures). p.count) c.self.view_is in
     let xs : List Ranges = c.self.inside.nested.items in
+    let n : ℕ = c.len-4.result - 2 in
     let k : ℕ = c.keeper_of-keeper.result in
     let same : c.deref.result.now ≡ xs = c.deref.ensures.value in
-    let within : k < length xs = rw same at c.keeper_of-keeper.ensures.within in
-    let not_above : own_at xs k ≤ c.args.procedure = rw same at c.keeper_of-keeper.ensures.not_above in
-    let next : k + 1 < length xs → c.args.procedure < own_at xs (k + 1) = rw same at c.keeper_of-keeper.ensures.next_above in
-    in_p_keeper c.self.inside.count xs c.index-2.result.now k c.args.procedure c.self.invariant within c.index-2.ensures (omega arith) not_above next
+    let len : c.len-4.result ≡ length xs = c.len-4.ensures ∙ c.self.inside.nested.ok.0 in
+    let len_3 : c.len-3.result ≡ length xs = c.len-3.ensures ∙ c.self.inside.nested.ok.0 in
+    let some : 3 ≤ c.len-3.result = grind (arith, common_steps) in
+    let last : c.index-grandparent.result.now ≡ get_or xs (n - 1) c.index-grandparent.result.now
+    = c.index-grandparent.ensures ∙ ap (λ (i : ℕ). get_or xs i c.index-grandparent.result.now) (omega arith) in
+    let within : k < length (take n xs) = rw same at c.keeper_of-keeper.ensures.within in
+    let not_above : own_at (take n xs) k ≤ c.args.procedure = rw same at c.keeper_of-keeper.ensures.not_above in
+    let next : k + 1 < length (take n xs) → c.args.procedure < own_at (take n xs) (k + 1) = rw same at c.keeper_of-keeper.ensures.next_above in
+    in_p_older c.self.inside.count xs c.index-2.result.now c.index-grandparent.result.now n k c.args.procedure c.self.invariant (omega arith) last
+    (omega arith) (omega arith) within not_above next c.index-2.ensures
     ∙ ap (λ (p : Procedures). in_p p.active c.args.procedure) c.self.view_is
 
 pub returns-clause-paths : goal.returns-clause-paths
@@ -78,8 +88,10 @@ returns-clause-paths c = in_p-tells c.args.self.now c.args.procedure _ (returns-
 
 pub returns-clause-probes : goal.returns-clause-probes
 returns-clause-probes c =
+    let n : ℕ = c.len-4.result - 2 in
     let same : length c.deref.result.now ≡ length c.args.self.now.active
     = ap (λ (xs : List Ranges). length xs) c.deref.ensures.value
     ∙ length-procedures_of c.self.inside.count c.self.inside.nested.items
     ∙ ap (λ (p : Procedures). length p.active) c.self.view_is in
-    subst (λ (n : ℕ). c.keeper_of-keeper.new.probes ≤ digits n) same c.keeper_of-keeper.ensures.probes
+    let fewer : length (take n c.deref.result.now) ≤ length c.args.self.now.active = omega (arith, length-take n c.deref.result.now) in
+    omega (arith, digits_of_fewer (length (take n c.deref.result.now)) (length c.args.self.now.active) fewer, c.keeper_of-keeper.ensures.probes)
