@@ -149,14 +149,23 @@ impl Bags {
         if procedure < self.nested[0].parallel_from {
             return (false, 0);
         }
-        // So the root doesn't execute. Between where two P-bags begin lie the first one and the next S-bag.
+        // So the root doesn't execute. Between where two P-bags begin lie the first one and the next S-bag; which two they
+        // are is told at once where they are the newest or the oldest.
         let parent = self.nested[self.nested.len() - 2];
         if parent.parallel_from <= procedure {
             return (!executing.own.is_at_most(procedure, &mut probes), probes);
         }
+        let second = self.nested[1];
+        if procedure < second.parallel_from {
+            return (!second.own.is_at_most(procedure, &mut probes), probes);
+        }
         let grandparent = self.nested[self.nested.len() - 3];
         if grandparent.parallel_from <= procedure {
             return (!parent.own.is_at_most(procedure, &mut probes), probes);
+        }
+        let third = self.nested[2];
+        if procedure < third.parallel_from {
+            return (!third.own.is_at_most(procedure, &mut probes), probes);
         }
         let older = &self.nested[..self.nested.len() - 2];
         let keeper = keeper_of(older, procedure, &mut probes);

@@ -1,4 +1,4 @@
-use Rattle.std.proofs.Common.{ap, ◌∙◌, ◌+◌, ◌-◌, ◌<◌, ◌≤◌, ◌≡◌, length, take, get_or, List, arith, ℕ}
+use Rattle.std.proofs.Common.{refl, ap, ◌∙◌, ◌+◌, ◌-◌, ◌<◌, ◌≤◌, ◌≡◌, length, take, get_or, List, arith, ℕ}
 use Rattle.std.proofs.lemmas.Grind.{common_steps}
 use Rattle.bags.specs.declared.Ranges.{Ranges}
 use Rattle.bags.specs.Procedures.{Procedures, in_p}
@@ -43,6 +43,19 @@ returns-then-parent-procedure-clause-bags c =
 pub returns-then-parent-procedure-clause-paths : goal.returns-then-parent-procedure-clause-paths
 returns-then-parent-procedure-clause-paths c = in_p-tells c.args.self.now c.args.procedure _ (returns-then-parent-procedure-clause-bags c)
 
+pub returns-then-procedure-second-clause-bags : goal.returns-then-procedure-second-clause-bags
+returns-then-procedure-second-clause-bags c =
+    let count : c.self.inside.count ≡ c.args.self.now.count = ap (λ (p : Procedures). p.count) c.self.view_is in
+    let len_2 : c.len-2.result ≡ length c.self.inside.nested.items = c.len-2.ensures ∙ c.self.inside.nested.ok.0 in
+    let some : 1 < c.len-2.result = grind (arith, common_steps) in
+    in_p_between c.self.inside.count c.self.inside.nested.items c.index.result.now c.index-second.result.now 0 1 c.args.procedure c.is_at_most-then-procedure-second.result
+    c.self.invariant refl (omega arith) c.index.ensures c.index-second.ensures (omega arith)
+    (omega arith) c.if-procedure-second.true c.is_at_most-then-procedure-second.ensures.at_most
+    ∙ ap (λ (p : Procedures). in_p p.active c.args.procedure) c.self.view_is
+
+pub returns-then-procedure-second-clause-paths : goal.returns-then-procedure-second-clause-paths
+returns-then-procedure-second-clause-paths c = in_p-tells c.args.self.now c.args.procedure _ (returns-then-procedure-second-clause-bags c)
+
 pub returns-then-grandparent-procedure-clause-bags : goal.returns-then-grandparent-procedure-clause-bags
 returns-then-grandparent-procedure-clause-bags c =
     let count : c.self.inside.count ≡ c.args.self.now.count = ap (λ (p : Procedures). p.count) c.self.view_is in
@@ -56,6 +69,19 @@ returns-then-grandparent-procedure-clause-bags c =
 
 pub returns-then-grandparent-procedure-clause-paths : goal.returns-then-grandparent-procedure-clause-paths
 returns-then-grandparent-procedure-clause-paths c = in_p-tells c.args.self.now c.args.procedure _ (returns-then-grandparent-procedure-clause-bags c)
+
+pub returns-then-procedure-third-clause-bags : goal.returns-then-procedure-third-clause-bags
+returns-then-procedure-third-clause-bags c =
+    let count : c.self.inside.count ≡ c.args.self.now.count = ap (λ (p : Procedures). p.count) c.self.view_is in
+    let len_2 : c.len-2.result ≡ length c.self.inside.nested.items = c.len-2.ensures ∙ c.self.inside.nested.ok.0 in
+    let some : 2 < c.len-2.result = grind (arith, common_steps) in
+    in_p_between c.self.inside.count c.self.inside.nested.items c.index-second.result.now c.index-third.result.now 1 2 c.args.procedure c.is_at_most-then-procedure-third.result
+    c.self.invariant refl (omega arith) c.index-second.ensures c.index-third.ensures (omega arith)
+    (omega arith) c.if-procedure-third.true c.is_at_most-then-procedure-third.ensures.at_most
+    ∙ ap (λ (p : Procedures). in_p p.active c.args.procedure) c.self.view_is
+
+pub returns-then-procedure-third-clause-paths : goal.returns-then-procedure-third-clause-paths
+returns-then-procedure-third-clause-paths c = in_p-tells c.args.self.now c.args.procedure _ (returns-then-procedure-third-clause-bags c)
 
 pub keeper_of-keeper-requires-clause-root : goal.keeper_of-keeper-requires-clause-root
 keeper_of-keeper-requires-clause-root c =
