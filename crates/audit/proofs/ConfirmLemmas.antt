@@ -27,15 +27,15 @@ use Rattle.collect.specs.Reports.{IsReportList, IsEntry, locations}
 use Rattle.audit.specs.declared.answers.Confirm.{Confirm}
 use Rattle.audit.specs.declared.answers.Confirm.TheVariants.{Yes, No}
 use Rattle.audit.specs.declared.meetings.Meetings.{Meetings}
-use Rattle.audit.specs.declared.confirming.Entry.{Entry}
-use Rattle.audit.specs.declared.confirming.Standing.{Standing}
-use Rattle.audit.specs.declared.confirming.Standing.TheVariants.{Missing, Begun, Confirmed}
-use Rattle.audit.specs.declared.confirming.Confirming.{Confirming}
+use Rattle.audit.specs.declared.confirms.Entry.{Entry}
+use Rattle.audit.specs.declared.confirms.Standing.{Standing}
+use Rattle.audit.specs.declared.confirms.Standing.TheVariants.{Missing, Begun, Confirmed}
+use Rattle.audit.specs.declared.confirms.Confirming.{Confirming}
 use Rattle.trace.specs.Watching.{ComesAfter}
-use Rattle.audit.specs.Watching.{WhateverFollows}
+use Rattle.audit.specs.Following.{WhateverFollows}
 use Rattle.audit.specs.Meetings.{HasMet, TellsParallel, Moves}
 use Rattle.audit.specs.Confirms.{TellsRace, Confirms}
-use Rattle.audit.specs.Confirming.{race_of, races_of, entry_of, AreAscending, HasBegun, Stands, AllStand, Touches, AnswersBy, HasConfirmed}
+use Rattle.audit.specs.Entries.{entry_race, races_of, entry_of, AreAscending, HasBegun, Stands, AllStand, Touches, AnswersBy, HasConfirmed}
 use Rattle.audit.proofs.ListLemmas.{record_there}
 use Rattle.audit.proofs.MeetingLemmas.{met_next}
 use Rattle.audit.proofs.PairLemmas.{race_by}
@@ -45,7 +45,7 @@ use Rattle.audit.proofs.PairLemmas.{race_by}
 location-at : (es : List Entry) (k : ℕ) (e : Entry) → slice_get es k ≡ Some e → slice_get (locations (races_of es)) k ≡ Some e.location
 location-at es k e s =
     slice_get-map (λ (r : RaceAt). r.location) (races_of es) k
-    ∙ ap (option_map (λ (r : RaceAt). r.location)) (slice_get-map race_of es k ∙ ap (option_map race_of) s)
+    ∙ ap (option_map (λ (r : RaceAt). r.location)) (slice_get-map entry_race es k ∙ ap (option_map entry_race) s)
 
 length-locations : (es : List Entry) → length (locations (races_of es)) ≡ length es
 length-locations [] = refl
@@ -58,9 +58,9 @@ ascending es h j k e f l s t =
     let c : get_or (locations (races_of es)) j 0 < get_or (locations (races_of es)) k 0 = AllPairs-from_increasing (locations (races_of es)) h.ascending j k 0 l (omega (arith, length-locations es, slice_get_within es k f t)) in
     omega arith
 
-entry-at : (P : RaceAt → Type 0) (es : List Entry) → AllByRecursion P (races_of es) → (k : ℕ) (e : Entry) → slice_get es k ≡ Some e → P (race_of e)
+entry-at : (P : RaceAt → Type 0) (es : List Entry) → AllByRecursion P (races_of es) → (k : ℕ) (e : Entry) → slice_get es k ≡ Some e → P (entry_race e)
 entry-at P [] h k e s = absurd (cc)
-entry-at P (x ∷ es) h zero e s = let f : x ≡ e = cc in subst (λ (z : Entry). P (race_of z)) f h.0
+entry-at P (x ∷ es) h zero e s = let f : x ≡ e = cc in subst (λ (z : Entry). P (entry_race z)) f h.0
 entry-at P (x ∷ es) h (suc k) e s = entry-at P es h.1 k e s
 
 shape-at : (es : List Entry) → IsReportList (races_of es) → (k : ℕ) (e : Entry) → slice_get es k ≡ Some e → IsRaceShape e.first e.second
@@ -214,15 +214,15 @@ set-cases (z ∷ xs) (suc i) x (suc k) y s = elim (set-cases xs i x k y s) [
   | inr q ↦ inr ((λ e. q.0 (omega arith)), q.1)
 ]
 
-pub races_of-set : (es : List Entry) (i : ℕ) (e x : Entry) → slice_get es i ≡ Some e → race_of x ≡ race_of e → races_of (slice_set es i x) ≡ races_of es
+pub races_of-set : (es : List Entry) (i : ℕ) (e x : Entry) → slice_get es i ≡ Some e → entry_race x ≡ entry_race e → races_of (slice_set es i x) ≡ races_of es
 races_of-set [] i e x s q = refl
-races_of-set (z ∷ es) zero e x s q = let f : z ≡ e = cc in ap (λ (r : RaceAt). r ∷ races_of es) (q ∙ ap race_of (sym f))
-races_of-set (z ∷ es) (suc i) e x s q = ap (λ (rs : List RaceAt). race_of z ∷ rs) (races_of-set es i e x s q)
+races_of-set (z ∷ es) zero e x s q = let f : z ≡ e = cc in ap (λ (r : RaceAt). r ∷ races_of es) (q ∙ ap entry_race (sym f))
+races_of-set (z ∷ es) (suc i) e x s q = ap (λ (rs : List RaceAt). entry_race z ∷ rs) (races_of-set es i e x s q)
 
 -- what a look at one entry says of it
 abbrev pub NextStanding : Meetings → Entry → Access → Standing → Type 0
 NextStanding m e a next = (u : List Record) → HasMet m u → IsRaceShape e.first e.second → a.place ≡ suc (length u)
-    → WhateverFollows u (λ w. IsAccess w e.location a.place a.kind → Stands w (length u) (race_of e) e.standing → Stands w (suc (length u)) (race_of e) next)
+    → WhateverFollows u (λ w. IsAccess w e.location a.place a.kind → Stands w (length u) (entry_race e) e.standing → Stands w (suc (length u)) (entry_race e) next)
 
 one_location : (w : List Record) (l i p : ℕ) (k q : Kind) → IsAccess w l i k → IsAccess w p i q → l ≡ p
 one_location w l i p Read Read a b = let e : Some (records.Read l) ≡ Some (records.Read p) = sym a ∙ b in cc
@@ -230,8 +230,8 @@ one_location w l i p Write Write a b = let e : Some (records.Write l) ≡ Some (
 one_location w l i p Read Write a b = absurd (let e : Some (records.Read l) ≡ Some (records.Write p) = sym a ∙ b in cc)
 one_location w l i p Write Read a b = absurd (let e : Some (records.Write l) ≡ Some (records.Read p) = sym a ∙ b in cc)
 
-other_location : (w : List Record) (l t : ℕ) (e : Entry) (a : Access) → a.place ≡ suc t → IsAccess w l a.place a.kind → e.location ≢ l → Stands w t (race_of e) e.standing → Stands w (suc t) (race_of e) e.standing
-other_location w l t e a is p apart h = stays_elsewhere w t (race_of e) e.standing (λ k q. apart (one_location w e.location (suc t) l k a.kind q (subst (λ (z : ℕ). IsAccess w l z a.kind) is p))) h
+other_location : (w : List Record) (l t : ℕ) (e : Entry) (a : Access) → a.place ≡ suc t → IsAccess w l a.place a.kind → e.location ≢ l → Stands w t (entry_race e) e.standing → Stands w (suc t) (entry_race e) e.standing
+other_location w l t e a is p apart h = stays_elsewhere w t (entry_race e) e.standing (λ k q. apart (one_location w e.location (suc t) l k a.kind q (subst (λ (z : ℕ). IsAccess w l z a.kind) is p))) h
 
 -- the entry of the location is looked at
 pub touched : (m : Meetings) (l : ℕ) (a : Access) (es : List Entry) (i : ℕ) (e : Entry) (next : Standing) → slice_get es i ≡ Some e → e.location ≡ l → NextStanding m e a next
@@ -241,8 +241,8 @@ touched m l a es i e next there on steps u met report is w rest begins-with n d 
     x : Entry
     x = record { location = e.location; first = e.first; second = e.second; standing = next }
 
-    by_place : ((k ≡ i) × (record { location = e.location; first = e.first; second = e.second; standing = next } ≡ f)) ⊎ ((k ≢ i) × (slice_get es k ≡ Some f)) → Stands w (suc (length u)) (race_of f) f.standing
-    by_place (inl (q, g)) = subst (λ (z : Entry). Stands w (suc (length u)) (race_of z) z.standing) g
+    by_place : ((k ≡ i) × (record { location = e.location; first = e.first; second = e.second; standing = next } ≡ f)) ⊎ ((k ≢ i) × (slice_get es k ≡ Some f)) → Stands w (suc (length u)) (entry_race f) f.standing
+    by_place (inl (q, g)) = subst (λ (z : Entry). Stands w (suc (length u)) (entry_race z) z.standing) g
         (steps u met (shape-at es report i e there) is w rest begins-with n d h (subst (λ (z : ℕ). IsAccess w z a.place a.kind) (sym on) p) (all i e there))
     by_place (inr (q, g)) = other_location w l (length u) f a is p (λ z. apart z (cases_lt k i)) (all k f g)
       where
@@ -270,7 +270,7 @@ confirming_none races s report is met = record {
   same_races = ap races_of is ∙ none-found races;
   met = met;
   stands = λ w rest begins-with n d h k e q. (let z : e.standing ≡ Missing = missing-at races k e (sym (ap (λ (es : List Entry). slice_get es k) is) ∙ q) in
-      subst (λ (v : Standing). Stands w 0 (race_of e) v) (sym z) (none_there w e));
+      subst (λ (v : Standing). Stands w 0 (entry_race e) v) (sym z) (none_there w e));
 }
   where
     none_there : (w : List Record) (e : Entry) → e.first.place ≤ 0 → IsAccess w e.location e.first.place e.first.kind → ⊥
@@ -305,7 +305,7 @@ module _ (s s' : Confirming) (races : List RaceAt) (u : List Record) (p : Placed
   confirming_other never es = confirming_next next
     where
       next : (w rest : List Record) → w ≡ (u ++ p.what ∷ []) ++ rest → (n d : ℕ) → IsWellNested w n d → AllStand w (length u) s.entries.items → AllStand w (suc (length u)) s'.entries.items
-      next w rest is n d i all k e q = stays_elsewhere w (length u) (race_of e) e.standing (λ v a. none v a) (all k e (sym (ap (λ (z : List Entry). slice_get z k) es) ∙ q))
+      next w rest is n d i all k e q = stays_elsewhere w (length u) (entry_race e) e.standing (λ v a. none v a) (all k e (sym (ap (λ (z : List Entry). slice_get z k) es) ∙ q))
         where
           none : (v : Kind) → IsAccess w e.location (suc (length u)) v → ⊥
           none v a = let z : Some p.what ≡ Some (access v e.location) = sym (record_there w u rest p.what is) ∙ a in let y : p.what ≡ access v e.location = cc in never e.location v y
@@ -344,26 +344,26 @@ stands-not_race w t e (Begun deep) l q h r =
     h.not_yet (omega (arith, (access-place w e.second.place (IsAccessPlace-at w e.location e.second.place e.second.kind r.second_kind)).1)) r
 stands-not_race w t e Confirmed l q h r = q refl
 
-race-at : (es : List Entry) (k : ℕ) (r : RaceAt) → slice_get (races_of es) k ≡ Some r → (e : Entry) × (slice_get es k ≡ Some e) × (race_of e ≡ r)
+race-at : (es : List Entry) (k : ℕ) (r : RaceAt) → slice_get (races_of es) k ≡ Some r → (e : Entry) × (slice_get es k ≡ Some e) × (entry_race e ≡ r)
 race-at [] k r s = absurd (cc)
 race-at (x ∷ es) zero r s = (x, refl, cc)
 race-at (x ∷ es) (suc k) r s = race-at es k r s
 
-race-of-at : (es : List Entry) (k : ℕ) (e : Entry) → slice_get es k ≡ Some e → slice_get (races_of es) k ≡ Some (race_of e)
-race-of-at es k e s = slice_get-map race_of es k ∙ ap (option_map race_of) s
+race-of-at : (es : List Entry) (k : ℕ) (e : Entry) → slice_get es k ≡ Some e → slice_get (races_of es) k ≡ Some (entry_race e)
+race-of-at es k e s = slice_get-map entry_race es k ∙ ap (option_map entry_race) s
 
 answer : (w : List Record) (es : List Entry) (a : Confirm) → AllStand w (length w) es → AnswersBy es a → Confirms w (races_of es) a
 answer w es Yes all by = λ k d l.
     (let q = race-at es k (get_or (races_of es) k d) (slice_get-get_or (races_of es) k d l) in
-    subst (TellsRace w) q.2 (stands-race w (length w) (race_of q.0) q.0.standing (by k q.0 q.1) (all k q.0 q.1)))
+    subst (TellsRace w) q.2 (stands-race w (length w) (entry_race q.0) q.0.standing (by k q.0 q.1) (all k q.0 q.1)))
 answer w es (No entry) all by = record {
   before = by.before;
   from_one = by.from_one;
-  race = race_of by.found;
+  race = entry_race by.found;
   there = race-of-at es by.before by.found by.there;
-  wrong = stands-not_race w (length w) (race_of by.found) by.found.standing refl by.open_yet (all by.before by.found by.there);
+  wrong = stands-not_race w (length w) (entry_race by.found) by.found.standing refl by.open_yet (all by.before by.found by.there);
   right_before = λ k r l s. (let q = race-at es k r s in
-      subst (TellsRace w) q.2 (stands-race w (length w) (race_of q.0) q.0.standing (by.confirmed_before k q.0 l q.1) (all k q.0 q.1)));
+      subst (TellsRace w) q.2 (stands-race w (length w) (entry_race q.0) q.0.standing (by.confirmed_before k q.0 l q.1) (all k q.0 q.1)));
 }
 
 pub answer_of : (s : Confirming) (races : List RaceAt) (a : Confirm) (w : List Record) {n d : ℕ} → IsWellNested w n d → HasConfirmed races w s → AnswersBy s.entries.items a → Confirms w races a

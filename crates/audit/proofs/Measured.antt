@@ -10,8 +10,8 @@ use Rattle.trace.specs.declared.records.Placed.{Placed}
 use Rattle.trace.specs.Traces.{at, depth, IsPlace, IsWellNested}
 use Rattle.trace.specs.Dag.{JoinsAt, IsPath}
 use Rattle.trace.proofs.Walks.{step_by}
-use Rattle.audit.specs.declared.measuring.Longest.{Longest}
-use Rattle.audit.specs.declared.measuring.Measuring.{Measuring}
+use Rattle.audit.specs.declared.measures.Longest.{Longest}
+use Rattle.audit.specs.declared.measures.Measuring.{Measuring}
 use Rattle.audit.specs.Measures.{is_spawn, IsMeasure, IsSpan, IsGreatestDepth}
 use Rattle.trace.specs.Watching.{ComesAfter}
 use Rattle.audit.specs.LongestPaths.{PathTo, IsLongestTo, LastOn, LeadsOn, at_start, own, opened, IsLongestUnjoined, AreActive, IsSpanTo, IsDepthTo, HasMeasuredTo, IsWithin, HasMeasured, through, Advances}

@@ -154,17 +154,17 @@ module _ (w : List Record) {n d : ℕ} (h : IsWellNested w n d) (t : ℕ) (e : A
       (f.0, f.1, elim (cases_lt f.0.opened i) [ inl z ↦ z | inr z ↦ absurd (omega (arith, level-at w f.0.opened (omega arith), x.on_level)) ])
 
 -- what an answer has to be: whether the place lies deeper than its keeper, and behind the keeper's last sync
-abbrev pub Answers : Bool → ℕ → ℕ → ℕ → Active → Type 0
-Answers b k deep place f = (b ≡ true) ↔ ((k < deep) × (f.synced < place))
+abbrev pub Tells : Bool → ℕ → ℕ → ℕ → Active → Type 0
+Tells b k deep place f = (b ≡ true) ↔ ((k < deep) × (f.synced < place))
 
-answered : (w : List Record) {n d : ℕ} (h : IsWellNested w n d) (t : ℕ) (e : Active) (xs : List Active) → AreActive w t e xs → (place deep k : ℕ) (f : Active) (b : Bool) → IsKeeper e xs place k f → Answers b k deep place f
+answered : (w : List Record) {n d : ℕ} (h : IsWellNested w n d) (t : ℕ) (e : Active) (xs : List Active) → AreActive w t e xs → (place deep k : ℕ) (f : Active) (b : Bool) → IsKeeper e xs place k f → Tells b k deep place f
     → IsAccessPlace w place → place ≤ t → depth w place ≡ deep → IsAccessPlace w (suc t) → (b ≡ true) ↔ IsParallel w place (suc t)
 answered w h t e xs a place deep k f b q s p l is r =
     let law = parallel-keeper w h t e xs a place k f p r l q in
     (λ z. law.0 (omega (arith, (s.0 z).0), (s.0 z).1), λ z. s.1 (omega (arith, (law.1 z).0), (law.1 z).1))
 
 -- the executing procedure keeps the place
-pub told_executing : (m : Meetings) (u : List Record) (place deep : ℕ) (b : Bool) → HasMet m u → m.executing.opened < place → Answers b (length m.waiting.items) deep place m.executing → TellsParallel u place deep b
+pub told_executing : (m : Meetings) (u : List Record) (place deep : ℕ) (b : Bool) → HasMet m u → m.executing.opened < place → Tells b (length m.waiting.items) deep place m.executing → TellsParallel u place deep b
 told_executing m u place deep b met before s w rest is n d h p l q r =
     answered w h (length u) m.executing m.waiting.items (met w rest is n d h (access-place w _ r).1) place deep (length m.waiting.items) m.executing b
     (record { there = executes refl refl; before = before; deeper = deeper }) s p l q r
@@ -188,7 +188,7 @@ none_later e xs place n late point l g c (executes i j) = let y : g.opened ≡ e
 
 -- a waiting procedure keeps it
 pub told_waiting : (m : Meetings) (u : List Record) (place deep n k : ℕ) (f : Active) (b : Bool) → HasMet m u → place ≤ m.executing.opened → n ≤ length m.waiting.items → IsCountBefore m.waiting.items place n → n ≡ suc k
-    → slice_get m.waiting.items k ≡ Some f → Answers b k deep place f → TellsParallel u place deep b
+    → slice_get m.waiting.items k ≡ Some f → Tells b k deep place f → TellsParallel u place deep b
 told_waiting m u place deep n k f b met late within count is there s w rest begins records depths h p l q r =
     answered w h (length u) m.executing m.waiting.items active place deep k f b (record { there = waits there; before = before; deeper = λ i g c. none_later m.executing m.waiting.items place n late point i g (omega arith) }) s p l q r
   where

@@ -19,8 +19,8 @@ use Rattle.trace.proofs.Paths.{access-place}
 use Rattle.trace.proofs.Readers.{IsAccessPlace-at, read_or_write}
 use Rattle.trace.proofs.Once.{kind_once, same_access}
 use Rattle.audit.specs.declared.meetings.Meetings.{Meetings}
-use Rattle.audit.specs.declared.pairing.Kept.{Kept}
-use Rattle.audit.specs.declared.pairing.Pairing.{Pairing}
+use Rattle.audit.specs.declared.location_races.Kept.{Kept}
+use Rattle.audit.specs.declared.location_races.Pairing.{Pairing}
 use Rattle.trace.specs.Watching.{ComesAfter}
 use Rattle.audit.specs.Meetings.{HasMet, TellsParallel, Moves}
 use Rattle.audit.specs.Pairs.{IsPair, IsBefore, ArePairs}

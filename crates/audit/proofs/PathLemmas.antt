@@ -1,5 +1,5 @@
 -- The longest paths of a well nested trace, one place after another.
-use Rattle.std.proofs.Common.{◌≡◌, ◌≢◌, ℕ, suc, ◌+◌, ◌<◌, ◌≤◌, max, List, [], ◌∷◌, length, Option, Some, ◌⊎◌, inl, inr, refl, sym, ◌∙◌, subst, ap, arith}
+use Rattle.std.proofs.Common.{◌≡◌, ◌≢◌, ℕ, suc, ◌<◌, ◌≤◌, max, List, [], ◌∷◌, length, Option, Some, ◌⊎◌, inl, inr, refl, sym, ◌∙◌, subst, ap, arith}
 use Rattle.std.proofs.lemmas.Bool.{cases_lt, cases_eq}
 use Rattle.trace.specs.declared.records.Record.{Record}
 use Rattle.trace.specs.declared.records.Record.TheVariants.{Spawn, Return, Sync}
@@ -7,52 +7,56 @@ use Rattle.trace.specs.Traces.{at, depth, IsPlace, IsWellNested}
 use Rattle.trace.specs.Dag.{Edge, continuation, spawn, join, IsContinuation, IsJoin, JoinsAt, IsPath, end_of}
 use Rattle.trace.proofs.World.{Step, returns, leaves, leaves_by}
 use Rattle.trace.proofs.Traced.{traced, shape_of, shape-return, step_at, edge_from, edge_to}
-use Rattle.audit.specs.LongestPaths.{PathTo, alone, longer, IsLongestTo, LastOn, LeadsOn, at_start, own, opened, IsUnjoined, IsLongestUnjoined}
+use Rattle.audit.specs.LongestPaths.{PathTo, IsLongestTo, LastOn, LeadsOn, at_start, own, opened, IsUnjoined, IsLongestUnjoined}
 
--- paths as lists of places
-
-path_on : (w : List Record) (i x : ℕ) (p : List ℕ) → PathTo w (suc x) i → IsPath w (i ∷ p) → PathTo w (suc x + length p) (end_of i p)
-path_on w i x [] q a = subst (λ (z : ℕ). PathTo w z i) (omega arith) q
-path_on w i x (j ∷ p) q a =
-    let more : PathTo w (suc (suc x) + length p) (end_of j p) = path_on w j (suc x) p (longer q a.0) a.1 in
-    let e : suc (suc x) + length p ≡ suc x + length (j ∷ p) = omega arith in
-    subst (λ (z : ℕ). PathTo w z (end_of j p)) e more
-
-path_start : (w : List Record) (i : ℕ) (p : List ℕ) → IsPath w (i ∷ p) → IsPlace w i
-path_start w i [] a = a
-path_start w i (j ∷ p) a = edge_from w i j a.0
+-- paths that end at a place
 
 -- a path of a list leads to its last place
 pub path_to : (w : List Record) (i : ℕ) (p : List ℕ) → IsPath w (i ∷ p) → PathTo w (length (i ∷ p)) (end_of i p)
-path_to w i p a =
-    let e : 1 + length p ≡ length (i ∷ p) = omega arith in
-    subst (λ (z : ℕ). PathTo w z (end_of i p)) e (path_on w i 0 p (alone (path_start w i p a)) a)
+path_to w i p a = record { first = i; rest = p; path = a; ends = refl; count = refl }
 
--- the path as a list
-record Listed (w : List Record) (x j : ℕ) : Type 0 where
-  first : ℕ
-  rest : List ℕ
-  path : IsPath w (first ∷ rest)
-  ends : end_of first rest ≡ j
-  count : length (first ∷ rest) ≡ x
+pub path_list : (w : List Record) (x j : ℕ) → PathTo w x j → (p : List ℕ) × IsPath w p × (length p ≡ x)
+path_list w x j p = (p.first ∷ p.rest, p.path, p.count)
+
+alone : {w : List Record} {j : ℕ} → IsPlace w j → PathTo w 1 j
+alone {w} {j} p = record { first = j; rest = []; path = p; ends = refl; count = refl }
 
 ends_later : (w : List Record) (i j k : ℕ) (p : List ℕ) → IsPath w (i ∷ p) → end_of i p ≡ j → Edge w j k → (q : List ℕ) × IsPath w (i ∷ q) × (end_of i q ≡ k) × (length q ≡ suc (length p))
 ends_later w i j k [] a e d = (k ∷ [], (subst (λ (z : ℕ). Edge w z k) (sym e) d, edge_to w j k d), refl, refl)
 ends_later w i j k (h ∷ p) a e d = let q = ends_later w h j k p a.1 e d in (h ∷ q.0, (a.0, q.1), q.2, ap suc q.3)
 
-listed : (w : List Record) (x j : ℕ) → PathTo w x j → Listed w x j
-listed w x j (alone p) = record { first = j; rest = []; path = p; ends = refl; count = refl }
-listed w x j (longer {i = i} p d) =
-    let l = listed w _ i p in
-    let q = ends_later w l.first i j l.rest l.path l.ends d in
-    record { first = l.first; rest = q.0; path = q.1; ends = q.2; count = ap suc (q.3 ∙ l.count) }
+longer : {w : List Record} {x i j : ℕ} → PathTo w x i → Edge w i j → PathTo w (suc x) j
+longer {w} {x} {i} {j} p d =
+    let q = ends_later w p.first i j p.rest p.path p.ends d in
+    record { first = p.first; rest = q.0; path = q.1; ends = q.2; count = ap suc (q.3 ∙ p.count) }
 
-pub path_list : (w : List Record) (x j : ℕ) → PathTo w x j → (p : List ℕ) × IsPath w p × (length p ≡ x)
-path_list w x j p = let l = listed w x j p in (l.first ∷ l.rest, l.path, l.count)
+-- a path is one place alone, or a path and an edge more
+last_edge : (w : List Record) (i : ℕ) (p : List ℕ) → IsPath w (i ∷ p) → (p ≡ []) ⊎ ((q : List ℕ) × IsPath w (i ∷ q) × Edge w (end_of i q) (end_of i p) × (length p ≡ suc (length q)))
+last_edge w i [] a = inl refl
+last_edge w i (j ∷ []) a = inr ([], edge_from w i j a.0, a.0, refl)
+last_edge w i (j ∷ k ∷ p) a = elim (last_edge w j (k ∷ p) a.1) [
+  | inl e ↦ absurd (cc)
+  | inr q ↦ inr (j ∷ q.0, (a.0, q.1), q.2, ap suc q.3)
+]
+
+shortened : (w : List Record) (x j : ℕ) → PathTo w x j → (x ≡ 1) ⊎ ((y i : ℕ) × PathTo w y i × Edge w i j × (x ≡ suc y))
+shortened w x j p = elim (last_edge w p.first p.rest p.path) [
+  | inl e ↦ inl (sym p.count ∙ ap (λ (q : List ℕ). suc (length q)) e)
+  | inr q ↦ inr (
+    length (p.first ∷ q.0),
+    end_of p.first q.0,
+    path_to w p.first q.0 q.1,
+    subst (λ (k : ℕ). Edge w (end_of p.first q.0) k) p.ends q.2,
+    sym p.count ∙ ap suc q.3,
+  )
+]
+
+ends_at_place : (w : List Record) (i : ℕ) (p : List ℕ) → IsPath w (i ∷ p) → IsPlace w (end_of i p)
+ends_at_place w i [] a = a
+ends_at_place w i (j ∷ p) a = ends_at_place w j p a.1
 
 pub path_place : (w : List Record) (x j : ℕ) → PathTo w x j → IsPlace w j
-path_place w x j (alone p) = p
-path_place w x j (longer {i = i} p d) = edge_to w i j d
+path_place w x j p = subst (IsPlace w) p.ends (ends_at_place w p.first p.rest p.path)
 
 module _ (w : List Record) {n d : ℕ} (h : IsWellNested w n d) where
   stays : (t : ℕ) → 1 ≤ t → t < length w → (o : Option Record) → at w t ≡ o → Step (shape_of o) (depth w t) (depth w (suc t))
@@ -111,8 +115,10 @@ module _ (w : List Record) {n d : ℕ} (h : IsWellNested w n d) where
       by_edge y i p (join a b' f c) = absurd (n c.joins)
 
       most : (y : ℕ) → PathTo w y (suc t) → y ≤ suc x
-      most y (alone p) = omega arith
-      most y (longer {x = z} {i = i} p e) = by_edge z i p e
+      most y p = elim (shortened w y (suc t) p) [
+        | inl e ↦ omega arith
+        | inr q ↦ let less : suc q.0 ≤ suc x = by_edge q.0 q.1 q.2 q.3 in omega (arith, q.4)
+      ]
 
   pub longest_joined : (t x y : ℕ) → suc t ≤ length w → JoinsAt w (suc t) → LeadsOn w t (depth w (suc t)) x → IsLongestUnjoined w t (depth w (suc t)) y → IsLongestTo w (suc t) (suc (max x y))
   longest_joined t x y b j l u = record { reached = reached; most = most }
@@ -125,8 +131,10 @@ module _ (w : List Record) {n d : ℕ} (h : IsWellNested w n d) where
       by_edge z i p (join a b' f c) = omega (arith, into_join t y i z u f c p)
 
       most : (z : ℕ) → PathTo w z (suc t) → z ≤ suc (max x y)
-      most z (alone p) = omega arith
-      most z (longer {x = k} {i = i} p e) = by_edge k i p e
+      most z p = elim (shortened w z (suc t) p) [
+        | inl e ↦ omega arith
+        | inr q ↦ let less : suc q.0 ≤ suc (max x y) = by_edge q.0 q.1 q.2 q.3 in omega (arith, q.4)
+      ]
 
       joined : (r : ℕ) → IsUnjoined w t (depth w (suc t)) r → PathTo w y r → PathTo w (suc y) (suc t)
       joined r q p = longer p (join (path_place w y r p) (omega arith, b) (omega (arith, q.upto))

@@ -1,8 +1,8 @@
 pub mod Measures
-pub mod Watching
+pub mod Following
 pub mod LongestPaths
 pub mod Meetings
 pub mod Pairs
 pub mod Pairing
 pub mod Confirms
-pub mod Confirming
+pub mod Entries

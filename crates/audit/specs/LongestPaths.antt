@@ -3,16 +3,19 @@ use Rattle.std.specs.Prelude.{◌≡◌, ◌≢◌, ℕ, suc, ◌+◌, ◌<◌, 
 use Rattle.trace.specs.declared.records.Record.{Record}
 use Rattle.trace.specs.declared.records.Record.TheVariants.{Spawn, Return, Sync, Read, Write}
 use Rattle.trace.specs.Traces.{at, depth, IsPlace}
-use Rattle.trace.specs.Dag.{Edge, JoinsAt}
-use Rattle.audit.specs.declared.measuring.Longest.{Longest}
-use Rattle.audit.specs.declared.measuring.Measuring.{Measuring}
+use Rattle.trace.specs.Dag.{JoinsAt, IsPath, end_of}
+use Rattle.audit.specs.declared.measures.Longest.{Longest}
+use Rattle.audit.specs.declared.measures.Measuring.{Measuring}
 use Rattle.audit.specs.Measures.{is_spawn}
-use Rattle.audit.specs.Watching.{WhateverFollows}
+use Rattle.audit.specs.Following.{WhateverFollows}
 
 -- a path of so many places ends at a place
-pub data PathTo (w : List Record) : ℕ → ℕ → Type 0 where
-  alone : {j : ℕ} → IsPlace w j → PathTo w 1 j
-  longer : {x i j : ℕ} → PathTo w x i → Edge w i j → PathTo w (suc x) j
+pub record PathTo (w : List Record) (x j : ℕ) : Type 0 where
+  pub first : ℕ
+  pub rest : List ℕ
+  pub path : IsPath w (first ∷ rest)
+  pub ends : end_of first rest ≡ j
+  pub count : length (first ∷ rest) ≡ x
 
 -- the longest path to a place has so many places
 pub record IsLongestTo (w : List Record) (j x : ℕ) : Type 0 where

@@ -8,7 +8,7 @@ use Rattle.trace.specs.Meeting.{level, Holds, IsOwn}
 use Rattle.trace.specs.Races.{IsAccessPlace}
 use Rattle.audit.specs.declared.meetings.Active.{Active}
 use Rattle.audit.specs.declared.meetings.Meetings.{Meetings}
-use Rattle.audit.specs.Watching.{WhateverFollows}
+use Rattle.audit.specs.Following.{WhateverFollows}
 
 -- After t records f is active at depth d: it holds the next place. It executed a sync at f.synced, or none yet where
 -- that is the place at which it was opened; and none since.

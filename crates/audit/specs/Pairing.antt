@@ -6,9 +6,9 @@ use Rattle.trace.specs.Traces.{depth}
 use Rattle.trace.specs.Races.{IsAccess}
 use Rattle.trace.specs.declared.records.Kind.{Kind}
 use Rattle.audit.specs.declared.meetings.Meetings.{Meetings}
-use Rattle.audit.specs.declared.pairing.Kept.{Kept}
-use Rattle.audit.specs.declared.pairing.Pairing.{Pairing}
-use Rattle.audit.specs.Watching.{WhateverFollows}
+use Rattle.audit.specs.declared.location_races.Kept.{Kept}
+use Rattle.audit.specs.declared.location_races.Pairing.{Pairing}
+use Rattle.audit.specs.Following.{WhateverFollows}
 use Rattle.audit.specs.Meetings.{HasMet}
 use Rattle.audit.specs.Pairs.{IsPair, IsBefore}
 

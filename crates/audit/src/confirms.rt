@@ -1,13 +1,165 @@
-//! Whether the entries of a report are races.
+//! Whether the entries of a report are races: what is kept of a trace for them, and the answer.
+ghost use Rattle.std.specs.Prelude.{◌≡◌, ◌≢◌, ◌<◌, ℕ, suc, List, [], length, map, slice_get, Some, IfSome, IfNone, IfOk, OnOk};
+ghost use Rattle.trace.specs.declared.records.Record.{Record};
+ghost use Rattle.trace.specs.Accesses.{IsRaceShape};
+ghost use Rattle.trace.specs.Races.{IsAccess};
+ghost use Rattle.audit.specs.Following.{WhateverFollows};
+ghost use Rattle.audit.specs.Meetings.{HasMet};
+ghost use Rattle.audit.specs.Entries.{AreAscending, Stands, AnswersBy, entry_of, entry_race};
 ghost use Rattle.trace.specs.Devices.{◌⇝◌};
-ghost use Rattle.trace.specs.Runs.{EndsReading, IsWantOfMemory};
+ghost use Rattle.trace.specs.Endings.{EndsReading, IsWantOfMemory};
 ghost use Rattle.audit.specs.Confirms.{Confirms};
 
 use crate::answers::Confirm;
-use crate::confirming::{Confirming, answer_of};
+use crate::meetings::Meetings;
 use collect::Report;
 use std::alloc::Global;
-use trace::{Fault, Limits, Source, read_to_end};
+use trace::{
+    Access, Fault, Kind, Limits, NoMemory, Placed, Race, Record, Source, Watch, read_to_end,
+};
+
+/// How far an entry was found in the trace.
+#[derive(Clone, Copy)]
+pub(crate) enum Standing {
+    /// Its first access wasn't there yet.
+    Missing,
+    /// Its first access was there, at this depth.
+    Begun(usize),
+    /// It is a race.
+    Confirmed,
+}
+
+/// An entry of a report: the race that it tells, and how far it was found.
+#[derive(Clone, Copy)]
+pub(crate) struct Entry {
+    pub(crate) location: u64,
+    pub(crate) first: Access,
+    pub(crate) second: Access,
+    pub(crate) standing: Standing,
+}
+
+/// The entries of a report, by ascending location, and the active procedures.
+#[derive(Drop)]
+pub(crate) struct Confirming {
+    pub(crate) entries: Vec<Entry>,
+    pub(crate) meetings: Meetings,
+}
+
+impl Confirming {
+    ghost use Rattle.audit.specs.Entries.{HasConfirmed, Touches, races_of};
+
+    /// No record was seen.
+    pub(crate) fn new(alloc: Global, report: &Report) -> Result<Confirming, NoMemory>
+        ensures { IfOk result (HasConfirmed report.now []) }
+    {
+        Ok(Confirming {
+            entries: entries_of(alloc, report.races())?,
+            meetings: Meetings::new(alloc),
+        })
+    }
+
+    /// Takes an access of a location: there is one entry of it at most.
+    fn touch(&mut self, location: u64, access: Access)
+        ensures entries { Touches self.old.meetings location access self.old.entries.items self.new.entries.items }
+        ensures same_races { races_of self.new.entries.items ≡ races_of self.old.entries.items }
+        ensures meetings { self.new.meetings ≡ self.old.meetings }
+    {
+        if let Some(index) = find_entry(&self.entries, location) {
+            let standing = next_standing(&self.meetings, self.entries[index], access);
+            self.entries[index].standing = standing;
+        }
+    }
+}
+
+impl Watch for Confirming {
+    ghost use Rattle.audit.specs.Entries.{HasConfirmed, races_of};
+
+    ghost has_seen = { λ first u now. HasConfirmed (races_of first.entries.items) u now };
+
+    fn take(&mut self, placed: Placed) -> Result<(), NoMemory> {
+        let place = placed.place;
+        match placed.what {
+            Record::Read(location) => self.touch(
+                location,
+                Access {
+                    kind: Kind::Read,
+                    place,
+                },
+            ),
+            Record::Write(location) => self.touch(
+                location,
+                Access {
+                    kind: Kind::Write,
+                    place,
+                },
+            ),
+            Record::Spawn | Record::Sync | Record::Return => {}
+        }
+        self.meetings.take(placed)
+    }
+}
+
+/// The entries, of which nothing was found yet.
+fn entries_of(alloc: Global, races: &[Race]) -> Result<Vec<Entry>, NoMemory>
+    ensures { IfOk result (λ entries. entries.items ≡ map entry_of races.now) }
+{
+    let entries = races.iter().map(|race| Entry {
+        location: race.location,
+        first: race.first,
+        second: race.second,
+        standing: Standing::Missing,
+    });
+    Ok(entries.collect(alloc)?)
+}
+
+/// The index of the entry on a location, if there is one.
+fn find_entry(entries: &[Entry], location: u64) -> Option<usize>
+    ensures within { IfSome result (λ k. k < length entries.now) }
+    ensures found { IfSome result (λ k. (e : Entry) → slice_get entries.now k ≡ Some e → e.location ≡ location) }
+    ensures nowhere { AreAscending entries.now
+        → IfNone result ((k : ℕ) (e : Entry) → slice_get entries.now k ≡ Some e → e.location ≢ location) }
+{
+    let index = entries.partition_point(|entry| entry.location < location);
+    if index < entries.len() && entries[index].location == location {
+        Some(index)
+    } else {
+        None
+    }
+}
+
+/// How far an entry was found, where the next record is an access of its location.
+fn next_standing(meetings: &Meetings, entry: Entry, access: Access) -> Standing
+    ensures { (u : List Record) → HasMet meetings.now u → IsRaceShape entry.first entry.second
+        → access.place ≡ suc (length u)
+        → WhateverFollows u (λ w. IsAccess w entry.location access.place access.kind → Stands w (length u)
+        (entry_race entry) entry.standing → Stands w (suc (length u)) (entry_race entry) result) }
+{
+    match entry.standing {
+        Standing::Missing if access == entry.first => Standing::Begun(meetings.depth()),
+        Standing::Begun(depth)
+            if access == entry.second && meetings.is_parallel(entry.first.place, depth) => {
+            Standing::Confirmed
+        }
+        standing => standing,
+    }
+}
+
+/// Whether all entries are confirmed, else the first that isn't.
+pub(crate) fn answer_of(entries: &[Entry]) -> Confirm
+    ensures { AnswersBy entries.now result }
+{
+    for (index, entry) in entries.iter().enumerate() {
+        match entry.standing {
+            Standing::Confirmed => {}
+            Standing::Missing | Standing::Begun(_) => {
+                return Confirm::No {
+                    entry: index as u64 + 1,
+                };
+            }
+        }
+    }
+    Confirm::Yes
+}
 
 /// Reads a trace to its end, and tells whether every entry of a report is a race of it: whether both places access the
 /// location as told, and are parallel. It doesn't ask whether entries are missing, or whether another pair of the
@@ -19,17 +171,17 @@ use trace::{Fault, Limits, Source, read_to_end};
 pub fn confirm<R: Source>(
     alloc: Global,
     limits: Limits,
-    reader: &mut R,
+    source: &mut R,
     report: &Report,
 ) -> Result<Confirm, Fault>
-    // All bytes of the reader are the text of a trace that is well nested within the limits. The answer is yes where
+    // All bytes of the source are the text of a trace that is well nested within the limits. The answer is yes where
     // all entries tell a race of it, otherwise the first that doesn't.
-    // Otherwise no memory was left, or the fault is the first; and where the reader holds such a trace and doesn't fail,
+    // Otherwise no memory was left, or the fault is the first; and where the source holds such a trace and doesn't fail,
     // no memory was left.
-    ensures { EndsReading IsWantOfMemory limits.records limits.depth (R.state reader.old ⇝ R.state reader.new)
+    ensures { EndsReading IsWantOfMemory limits.records limits.depth (R.state source.old ⇝ R.state source.new)
         (λ answer w. Confirms w report.now answer) result }
 {
     let mut confirming = Confirming::new(alloc, report)?;
-    read_to_end(limits, reader, &mut confirming)?;
+    read_to_end(limits, source, &mut confirming)?;
     Ok(answer_of(&confirming.entries))
 }

@@ -3,14 +3,11 @@
 #![tactic(auto)]
 
 pub mod answers;
-mod confirming;
 pub mod confirms;
 pub mod laws;
 pub mod location_races;
 pub mod measures;
-mod measuring;
 mod meetings;
-mod pairing;
 #[cfg(test)]
 mod tests;
 

@@ -1,11 +1,112 @@
-//! All races of one location.
+//! All races of one location: its accesses so far, each compared with those before it.
+ghost use Rattle.std.specs.Prelude.{◌≡◌, ◌≢◌, ℕ, List, [], length, Bool, ◌||◌, OnOk, MatchOption};
+ghost use Rattle.trace.specs.declared.records.Record.{Record};
+ghost use Rattle.trace.specs.declared.records.Kind.{Kind};
+ghost use Rattle.trace.specs.Accesses.{writes};
+ghost use Rattle.trace.specs.Races.{access};
+ghost use Rattle.audit.specs.Pairing.{AddsPairs};
 ghost use Rattle.trace.specs.Devices.{◌⇝◌};
-ghost use Rattle.trace.specs.Runs.{EndsReading, IsWantOfMemory};
+ghost use Rattle.trace.specs.Endings.{EndsReading, IsWantOfMemory};
 ghost use Rattle.audit.specs.Pairs.{ArePairs};
 
-use crate::pairing::Pairing;
+use crate::meetings::Meetings;
 use std::alloc::Global;
-use trace::{Access, Fault, Limits, Source, read_to_end};
+use trace::{Access, Fault, Kind, Limits, NoMemory, Placed, Record, Source, Watch, read_to_end};
+
+/// An access of the location, and how deep the procedure lies that executed it.
+#[derive(Clone, Copy)]
+pub(crate) struct Kept {
+    pub(crate) access: Access,
+    pub(crate) depth: usize,
+}
+
+/// The accesses of a location so far, and its races.
+#[derive(Drop)]
+pub(crate) struct Pairing {
+    pub(crate) location: u64,
+    pub(crate) meetings: Meetings,
+    pub(crate) kept: Vec<Kept>,
+    pub(crate) pairs: Vec<(Access, Access)>,
+}
+
+impl Pairing {
+    ghost use Rattle.audit.specs.Pairing.{HasPaired};
+
+    /// No record was seen.
+    pub(crate) fn new(alloc: Global, location: u64) -> Pairing
+        ensures { HasPaired location [] result }
+    {
+        Pairing {
+            location,
+            meetings: Meetings::new(alloc),
+            kept: Vec::new(alloc),
+            pairs: Vec::new(alloc),
+        }
+    }
+}
+
+impl Watch for Pairing {
+    ghost use Rattle.audit.specs.Pairing.{HasPaired};
+
+    ghost has_seen = { λ first u now. HasPaired first.location u now };
+
+    fn take(&mut self, placed: Placed) -> Result<(), NoMemory> {
+        if let Some(access) = access_of(placed, self.location) {
+            add_pairs(&self.meetings, &self.kept, access, &mut self.pairs)?;
+            let depth = self.meetings.depth();
+            self.kept.push(Kept { access, depth })?;
+        }
+        self.meetings.take(placed)
+    }
+}
+
+/// Adds the races of an access with the earlier ones.
+fn add_pairs(
+    meetings: &Meetings,
+    kept: &[Kept],
+    second: Access,
+    pairs: &mut Vec<(Access, Access)>,
+) -> Result<(), NoMemory>
+    ensures { OnOk result (AddsPairs meetings.now kept.now second (length kept.now) pairs.old.items pairs.new.items) }
+{
+    for first in kept {
+        if one_writes(first.access.kind, second.kind)
+            && meetings.is_parallel(first.access.place, first.depth)
+        {
+            pairs.push((first.access, second))?;
+        }
+    }
+    Ok(())
+}
+
+/// The access of a location that a record is, if it is one.
+fn access_of(placed: Placed, location: u64) -> Option<Access>
+    ensures { MatchOption result ((k : Kind) → placed.what ≢ access k location) (λ a. (a.place ≡ placed.place)
+        × (placed.what ≡ access a.kind location)) }
+{
+    let place = placed.place;
+    match placed.what {
+        Record::Read(read) if read == location => Some(Access {
+            kind: Kind::Read,
+            place,
+        }),
+        Record::Write(written) if written == location => Some(Access {
+            kind: Kind::Write,
+            place,
+        }),
+        _ => None,
+    }
+}
+
+/// Whether one of two accesses writes.
+fn one_writes(first: Kind, second: Kind) -> bool
+    ensures { result ≡ (writes first || writes second) }
+{
+    match (first, second) {
+        (Kind::Read, Kind::Read) => false,
+        (Kind::Write, _) | (Kind::Read, Kind::Write) => true,
+    }
+}
 
 /// Reads a trace to its end and lists all races of a location: by their second places, and those of one second place
 /// by their first places.
@@ -16,17 +117,17 @@ use trace::{Access, Fault, Limits, Source, read_to_end};
 pub fn pairs<R: Source>(
     alloc: Global,
     limits: Limits,
-    reader: &mut R,
+    source: &mut R,
     location: u64,
 ) -> Result<Vec<(Access, Access)>, Fault>
-    // All bytes of the reader are the text of a trace that is well nested within the limits, and these are the races.
-    // Otherwise no memory was left, or the fault is the first; and where the reader holds such a trace and doesn't fail,
+    // All bytes of the source are the text of a trace that is well nested within the limits, and these are the races.
+    // Otherwise no memory was left, or the fault is the first; and where the source holds such a trace and doesn't fail,
     // no memory was left.
-    ensures { EndsReading IsWantOfMemory limits.records limits.depth (R.state reader.old ⇝ R.state reader.new)
+    ensures { EndsReading IsWantOfMemory limits.records limits.depth (R.state source.old ⇝ R.state source.new)
         (λ ps w. ArePairs w location ps.items) result }
 {
     let mut pairing = Pairing::new(alloc, location);
-    read_to_end(limits, reader, &mut pairing)?;
+    read_to_end(limits, source, &mut pairing)?;
     let Pairing {
         location: _,
         meetings: _,

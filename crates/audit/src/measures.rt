@@ -1,26 +1,143 @@
-//! The measures of a trace.
+//! The measures of a trace, by the longest paths in each active procedure.
+ghost use Rattle.std.specs.Prelude.{◌≡◌, ◌∷◌, ◌++◌, ◌<◌, ◌≤◌, ℕ, List, [], OnOk};
+ghost use Rattle.trace.specs.Bounds.{most_records};
 ghost use Rattle.trace.specs.Devices.{◌⇝◌};
-ghost use Rattle.trace.specs.Runs.{EndsReading, IsWantOfMemory};
+ghost use Rattle.trace.specs.Endings.{EndsReading, IsWantOfMemory};
 ghost use Rattle.audit.specs.Measures.{IsMeasure};
 
 use crate::answers::Measure;
-use crate::measuring::Measuring;
 use std::alloc::Global;
-use trace::{Fault, Limits, Source, read_to_end};
+use trace::{Fault, Limits, NoMemory, Placed, Record, Source, Watch, read_to_end};
+
+/// The longest paths in an active procedure, by their numbers of records: the one to the last record that it executed
+/// itself, or to the spawn that opened it, and the one to a return of a child that it hasn't waited for. A number is
+/// 0 where there is no such record.
+#[derive(Clone, Copy)]
+pub(crate) struct Longest {
+    pub(crate) own: u64,
+    pub(crate) unjoined: u64,
+}
+
+impl Longest {
+    ghost use Rattle.audit.specs.LongestPaths.{through};
+
+    /// The longest path to the next record of this procedure.
+    fn through(self, what: Record) -> u64
+        requires own { self.own < most_records }
+        requires unjoined { self.unjoined < most_records }
+        ensures { result ≡ through self what }
+    {
+        match what {
+            Record::Sync | Record::Return => self.own.max(self.unjoined) + 1,
+            Record::Spawn | Record::Read(_) | Record::Write(_) => self.own + 1,
+        }
+    }
+}
+
+/// The numbers of the records so far.
+#[derive(Drop)]
+pub(crate) struct Measuring {
+    /// Of the procedure that executes.
+    pub(crate) executing: Longest,
+    /// Of the procedures above it, from the root on.
+    pub(crate) waiting: Vec<Longest>,
+    pub(crate) work: u64,
+    pub(crate) span: u64,
+    pub(crate) spawns: u64,
+    pub(crate) depth: usize,
+}
+
+impl Measuring {
+    ghost use Rattle.audit.specs.LongestPaths.{HasMeasured, Advances};
+
+    /// No record was seen.
+    pub(crate) fn new(alloc: Global) -> Measuring
+        ensures { HasMeasured result [] }
+    {
+        Measuring {
+            executing: Longest {
+                own: 0,
+                unjoined: 0,
+            },
+            waiting: Vec::new(alloc),
+            work: 0,
+            span: 0,
+            spawns: 0,
+            depth: 0,
+        }
+    }
+
+    /// Takes a record to which the longest path has so many records.
+    fn advance(&mut self, what: Record, length: u64) -> Result<(), NoMemory>
+        ensures paths { OnOk result
+            (Advances length what self.old.executing self.old.waiting.items self.new.executing self.new.waiting.items) }
+        ensures work { self.new.work ≡ self.old.work }
+        ensures span { self.new.span ≡ self.old.span }
+        ensures spawns { self.new.spawns ≡ self.old.spawns }
+        ensures depth { self.new.depth ≡ self.old.depth }
+    {
+        match what {
+            Record::Spawn => {
+                let parent = Longest {
+                    own: length,
+                    unjoined: self.executing.unjoined,
+                };
+                self.waiting.push(parent)?;
+                self.executing = Longest {
+                    own: length,
+                    unjoined: 0,
+                };
+            }
+            Record::Return => {
+                if let Some(parent) = self.waiting.pop() {
+                    self.executing = Longest {
+                        own: parent.own,
+                        unjoined: parent.unjoined.max(length),
+                    };
+                }
+            }
+            Record::Sync => {
+                self.executing = Longest {
+                    own: length,
+                    unjoined: 0,
+                }
+            }
+            Record::Read(_) | Record::Write(_) => self.executing.own = length,
+        }
+        Ok(())
+    }
+}
+
+impl Watch for Measuring {
+    ghost use Rattle.audit.specs.LongestPaths.{HasMeasured};
+
+    ghost has_seen = { λ _ u now. HasMeasured now u };
+
+    fn take(&mut self, placed: Placed) -> Result<(), NoMemory> {
+        let length = self.executing.through(placed.what);
+        self.work = placed.place;
+        self.span = self.span.max(length);
+        self.depth = self.depth.max(self.waiting.len());
+        if let Record::Spawn = placed.what {
+            self.spawns += 1;
+        }
+        self.advance(placed.what, length)
+    }
+}
 
 /// Reads a trace to its end and measures it.
 ///
 /// A fault is the whole answer. It keeps two numbers for each active procedure, so its memory grows with the depth
 /// alone, and a record costs the same wherever it stands.
-pub fn measure<R: Source>(alloc: Global, limits: Limits, reader: &mut R) -> Result<Measure, Fault>
-    // All bytes of the reader are the text of a trace that is well nested within the limits, and these are its numbers.
-    // Otherwise no memory was left, or the fault is the first; and where the reader holds such a trace and doesn't fail,
+pub fn measure<R: Source>(alloc: Global, limits: Limits, source: &mut R) -> Result<Measure, Fault>
+    // All bytes of the source are the text of a trace that is well nested within the limits, and these are its numbers.
+    // Otherwise no memory was left, or the fault is the first; and where the source holds such a trace and doesn't fail,
     // no memory was left.
-    ensures { EndsReading IsWantOfMemory limits.records limits.depth (R.state reader.old ⇝ R.state reader.new)
+    ensures { EndsReading IsWantOfMemory limits.records limits.depth (R.state source.old ⇝ R.state source.new)
         (λ m w. IsMeasure w m) result }
 {
     let mut measuring = Measuring::new(alloc);
-    read_to_end(limits, reader, &mut measuring)?;
+    read_to_end(limits, source, &mut measuring)?;
     Ok(Measure {
         work: measuring.work,
         span: measuring.span,

@@ -41,7 +41,9 @@ impl Meetings {
 
     /// Takes the next record.
     pub(crate) fn take(&mut self, placed: Placed) -> Result<(), NoMemory>
-        ensures { OnOk result (Moves placed.place placed.what self.old.executing self.old.waiting.items self.new.executing self.new.waiting.items) }
+        ensures { OnOk result
+            (Moves placed.place placed.what self.old.executing self.old.waiting.items
+            self.new.executing self.new.waiting.items) }
     {
         match placed.what {
             Record::Spawn => {
@@ -88,7 +90,8 @@ impl Meetings {
     fn holders(&self, place: u64) -> usize
         ensures within { result ≤ length self.now.waiting.items }
         ensures opened { IsPartitionedBy (λ f. nat_lt f.opened place) self.now.waiting.items
-            → IsPartitionPoint (λ f. nat_lt f.opened place ≡ true) (λ f. nat_lt f.opened place ≡ false) self.now.waiting.items result }
+            → IsPartitionPoint (λ f. nat_lt f.opened place ≡ true)
+            (λ f. nat_lt f.opened place ≡ false) self.now.waiting.items result }
     {
         self.waiting.partition_point(|f| f.opened < place)
     }

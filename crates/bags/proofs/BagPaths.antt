@@ -26,13 +26,13 @@ bags_from-more s i (x ∷ w) (suc t) r e = bags_from-more (event s x) (suc i) w 
 pub bags_after-more : (w : List Record) (t : ℕ) (r : Record) → slice_get w t ≡ Some r → bags_after (take (suc t) (placed w)) ≡ event (bags_after (take t (placed w))) r
 bags_after-more w t r e = bags_from-more _ 1 w t r e
 
-abbrev Holds : (w : List Record) {n d : ℕ} → IsWellNested w n d → ℕ → Procedures → Type 0
-Holds w h t s = Invariant (traced w h) (procedure_at w) t s.count s.active
+abbrev Stand : (w : List Record) {n d : ℕ} → IsWellNested w n d → ℕ → Procedures → Type 0
+Stand w h t s = Invariant (traced w h) (procedure_at w) t s.count s.active
 
 -- one record
 at_record : (w : List Record) {n d : ℕ} (h : IsWellNested w n d) (t : ℕ) (s : Procedures) (r : Record) → suc (suc t) ≤ length w → shape_at w (suc t) ≡ shape_of (Some r)
     → Step (shape_of (Some r)) (depth w (suc t)) (depth w (suc (suc t))) → procedure_at w (suc (suc t)) ≡ current (event s r).active
-    → Holds w h t s → Holds w h (suc t) (event s r)
+    → Stand w h t s → Stand w h (suc t) (event s r)
 at_record w h t s Spawn b e d p i = at_spawn (traced w h) (procedure_at w) t s.count s.active b (ap joins e) d p i
 at_record w h t s Return b e d p i = at_return (traced w h) (procedure_at w) t s.count s.active b e d p i
 at_record w h t s Sync b e d p i = at_sync (traced w h) (procedure_at w) t s.count s.active b (ap joins e) d p i
@@ -40,18 +40,18 @@ at_record w h t s (Read l) b e d p i = at_access (traced w h) (procedure_at w) t
 at_record w h t s (Write l) b e d p i = at_access (traced w h) (procedure_at w) t s.count s.active b (ap joins e) d p i
 
 one_record : (w : List Record) {n d : ℕ} (h : IsWellNested w n d) (t : ℕ) (r : Record) → suc (suc t) ≤ length w → slice_get w t ≡ Some r
-    → Holds w h t (bags_after (take t (placed w))) → Holds w h (suc t) (bags_after (take (suc t) (placed w)))
+    → Stand w h t (bags_after (take t (placed w))) → Stand w h (suc t) (bags_after (take (suc t) (placed w)))
 one_record w h t r b e i =
     let f : bags_after (take (suc t) (placed w)) ≡ event (bags_after (take t (placed w))) r = bags_after-more w t r e in
     let g : shape_at w (suc t) ≡ shape_of (Some r) = ap shape_of e in
     let d : Step (shape_at w (suc t)) (depth w (suc t)) (depth w (suc (suc t))) = step_at w h (suc t) (omega arith) b in
-    subst (λ (s : Procedures). Holds w h (suc t) s) (sym f)
+    subst (λ (s : Procedures). Stand w h (suc t) s) (sym f)
     (at_record w h t (bags_after (take t (placed w))) r b g
     (subst (λ (x : Shape). Step x (depth w (suc t)) (depth w (suc (suc t)))) g d)
     (ap (λ (s : Procedures). current s.active) f) i)
 
 -- the invariant after every beginning of a trace
-pub holds : (w : List Record) {n d : ℕ} (h : IsWellNested w n d) (t : ℕ) → suc t ≤ length w → Holds w h t (bags_after (take t (placed w)))
+pub holds : (w : List Record) {n d : ℕ} (h : IsWellNested w n d) (t : ℕ) → suc t ≤ length w → Stand w h t (bags_after (take t (placed w)))
 holds w h zero b = at_start (traced w h) (procedure_at w) refl refl
 holds w h (suc t) b = let r = element_at w t (omega arith) in one_record w h t r.0 b r.1 (holds w h t (omega arith))
 
@@ -87,7 +87,7 @@ in_p-parallel_at w h i t a l b n = (λ q. forth q, λ q. back q)
     fs : List Active
     fs = (bags_after (take t (placed w))).active
 
-    inv : Holds w h t (bags_after (take t (placed w)))
+    inv : Stand w h t (bags_after (take t (placed w)))
     inv = holds w h t b.1
 
     forth : in_p (bags_after (take t (placed w))).active (procedure_at w i) ≡ true → IsParallel w i (suc t)

@@ -18,9 +18,6 @@ digits_from (suc j) n h =
 pub digits_most : (n : ℕ) → n < 2 ^ 64 → digits n ≤ 64
 digits_most n h = length-digits_of-le 2 64 n (omega arith) h
 
-pub digits_some : (n : ℕ) → 0 < n → 1 ≤ digits n
-digits_some n h = omega (arith, length-digits_of_step 2 n (omega arith) h)
-
 pub below_digits : (n : ℕ) → n < 2 ^ digits n
 below_digits n = lt_of_not-le (λ h. omega (arith, digits_from (digits n) n h))
 

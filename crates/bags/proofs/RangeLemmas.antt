@@ -10,7 +10,7 @@ use Rattle.std.specs.Option.{option_to_list}
 use Rattle.std.specs.Cmp.{nat_cmp_total}
 use Rattle.std.specs.FinSet as bag
 use Rattle.bags.specs.declared.Ranges.{Ranges}
-use Rattle.bags.specs.Procedures.{Procedures, synced, takes_in, after_sync, after_return, in_p, event}
+use Rattle.bags.specs.Procedures.{Procedures, synced, adopts, after_sync, after_return, in_p, event}
 use Rattle.bags.specs.Search.{own_at}
 use Rattle.trace.specs.declared.records.Record.TheVariants.{Sync, Return}
 use Rattle.bags.specs.Ranges.{run, active_of, actives_of, procedures_of, AreRanges, AreHeld}
@@ -48,7 +48,7 @@ synced_ranges next f up within = λ i. record { own = f.own; serial = sym (union
 
 -- a return leaves the parent's numbers as they are
 pub takes_in_ranges : (next : ℕ) (f g : Ranges) → f.parallel_from ≤ g.own → g.own ≤ g.parallel_from → g.parallel_from ≤ next
-    → active_of next f ≡ takes_in (active_of g.own f) (active_of next g)
+    → active_of next f ≡ adopts (active_of g.own f) (active_of next g)
 takes_in_ranges next f g low up within =
     λ i. record {
       own = f.own;

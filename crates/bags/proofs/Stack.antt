@@ -7,7 +7,7 @@ use Rattle.std.specs.Cmp.{nat_cmp_total}
 use Rattle.std.specs.Ordering.{nat_cmp}
 use Rattle.std.specs.FinSet as set
 use Rattle.trace.proofs.World.{World, spawned_return, joins, all_more}
-use Rattle.bags.specs.Procedures.{Bag, Active, opened, synced, takes_in, after_sync, after_return, current}
+use Rattle.bags.specs.Procedures.{Bag, Active, opened, synced, adopts, after_sync, after_return, current}
 use Rattle.trace.proofs.Standing.{Kept, Serial, kept_stays, serial_stays, kept-above, kept_synced, returned, serial_now, own-serial, own-kept}
 
 -- an active procedure at level d, for the places up to m; places are executed by the procedures `proc`
@@ -173,7 +173,7 @@ syncs v proc m t count d f b j e l s = record {
 -- a return
 
 closes : (v : World) (proc : ℕ → ℕ) (t count d : ℕ) (f g : Active) → suc (suc t) ≤ v.size → v.shape (suc t) ≡ spawned_return → v.depth (suc t) ≡ suc d → v.depth (suc (suc t)) ≡ d
-    → Stands v proc (suc t) t count (suc d) g → Stands v proc (suc t) t count d f → Stands v proc (suc t) (suc t) count d (takes_in f g)
+    → Stands v proc (suc t) t count (suc d) g → Stands v proc (suc t) t count d f → Stands v proc (suc t) (suc t) count d (adopts f g)
 closes v proc t count d f g b e a l u s = record {
   serial = λ i x y c. serial_stays v t d i (omega arith) (s.serial i x y c);
   parallel = λ i x y c. elim (in_union f.parallel (set.union g.serial g.parallel) (proc i) c) [
@@ -209,7 +209,7 @@ somewhere-synced f fs p =
     (λ i. (set.contains-union nat_cmp_total f.serial f.parallel p i || set.contains-empty nat_cmp p i) || somewhere fs p)
     ∙ regroup_sync (set.contains f.serial p) (set.contains f.parallel p) (somewhere fs p)
 
-somewhere-takes_in : (f g : Active) (fs : List Active) (p : ℕ) → somewhere (takes_in f g ∷ fs) p ≡ somewhere (g ∷ f ∷ fs) p
+somewhere-takes_in : (f g : Active) (fs : List Active) (p : ℕ) → somewhere (adopts f g ∷ fs) p ≡ somewhere (g ∷ f ∷ fs) p
 somewhere-takes_in f g fs p =
     (λ i. (set.contains f.serial p || set.contains-union nat_cmp_total f.parallel (set.union g.serial g.parallel) p i) || somewhere fs p)
     ∙ (λ i. (set.contains f.serial p || (set.contains f.parallel p || set.contains-union nat_cmp_total g.serial g.parallel p i)) || somewhere fs p)
@@ -265,13 +265,13 @@ at_return v proc t count [] b n d p h = absurd (omega (arith, h.deep))
 at_return v proc t count (g ∷ []) b n d p h = absurd (omega (arith, h.deep))
 at_return v proc t count (g ∷ f ∷ fs) b n d p h = from_top h.each
   where
-    from_next : Stands v proc (suc t) t count (suc (length fs)) g → AllStand v proc (suc t) t count (f ∷ fs) → Invariant v proc (suc t) count (takes_in f g ∷ fs)
-    from_next u (one_more s r) = finish v proc t count s.home (takes_in f g) fs b s.home_from s.home_upto s.home_own s.home_level s.home_above (omega (arith, h.deep)) p
+    from_next : Stands v proc (suc t) t count (suc (length fs)) g → AllStand v proc (suc t) t count (f ∷ fs) → Invariant v proc (suc t) count (adopts f g ∷ fs)
+    from_next u (one_more s r) = finish v proc t count s.home (adopts f g) fs b s.home_from s.home_upto s.home_own s.home_level s.home_above (omega (arith, h.deep)) p
         (one_more (closes v proc t count (length fs) f g b n (omega (arith, h.deep)) (omega (arith, h.deep)) u s)
         (stay v proc (suc t) t count fs (omega (arith, h.deep)) (λ j. omega (arith, h.deep)) r))
         (λ i x y. somewhere-takes_in f g fs (proc i) ∙ h.stand i x y)
 
-    from_top : AllStand v proc (suc t) t count (g ∷ f ∷ fs) → Invariant v proc (suc t) count (takes_in f g ∷ fs)
+    from_top : AllStand v proc (suc t) t count (g ∷ f ∷ fs) → Invariant v proc (suc t) count (adopts f g ∷ fs)
     from_top (one_more u r) = from_next u r
 
 pub at_spawn : (v : World) (proc : ℕ → ℕ) (t count : ℕ) (fs : List Active) → suc (suc t) ≤ v.size → joins (v.shape (suc t)) ≡ false → v.depth (suc (suc t)) ≡ suc (v.depth (suc t))

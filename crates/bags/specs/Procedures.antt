@@ -34,8 +34,8 @@ abbrev pub synced : Active → Active
 synced f = record { own = f.own; serial = set.union f.serial f.parallel; parallel = set.empty }
 
 -- the parent f takes in its child g, which returns: g syncs, and P of f = P of f + S of g
-abbrev pub takes_in : Active → Active → Active
-takes_in f g = record { own = f.own; serial = f.serial; parallel = set.union f.parallel (synced g).serial }
+abbrev pub adopts : Active → Active → Active
+adopts f g = record { own = f.own; serial = f.serial; parallel = set.union f.parallel (synced g).serial }
 
 -- what a sync of the executing procedure leaves of the active ones
 abbrev pub after_sync : List Active → List Active
@@ -46,7 +46,7 @@ after_sync (f ∷ fs) = synced f ∷ fs
 abbrev pub after_return : List Active → List Active
 after_return [] = []
 after_return (f ∷ []) = f ∷ []
-after_return (g ∷ f ∷ fs) = takes_in f g ∷ fs
+after_return (g ∷ f ∷ fs) = adopts f g ∷ fs
 
 -- the rule of each record
 abbrev pub event : Procedures → Record → Procedures

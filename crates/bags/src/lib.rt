@@ -173,7 +173,7 @@ impl Bags {
     }
 }
 
-/// The place of the active procedure that keeps a procedure: the last one whose number is not above it. It is
+/// The index of the active procedure that keeps a procedure: the last one whose number is not above it. It is
 /// searched by halves.
 #[tactic(auto, using(crate::proofs::RangeLemmas::own_at_is))]
 #[inline(always)]

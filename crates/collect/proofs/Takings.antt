@@ -4,7 +4,7 @@ use Rattle.std.specs.List.{flat_map}
 use Rattle.std.proofs.KnownBytes.{Appends-trans, Appends-kept}
 use Rattle.trace.specs.Devices.{Device, Change, ◌⇝◌}
 use Rattle.trace.specs.Writers.{IsUntouched, Took, TookFront, WasGiven, Puts}
-use Rattle.trace.proofs.Runs.{failed_since}
+use Rattle.trace.proofs.Endings.{failed_since}
 use Rattle.collect.proofs.Written.{AppendsFront-more, AppendsFront-after, Appends-line, AppendsFront-line}
 
 -- a front of a text is a front of any longer text

@@ -14,7 +14,7 @@ use Rattle.trace.specs.Text.{newline}
 use Rattle.trace.proofs.Decimals.{decimal_numerals}
 use Rattle.trace.proofs.Once.{same_access, same_race}
 use Rattle.collect.specs.Reports.{IsEntry}
-use Rattle.collect.specs.ReportText.{space, word, told, head, race_line, race_lines}
+use Rattle.collect.specs.ReportText.{space, word, access_text, head, race_line, race_lines}
 
 -- ---- what stands in front of the first stop
 
@@ -54,7 +54,7 @@ same_number s m n a b h p q e =
 abbrev pub told_before : ℕ → Access → List ℕ → List ℕ
 told_before s a rest = word a.kind ++ space ∷ (decimal a.place ++ s ∷ rest)
 
-pub told-before : (s : ℕ) (a : Access) (rest : List ℕ) → told a ++ s ∷ rest ≡ told_before s a rest
+pub told-before : (s : ℕ) (a : Access) (rest : List ℕ) → access_text a ++ s ∷ rest ≡ told_before s a rest
 told-before s a rest = append_assoc (word a.kind) (space ∷ decimal a.place) (s ∷ rest)
 
 same_first : (x y : ℕ) (xs ys : List ℕ) → x ∷ xs ≡ y ∷ ys → x ≡ y
@@ -66,7 +66,7 @@ same_kind Read Write a b e = absurd (omega (arith, same_first 114 119 _ _ e))
 same_kind Write Read a b e = absurd (omega (arith, same_first 119 114 _ _ e))
 same_kind Write Write a b e = (refl, cc)
 
-pub same_told : (s : ℕ) (a b : Access) (x y : List ℕ) → s < 48 → a.place < 2 ^ 64 → b.place < 2 ^ 64 → told a ++ s ∷ x ≡ told b ++ s ∷ y → (a ≡ b) × (x ≡ y)
+pub same_told : (s : ℕ) (a b : Access) (x y : List ℕ) → s < 48 → a.place < 2 ^ 64 → b.place < 2 ^ 64 → access_text a ++ s ∷ x ≡ access_text b ++ s ∷ y → (a ≡ b) × (x ≡ y)
 same_told s a b x y h p q e =
     let kinds = same_kind a.kind b.kind (decimal a.place ++ s ∷ x) (decimal b.place ++ s ∷ y) (sym (told-before s a x) ∙ e ∙ told-before s b y) in
     let places = same_number s a.place b.place x y h p q kinds.1 in
@@ -76,10 +76,10 @@ same_told s a b x y h p q e =
 
 -- the parts of a race line after its first word, and what follows it
 abbrev pub after_first : RaceAt → List ℕ → List ℕ
-after_first r rest = told r.second ++ newline ∷ rest
+after_first r rest = access_text r.second ++ newline ∷ rest
 
 abbrev pub after_location : RaceAt → List ℕ → List ℕ
-after_location r rest = told r.first ++ space ∷ after_first r rest
+after_location r rest = access_text r.first ++ space ∷ after_first r rest
 
 abbrev pub after_race : RaceAt → List ℕ → List ℕ
 after_race r rest = decimal r.location ++ space ∷ after_location r rest
@@ -88,7 +88,7 @@ five : (a b c d e : List ℕ) → (((a ++ b) ++ c) ++ d) ++ e ≡ a ++ (b ++ (c 
 five a b c d e = simp append_assoc
 
 pub race_line-parts : (r : RaceAt) (rest : List ℕ) → race_line r ++ rest ≡ codes "race " ++ after_race r rest
-race_line-parts r rest = ap (λ l. codes "race " ++ l) (five (decimal r.location) (space ∷ told r.first) (space ∷ told r.second) (newline ∷ []) rest)
+race_line-parts r rest = ap (λ l. codes "race " ++ l) (five (decimal r.location) (space ∷ access_text r.first) (space ∷ access_text r.second) (newline ∷ []) rest)
 
 pub same_line : (r s : RaceAt) (x y : List ℕ) → IsEntry r → IsEntry s → race_line r ++ x ≡ race_line s ++ y → (r ≡ s) × (x ≡ y)
 same_line r s x y h k e =

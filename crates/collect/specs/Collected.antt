@@ -34,12 +34,12 @@ pub record Kept : Type 0 where
   pub refused : Bool
 
 -- a race on a location of which none is kept
-abbrev pub IsNew : Kept → Back → Type 0
-IsNew c (Race r) = race_on r.location c.races ≡ None
-IsNew c NoMemory = ⊥
+abbrev pub IsFirstOnLocation : Kept → Back → Type 0
+IsFirstOnLocation c (Race r) = race_on r.location c.races ≡ None
+IsFirstOnLocation c NoMemory = ⊥
 
 -- the collector was given exactly these, one after another
-pub record Holds (g : List Back) (c : Kept) : Type 0 where
+pub record KeepsBest (g : List Back) (c : Kept) : Type 0 where
   pub refused : c.refused ≡ fails g
   pub best_on : (l : ℕ) → race_on l c.races ≡ best l (races_of g)
 

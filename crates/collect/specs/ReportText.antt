@@ -15,14 +15,14 @@ word Read = codes "read"
 word Write = codes "write"
 
 -- an access, as it stands in the line of a race
-abbrev pub told : Access → List ℕ
-told a = word a.kind ++ space ∷ decimal a.place
+abbrev pub access_text : Access → List ℕ
+access_text a = word a.kind ++ space ∷ decimal a.place
 
 abbrev pub head : ℕ → List ℕ
 head n = ended (codes "races " ++ decimal n)
 
 abbrev pub race_line : RaceAt → List ℕ
-race_line r = ended (codes "race " ++ decimal r.location ++ space ∷ told r.first ++ space ∷ told r.second)
+race_line r = ended (codes "race " ++ decimal r.location ++ space ∷ access_text r.first ++ space ∷ access_text r.second)
 
 abbrev pub race_lines : List RaceAt → List ℕ
 race_lines rs = flat_map race_line rs

@@ -1,7 +1,7 @@
 //! The races of all shards, kept by location.
 ghost use Rattle.std.specs.Prelude.{◌≡◌, List, [], ◌∷◌, ◌++◌, true, OnOk, OnErr, IfOk, IsErr};
 ghost use Rattle.shard.specs.declared.Back.{Back};
-ghost use Rattle.collect.specs.Collected.{AreFirstLeast, Holds, IsCollected, IsNew, fails, has_better};
+ghost use Rattle.collect.specs.Collected.{AreFirstLeast, KeepsBest, IsCollected, IsFirstOnLocation, fails, has_better};
 
 use crate::reports::Report;
 use shard::Back;
@@ -34,7 +34,7 @@ impl Model for Collector {
 impl Collector {
     /// A collector that was given nothing. It takes no memory yet.
     pub fn new(alloc: Global) -> Collector
-        ensures { Holds [] result }
+        ensures { KeepsBest [] result }
     {
         Collector {
             alloc,
@@ -46,9 +46,9 @@ impl Collector {
     /// Takes what a shard handed back. Only a race on a new location asks for memory; a refused
     /// growth changes nothing.
     pub fn take(&mut self, back: Back) -> Result<(), NoMemory>
-        ensures ok { OnOk result ((g : List Back) → Holds g self.old → Holds (g ++ back ∷ []) self.new) }
+        ensures ok { OnOk result ((g : List Back) → KeepsBest g self.old → KeepsBest (g ++ back ∷ []) self.new) }
         ensures err { OnErr result (self.new ≡ self.old) }
-        ensures cause { OnErr result (IsNew self.old back) }
+        ensures cause { OnErr result (IsFirstOnLocation self.old back) }
     {
         match back {
             Back::Race(race) => self.keep(race),
@@ -61,9 +61,9 @@ impl Collector {
 
     /// The report of what was taken. It refuses where a shard ran out of memory.
     pub fn finish(self) -> Result<Report, NoMemory>
-        ensures ok { IfOk result (λ r. (g : List Back) → Holds g self → IsCollected g r) }
-        ensures first_least { IfOk result (λ r. (g : List Back) → Holds g self → AreFirstLeast g r) }
-        ensures refuses { (g : List Back) → Holds g self → fails g ≡ true → IsErr result }
+        ensures ok { IfOk result (λ r. (g : List Back) → KeepsBest g self → IsCollected g r) }
+        ensures first_least { IfOk result (λ r. (g : List Back) → KeepsBest g self → AreFirstLeast g r) }
+        ensures refuses { (g : List Back) → KeepsBest g self → fails g ≡ true → IsErr result }
     {
         if self.refused {
             return Err(NoMemory);
@@ -73,9 +73,10 @@ impl Collector {
     }
 
     fn keep(&mut self, race: Race) -> Result<(), NoMemory>
-        ensures ok { OnOk result ((g : List Back) → Holds g self.old → Holds (g ++ Back.Race race ∷ []) self.new) }
+        ensures ok { OnOk result ((g : List Back) → KeepsBest g self.old
+            → KeepsBest (g ++ Back.Race race ∷ []) self.new) }
         ensures err { OnErr result (self.new ≡ self.old) }
-        ensures cause { OnErr result (IsNew self.old (Back.Race race)) }
+        ensures cause { OnErr result (IsFirstOnLocation self.old (Back.Race race)) }
     {
         if self.has_better(&race) {
             return Ok(());

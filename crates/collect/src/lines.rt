@@ -2,7 +2,7 @@
 ghost use Rattle.std.specs.Prelude.{◌≡◌, ◌+◌, ◌<◌, ◌≤◌, [], ◌∷◌, ◌++◌, length, decimal};
 ghost use Rattle.trace.specs.Bounds.{most_records};
 ghost use Rattle.trace.specs.Text.{newline};
-ghost use Rattle.collect.specs.ReportText.{told};
+ghost use Rattle.collect.specs.ReportText.{access_text};
 
 use itoa::write_digits;
 use std::marker::Model;
@@ -60,7 +60,7 @@ impl Line {
     pub(crate) fn access(&mut self, access: Access)
         requires place { access.place ≤ most_records }
         requires room { length self.old ≤ 49 }
-        ensures text { self.new ≡ told access ++ self.old }
+        ensures text { self.new ≡ access_text access ++ self.old }
         ensures len { length self.new ≤ length self.old + 21 }
     {
         self.number(access.place);

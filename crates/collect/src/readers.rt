@@ -4,7 +4,7 @@ ghost use Rattle.trace.specs.declared.records.Kind.{Kind};
 ghost use Rattle.trace.specs.declared.records.Access.{Access};
 ghost use Rattle.trace.specs.Accesses.{RaceAt, IsRaceShape};
 ghost use Rattle.collect.specs.Reports.{IsEntry, IsReportList, may_follow};
-ghost use Rattle.collect.specs.ReportText.{space, word, told, head, race_line, rtext};
+ghost use Rattle.collect.specs.ReportText.{space, word, access_text, head, race_line, rtext};
 ghost use Rattle.collect.specs.ReportFaults.{IsReportFault};
 ghost use Rattle.collect.specs.declared.readers.ReportFault.{ReportFault};
 ghost use Rattle.collect.specs.declared.readers.ReportFault.TheVariants as reports;
@@ -90,7 +90,7 @@ fn next_race<'a>(races: &[Race], bytes: &'a [u8]) -> Option<(Race, &'a [u8])>
     ensures none { IfNone result ((r : RaceAt) (more : List ℕ)
         → IsReportList (races.now ++ r ∷ []) → bytes.now ≢ race_line r ++ more) }
 {
-    let Some(found) = race_of(bytes) else {
+    let Some(found) = race_in_front(bytes) else {
         return None;
     };
     if !may_follow(races, &found.0) {
@@ -110,7 +110,7 @@ fn may_follow(races: &[Race], race: &Race) -> bool
 }
 
 // The race of the line in front, and the bytes behind that line.
-fn race_of(bytes: &[u8]) -> Option<(Race, &[u8])>
+fn race_in_front(bytes: &[u8]) -> Option<(Race, &[u8])>
     ensures found { IfSome result (λ p. bytes.now ≡ race_line p.0 ++ p.1.now) }
     ensures entry { IfSome result (λ p. IsEntry p.0) }
     ensures none { IfNone result ((r : RaceAt) (more : List ℕ) → IsEntry r → bytes.now ≢ race_line r ++ more) }
@@ -155,10 +155,10 @@ fn are_raced(first: Access, second: Access) -> bool
 // The access in front of the stop, and the bytes behind it.
 fn access_until(bytes: &[u8], stop: u8) -> Option<(Access, &[u8])>
     requires { stop < 48 }
-    ensures found { IfSome result (λ p. bytes.now ≡ told p.0 ++ stop ∷ p.1.now) }
+    ensures found { IfSome result (λ p. bytes.now ≡ access_text p.0 ++ stop ∷ p.1.now) }
     ensures fits { IfSome result (λ p. p.0.place < 2 ^ 64) }
     ensures none { IfNone result ((a : Access) (more : List ℕ) → a.place < 2 ^ 64
-        → bytes.now ≢ told a ++ stop ∷ more) }
+        → bytes.now ≢ access_text a ++ stop ∷ more) }
 {
     let Some((kind, rest)) = kind_of(bytes) else {
         return None;

@@ -3,8 +3,8 @@ use Rattle.std.proofs.Common.{◌≡◌, ℕ, List, Result, Ok, Err, subst}
 use Rattle.trace.specs.declared.records.Record.{Record}
 use Rattle.trace.specs.declared.faults.Fault.{Fault}
 use Rattle.trace.specs.Devices.{Change}
-use Rattle.trace.specs.Runs.{OfTrace, IsRefused, EndsReading}
-use Rattle.trace.proofs.Runs.{refused_also}
+use Rattle.trace.specs.Endings.{OfTrace, IsRefused, EndsReading}
+use Rattle.trace.proofs.Endings.{refused_also}
 
 module _ {T : Type 0} (IsWant : Fault → Type 0) (records depths : ℕ) (c : Change) (Says : T → List Record → Type 0) (r : Result T Fault) (ends : EndsReading IsWant records depths c Says r) where
   pub trace_of : (answer : T) → r ≡ Ok answer → OfTrace records depths c (Says answer)

@@ -1,15 +1,14 @@
 -- How a run's end is answered.
-use Rattle.std.proofs.Common.{◌≡◌, ℕ, Bool, true, false, IsTrue, IsFalse, List, Result, Ok, Err, OnOk, IsErrAnd, inl, refl, sym, subst, ◌∙◌}
-use Rattle.trace.specs.declared.records.Record.{Record}
+use Rattle.std.proofs.Common.{◌≡◌, ℕ, Bool, true, false, IsTrue, IsFalse, Result, Ok, Err, OnOk, IsErrAnd, inl, refl, sym, subst, ◌∙◌}
 use Rattle.trace.specs.declared.faults.Fault.{Fault}
 use Rattle.trace.specs.declared.faults.Fault.TheVariants.{NoMemory}
 use Rattle.trace.specs.Devices.{Device, Change, ◌⇝◌}
-use Rattle.trace.specs.Runs.{OfTrace, IsRefused, EndsReading, IsWantOfMemoryOrThread}
-use Rattle.trace.proofs.Runs.{ends_refused, refused_for_want}
-use Rattle.detect.specs.declared.made.Done.{Done}
+use Rattle.trace.specs.Endings.{OfTrace, IsRefused, EndsReading, IsWantOfMemoryOrThread}
+use Rattle.trace.proofs.Endings.{ends_refused, refused_for_want}
+use Rattle.detect.specs.declared.closing.Done.{Done}
 use Rattle.detect.specs.declared.sharded.Run.{Run}
 use Rattle.detect.specs.Finished.{IsFinished, IsDone}
-use Rattle.detect.specs.Ran.{RunAnswers}
+use Rattle.detect.specs.RunReports.{RunAnswers}
 use Rattle.detect.proofs.Endings.{trace_of, refusal_of}
 
 same_err : (r : Result (Unit {0}) Fault) (a b : Fault) → r ≡ Err a → r ≡ Err b → a ≡ b

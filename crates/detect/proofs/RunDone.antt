@@ -1,5 +1,5 @@
 -- What a run among its workers comes to.
-use Rattle.std.proofs.Common.{◌≡◌, ℕ, ◌<◌, List, length, map, vec_len, None, Result, Ok, Err, OnOk, inl, inr, refl, sym, ap, subst, ◌∙◌, arith}
+use Rattle.std.proofs.Common.{◌≡◌, ℕ, ◌<◌, List, length, map, vec_len, None, Result, Ok, Err, OnOk, inl, inr, sym, ap, subst, ◌∙◌, arith}
 use Rattle.std.proofs.lemmas.List.{length-map}
 use Rattle.std.proofs.lemmas.Simd.{map-map}
 use Rattle.std.specs.declared.thread.PromisedHandle.{PromisedHandle}
@@ -9,32 +9,32 @@ use Rattle.trace.specs.declared.faults.Fault.{Fault}
 use Rattle.trace.specs.declared.faults.Fault.TheVariants.{NoThread}
 use Rattle.trace.specs.Traces.{placed}
 use Rattle.trace.specs.Devices.{Device, Change, ◌⇝◌}
-use Rattle.trace.specs.Runs.{EndsReading, IsWantOfMemory, IsWantOfMemoryOrThread}
-use Rattle.trace.proofs.Runs.{refused_for_want}
+use Rattle.trace.specs.Endings.{EndsReading, IsWantOfMemory, IsWantOfMemoryOrThread}
+use Rattle.trace.proofs.Endings.{refused_for_want}
 use Rattle.lane.specs.Lanes.{LaneId, taker_lane, taken_of}
 use Rattle.route.specs.declared.routing.Router.{Router}
 use Rattle.route.specs.Routers.{lane_count, pending_of, marked_of, HasSent, IsOnLanes}
 use Rattle.shard.specs.declared.working.Worked.{Worked}
 use Rattle.detect.specs.declared.jobs.WorkOf.{WorkOf}
-use Rattle.detect.specs.declared.made.Made.{Made}
-use Rattle.detect.specs.declared.made.Done.{Done}
-use Rattle.detect.specs.declared.made.Lists.{Lists}
+use Rattle.detect.specs.declared.making.Made.{Made}
+use Rattle.detect.specs.declared.closing.Done.{Done}
+use Rattle.detect.specs.declared.making.Lists.{Lists}
 use Rattle.detect.specs.Rooms.{HasRoom}
-use Rattle.detect.specs.Gatherings.{HasEnded, IsFurther}
-use Rattle.detect.specs.Working.{job_lanes, handle_lanes, AllDid}
+use Rattle.detect.specs.LanesBack.{HasBackMark, IsFurther}
+use Rattle.detect.specs.Workers.{job_lanes, handle_lanes, AllDid}
 use Rattle.detect.specs.Readiness.{IsReady}
 use Rattle.detect.specs.Finished.{IsFinished, IsClosed, IsDone}
 use Rattle.detect.specs.declared.gathering.Gathering.{Gathering}
 use Rattle.detect.proofs.Endings.{ends_with}
 use Rattle.detect.proofs.Sendings.{on_lanes_trans}
-use Rattle.detect.proofs.Gatherings.{further_trans}
+use Rattle.detect.proofs.LanesBack.{further_trans}
 use Rattle.detect.proofs.RunEnds.{did_count, did_taker_lanes, did_told_lanes}
 
 module _ {S H : Type 0} where
   pub finished : (n : ℕ) (made : Made S H) (done : Done S H) (router : Router) (hs : List (PromisedHandle (Worked S H) WorkOf)) (w : List Record)
       → IsReady n made → map handle_lanes hs ≡ map job_lanes made.jobs.items → HasSent (placed w) router → ((u : List Placed) → HasSent u router → HasSent u done.router)
       → pending_of done.router ≡ None → marked_of done.router ≡ lane_count done.router → IsOnLanes made.router done.router → IsFurther made.gathering done.gathering
-      → ((k : ℕ) → k < length hs → HasEnded done.gathering k) → AllDid (map handle_lanes hs) done.workers.items → IsFinished n done w
+      → ((k : ℕ) → k < length hs → HasBackMark done.gathering k) → AllDid (map handle_lanes hs) done.workers.items → IsFinished n done w
   finished n made done router hs w ready started sent marks idle marked on further ended did =
       let P : List (LaneId × LaneId) → Type 0 = λ ls. AllDid ls done.workers.items in
       let all : AllDid (map job_lanes made.jobs.items) done.workers.items = subst P started did in
@@ -78,7 +78,7 @@ module _ {S H : Type 0} where
       → IsReady n made → map handle_lanes hs ≡ map job_lanes made.jobs.items
       → EndsReading IsWantOfMemory records depths (before ⇝ state x) (λ _ w. HasSent (placed w) r) o → IsOnLanes made.router r → IsFurther made.gathering g
       → ((w : List Placed) → HasSent w r' → HasSent w done.router) → pending_of done.router ≡ None → marked_of done.router ≡ lane_count done.router → IsOnLanes r' done.router
-      → IsFurther g' g2 → IsFurther g2 done.gathering → ((k : ℕ) → k < length hs → HasEnded done.gathering k) → AllDid (map handle_lanes hs) done.workers.items
+      → IsFurther g' g2 → IsFurther g2 done.gathering → ((k : ℕ) → k < length hs → HasBackMark done.gathering k) → AllDid (map handle_lanes hs) done.workers.items
       → IsDone n records depths (before ⇝ state x') done
   done_started {X = X} state n records depths before made done hs x x' r r' g g' g2 o same_x same_r same_g outcome ready started ends on further marks idle marked on' further' further'' ended did =
       let P : X → Type 0 = λ y. IsDone n records depths (before ⇝ state y) done in

@@ -15,7 +15,7 @@ use Rattle.shard.specs.Backs.{races_of, fails}
 use Rattle.shard.specs.Working.{IsOfShare, TellsFound}
 use Rattle.shard.proofs.Answered.{answered}
 use Rattle.detect.specs.Gathered.{all_given}
-use Rattle.detect.specs.Working.{AllDid}
+use Rattle.detect.specs.Workers.{AllDid}
 use Rattle.detect.specs.Closing.{taken_by, told_by, counts_of, taker_lanes, told_lanes, IsSettled}
 use Rattle.detect.proofs.Gathered.{on_lane, fails_on}
 

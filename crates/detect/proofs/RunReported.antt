@@ -14,15 +14,15 @@ use Rattle.route.proofs.LaneShares.{put_marked}
 use Rattle.route.specs.Routers.{puts_of, turn_of, pending_of, marked_of}
 use Rattle.shard.specs.declared.Back.{Back}
 use Rattle.shard.specs.declared.working.Worked.{Worked}
-use Rattle.collect.specs.Collected.{Holds, IsCollected}
-use Rattle.detect.specs.declared.made.Done.{Done}
+use Rattle.collect.specs.Collected.{KeepsBest, IsCollected}
+use Rattle.detect.specs.declared.closing.Done.{Done}
 use Rattle.detect.specs.declared.sharded.Run.{Run}
 use Rattle.detect.specs.Gathered.{given_by, Gathers}
 use Rattle.detect.specs.Closing.{taken_by, told_by, counts_of, IsSettled}
 use Rattle.detect.specs.Finished.{IsFinished}
-use Rattle.detect.specs.Ran.{TookShares, RunAnswers}
+use Rattle.detect.specs.RunReports.{TookShares, RunAnswers}
 use Rattle.detect.proofs.RunEnds.{IsWork, IsEnd, did_at, took_share, counted_share, told_share}
-use Rattle.detect.proofs.Runs.{report_of}
+use Rattle.detect.proofs.Detected.{report_of}
 use Rattle.detect.proofs.Verdicts.{verdict_of_shares}
 
 module _ {S H : Type 0} where
@@ -67,7 +67,7 @@ module _ {S H : Type 0} where
 
   -- the answer of the run
   pub run_answers : (n records depths : ℕ) (done : Done S H) (w : List Record) (puts : List (List (Item Placed))) (told : List (List (Item Back))) (run : Run) → 1 ≤ n → records ≤ 2 ^ 48 → IsWellNested w records depths → IsFinished n done w
-      → IsCompared n done puts told → done.gathering.refused ≡ false → ((g : List Back) → Holds g done.gathering.collector → IsCollected g run.report)
+      → IsCompared n done puts told → done.gathering.refused ≡ false → ((g : List Back) → KeepsBest g done.gathering.collector → IsCollected g run.report)
       → run.taken.items ≡ counts_of done.workers.items → map taken_of run.lanes.items ≡ taken_by done.workers.items → length run.lanes.items ≡ n → RunAnswers n run w
   run_answers n records depths done w puts told run some most nested f h good collected counts lanes count =
       let e = ends n done w puts told f h in

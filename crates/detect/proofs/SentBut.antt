@@ -4,7 +4,7 @@ use Rattle.trace.specs.declared.records.Placed.{Placed}
 use Rattle.trace.specs.Shares.{share}
 use Rattle.route.specs.declared.batch.Batch.{Batch}
 use Rattle.route.specs.declared.routing.Router.{Router}
-use Rattle.route.specs.Batches.{part_of, HasStaged, HasSameParts}
+use Rattle.route.specs.Batches.{portion_of, HasStaged, HasSamePortions}
 use Rattle.route.specs.Routers.{HasSent}
 use Rattle.detect.specs.Sent.{HasSentBut}
 
@@ -23,10 +23,10 @@ one_more_but old new w p r joined h = record {
 }
 
 -- the same is staged
-pub staged_same : (old new : Batch) (us : List Placed) → HasSameParts old new → HasStaged us old → HasStaged us new
+pub staged_same : (old new : Batch) (us : List Placed) → HasSamePortions old new → HasStaged us old → HasStaged us new
 staged_same old new us same h k lt =
-    let P : ℕ → Type 0 = λ n. part_of old k ≡ share k n us in
-    same.parts k ∙ subst P (sym same.lanes) (h k (omega (arith, lt, same.lanes)))
+    let P : ℕ → Type 0 = λ n. portion_of old k ≡ share k n us in
+    same.portions k ∙ subst P (sym same.lanes) (h k (omega (arith, lt, same.lanes)))
 
-pub same_parts_trans : (a b c : Batch) → HasSameParts a b → HasSameParts b c → HasSameParts a c
-same_parts_trans a b c h k = record { lanes = k.lanes ∙ h.lanes; most = k.most ∙ h.most; parts = λ j. k.parts j ∙ h.parts j }
+pub same_portions_trans : (a b c : Batch) → HasSamePortions a b → HasSamePortions b c → HasSamePortions a c
+same_portions_trans a b c h k = record { lanes = k.lanes ∙ h.lanes; most = k.most ∙ h.most; portions = λ j. k.portions j ∙ h.portions j }

@@ -1,22 +1,22 @@
 -- The ends of one shard's lanes more.
-use Rattle.std.proofs.Common.{◌≡◌, ℕ, ◌+◌, true, false, List, [], ◌∷◌, ◌++◌, length, length-append, map, Result, Ok, Err, OnOk, is_ok, refl, sym, ap, ap₂, subst, ◌∙◌, arith}
+use Rattle.std.proofs.Common.{◌≡◌, ℕ, ◌+◌, false, List, [], ◌∷◌, ◌++◌, length, length-append, map, refl, sym, ap, ap₂, subst, ◌∙◌, arith}
 use Rattle.std.specs.List.{All, AllByRecursion}
 use Rattle.std.proofs.lemmas.List.{map-append}
 use Rattle.std.proofs.lemmas.List.Elements.{All-push, All-nil}
 use Rattle.trace.specs.declared.records.Placed.{Placed}
 use Rattle.trace.proofs.Lists.{all-push}
-use Rattle.lane.specs.declared.ends.Sender.{Sender}
-use Rattle.lane.specs.declared.ends.Taker.{Taker}
+use Rattle.lane.specs.declared.sender.Sender.{Sender}
+use Rattle.lane.specs.declared.taker.Taker.{Taker}
 use Rattle.lane.specs.Lanes.{lane_of, put_of, taker_lane, taken_of}
 use Rattle.lane.specs.declared.item.Item.{Item}
 use Rattle.lane.specs.Items.{records}
 use Rattle.shard.specs.declared.Back.{Back}
 use Rattle.shard.specs.Backs.{fails}
-use Rattle.collect.specs.Collected.{Kept, Holds}
+use Rattle.collect.specs.Collected.{Kept, KeepsBest}
 use Rattle.detect.specs.Gathered.{given_by, all_given, Gathers}
 use Rattle.detect.specs.declared.jobs.Job.{Job}
-use Rattle.detect.specs.declared.made.Ends.{Ends}
-use Rattle.detect.specs.Working.{IsNewJob, AllNew, to_shards, from_shards}
+use Rattle.detect.specs.declared.making.Ends.{Ends}
+use Rattle.detect.specs.Workers.{IsFreshJob, AllFresh, to_shards, from_shards}
 use Rattle.detect.specs.Readiness.{IsTied}
 
 -- what f says of the one list, g says of the other, and of one element more too
@@ -32,16 +32,16 @@ none_given : (backs : List (Taker Back)) → AllByRecursion (λ t. taken_of t �
 none_given [] h = refl
 none_given (t ∷ backs) h = ap₂ (λ (l : List (Item Back)) (g : List Back). records l ++ g) h.0 (none_given backs h.1)
 
-pub nothing_gathered : (backs : List (Taker Back)) (c : Kept) → AllByRecursion (λ t. taken_of t ≡ []) backs → Holds [] c → Gathers (given_by backs) false c
+pub nothing_gathered : (backs : List (Taker Back)) (c : Kept) → AllByRecursion (λ t. taken_of t ≡ []) backs → KeepsBest [] c → Gathers (given_by backs) false c
 nothing_gathered backs c none holds = record {
   none_failed = λ e. ap fails (none_given backs none);
-  holds = λ e home. let P : List Back → Type 0 = λ g. Holds g c in subst P (sym (none_given backs none)) holds;
+  holds = λ e home. let P : List Back → Type 0 = λ g. KeepsBest g c in subst P (sym (none_given backs none)) holds;
 }
 
 module _ {S H : Type 0} where
   pub tied_none : (ends : Ends S H) → ends.senders.items ≡ [] → ends.jobs.items ≡ [] → ends.backs.items ≡ [] → IsTied 0 ends
   tied_none ends senders jobs backs =
-      let P : List (Job S H) → Type 0 = AllNew in
+      let P : List (Job S H) → Type 0 = AllFresh in
       let Q : List (Sender Placed) → Type 0 = All (λ s. put_of s ≡ []) in
       let R : List (Taker Back) → Type 0 = AllByRecursion (λ t. taken_of t ≡ []) in
       record {
@@ -57,10 +57,10 @@ module _ {S H : Type 0} where
 
   pub tied_more : (n : ℕ) (old new : Ends S H) (sender : Sender Placed) (job : Job S H) (back : Taker Back)
       → new.senders.items ≡ old.senders.items ++ sender ∷ [] → new.jobs.items ≡ old.jobs.items ++ job ∷ [] → new.backs.items ≡ old.backs.items ++ back ∷ []
-      → taker_lane job.taker ≡ lane_of sender → lane_of job.back ≡ taker_lane back → IsNewJob job → put_of sender ≡ [] → taken_of back ≡ []
+      → taker_lane job.taker ≡ lane_of sender → lane_of job.back ≡ taker_lane back → IsFreshJob job → put_of sender ≡ [] → taken_of back ≡ []
       → IsTied n old → IsTied (n + 1) new
   tied_more n old new sender job back senders jobs backs to from fresh none_put none_taken h =
-      let P : List (Job S H) → Type 0 = AllNew in
+      let P : List (Job S H) → Type 0 = AllFresh in
       let Q : List (Sender Placed) → Type 0 = All (λ s. put_of s ≡ []) in
       let R : List (Taker Back) → Type 0 = AllByRecursion (λ t. taken_of t ≡ []) in
       record {
@@ -69,11 +69,7 @@ module _ {S H : Type 0} where
         backs = one_more old.backs.items new.backs.items back n backs h.backs;
         to_shards_are = same_more (λ (j : Job S H). taker_lane j.taker) lane_of old.jobs.items new.jobs.items job old.senders.items new.senders.items sender jobs senders to h.to_shards_are;
         from_shards_are = same_more (λ (j : Job S H). lane_of j.back) taker_lane old.jobs.items new.jobs.items job old.backs.items new.backs.items back jobs backs from h.from_shards_are;
-        new = subst P (sym jobs) (all-push IsNewJob old.jobs.items job h.new fresh);
+        new = subst P (sym jobs) (all-push IsFreshJob old.jobs.items job h.new fresh);
         none_put = subst Q (sym senders) (All-push (λ (s : Sender Placed). put_of s ≡ []) old.senders.items sender h.none_put none_put);
         none_taken = subst R (sym backs) (all-push (λ (t : Taker Back). taken_of t ≡ []) old.backs.items back h.none_taken none_taken);
       }
-
-pub on_ok : {T E : Type 0} (r : Result T E) (P : Type 0) → (true ≡ is_ok r → P) → OnOk r P
-on_ok (Ok v) P f = f refl
-on_ok (Err e) P f = tt

@@ -1,6 +1,6 @@
 -- Of a source that tells its bytes: what is reported is said of the trace that they are the text of, and the fault is the
 -- first of these bytes.
-use Rattle.std.proofs.Common.{◌≡◌, ℕ, List, [], ◌++◌, Option, Some, None, ◌⊎◌, inl, inr, sym, ◌∙◌, ap, subst, arith, Result, Ok, Err, IfErr, MatchResult}
+use Rattle.std.proofs.Common.{◌≡◌, ℕ, List, ◌++◌, Option, Some, None, ◌⊎◌, inl, inr, sym, ◌∙◌, ap, subst, arith, Result, Ok, Err, IfErr, MatchResult}
 use Rattle.std.proofs.lemmas.List.{append-nil}
 use Rattle.std.specs.Io.KnownBytes.{Consumes, IsAtEnd}
 use Rattle.trace.specs.declared.records.Record.{Record}
@@ -12,7 +12,7 @@ use Rattle.trace.specs.Faults.{IsFirstFault, IsFaultOfAll}
 use Rattle.trace.specs.Faults.IsFaultOfAll.{before_end}
 use Rattle.trace.specs.Devices.{Device, Change, ◌⇝◌, HasFailed}
 use Rattle.trace.specs.Feeding.{IsFaultThen, IsFaultFed}
-use Rattle.trace.specs.Runs.{ReadsWhole, IsRefused, EndsReading}
+use Rattle.trace.specs.Endings.{ReadsWhole, IsRefused, EndsReading}
 use Rattle.trace.proofs.Readability.{text_injective}
 use Rattle.trace.proofs.Cuttings.{first_fault_more}
 

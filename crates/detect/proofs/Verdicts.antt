@@ -12,11 +12,11 @@ use Rattle.trace.specs.Shares.{share}
 use Rattle.shadow.specs.Found.{start, found, put_in, by_location}
 use Rattle.shadow.proofs.FoundLaws.{found_from-apart}
 use Rattle.shadow.proofs.Sharing.{of_shard, found-share}
-use Rattle.collect.specs.Collected.{Kept, Holds, IsCollected, races_of, kept_after, best}
+use Rattle.collect.specs.Collected.{Kept, KeepsBest, IsCollected, races_of, kept_after, best}
 use Rattle.collect.proofs.Sorted.{collected_is_sorted}
 use Rattle.detect.specs.Gathered.{all_given, AreAtHomeFrom, AreAtHome, Gathers}
 use Rattle.detect.proofs.Gathered.{on_lane, best_of_lane, other_location}
-use Rattle.detect.proofs.Runs.{apart}
+use Rattle.detect.proofs.Detected.{apart}
 
 home-filter : (n k : ℕ) (rs : List RaceAt) → AllByRecursion (λ r. r.location % n ≡ k) (filter (of_shard k n) rs)
 home-filter n k [] = tt
@@ -53,13 +53,13 @@ best_filtered l n o (r ∷ rs) = ⊎_elim
 
 -- what the shards handed back, lane by lane, is the verdict by its locations
 pub verdict_of_shares : (n : ℕ) (lists : List (List (Item Back))) (w : List Placed) (c : Kept) (rs : List RaceAt) → 0 < n → length lists ≡ n
-    → ((k : ℕ) → k < n → races_of (on_lane lists k) ≡ found (share k n w)) → Gathers lists false c → ((g : List Back) → Holds g c → IsCollected g rs) → rs ≡ by_location (found w)
+    → ((k : ℕ) → k < n → races_of (on_lane lists k) ≡ found (share k n w)) → Gathers lists false c → ((g : List Back) → KeepsBest g c → IsCollected g rs) → rs ≡ by_location (found w)
 verdict_of_shares n lists w c rs some len each gathers collected =
-    let parts : (k : ℕ) → k < n → races_of (on_lane lists k) ≡ filter (of_shard k n) (found w) = λ k lt. each k lt ∙ found-share k n w in
+    let portions : (k : ℕ) → k < n → races_of (on_lane lists k) ≡ filter (of_shard k n) (found w) = λ k lt. each k lt ∙ found-share k n w in
     let P : ℕ → Type 0 = λ m. AreAtHomeFrom m 0 lists in
-    let home : AreAtHome lists = subst P (sym len) (home-shares n 0 lists (found w) (λ k lt. let e : k ≡ 0 + k = omega arith in parts k (omega (arith, lt, len)) ∙ ap (λ m. filter (of_shard m n) (found w)) e)) in
+    let home : AreAtHome lists = subst P (sym len) (home-shares n 0 lists (found w) (λ k lt. let e : k ≡ 0 + k = omega arith in portions k (omega (arith, lt, len)) ∙ ap (λ m. filter (of_shard m n) (found w)) e)) in
     let holds = gathers.holds refl home in
     collected_is_sorted put_in by_location (λ r. refl) (λ r s ss. refl) refl (λ r ss. refl) (all_given lists) rs (found w) (collected (all_given lists) holds)
     (apart (found w) (found_from-apart start w))
     (λ l. best_of_lane l lists home ∙ ap (λ m. best l (races_of (on_lane lists (l % m)))) len
-    ∙ ap (best l) (parts (l % n) (mod-lt l some)) ∙ best_filtered l n None (found w))
+    ∙ ap (best l) (portions (l % n) (mod-lt l some)) ∙ best_filtered l n None (found w))

@@ -7,7 +7,7 @@ use Rattle.shard.specs.declared.working.Worked.{Worked}
 use Rattle.shard.specs.Worked.{DidWork}
 use Rattle.detect.specs.declared.jobs.Job.{Job}
 use Rattle.detect.specs.declared.jobs.WorkOf.{WorkOf}
-use Rattle.detect.specs.Working.{job_lanes, handle_lanes, DidOn, AllDid}
+use Rattle.detect.specs.Workers.{job_lanes, handle_lanes, DidOn, AllDid}
 
 -- one element more of a list that is gone through
 pub split_more : {X : Type 0} (done : List X) (x : X) (rest before all : List X) → before ≡ x ∷ rest → done ++ before ≡ all → (done ++ x ∷ []) ++ rest ≡ all

@@ -3,13 +3,13 @@ use Rattle.std.specs.Prelude.{◌≡◌, ℕ, ◌<◌, List, length, map, None}
 use Rattle.trace.specs.declared.records.Record.{Record}
 use Rattle.trace.specs.Traces.{placed}
 use Rattle.trace.specs.Devices.{Change}
-use Rattle.trace.specs.Runs.{EndsReading, IsWantOfMemoryOrThread}
+use Rattle.trace.specs.Endings.{EndsReading, IsWantOfMemoryOrThread}
 use Rattle.lane.specs.Lanes.{LaneId}
 use Rattle.route.specs.Routers.{lanes_of, lane_count, pending_of, marked_of, HasSent}
-use Rattle.detect.specs.declared.made.Done.{Done}
+use Rattle.detect.specs.declared.closing.Done.{Done}
 use Rattle.detect.specs.Gathered.{given_by}
-use Rattle.detect.specs.Gatherings.{back_lanes, HasEnded, IsGathered}
-use Rattle.detect.specs.Working.{AllDid}
+use Rattle.detect.specs.LanesBack.{back_lanes, HasBackMark, IsGathered}
+use Rattle.detect.specs.Workers.{AllDid}
 use Rattle.detect.specs.Closing.{taker_lanes, told_lanes}
 
 module _ {S H : Type 0} where
@@ -24,7 +24,7 @@ module _ {S H : Type 0} where
     pub from_shards : map (λ l. l.1) lanes ≡ back_lanes done.gathering
     pub did : AllDid lanes done.workers.items
     pub workers : length done.workers.items ≡ n
-    pub ended : (k : ℕ) → k < n → HasEnded done.gathering k
+    pub ended : (k : ℕ) → k < n → HasBackMark done.gathering k
     pub backs : length (given_by done.gathering.backs.items) ≡ n
     pub gathered : IsGathered done.gathering
 

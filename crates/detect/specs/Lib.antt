@@ -1,12 +1,12 @@
-pub mod Dag
+pub mod Racy
 pub mod Reported
-pub mod Runs
+pub mod Detected
 pub mod Gathered
-pub mod Gatherings
+pub mod LanesBack
 pub mod Sent
-pub mod Working
+pub mod Workers
 pub mod Closing
 pub mod Readiness
 pub mod Finished
 pub mod Rooms
-pub mod Ran
+pub mod RunReports

@@ -4,10 +4,10 @@ use Rattle.std.specs.List.{All, AllByRecursion}
 use Rattle.lane.specs.Lanes.{lane_of, put_of, taken_of, taker_lane}
 use Rattle.route.specs.Batches.{batch_lanes, HasStaged, IsUnsent}
 use Rattle.route.specs.Routers.{lanes_of, lane_count, pending_of, marked_of, HasSent}
-use Rattle.detect.specs.declared.made.Ends.{Ends}
-use Rattle.detect.specs.declared.made.Made.{Made}
-use Rattle.detect.specs.Gatherings.{back_lanes, IsGathered}
-use Rattle.detect.specs.Working.{AllNew, to_shards, from_shards}
+use Rattle.detect.specs.declared.making.Ends.{Ends}
+use Rattle.detect.specs.declared.making.Made.{Made}
+use Rattle.detect.specs.LanesBack.{back_lanes, IsGathered}
+use Rattle.detect.specs.Workers.{AllFresh, to_shards, from_shards}
 
 module _ {S H : Type 0} where
   -- the ends of the lanes of n shards, on which nothing was put
@@ -17,7 +17,7 @@ module _ {S H : Type 0} where
     pub backs : length ends.backs.items ≡ n
     pub to_shards_are : to_shards ends.jobs.items ≡ map lane_of ends.senders.items
     pub from_shards_are : from_shards ends.jobs.items ≡ map taker_lane ends.backs.items
-    pub new : AllNew ends.jobs.items
+    pub new : AllFresh ends.jobs.items
     pub none_put : All (λ s. put_of s ≡ []) ends.senders.items
     pub none_taken : AllByRecursion (λ t. taken_of t ≡ []) ends.backs.items
 
@@ -34,7 +34,7 @@ module _ {S H : Type 0} where
     pub unsent : IsUnsent made.batch
     pub to_shards_are : to_shards made.jobs.items ≡ lanes_of made.router
     pub from_shards_are : from_shards made.jobs.items ≡ back_lanes made.gathering
-    pub new : AllNew made.jobs.items
+    pub new : AllFresh made.jobs.items
     pub gathered : IsGathered made.gathering
     pub no_handles : vec_len made.handles ≡ 0
     pub handle_room : n ≤ vec_capacity made.handles

@@ -4,7 +4,7 @@ use Rattle.trace.specs.declared.records.Record.{Record}
 use Rattle.trace.specs.Accesses.{RaceAt}
 use Rattle.trace.specs.Races.{IsReport}
 use Rattle.shadow.specs.Found.{verdict}
-use Rattle.detect.specs.Dag.{HasRace, HasLocation}
+use Rattle.detect.specs.Racy.{HasRace, HasLocation}
 
 -- The races are the verdict on the trace, which is its report by the dag. So the locations reported are exactly
 -- those with two accesses, one a write, that no path joins.

@@ -3,26 +3,38 @@ ghost use Rattle.std.specs.Prelude.{◌≡◌, ◌≤◌, ℕ, Err, OnOk, IsTrue
 ghost use Rattle.trace.specs.Bounds.{most_records};
 ghost use Rattle.trace.specs.declared.faults.Fault.TheVariants.{NoMemory};
 ghost use Rattle.trace.specs.Devices.{Change};
-ghost use Rattle.trace.specs.Runs.{EndsReading, IsWantOfMemoryOrThread};
+ghost use Rattle.trace.specs.Endings.{EndsReading, IsWantOfMemoryOrThread};
 ghost use Rattle.lane.specs.Lanes.{taken_of};
 ghost use Rattle.detect.specs.Closing.{taken_by, counts_of};
 ghost use Rattle.detect.specs.Finished.{IsClosed, IsDone};
-ghost use Rattle.detect.specs.Ran.{RunAnswers};
+ghost use Rattle.detect.specs.RunReports.{RunAnswers};
 ghost use Rattle.detect.specs.Rooms.{HasRoom};
 
-use crate::made::{Done, Lists};
+use crate::gathering::Gathering;
+use crate::making::Lists;
 use crate::settling::{settle_backs, settle_shards};
 use crate::sharded::Run;
 use collect::Report;
+use route::Router;
 use shard::Worked;
 use std::hash::BuildHasher;
 use trace::Fault;
+
+/// What a run has come to: how reading ended, and what the workers handed back.
+#[derive(Drop)]
+pub(crate) struct Done<S: BuildHasher + Drop> {
+    pub(crate) outcome: Result<(), Fault>,
+    pub(crate) router: Router,
+    pub(crate) gathering: Gathering,
+    pub(crate) workers: Vec<Worked<S>>,
+}
 
 /// Compares the receipts of a run, and reports.
 pub(crate) fn close<S: BuildHasher + Drop>(done: Done<S>, lists: Lists) -> Result<Run, Fault>
     requires room { OnOk done.outcome (HasRoom (vec_len done.workers) lists) }
     requires closed { OnOk done.outcome (IsClosed done) }
-    ensures { (n records depths : ℕ) (change : Change) → 1 ≤ n → records ≤ most_records → IsDone n records depths change done
+    ensures { (n records depths : ℕ) (change : Change) → 1 ≤ n → records ≤ most_records
+        → IsDone n records depths change done
         → EndsReading IsWantOfMemoryOrThread records depths change (RunAnswers n) result }
 {
     let Done {
@@ -36,7 +48,7 @@ pub(crate) fn close<S: BuildHasher + Drop>(done: Done<S>, lists: Lists) -> Resul
     settle_shards(&mut workers, &mut ends);
     settle_backs(&mut workers, &mut gathering.backs);
     let report = gathering.collector.finish()?;
-    Ok(told(report, workers, lists))
+    Ok(run_of(report, workers, lists))
 }
 
 // Want of memory comes before a refused start and before a fault of the trace.
@@ -52,7 +64,7 @@ fn first_trouble(refused: bool, outcome: Result<(), Fault>) -> Result<(), Fault>
 }
 
 // The report, and what the workers have of each shard.
-fn told<S: BuildHasher + Drop>(report: Report, workers: Vec<Worked<S>>, lists: Lists) -> Run
+fn run_of<S: BuildHasher + Drop>(report: Report, workers: Vec<Worked<S>>, lists: Lists) -> Run
     requires room { HasRoom (vec_len workers) lists }
     ensures report { result.report ≡ report }
     ensures taken { result.taken.items ≡ counts_of workers.items }

@@ -2,7 +2,7 @@
 ghost use Rattle.std.specs.Prelude.{◌≡◌, List, [], ◌∷◌, ◌++◌, IfOk, OnOk};
 ghost use Rattle.trace.specs.declared.records.Placed.{Placed};
 ghost use Rattle.shadow.specs.Found.{by_location, found};
-ghost use Rattle.detect.specs.Runs.{HasDetected, HasFollowed};
+ghost use Rattle.detect.specs.Detected.{HasDetected, HasFollowed};
 
 use bags::Bags;
 use collect::{Collector, Report};
@@ -34,7 +34,8 @@ impl<S: BuildHasher + Drop> Detector<S> {
 
     /// The races found, by ascending location.
     pub(crate) fn finish(self) -> Result<Report, NoMemory>
-        ensures { (u : List Placed) → HasDetected u self.bags self.shadow self.collector → IfOk result (λ report. report ≡ by_location (found u)) }
+        ensures { (u : List Placed) → HasDetected u self.bags self.shadow self.collector
+            → IfOk result (λ report. report ≡ by_location (found u)) }
     {
         let Detector {
             bags: _,
@@ -46,7 +47,7 @@ impl<S: BuildHasher + Drop> Detector<S> {
 }
 
 impl<S: BuildHasher + Drop> Watch for Detector<S> {
-    ghost use Rattle.detect.specs.Runs.{HasFollowed};
+    ghost use Rattle.detect.specs.Detected.{HasFollowed};
 
     ghost has_seen = { λ _ u now. HasFollowed u now.bags now.shadow now.collector };
 

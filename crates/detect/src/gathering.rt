@@ -3,9 +3,9 @@ ghost use Rattle.std.specs.Prelude.{◌≡◌, ◌<◌, ◌≤◌, ◌++◌, ℕ
 ghost use Rattle.lane.specs.declared.item.Item.{Item};
 ghost use Rattle.shard.specs.declared.Back.{Back};
 ghost use Rattle.shard.specs.declared.Back.TheVariants.{NoMemory};
-ghost use Rattle.collect.specs.Collected.{Holds};
+ghost use Rattle.collect.specs.Collected.{KeepsBest};
 ghost use Rattle.detect.specs.Gathered.{Gathers, with_items};
-ghost use Rattle.detect.specs.Gatherings.{IsFurther, HasEnded};
+ghost use Rattle.detect.specs.LanesBack.{IsFurther, HasBackMark};
 
 use collect::Collector;
 use lane::{BLOCK, Item, Taker, Waiting};
@@ -53,7 +53,7 @@ impl Gathering {
     pub(crate) fn finish_lanes<R: Wait>(&mut self, rt: &R, count: usize)
         requires { count ≤ vec_len self.old.backs }
         ensures further { IsFurther self.old self.new }
-        ensures ended { (k : ℕ) → k < count → HasEnded self.new k }
+        ensures ended { (k : ℕ) → k < count → HasBackMark self.new k }
     {
         for shard in 0..count {
             self.finish_lane(rt, shard);
@@ -63,7 +63,7 @@ impl Gathering {
     fn finish_lane<R: Wait>(&mut self, rt: &R, shard: usize)
         requires { shard < vec_len self.old.backs }
         ensures further { IsFurther self.old self.new }
-        ensures ended { HasEnded self.new shard }
+        ensures ended { HasBackMark self.new shard }
     {
         for _ in rt.forever() {
             if self.backs[shard].ended() {
@@ -114,7 +114,8 @@ impl Gathering {
     // Gives a race to the collector. After a refused growth, here or in a shard, it is dropped.
     fn keep(&mut self, back: Back)
         ensures backs { self.new.backs ≡ self.old.backs }
-        ensures given { IsFalse self.new.refused → IsFalse self.old.refused × ((g : List Back) → Holds g self.old.collector → Holds (g ++ back ∷ []) self.new.collector) }
+        ensures given { IsFalse self.new.refused → IsFalse self.old.refused
+            × ((g : List Back) → KeepsBest g self.old.collector → KeepsBest (g ++ back ∷ []) self.new.collector) }
         ensures refused { back ≡ NoMemory → IsTrue self.new.refused }
     {
         match back {

@@ -7,7 +7,7 @@ ghost use Rattle.trace.specs.declared.records.Placed.{Placed};
 ghost use Rattle.trace.specs.Accesses.{RaceAt};
 ghost use Rattle.trace.specs.Races.{IsReport};
 ghost use Rattle.shadow.specs.Found.{found, verdict};
-ghost use Rattle.detect.specs.Dag.{OfWellNested, IsParallelThrough, IsParallelAfter, KeepsParallelReader, AreEarlyRaces, HasRace, HasLocation};
+ghost use Rattle.detect.specs.Racy.{OfWellNested, IsParallelThrough, IsParallelAfter, KeepsParallelReader, AreEarlyRaces, HasRace, HasLocation};
 
 /// Of every well nested trace: what parallel accesses say of a third one; that the kept reader stands for
 /// all reads before an access; and that the races found are those of the dag, up to every place and in all.

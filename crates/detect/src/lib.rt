@@ -6,7 +6,6 @@ mod detector;
 mod gathering;
 mod jobs;
 pub mod laws;
-mod made;
 mod making;
 pub mod plain;
 mod plan;

@@ -3,18 +3,44 @@ ghost use Rattle.std.specs.Prelude.{◌≡◌, ℕ, ◌+◌, ◌≤◌, vec_len,
 ghost use Rattle.trace.specs.Bounds.{IsShardCount, IsCapacity};
 ghost use Rattle.detect.specs.Readiness.{IsReady, IsTied};
 ghost use Rattle.detect.specs.Rooms.{HasRoom};
-ghost use Rattle.lane.specs.declared.ends.TheConstants.{BLOCK};
+ghost use Rattle.lane.specs.declared.sender.TheConstants.{BLOCK};
 
 use crate::gathering::Gathering;
-use crate::jobs::Job;
-use crate::made::{Ends, Lists, Made};
+use crate::jobs::{Job, WorkOf};
 use collect::Collector;
-use lane::{BLOCK, Waiting, lane};
+use lane::{BLOCK, Sender, Taker, Waiting, lane};
 use route::{Batch, Router};
-use shard::Shard;
+use shard::{Back, Shard, Worked};
 use std::alloc::Global;
 use std::hash::BuildHasher;
-use trace::NoMemory;
+use std::thread::PromisedHandle;
+use trace::{NoMemory, Placed};
+
+/// The ends of the lanes to the shards and back.
+#[derive(Drop)]
+pub(crate) struct Ends<S: BuildHasher + Drop> {
+    pub(crate) senders: Vec<Sender<Placed>>,
+    pub(crate) jobs: Vec<Job<S>>,
+    pub(crate) backs: Vec<Taker<Back>>,
+}
+
+/// What a run begins with. There is room for a handle and for an answer of each worker.
+#[derive(Drop)]
+pub(crate) struct Made<S: BuildHasher + Drop> {
+    pub(crate) router: Router,
+    pub(crate) batch: Batch,
+    pub(crate) gathering: Gathering,
+    pub(crate) jobs: Vec<Job<S>>,
+    pub(crate) handles: Vec<PromisedHandle<Worked<S>, WorkOf>>,
+    pub(crate) workers: Vec<Worked<S>>,
+}
+
+/// Room for what a run answers of each shard.
+#[derive(Drop)]
+pub(crate) struct Lists {
+    pub(crate) taken: Vec<u64>,
+    pub(crate) lanes: Vec<Taker<Placed>>,
+}
 
 /// Makes the lanes, the router and its batch, the shards, and room for what comes of the workers.
 pub(crate) fn make<S: BuildHasher + Drop>(

@@ -1,6 +1,6 @@
 //! Detection in one thread.
 ghost use Rattle.trace.specs.Devices.{◌⇝◌};
-ghost use Rattle.trace.specs.Runs.{EndsReading, IsWantOfMemory};
+ghost use Rattle.trace.specs.Endings.{EndsReading, IsWantOfMemory};
 ghost use Rattle.detect.specs.Reported.{IsReportOf};
 
 use crate::detector::Detector;
@@ -17,17 +17,17 @@ use trace::{Fault, Limits, Source, read_to_end};
 pub fn detect_plain<R: Source, S: BuildHasher + Drop>(
     alloc: Global,
     limits: Limits,
-    reader: &mut R,
+    source: &mut R,
     hasher: S,
 ) -> Result<Report, Fault>
-    // All bytes of the reader are the text of a trace that is well nested within the limits. The report is
+    // All bytes of the source are the text of a trace that is well nested within the limits. The report is
     // the verdict on it, and that is its report by the dag.
-    // Otherwise no memory was left, or the fault is the first; and where the reader holds such a trace and
+    // Otherwise no memory was left, or the fault is the first; and where the source holds such a trace and
     // doesn't fail, no memory was left.
-    ensures { EndsReading IsWantOfMemory limits.records limits.depth (R.state reader.old ⇝ R.state reader.new)
+    ensures { EndsReading IsWantOfMemory limits.records limits.depth (R.state source.old ⇝ R.state source.new)
         (λ report w. IsReportOf w report) result }
 {
     let mut detector = Detector::new(alloc, hasher)?;
-    read_to_end(limits, reader, &mut detector)?;
+    read_to_end(limits, source, &mut detector)?;
     Ok(detector.finish()?)
 }

@@ -4,7 +4,8 @@ ghost use Rattle.trace.specs.Devices.{◌⇝◌};
 ghost use Rattle.detect.specs.Readiness.{IsReady};
 ghost use Rattle.detect.specs.Finished.{IsDone};
 
-use crate::made::{Done, Made};
+use crate::closing::Done;
+use crate::making::Made;
 use crate::sending::{mark_all, send_all};
 use crate::workers::{join_all, start_all};
 use shard::Gate;
@@ -26,14 +27,14 @@ pub(crate) fn run<
     rt: &'s T,
     scope: &Scope<'s, E>,
     limits: Limits,
-    reader: &mut R,
+    source: &mut R,
     gate: &'s G,
     made: Made<S>,
 ) -> Done<S>
 where
     S::Hasher: Send,
     requires { IsReady (vec_len made.jobs) made }
-    ensures { IsDone (vec_len made.jobs) limits.records limits.depth (R.state reader.old ⇝ R.state reader.new) result }
+    ensures { IsDone (vec_len made.jobs) limits.records limits.depth (R.state source.old ⇝ R.state source.new) result }
 {
     let Made {
         mut router,
@@ -44,7 +45,7 @@ where
         mut workers,
     } = made;
     let outcome = match start_all(rt, scope, gate, jobs, &mut handles) {
-        Ok(()) => send_all(rt, limits, reader, &mut router, &mut batch, &mut gathering),
+        Ok(()) => send_all(rt, limits, source, &mut router, &mut batch, &mut gathering),
         Err(refused) => Err(refused),
     };
     mark_all(rt, &mut router, &mut gathering);

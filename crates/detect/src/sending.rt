@@ -1,12 +1,12 @@
-//! From the reader to the shards: records are sent, and at last the marks.
+//! From the source to the shards: records are sent, and at last the marks.
 ghost use Rattle.std.specs.Prelude.{◌≡◌, ◌≤◌, ◌++◌, ◌∷◌, [], List};
 ghost use Rattle.trace.specs.declared.records.Placed.{Placed};
 ghost use Rattle.trace.specs.Traces.{placed};
 ghost use Rattle.trace.specs.Devices.{◌⇝◌};
-ghost use Rattle.trace.specs.Runs.{EndsReading, IsWantOfMemory};
+ghost use Rattle.trace.specs.Endings.{EndsReading, IsWantOfMemory};
 ghost use Rattle.route.specs.Batches.{batch_lanes, longest_of, most_of, HasStaged, IsUnsent};
 ghost use Rattle.route.specs.Routers.{lane_count, pending_of, marked_of, HasSent, IsOnLanes};
-ghost use Rattle.detect.specs.Gatherings.{IsFurther};
+ghost use Rattle.detect.specs.LanesBack.{IsFurther};
 ghost use Rattle.detect.specs.Sent.{HasSentBut};
 
 use crate::gathering::Gathering;
@@ -18,7 +18,7 @@ use trace::{Fault, Intake, Limits, Placed, Source};
 pub(crate) fn send_all<T: Wait, R: Source>(
     rt: &T,
     limits: Limits,
-    reader: &mut R,
+    source: &mut R,
     router: &mut Router,
     batch: &mut Batch,
     gathering: &mut Gathering,
@@ -29,7 +29,7 @@ pub(crate) fn send_all<T: Wait, R: Source>(
     requires batch { batch_lanes batch.old ≡ lane_count router.old }
     requires empty { HasStaged [] batch.old }
     requires unsent { IsUnsent batch.old }
-    ensures sent { EndsReading IsWantOfMemory limits.records limits.depth (R.state reader.old ⇝ R.state reader.new)
+    ensures sent { EndsReading IsWantOfMemory limits.records limits.depth (R.state source.old ⇝ R.state source.new)
         (λ _ w. HasSent (placed w) router.new) result }
     ensures idle { pending_of router.new ≡ None }
     ensures unmarked { marked_of router.new ≡ 0 }
@@ -41,9 +41,9 @@ pub(crate) fn send_all<T: Wait, R: Source>(
         match intake.next_known() {
             Some(placed) => send(rt, router, gathering, batch, placed),
             None => {
-                // The reader may have to wait for the source, and the shards aren't to wait for it.
+                // Reading may have to wait for the source, and the shards aren't to wait for it.
                 send_batch(rt, router, gathering, batch);
-                match intake.next_from(reader)? {
+                match intake.next_from(source)? {
                     None => return Ok(()),
                     Some(placed) => send(rt, router, gathering, batch, placed),
                 }
@@ -84,7 +84,8 @@ fn send<T: Wait>(
     requires unmarked { marked_of router.old ≡ 0 }
     requires batch { batch_lanes batch.old ≡ lane_count router.old }
     requires unsent { IsUnsent batch.old }
-    ensures sent { (w : List Placed) → HasSentBut batch.old w router.old → HasSentBut batch.new (w ++ placed ∷ []) router.new }
+    ensures sent { (w : List Placed) → HasSentBut batch.old w router.old
+        → HasSentBut batch.new (w ++ placed ∷ []) router.new }
     ensures idle { pending_of router.new ≡ None }
     ensures unmarked { marked_of router.new ≡ 0 }
     ensures batch { batch_lanes batch.new ≡ lane_count router.new }

@@ -16,7 +16,8 @@ pub(crate) fn settle_shards<S: BuildHasher + Drop>(
 )
     requires { taker_lanes workers.old.items ≡ map end_lane ends.old.items }
     ensures same { IsSameWork workers.old.items workers.new.items }
-    ensures settled { (k : ℕ) → k < vec_len workers.old → IsSettled (taken_by workers.old.items) (map all_put ends.old.items) k }
+    ensures settled { (k : ℕ) → k < vec_len workers.old
+        → IsSettled (taken_by workers.old.items) (map all_put ends.old.items) k }
 {
     for shard in 0..workers.len() {
         workers[shard].taker.settle(&mut ends[shard]);
@@ -30,7 +31,8 @@ pub(crate) fn settle_backs<S: BuildHasher + Drop>(
 )
     requires { told_lanes workers.old.items ≡ map taker_lane backs.old.items }
     ensures same { IsSameWork workers.old.items workers.new.items }
-    ensures settled { (k : ℕ) → k < vec_len workers.old → IsSettled (given_by backs.old.items) (told_by workers.old.items) k }
+    ensures settled { (k : ℕ) → k < vec_len workers.old
+        → IsSettled (given_by backs.old.items) (told_by workers.old.items) k }
 {
     for shard in 0..workers.len() {
         backs[shard].settle(&mut workers[shard].back);

@@ -1,13 +1,12 @@
 //! Detection with a thread a shard.
 ghost use Rattle.std.specs.Prelude.{◌≡◌, vec_len};
 ghost use Rattle.trace.specs.Devices.{◌⇝◌};
-ghost use Rattle.trace.specs.Runs.{EndsReading, IsWantOfMemoryOrThread};
+ghost use Rattle.trace.specs.Endings.{EndsReading, IsWantOfMemoryOrThread};
 ghost use Rattle.detect.specs.Readiness.{IsReady};
 ghost use Rattle.detect.specs.Finished.{IsDone};
-ghost use Rattle.detect.specs.Ran.{RunAnswers};
+ghost use Rattle.detect.specs.RunReports.{RunAnswers};
 
-use crate::closing::close;
-use crate::made::Done;
+use crate::closing::{Done, close};
 use crate::making::{make, make_lists};
 use crate::plan::Plan;
 use crate::running::run;
@@ -43,18 +42,19 @@ pub fn detect<T: Threads + Wait + Sync, R: Source, G: Gate + Sync, S: BuildHashe
     rt: &T,
     alloc: Global,
     plan: Plan,
-    reader: &mut R,
+    source: &mut R,
     gate: &G,
     hashers: Vec<S>,
 ) -> Result<Run, Fault>
 where
     S::Hasher: Send,
     requires { vec_len hashers ≡ plan.shards }
-    // All bytes of the reader are the text of a trace that is well nested within the limits. The report is
+    // All bytes of the source are the text of a trace that is well nested within the limits. The report is
     // the verdict on it, which is its report by the dag, and each shard took its share of it.
-    // Otherwise no memory was left, no thread could be started, or the fault is the first; and where the reader
+    // Otherwise no memory was left, no thread could be started, or the fault is the first; and where the source
     // holds such a trace and doesn't fail, it is one of the former two.
-    ensures { EndsReading IsWantOfMemoryOrThread plan.limits.records plan.limits.depth (R.state reader.old ⇝ R.state reader.new)
+    ensures { EndsReading IsWantOfMemoryOrThread plan.limits.records plan.limits.depth
+        (R.state source.old ⇝ R.state source.new)
         (RunAnswers plan.shards) result }
 {
     let lists = make_lists(alloc, hashers.len())?;
@@ -64,11 +64,12 @@ where
         rt,
         move |scope| -> (Done<S>, &mut R)
             requires { IsReady (vec_len made.jobs) made }
-            ensures done { IsDone (vec_len made.jobs) plan.limits.records plan.limits.depth (R.state reader.entry.now ⇝ R.state result.1.now) result.0 }
-            ensures reader { result.1.ghost_name ≡ reader.entry.ghost_name }
+            ensures done { IsDone (vec_len made.jobs) plan.limits.records plan.limits.depth
+                (R.state source.entry.now ⇝ R.state result.1.now) result.0 }
+            ensures source { result.1.ghost_name ≡ source.entry.ghost_name }
         {
-            let done = run(rt, scope, plan.limits, &mut *reader, gate, made);
-            (done, reader)
+            let done = run(rt, scope, plan.limits, &mut *source, gate, made);
+            (done, source)
         },
     );
     close(done, lists)

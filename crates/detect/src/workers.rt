@@ -1,7 +1,7 @@
 //! The workers: each is started in the scope of the run, and joined at its end.
 ghost use Rattle.std.specs.Prelude.{◌≡◌, ◌≤◌, ℕ, map, vec_len, vec_capacity, IfErr, OnOk, MatchResult};
 ghost use Rattle.trace.specs.declared.faults.Fault.TheVariants.{NoThread};
-ghost use Rattle.detect.specs.Working.{IsNewJob, AllNew, job_lanes, handle_lanes, DidOn, AllDid};
+ghost use Rattle.detect.specs.Workers.{IsFreshJob, AllFresh, job_lanes, handle_lanes, DidOn, AllDid};
 
 use crate::jobs::{Job, WorkOf};
 use shard::{Gate, Worked, work};
@@ -22,7 +22,7 @@ pub(crate) fn start_all<'s, E, T: Wait + Sync, G: Gate + Sync, S: BuildHasher + 
 ) -> Result<(), Fault>
 where
     S::Hasher: Send,
-    requires new { AllNew jobs.items }
+    requires new { AllFresh jobs.items }
     requires none { vec_len handles.old ≡ 0 }
     requires room { vec_len jobs ≤ vec_capacity handles.old }
     ensures started { OnOk result (map handle_lanes handles.new.items ≡ map job_lanes jobs.items) }
@@ -44,7 +44,7 @@ fn start<'s, E, T: Wait + Sync, G: Gate + Sync, S: BuildHasher + Send + Drop + '
 ) -> Result<PromisedHandle<Worked<S>, WorkOf>, Fault>
 where
     S::Hasher: Send,
-    requires { IsNewJob job }
+    requires { IsFreshJob job }
     ensures { MatchResult result (λ handle. handle_lanes handle ≡ job_lanes job) (λ fault. fault ≡ NoThread) }
 {
     let Job { shard, taker, back } = job;

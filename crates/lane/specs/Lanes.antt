@@ -5,9 +5,9 @@ use Rattle.rtrb.specs.Shared.{Names}
 use Rattle.rtrb.specs.Ring.{sent, received, producer_capacity, consumer_capacity, known_free, known_items}
 use denote.RawPtr.{Ptr}
 use Rattle.lane.specs.declared.item.Item.{Item}
-use Rattle.lane.specs.declared.ends.Sender.{Sender}
-use Rattle.lane.specs.declared.ends.Taker.{Taker}
-use Rattle.lane.specs.declared.ends.End.{End}
+use Rattle.lane.specs.declared.sender.Sender.{Sender}
+use Rattle.lane.specs.declared.taker.Taker.{Taker}
+use Rattle.lane.specs.declared.sender.End.{End}
 
 -- a lane, as a value that tells it from each other lane: where its ring lies, and the ring's names
 abbrev pub LaneId : Type 0

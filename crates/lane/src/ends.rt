@@ -1,44 +1,38 @@
-//! The ends of a lane.
-ghost use Rattle.std.specs.Prelude.{◌≡◌, ◌≤◌, true, vec_capacity};
-ghost use Rattle.rtrb.specs.Ring.{sent, received};
-ghost use Rattle.lane.specs.declared.ends.TheConstants.{BLOCK};
-ghost use Rattle.lane.specs.Items.{has_mark, mark_last};
+//! Both ends of a new lane.
+ghost use Rattle.std.specs.Prelude.{◌≡◌, ◌≤◌, [], IfOk};
+ghost use Rattle.trace.specs.Bounds.{IsCapacity};
+ghost use Rattle.lane.specs.Lanes.{lane_of, taker_lane, put_of, taken_of, capacity_of, taker_capacity};
 
-mod making;
-mod sending;
-mod taking;
-
-use crate::item::{Item, MarkLast};
-pub use making::lane;
-use rtrb::{Consumer, Producer};
+use crate::item::MarkLast;
+use crate::sender::{BLOCK, Sender};
+use crate::taker::Taker;
+use rtrb::RingBuffer;
 use std::alloc::Global;
+use trace::NoMemory;
 
-/// How many values a block has at most.
-pub const BLOCK: usize = 64;
-
-/// The end that puts.
-#[derive(Drop)]
-pub struct Sender<T> {
-    ring: Producer<Item<T>, Global, MarkLast>,
-    marked: bool,
-    // the items of a block, while it is put
-    block: Vec<Item<T>>,
-    ghost room: { BLOCK ≤ vec_capacity block },
-    ghost known: { has_mark (sent ring) ≡ marked },
-    ghost last: { mark_last (sent ring) ≡ true },
-}
-
-/// The end that takes.
-#[derive(Drop)]
-pub struct Taker<T> {
-    ring: Consumer<Item<T>, Global, MarkLast>,
-    ended: bool,
-    ghost known: { has_mark (received ring) ≡ ended },
-    ghost last: { mark_last (received ring) ≡ true },
-}
-
-/// The receipt of a sender that puts nothing more: what was put in all.
-#[derive(Drop)]
-pub struct End<T> {
-    sender: Sender<T>,
+/// Makes a lane that holds so many items at most, the mark being one.
+pub fn lane<T: Copy + Send>(
+    alloc: Global,
+    capacity: usize,
+) -> Result<(Sender<T>, Taker<T>), NoMemory>
+    requires { IsCapacity capacity }
+    ensures lane { IfOk result (λ r. lane_of r.0 ≡ taker_lane r.1) }
+    ensures empty { IfOk result (λ r. (put_of r.0 ≡ []) × (taken_of r.1 ≡ [])) }
+    ensures capacity { IfOk result (λ r. (capacity_of r.0 ≡ capacity) × (taker_capacity r.1 ≡ capacity)) }
+{
+    let block = Vec::with_capacity(alloc, BLOCK)?;
+    let Ok((sending, taking)) = RingBuffer::with_protocol::<Global, MarkLast>(alloc, capacity)
+    else {
+        return Err(NoMemory);
+    };
+    let sender = Sender {
+        ring: sending,
+        marked: false,
+        block,
+    };
+    let taker = Taker {
+        ring: taking,
+        ended: false,
+    };
+    Ok((sender, taker))
 }

@@ -3,10 +3,14 @@
 
 mod ends;
 mod item;
+mod sender;
+mod taker;
 #[cfg(test)]
 mod tests;
 mod waiting;
 
-pub use ends::{BLOCK, End, Sender, Taker, lane};
+pub use ends::lane;
 pub use item::Item;
+pub use sender::{BLOCK, End, Sender};
+pub use taker::Taker;
 pub use waiting::Waiting;

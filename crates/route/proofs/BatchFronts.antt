@@ -92,11 +92,11 @@ pub record InsideBatch (n : ℕ) (bs : List (List Placed)) (s : Sends) : Type 0 
   pub last : List Placed
   pub rest : List (List Placed)
   pub whole : bs ≡ front ++ last ∷ rest
-  pub part : ℕ → List Placed
+  pub portion : ℕ → List Placed
   pub left : ℕ → List Placed
-  pub cut : (k : ℕ) → k < n → share k n last ≡ part k ++ left k
-  pub sent : (k : ℕ) → k < n → of_lane k s ≡ map One (share k n (all_of front) ++ part k)
-  pub some : (k : ℕ) × (k < n) × (p : Placed) × Contains (part k) p
+  pub cut : (k : ℕ) → k < n → share k n last ≡ portion k ++ left k
+  pub sent : (k : ℕ) → k < n → of_lane k s ≡ map One (share k n (all_of front) ++ portion k)
+  pub some : (k : ℕ) × (k < n) × (p : Placed) × Contains (portion k) p
 
 abbrev pub BatchFront : ℕ → List (List Placed) → Sends → Type 0
 BatchFront n bs s = BetweenBatches n bs s ⊎ InsideBatch n bs s
@@ -138,7 +138,7 @@ inside_batch n u bs e s r whole =
       last = u;
       rest = bs;
       whole = refl;
-      part = λ k. records (of_lane k (e ∷ s));
+      portion = λ k. records (of_lane k (e ∷ s));
       left = λ k. records (of_lane k r);
       cut = λ k l. sym (records-map (share k n u)) ∙ ap records (sym (both k l)) ∙ records-append (of_lane k (e ∷ s)) (of_lane k r);
       sent = λ k l. ones_front (of_lane k (e ∷ s)) (of_lane k r) (share k n u) (both k l);
@@ -173,13 +173,13 @@ inside_more n u bs t h = record {
   last = h.last;
   rest = h.rest;
   whole = ap (λ (l : List (List Placed)). u ∷ l) h.whole;
-  part = h.part;
+  portion = h.portion;
   left = h.left;
   cut = h.cut;
   sent = λ k l.
-      share_more n k u (share k n (u ++ all_of h.front) ++ h.part k) t (share k n (all_of h.front) ++ h.part k) [] l (h.sent k l ∙ sym (append-nil (map One (share k n (all_of h.front) ++ h.part k))))
-      (sym (append_assoc (share k n u) (share k n (all_of h.front)) (h.part k)) ∙ ap (λ (xs : List Placed). xs ++ h.part k) (sym (share-append k n u (all_of h.front))))
-      ∙ append-nil (map One (share k n (u ++ all_of h.front) ++ h.part k));
+      share_more n k u (share k n (u ++ all_of h.front) ++ h.portion k) t (share k n (all_of h.front) ++ h.portion k) [] l (h.sent k l ∙ sym (append-nil (map One (share k n (all_of h.front) ++ h.portion k))))
+      (sym (append_assoc (share k n u) (share k n (all_of h.front)) (h.portion k)) ∙ ap (λ (xs : List Placed). xs ++ h.portion k) (sym (share-append k n u (all_of h.front))))
+      ∙ append-nil (map One (share k n (u ++ all_of h.front) ++ h.portion k));
   some = h.some;
 }
 

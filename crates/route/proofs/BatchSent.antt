@@ -7,10 +7,10 @@ use Rattle.trace.specs.declared.records.Placed.{Placed}
 use Rattle.trace.specs.Shares.{share}
 use Rattle.trace.proofs.ShareLemmas.{share-append}
 use Rattle.route.specs.declared.routing.Router.{Router}
-use Rattle.route.specs.Sending.{put_on, with_puts, part, mark_of}
+use Rattle.route.specs.Sending.{put_on, with_puts, portion, mark_of}
 use Rattle.route.specs.Routers.{puts_of, lane_count, pending_of, turn_of, marked_of, HasSent}
 use Rattle.route.specs.declared.batch.Batch.{Batch}
-use Rattle.route.specs.Batches.{part_of, sent_count, sent_part, unsent_part, batch_lanes, HasStaged, HasSameParts, IsUnsent, IsSentWhole, IsSending, IsAsFarSent, IsFirstToLack}
+use Rattle.route.specs.Batches.{portion_of, sent_count, sent_portion, unsent_portion, batch_lanes, HasStaged, HasSamePortions, IsUnsent, IsSentWhole, IsSending, IsAsFarSent, IsFirstToLack}
 use Rattle.route.proofs.Sent.{Items, each_after, mark_of-from}
 
 -- so many more from the front
@@ -30,31 +30,31 @@ sending_more n w puts old new j us count within here others h k lt =
     k (omega (arith, count, lt, length-set puts j (put_on puts j ++ map One us)))
 
 -- the batch was sent whole
-pub sent_all : (n : ℕ) (w us : List Placed) (on : ℕ → Items) (part sent : ℕ → List Placed) → ((k : ℕ) → k < n → part k ≡ share k n us) → ((k : ℕ) → k < n → sent k ≡ part k)
+pub sent_all : (n : ℕ) (w us : List Placed) (on : ℕ → Items) (portion sent : ℕ → List Placed) → ((k : ℕ) → k < n → portion k ≡ share k n us) → ((k : ℕ) → k < n → sent k ≡ portion k)
     → ((k : ℕ) → k < n → on k ≡ map One (share k n w ++ sent k)) → (k : ℕ) → k < n → on k ≡ map One (share k n (w ++ us))
-sent_all n w us on part sent staged all h k lt =
+sent_all n w us on portion sent staged all h k lt =
     h k lt ∙ ap (λ (x : List Placed). map One (share k n w ++ x)) (all k lt ∙ staged k lt) ∙ ap (map One) (sym (share-append k n w us))
 
 -- what was sent to a lane where nothing more was
-pub same_sent : (old new : Batch) (k : ℕ) → HasSameParts old new → sent_count new k ≡ sent_count old k → sent_part new k ≡ sent_part old k
-same_sent old new k same e = ap₂ (λ (n : ℕ) (l : List Placed). take n l) e (same.parts k)
+pub same_sent : (old new : Batch) (k : ℕ) → HasSamePortions old new → sent_count new k ≡ sent_count old k → sent_portion new k ≡ sent_portion old k
+same_sent old new k same e = ap₂ (λ (n : ℕ) (l : List Placed). take n l) e (same.portions k)
 
-pub same_unsent : (old new : Batch) (k : ℕ) → HasSameParts old new → sent_count new k ≡ sent_count old k → unsent_part new k ≡ unsent_part old k
-same_unsent old new k same e = ap₂ (λ (n : ℕ) (l : List Placed). drop n l) e (same.parts k)
+pub same_unsent : (old new : Batch) (k : ℕ) → HasSamePortions old new → sent_count new k ≡ sent_count old k → unsent_portion new k ≡ unsent_portion old k
+same_unsent old new k same e = ap₂ (λ (n : ℕ) (l : List Placed). drop n l) e (same.portions k)
 
 -- and where so many more were
-pub more_sent : (old new : Batch) (k c : ℕ) → HasSameParts old new → sent_count new k ≡ sent_count old k + c → sent_part new k ≡ sent_part old k ++ take c (unsent_part old k)
-more_sent old new k c same e = ap₂ (λ (n : ℕ) (l : List Placed). take n l) e (same.parts k) ∙ take_further (sent_count old k) c (part_of old k)
+pub more_sent : (old new : Batch) (k c : ℕ) → HasSamePortions old new → sent_count new k ≡ sent_count old k + c → sent_portion new k ≡ sent_portion old k ++ take c (unsent_portion old k)
+more_sent old new k c same e = ap₂ (λ (n : ℕ) (l : List Placed). take n l) e (same.portions k) ∙ take_further (sent_count old k) c (portion_of old k)
 
-pub fewer_unsent : (old new : Batch) (k c : ℕ) → HasSameParts old new → sent_count new k ≡ sent_count old k + c → unsent_part old k ≡ take c (unsent_part old k) ++ unsent_part new k
+pub fewer_unsent : (old new : Batch) (k c : ℕ) → HasSamePortions old new → sent_count new k ≡ sent_count old k + c → unsent_portion old k ≡ take c (unsent_portion old k) ++ unsent_portion new k
 fewer_unsent old new k c same e =
-    sym (take-append-drop c (unsent_part old k)) ∙ ap (λ (l : List Placed). take c (unsent_part old k) ++ l) (drop-drop c (sent_count old k) (part_of old k) ∙ sym (ap₂ (λ (n : ℕ) (l : List Placed). drop n l) e (same.parts k)))
+    sym (take-append-drop c (unsent_portion old k)) ∙ ap (λ (l : List Placed). take c (unsent_portion old k) ++ l) (drop-drop c (sent_count old k) (portion_of old k) ∙ sym (ap₂ (λ (n : ℕ) (l : List Placed). drop n l) e (same.portions k)))
 
 -- the lanes before the turn have all
-pub sent_before : (b : Batch) (k : ℕ) → k < b.turn → unsent_part b k ≡ []
+pub sent_before : (b : Batch) (k : ℕ) → k < b.turn → unsent_portion b k ≡ []
 sent_before b k h =
-    let all : sent_count b k ≡ length (part_of b k) = cond-true (nat_lt k b.turn) (length (part_of b k)) (cond (k == b.turn) b.sent 0) (lt-ltb k b.turn h) in
-    drop_all (sent_count b k) (part_of b k) (omega (arith, all))
+    let all : sent_count b k ≡ length (portion_of b k) = cond-true (nat_lt k b.turn) (length (portion_of b k)) (cond (k == b.turn) b.sent 0) (lt-ltb k b.turn h) in
+    drop_all (sent_count b k) (portion_of b k) (omega (arith, all))
 
 -- the first of some records
 pub take_some : (c : ℕ) (xs : List Placed) → 1 ≤ c → c ≤ length xs → take c xs ≡ [] → ⊥
@@ -63,9 +63,9 @@ take_some zero (x ∷ xs) some most e = absurd (omega (arith, some))
 take_some (suc c) (x ∷ xs) some most e = absurd cc
 
 -- the lane that a batch turned to is the first that lacked records
-pub first_to_lack : (old turned : Batch) (j : ℕ) → j ≡ turned.turn → HasSameParts old turned → IsAsFarSent old turned → j < batch_lanes turned → (unsent_part turned turned.turn ≡ [] → ⊥) → IsFirstToLack old j
+pub first_to_lack : (old turned : Batch) (j : ℕ) → j ≡ turned.turn → HasSamePortions old turned → IsAsFarSent old turned → j < batch_lanes turned → (unsent_portion turned turned.turn ≡ [] → ⊥) → IsFirstToLack old j
 first_to_lack old turned j here same far within lacks =
-    let P : ℕ → Type 0 = λ i. unsent_part turned i ≡ [] → ⊥ in
+    let P : ℕ → Type 0 = λ i. unsent_portion turned i ≡ [] → ⊥ in
     record {
       within = omega (arith, within, same.lanes);
       lacks = λ e. subst P (sym here) lacks (same_unsent old turned j same (far j) ∙ e);
@@ -73,30 +73,15 @@ first_to_lack old turned j here same far within lacks =
     }
 
 -- where nothing is pending and no lane is marked, w alone stands on the lanes
-at_rest : (n k turn marked : ℕ) (w : List Placed) (pending : Option Placed) → pending ≡ None → marked ≡ 0 → map One (share k n w ++ part k n turn pending) ++ mark_of k marked ≡ map One (share k n w)
+at_rest : (n k turn marked : ℕ) (w : List Placed) (pending : Option Placed) → pending ≡ None → marked ≡ 0 → map One (share k n w ++ portion k n turn pending) ++ mark_of k marked ≡ map One (share k n w)
 at_rest n k turn marked w pending idle unmarked =
-    let P : Option Placed → Type 0 = λ o. map One (share k n w ++ part k n turn o) ++ mark_of k marked ≡ map One (share k n w) in
+    let P : Option Placed → Type 0 = λ o. map One (share k n w ++ portion k n turn o) ++ mark_of k marked ≡ map One (share k n w) in
     subst P (sym idle) (ap (λ (ms : Items). map One (share k n w ++ []) ++ ms) (mark_of-from k marked (omega (arith, unmarked))) ∙ append-nil (map One (share k n w ++ [])) ∙ ap (map One) (append-nil (share k n w)))
-
-zero_either : (c : Bool) (m : ℕ) → m ≡ 0 → cond c m 0 ≡ 0
-zero_either true m h = h
-zero_either false m h = refl
-
-none_counted : (b : Batch) (k : ℕ) → IsUnsent b → sent_count b k ≡ 0
-none_counted b k h =
-    cond-false (nat_lt k b.turn) (length (part_of b k)) (cond (k == b.turn) b.sent 0) (le-ltb k b.turn (omega (arith, h.at_first))) ∙ zero_either (k == b.turn) b.sent h.none_sent
-
--- a batch of which nothing was sent is sent behind what was sent whole
-pub unsent_begins : (w : List Placed) (b : Batch) (r : Router) → IsUnsent b → pending_of r ≡ None → marked_of r ≡ 0 → HasSent w r → IsSending w b r
-unsent_begins w b r unsent idle unmarked sent k lt =
-    let n : ℕ = lane_count r in
-    let none : sent_part b k ≡ [] = ap (λ (m : ℕ). take m (part_of b k)) (none_counted b k unsent) in
-    sent k lt ∙ at_rest n k (turn_of r) (marked_of r) w (pending_of r) idle unmarked ∙ ap (map One) (sym (append-nil (share k n w)) ∙ ap (λ (l : List Placed). share k n w ++ l) (sym none))
 
 -- a batch that was sent whole joins it
 pub sent_joins : (w us : List Placed) (b : Batch) (r : Router) → batch_lanes b ≡ lane_count r → pending_of r ≡ None → marked_of r ≡ 0 → HasStaged us b → IsSentWhole b → IsSending w b r → HasSent (w ++ us) r
 sent_joins w us b r lanes idle unmarked staged whole sending k lt =
     let n : ℕ = lane_count r in
-    let S : ℕ → Type 0 = λ m. (j : ℕ) → j < m → part_of b j ≡ share j m us in
-    let all : (j : ℕ) → j < n → sent_part b j ≡ part_of b j = λ j l. sym (append-nil (sent_part b j)) ∙ ap (λ (x : List Placed). sent_part b j ++ x) (sym (whole j (omega (arith, l, lanes)))) ∙ take-append-drop (sent_count b j) (part_of b j) in
-    sent_all n w us (put_on (puts_of r)) (part_of b) (sent_part b) (subst S lanes staged) all sending k lt ∙ sym (at_rest n k (turn_of r) (marked_of r) (w ++ us) (pending_of r) idle unmarked)
+    let S : ℕ → Type 0 = λ m. (j : ℕ) → j < m → portion_of b j ≡ share j m us in
+    let all : (j : ℕ) → j < n → sent_portion b j ≡ portion_of b j = λ j l. sym (append-nil (sent_portion b j)) ∙ ap (λ (x : List Placed). sent_portion b j ++ x) (sym (whole j (omega (arith, l, lanes)))) ∙ take-append-drop (sent_count b j) (portion_of b j) in
+    sent_all n w us (put_on (puts_of r)) (portion_of b) (sent_portion b) (subst S lanes staged) all sending k lt ∙ sym (at_rest n k (turn_of r) (marked_of r) (w ++ us) (pending_of r) idle unmarked)

@@ -95,16 +95,16 @@ module _ (n : ℕ) (bs : List (List Placed)) (s : Sends) (some : 0 < n) (filled 
             sym (h.whole ∙ ap (λ (r : List (List Placed)). h.begun ++ r) (h.last (omega arith)) ∙ append-nil h.begun);
       }
 
-  -- a lane with a part of the last batch
-  share_inside : (h : InsideBatch n bs s) (k : ℕ) (left : List Placed) → records (of_lane k s) ≡ share k n (all_of h.front) ++ h.part k → share k n h.last ≡ h.part k ++ left → HasBatchShare n (λ k. of_lane k s) (h.front ++ h.last ∷ []) k
-  share_inside h k [] has cut = inl (has ∙ ap (λ (l : List Placed). share k n (all_of h.front) ++ l) (sym (cut ∙ append-nil (h.part k))) ∙ sym (share-last k n h.front h.last))
-  share_inside h k (p ∷ left) has cut = inr (record { front = h.front; last = h.last; sent = h.part k; rest = p ∷ left; whole = refl; has = has; cut = cut; lacks = λ e. absurd (cc) })
+  -- a lane with some of the last batch
+  share_inside : (h : InsideBatch n bs s) (k : ℕ) (left : List Placed) → records (of_lane k s) ≡ share k n (all_of h.front) ++ h.portion k → share k n h.last ≡ h.portion k ++ left → HasBatchShare n (λ k. of_lane k s) (h.front ++ h.last ∷ []) k
+  share_inside h k [] has cut = inl (has ∙ ap (λ (l : List Placed). share k n (all_of h.front) ++ l) (sym (cut ∙ append-nil (h.portion k))) ∙ sym (share-last k n h.front h.last))
+  share_inside h k (p ∷ left) has cut = inr (record { front = h.front; last = h.last; sent = h.portion k; rest = p ∷ left; whole = refl; has = has; cut = cut; lacks = λ e. absurd (cc) })
 
   standing_inside : InsideBatch n bs s → Standing n (λ k. of_lane k s) bs
   standing_inside h =
-      let plain : (k : ℕ) → k < n → of_lane k s ≡ map One (share k n (all_of h.front) ++ h.part k) ++ [] = λ k l. h.sent k l ∙ sym (append-nil (map One (share k n (all_of h.front) ++ h.part k))) in
-      let has : (k : ℕ) → k < n → records (of_lane k s) ≡ share k n (all_of h.front) ++ h.part k = λ k l. ap records (plain k l) ∙ records-ones (share k n (all_of h.front) ++ h.part k) false in
-      let unmarked : (k : ℕ) → k < n → has_mark (of_lane k s) ≡ false = λ k l. ap has_mark (plain k l) ∙ has_mark-ones (share k n (all_of h.front) ++ h.part k) false in
+      let plain : (k : ℕ) → k < n → of_lane k s ≡ map One (share k n (all_of h.front) ++ h.portion k) ++ [] = λ k l. h.sent k l ∙ sym (append-nil (map One (share k n (all_of h.front) ++ h.portion k))) in
+      let has : (k : ℕ) → k < n → records (of_lane k s) ≡ share k n (all_of h.front) ++ h.portion k = λ k l. ap records (plain k l) ∙ records-ones (share k n (all_of h.front) ++ h.portion k) false in
+      let unmarked : (k : ℕ) → k < n → has_mark (of_lane k s) ≡ false = λ k l. ap has_mark (plain k l) ∙ has_mark-ones (share k n (all_of h.front) ++ h.portion k) false in
       let P : Placed → List Placed → Type 0 = λ p l. Contains l p in
       record {
         begun = h.front ++ h.last ∷ [];
@@ -113,11 +113,11 @@ module _ (n : ℕ) (bs : List (List Placed)) (s : Sends) (some : 0 < n) (filled 
         put = λ u m.
             ⊎_elim
             (λ (f : Contains h.front u).
-            put_whole n (λ k. of_lane k s) h.front u some (λ p k l c. subst (P p) (sym (has k l)) (Contains-append_left (share k n (all_of h.front)) (h.part k) p c)) (filled_front bs h.front (h.last ∷ h.rest) filled h.whole u f) f)
+            put_whole n (λ k. of_lane k s) h.front u some (λ p k l c. subst (P p) (sym (has k l)) (Contains-append_left (share k n (all_of h.front)) (h.portion k) p c)) (filled_front bs h.front (h.last ∷ h.rest) filled h.whole u f) f)
             (λ (e : h.last ≡ u).
             let (k, l, p, c) = h.some in
-            let in_last : Contains h.last p = Contains-unfilter (goes_placed k n) h.last p (subst (P p) (sym (h.cut k l)) (Contains-append_left (h.part k) (h.left k) p c)) in
-            (p, subst (P p) e in_last, (k, l, subst (P p) (sym (has k l)) (Contains-append_right (share k n (all_of h.front)) (h.part k) p c)))) (Contains-push_cases h.front h.last u m);
+            let in_last : Contains h.last p = Contains-unfilter (goes_placed k n) h.last p (subst (P p) (sym (h.cut k l)) (Contains-append_left (h.portion k) (h.left k) p c)) in
+            (p, subst (P p) e in_last, (k, l, subst (P p) (sym (has k l)) (Contains-append_right (share k n (all_of h.front)) (h.portion k) p c)))) (Contains-push_cases h.front h.last u m);
         shares = λ k l. share_inside h k (h.left k) (has k l) (h.cut k l);
         marks = λ k l m. absurd (true≢false (sym m ∙ unmarked k l));
         all = λ k l m. absurd (true≢false (sym m ∙ unmarked k l));

@@ -12,7 +12,7 @@ use Rattle.trace.specs.declared.records.Placed.{Placed}
 use Rattle.trace.specs.Shares.{goes, goes_placed, share}
 use Rattle.trace.proofs.Lists.{Contains-nil}
 use Rattle.trace.proofs.ShareLemmas.{share-push, goes_somewhere}
-use Rattle.route.specs.Sending.{part, AllSent}
+use Rattle.route.specs.Sending.{portion, AllSent}
 use Rattle.route.specs.Routed.{IsRising, in_hand, IsOnSome, IsRouted, IsBeingSent, HasShare, HasWholeShare, HasRouted}
 use Rattle.route.proofs.Rising.{Contains-here, Contains-later, Contains-cases, Ordered-from_rising, rising_front, last_above, same_records}
 
@@ -31,11 +31,11 @@ has_mark-ones [] false = refl
 has_mark-ones (x ∷ xs) b = has_mark-ones xs b
 
 module _ (n : ℕ) (on : ℕ → List (Item Placed)) (w : List Placed) (turn : ℕ) (pending : Option Placed) (marked : ℕ) where
-  pub records-sent : AllSent n w turn pending marked on → (k : ℕ) → k < n → records (on k) ≡ share k n w ++ part k n turn pending
-  records-sent all k l = ap records (all k l) ∙ records-ones (share k n w ++ part k n turn pending) (nat_lt k marked)
+  pub records-sent : AllSent n w turn pending marked on → (k : ℕ) → k < n → records (on k) ≡ share k n w ++ portion k n turn pending
+  records-sent all k l = ap records (all k l) ∙ records-ones (share k n w ++ portion k n turn pending) (nat_lt k marked)
 
   pub has_mark-sent : AllSent n w turn pending marked on → (k : ℕ) → k < n → has_mark (on k) ≡ nat_lt k marked
-  has_mark-sent all k l = ap has_mark (all k l) ∙ has_mark-ones (share k n w ++ part k n turn pending) (nat_lt k marked)
+  has_mark-sent all k l = ap has_mark (all k l) ∙ has_mark-ones (share k n w ++ portion k n turn pending) (nat_lt k marked)
 
 -- members of a share
 in_either : (b : Bool) (p q : Placed) (l : List Placed) → Contains l q → Contains (cond b (p ∷ l) l) q
@@ -175,7 +175,7 @@ module _ (n : ℕ) (on : ℕ → List (Item Placed)) (w : List Placed) (turn mar
 
   outcome-some : (p : Placed) → IsUnderWay n on w turn (Some p) marked → Outcome n on w (Some p)
   outcome-some p s =
-      let sent : (k : ℕ) → k < n → records (on k) ≡ share k n w ++ part k n turn (Some p) = records-sent n on w turn (Some p) marked s.sent in
+      let sent : (k : ℕ) → k < n → records (on k) ≡ share k n w ++ portion k n turn (Some p) = records-sent n on w turn (Some p) marked s.sent in
       ⊎_elim
       (λ (none : (k : ℕ) → (nat_lt k turn && goes k n p.what) ≡ false). record {
         list = w;

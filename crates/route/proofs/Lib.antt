@@ -6,7 +6,7 @@ pub mod RunFronts
 pub mod MarksLast
 pub mod Headline
 pub mod Staging
-pub mod BatchParts
+pub mod BatchPortions
 pub mod BatchSent
 pub mod RunLists
 pub mod BatchFronts

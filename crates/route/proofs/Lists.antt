@@ -3,7 +3,7 @@ use Rattle.std.proofs.Common.{◌≡◌, ℕ, ◌<◌, arith, slice_index_or, Bo
 use Rattle.std.proofs.lemmas.List.{map-set, get_or-map, get_or-set_same, length-map}
 use Rattle.std.proofs.Math.Seq.{map-set_same}
 use Rattle.lane.specs.declared.item.Item.{Item}
-use Rattle.lane.specs.declared.ends.Sender.{Sender}
+use Rattle.lane.specs.declared.sender.Sender.{Sender}
 use Rattle.lane.specs.Lanes.{put_of, room_of}
 use Rattle.trace.specs.declared.records.Placed.{Placed}
 use Rattle.route.specs.Senders.{puts, rooms}

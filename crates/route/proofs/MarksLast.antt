@@ -51,10 +51,10 @@ next_mark n k x s r e =
     ∙ get_or-map-range_with_len {X = ℕ × Item Placed} (λ j. (j, Finish)) 0 n (length s) (length s) (k, x) long (omega arith)) in
     ap has_mark (on_cut Finish k n s cut.0 cut.1 ∙ cond-false (nat_lt k (length s)) (Finish ∷ []) [] (le-ltb k (length s) (omega arith)))
 
--- parts without a mark, one after another
-pub unmarked-parts : {X : Type 0} (f : X → Sends) → ((x : X) → Unmarked (f x)) → (xs : List X) → Unmarked (flat_map f xs)
-unmarked-parts f none [] k = refl
-unmarked-parts f none (x ∷ xs) k = ap has_mark (of_lane-append k (f x) (flat_map f xs)) ∙ no_mark-append (of_lane k (f x)) (of_lane k (flat_map f xs)) (none x k) ∙ unmarked-parts f none xs k
+-- lists without a mark, one after another
+pub unmarked-portions : {X : Type 0} (f : X → Sends) → ((x : X) → Unmarked (f x)) → (xs : List X) → Unmarked (flat_map f xs)
+unmarked-portions f none [] k = refl
+unmarked-portions f none (x ∷ xs) k = ap has_mark (of_lane-append k (f x) (flat_map f xs)) ∙ no_mark-append (of_lane k (f x)) (of_lane k (flat_map f xs)) (none x k) ∙ unmarked-portions f none xs k
 
 -- where the marks come last, nothing is sent to a lane after its mark
 pub never_marked : (n k : ℕ) (x : Item Placed) (a s r : Sends) → Unmarked a → s ++ (k, x) ∷ r ≡ a ++ map (λ j. (j, Finish)) (range_with_len 0 n) → has_mark (of_lane k s) ≡ false
@@ -71,7 +71,7 @@ never_marked n k x a s r none e =
 
 -- the records that are sent carry no mark
 pub unmarked_sending : (n : ℕ) (w : List Placed) → Unmarked (flat_map (sending_of n) w)
-unmarked_sending n w = unmarked-parts (sending_of n) (λ p k. ones_alone p k (lanes_for n p.what)) w
+unmarked_sending n w = unmarked-portions (sending_of n) (λ p k. ones_alone p k (lanes_for n p.what)) w
 
 pub unmarked_batches : (n : ℕ) (bs : List (List Placed)) → Unmarked (flat_map (batch_sending n) bs)
-unmarked_batches n bs = unmarked-parts (batch_sending n) (λ u. unmarked-parts (λ j. map (λ p. (j, One p)) (share j n u)) (λ j k. records_alone j k (share j n u)) (range_with_len 0 n)) bs
+unmarked_batches n bs = unmarked-portions (batch_sending n) (λ u. unmarked-portions (λ j. map (λ p. (j, One p)) (share j n u)) (λ j k. records_alone j k (share j n u)) (range_with_len 0 n)) bs

@@ -61,12 +61,12 @@ one_batch n place (Read l) some =
 one_batch n place (Write l) some =
     on_one (l % n) (record { place = place; what = Write l }) 0 n ∙ lane_there ((l % n, One (record { place = place; what = Write l })) ∷ []) l n some
 
-one_parts : (n : ℕ) (w : List Placed) → 0 < n → flat_map (batch_sending n) (one_by_one w) ≡ flat_map (sending_of n) w
-one_parts n [] some = refl
-one_parts n (p ∷ w) some = ap₂ (λ (s t : Sends). s ++ t) (one_batch n p.place p.what some) (one_parts n w some)
+one_portions : (n : ℕ) (w : List Placed) → 0 < n → flat_map (batch_sending n) (one_by_one w) ≡ flat_map (sending_of n) w
+one_portions n [] some = refl
+one_portions n (p ∷ w) some = ap₂ (λ (s t : Sends). s ++ t) (one_batch n p.place p.what some) (one_portions n w some)
 
 pub one_sending : (n : ℕ) (w : List Placed) → 0 < n → batches_sending n (one_by_one w) ≡ sending n w
-one_sending n w some = ap (λ (s : Sends). s ++ map (λ k. (k, Finish)) (range_with_len 0 n)) (one_parts n w some)
+one_sending n w some = ap (λ (s : Sends). s ++ map (λ k. (k, Finish)) (range_with_len 0 n)) (one_portions n w some)
 
 pub run_from_batches : (n : ℕ) (w : List Placed) (es : List Event) → IsBatchRun n (one_by_one w) es → IsRun n w es
 run_from_batches n w es run = record {

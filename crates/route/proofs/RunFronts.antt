@@ -11,7 +11,7 @@ use Rattle.trace.specs.declared.records.Record.{Record}
 use Rattle.trace.specs.declared.records.Record.TheVariants.{Spawn, Return, Sync, Read, Write}
 use Rattle.trace.specs.declared.records.Placed.{Placed}
 use Rattle.trace.specs.Shares.{goes, goes_placed, share}
-use Rattle.route.specs.Sending.{part, mark_of, AllSent}
+use Rattle.route.specs.Sending.{portion, mark_of, AllSent}
 use Rattle.route.specs.Routed.{in_hand}
 use Rattle.route.specs.Runs.{of_lane, sending_of, sending}
 
@@ -40,7 +40,7 @@ from_zero x k m = grind (arith, nat_tests)
 on_first : (x : Item Placed) (k m : ℕ) → of_lane k (map (λ j. (j, x)) (range_with_len 0 m)) ≡ cond (nat_lt k m) (x ∷ []) []
 on_first x k m = on_range x k 0 m ∙ from_zero x k m
 
--- where a list is cut: within the first part, or behind it
+-- where a list is cut: within the first list, or behind it
 pub split_front : {X : Type 0} (s r a b : List X) → s ++ r ≡ a ++ b → ((s ≡ take (length s) a) × (length s < length a)) ⊎ ((t : List X) × (s ≡ a ++ t) × (t ++ r ≡ b))
 split_front s r [] b e = inr (s, refl, e)
 split_front [] r (x ∷ a) b e = inl (refl, omega arith)
@@ -62,35 +62,35 @@ of_sending n k place (Read j) l = refl
 of_sending n k place (Write j) l = refl
 
 -- a record of which some lanes lack it: the turn, and what stands on the lanes
-record PartSent (n : ℕ) (p : Placed) (s : Sends) : Type 0 where
+record PortionSent (n : ℕ) (p : Placed) (s : Sends) : Type 0 where
   turn : ℕ
   within : turn < n
   aimed : goes_placed turn n p ≡ true
-  on : (k : ℕ) → of_lane k s ≡ map One (part k n turn (Some p))
+  on : (k : ℕ) → of_lane k s ≡ map One (portion k n turn (Some p))
 
 both : (a b : Bool) (p : Placed) → b ≡ true → cond a (One p ∷ []) [] ≡ map One (cond (a && b) (p ∷ []) [])
 both true true p h = refl
 both false true p h = refl
 both a false p h = absurd (cc)
 
-part-all : (k n turn : ℕ) (p : Placed) → goes_placed k n p ≡ true → cond (nat_lt k turn) (One p ∷ []) [] ≡ map One (part k n turn (Some p))
-part-all k n turn p h = both (nat_lt k turn) (goes_placed k n p) p h
+portion-all : (k n turn : ℕ) (p : Placed) → goes_placed k n p ≡ true → cond (nat_lt k turn) (One p ∷ []) [] ≡ map One (portion k n turn (Some p))
+portion-all k n turn p h = both (nat_lt k turn) (goes_placed k n p) p h
 
 -- a record that goes to all lanes
-of_all : (n : ℕ) (p : Placed) (s : Sends) → ((k : ℕ) → goes_placed k n p ≡ true) → s ≡ take (length s) (map (λ j. (j, One p)) (range_with_len 0 n)) → length s < length {A = ℕ × Item Placed} (map (λ j. (j, One p)) (range_with_len 0 n)) → PartSent n p s
+of_all : (n : ℕ) (p : Placed) (s : Sends) → ((k : ℕ) → goes_placed k n p ≡ true) → s ≡ take (length s) (map (λ j. (j, One p)) (range_with_len 0 n)) → length s < length {A = ℕ × Item Placed} (map (λ j. (j, One p)) (range_with_len 0 n)) → PortionSent n p s
 of_all n p s all e l =
     let within : length s < n = omega (arith, length-map-range_with_len {X = ℕ × Item Placed} (λ j. (j, One p)) 0 n) in record {
       turn = length s;
       within = within;
       aimed = all (length s);
-      on = λ k. on_cut (One p) k n s e (omega arith) ∙ part-all k n (length s) p (all k);
+      on = λ k. on_cut (One p) k n s e (omega arith) ∙ portion-all k n (length s) p (all k);
     }
 
 not_before : (k j : ℕ) → (nat_lt k j && (j == k)) ≡ false
 not_before k j = grind (arith, nat_tests)
 
 -- a record that goes to one lane
-of_none : (n j : ℕ) (p : Placed) (s : Sends) → j < n → ((k : ℕ) → goes_placed k n p ≡ (j == k)) → s ≡ take (length s) ((j, One p) ∷ []) → length s < 1 → PartSent n p s
+of_none : (n j : ℕ) (p : Placed) (s : Sends) → j < n → ((k : ℕ) → goes_placed k n p ≡ (j == k)) → s ≡ take (length s) ((j, One p) ∷ []) → length s < 1 → PortionSent n p s
 of_none n j p s within is e l =
     let none : s ≡ [] = nil_from_length s (omega arith) in record {
       turn = j;
@@ -99,14 +99,14 @@ of_none n j p s within is e l =
       on = λ k. ap (of_lane k) none ∙ ap (λ (b : Bool). map One (cond b (p ∷ []) [])) (sym (ap (λ (b : Bool). nat_lt k j && b) (is k) ∙ not_before k j));
     }
 
-part_sent : (n place : ℕ) (r : Record) (s : Sends) → 0 < n → s ≡ take (length s) (sending_of n (record { place = place; what = r })) → length s < length (sending_of n (record { place = place; what = r })) → PartSent n (record { place = place; what = r }) s
-part_sent n place Spawn s some e l = of_all n (record { place = place; what = Spawn }) s (λ k. refl) e l
-part_sent n place Return s some e l = of_all n (record { place = place; what = Return }) s (λ k. refl) e l
-part_sent n place Sync s some e l = of_all n (record { place = place; what = Sync }) s (λ k. refl) e l
-part_sent n place (Read j) s some e l = of_none n (j % n) (record { place = place; what = Read j }) s (omega arith) (λ k. refl) e l
-part_sent n place (Write j) s some e l = of_none n (j % n) (record { place = place; what = Write j }) s (omega arith) (λ k. refl) e l
+portion_sent : (n place : ℕ) (r : Record) (s : Sends) → 0 < n → s ≡ take (length s) (sending_of n (record { place = place; what = r })) → length s < length (sending_of n (record { place = place; what = r })) → PortionSent n (record { place = place; what = r }) s
+portion_sent n place Spawn s some e l = of_all n (record { place = place; what = Spawn }) s (λ k. refl) e l
+portion_sent n place Return s some e l = of_all n (record { place = place; what = Return }) s (λ k. refl) e l
+portion_sent n place Sync s some e l = of_all n (record { place = place; what = Sync }) s (λ k. refl) e l
+portion_sent n place (Read j) s some e l = of_none n (j % n) (record { place = place; what = Read j }) s (omega arith) (λ k. refl) e l
+portion_sent n place (Write j) s some e l = of_none n (j % n) (record { place = place; what = Write j }) s (omega arith) (λ k. refl) e l
 
--- where a run stands after the puts s: v was sent whole, and the pending record in part
+-- where a run stands after the puts s: v was sent whole, and the pending record in portion
 pub record Front (n : ℕ) (w : List Placed) (s : Sends) : Type 0 where
   pub v : List Placed
   pub turn : ℕ
@@ -142,8 +142,8 @@ front_marks n s r e =
     }
 
 -- inside a record
-front_part : (n : ℕ) (p : Placed) (w : List Placed) (s : Sends) → PartSent n p s → Front n (p ∷ w) s
-front_part n p w s h = record {
+front_portion : (n : ℕ) (p : Placed) (w : List Placed) (s : Sends) → PortionSent n p s → Front n (p ∷ w) s
+front_portion n p w s h = record {
   v = [];
   turn = h.turn;
   pending = Some p;
@@ -153,7 +153,7 @@ front_part n p w s h = record {
   within = λ q e. h.within;
   aimed = λ q e. let P : Placed → Type 0 = λ x. goes_placed h.turn n x ≡ true in let same : p ≡ q = cc in subst P same h.aimed;
   unmarked = λ q e. refl;
-  sent = λ k l. h.on k ∙ sym (ap (λ (ms : List (Item Placed)). map One (part k n h.turn (Some p)) ++ ms) (mark_of-none k) ∙ append-nil (map One (part k n h.turn (Some p))));
+  sent = λ k l. h.on k ∙ sym (ap (λ (ms : List (Item Placed)). map One (portion k n h.turn (Some p)) ++ ms) (mark_of-none k) ∙ append-nil (map One (portion k n h.turn (Some p))));
 }
 
 with_one : (b : Bool) (p : Placed) (xs ys : List Placed) (ms : List (Item Placed)) → cond b (One p ∷ []) [] ++ (map One (xs ++ ys) ++ ms) ≡ map One (cond b (p ∷ xs) xs ++ ys) ++ ms
@@ -174,12 +174,12 @@ front_more n p w t h = record {
   unmarked = h.unmarked;
   sent = λ k l.
       of_lane-append k (sending_of n p) t ∙ ap₂ (λ (a b : List (Item Placed)). a ++ b) (of_sending n k p.place p.what l) (h.sent k l)
-      ∙ with_one (goes_placed k n p) p (share k n h.v) (part k n h.turn h.pending) (mark_of k h.marked);
+      ∙ with_one (goes_placed k n p) p (share k n h.v) (portion k n h.turn h.pending) (mark_of k h.marked);
 }
 
 pub front : (n : ℕ) (w : List Placed) (s r : Sends) → 0 < n → s ++ r ≡ sending n w → Front n w s
 front n [] s r some e = front_marks n s r e
 front n (p ∷ w) s r some e =
-    ⊎_elim (λ (h : (s ≡ take (length s) (sending_of n p)) × (length s < length (sending_of n p))). front_part n p w s (part_sent n p.place p.what s some h.0 h.1))
+    ⊎_elim (λ (h : (s ≡ take (length s) (sending_of n p)) × (length s < length (sending_of n p))). front_portion n p w s (portion_sent n p.place p.what s some h.0 h.1))
     (λ (h : (t : Sends) × (s ≡ sending_of n p ++ t) × (t ++ r ≡ sending n w)). subst (Front n (p ∷ w)) (sym h.1) (front_more n p w h.0 (front n w h.0 r some h.2)))
     (split_front s r (sending_of n p) (sending n w) (e ∙ append_assoc (sending_of n p) (flat_map (sending_of n) w) (map (λ k. (k, Finish)) (range_with_len 0 n))))

@@ -9,7 +9,7 @@ use Rattle.lane.proofs.Marks.{has_mark_more, has_mark_block, no_mark_in}
 use Rattle.trace.specs.declared.records.Placed.{Placed}
 use Rattle.trace.specs.Shares.{goes_placed, share}
 use Rattle.trace.proofs.ShareLemmas.{share-push}
-use Rattle.route.specs.Sending.{put_on, with_put, with_puts, part, mark_of, AllSent, sent_whole, HaveMarks}
+use Rattle.route.specs.Sending.{put_on, with_put, with_puts, portion, mark_of, AllSent, sent_whole, HaveMarks}
 
 abbrev pub Items : Type 0
 Items = List (Item Placed)
@@ -33,11 +33,11 @@ each_after P puts i xs h here others k l =
     (λ (e : k ≡ i → ⊥). subst (P k) (sym (get_or-set_other puts i k (put_on puts i ++ xs) [] e)) (others k e within)) (cases_eq k i)
 
 -- what a lane has of the pending record
-part-before : (k n i : ℕ) (p : Placed) → k < i → part k n i (Some p) ≡ cond (goes_placed k n p) (p ∷ []) []
-part-before k n i p h = ap (λ (b : Bool). cond (b && goes_placed k n p) (p ∷ []) []) (lt-ltb k i h)
+portion-before : (k n i : ℕ) (p : Placed) → k < i → portion k n i (Some p) ≡ cond (goes_placed k n p) (p ∷ []) []
+portion-before k n i p h = ap (λ (b : Bool). cond (b && goes_placed k n p) (p ∷ []) []) (lt-ltb k i h)
 
-part-from : (k n i : ℕ) (p : Placed) → i ≤ k → part k n i (Some p) ≡ []
-part-from k n i p h = cond-false (nat_lt k i && goes_placed k n p) (p ∷ []) [] (and_left (nat_lt k i) (goes_placed k n p) (le-ltb k i h))
+portion-from : (k n i : ℕ) (p : Placed) → i ≤ k → portion k n i (Some p) ≡ []
+portion-from k n i p h = cond-false (nat_lt k i && goes_placed k n p) (p ∷ []) [] (and_left (nat_lt k i) (goes_placed k n p) (le-ltb k i h))
 
 pub mark_of-from : (k m : ℕ) → m ≤ k → mark_of k m ≡ []
 mark_of-from k m h = cond-false (nat_lt k m) (Finish ∷ []) [] (le-ltb k m h)
@@ -55,16 +55,16 @@ same_records xs ys marks l h e = h ∙ ap (λ (zs : List Placed). map One zs ++ 
 pub sent-next : (puts : List Items) (w : List Placed) (i : ℕ) (p : Placed) (m : ℕ) → m ≡ 0 → i < length puts → goes_placed i (length puts) p ≡ true → OnPuts w i (Some p) m puts → OnPuts w (i + 1) (Some p) m (with_put puts i (One p))
 sent-next puts w i p m none h goes all =
     let n : ℕ = length puts in
-    let P : ℕ → Items → Type 0 = λ k l. l ≡ map One (share k n w ++ part k n (i + 1) (Some p)) ++ mark_of k m in
+    let P : ℕ → Items → Type 0 = λ k l. l ≡ map One (share k n w ++ portion k n (i + 1) (Some p)) ++ mark_of k m in
     let here : P i (put_on puts i ++ One p ∷ []) =
     ap (λ (l : Items). l ++ One p ∷ []) (all i h)
-    ∙ add_all (share i n w ++ part i n i (Some p)) (share i n w ++ part i n (i + 1) (Some p)) (p ∷ []) (mark_of i m) (mark_of-from i m (omega arith))
-    (ap (λ (l : List Placed). (share i n w ++ l) ++ p ∷ []) (part-from i n i p (omega arith)) ∙ ap (λ (l : List Placed). l ++ p ∷ []) (append-nil (share i n w))
-    ∙ ap (λ (l : List Placed). share i n w ++ l) (sym (part-before i n (i + 1) p (omega arith) ∙ cond-true (goes_placed i n p) (p ∷ []) [] goes))) in
+    ∙ add_all (share i n w ++ portion i n i (Some p)) (share i n w ++ portion i n (i + 1) (Some p)) (p ∷ []) (mark_of i m) (mark_of-from i m (omega arith))
+    (ap (λ (l : List Placed). (share i n w ++ l) ++ p ∷ []) (portion-from i n i p (omega arith)) ∙ ap (λ (l : List Placed). l ++ p ∷ []) (append-nil (share i n w))
+    ∙ ap (λ (l : List Placed). share i n w ++ l) (sym (portion-before i n (i + 1) p (omega arith) ∙ cond-true (goes_placed i n p) (p ∷ []) [] goes))) in
     let others : (k : ℕ) → (k ≡ i → ⊥) → k < n → P k (put_on puts k) =
-    λ k e l. same_records _ _ _ _ (all k l) (ap (λ (x : List Placed). share k n w ++ x) (⊎_elim (λ (x : k < i). part-before k n i p x ∙ sym (part-before k n (i + 1) p (omega arith)))
-    (λ (x : i < k). part-from k n i p (omega arith) ∙ sym (part-from k n (i + 1) p (omega arith))) (apart k i e))) in
-    let Q : ℕ → Type 0 = λ j. (k : ℕ) → k < length (with_put puts i (One p)) → put_on (with_put puts i (One p)) k ≡ map One (share k j w ++ part k j (i + 1) (Some p)) ++ mark_of k m in
+    λ k e l. same_records _ _ _ _ (all k l) (ap (λ (x : List Placed). share k n w ++ x) (⊎_elim (λ (x : k < i). portion-before k n i p x ∙ sym (portion-before k n (i + 1) p (omega arith)))
+    (λ (x : i < k). portion-from k n i p (omega arith) ∙ sym (portion-from k n (i + 1) p (omega arith))) (apart k i e))) in
+    let Q : ℕ → Type 0 = λ j. (k : ℕ) → k < length (with_put puts i (One p)) → put_on (with_put puts i (One p)) k ≡ map One (share k j w ++ portion k j (i + 1) (Some p)) ++ mark_of k m in
     subst Q (sym (length-set puts i (put_on puts i ++ One p ∷ []))) (each_after P puts i (One p ∷ []) h here others)
 
 -- it was put on the last lane that it goes to
@@ -76,12 +76,12 @@ sent-last puts w i p m none h goes last all =
     let whole : (k : ℕ) → share k n w ++ cond (goes_placed k n p) (p ∷ []) [] ≡ share k n (w ++ p ∷ []) ++ [] = λ k. sym (append-nil (share k n (w ++ p ∷ [])) ∙ share-push k n w p) in
     let here : P i (put_on puts i ++ One p ∷ []) =
     ap (λ (l : Items). l ++ One p ∷ []) (all i h)
-    ∙ add_all (share i n w ++ part i n i (Some p)) (share i n (w ++ p ∷ []) ++ []) (p ∷ []) (mark_of i m) (mark_of-from i m (omega arith))
-    (ap (λ (l : List Placed). (share i n w ++ l) ++ p ∷ []) (part-from i n i p (omega arith)) ∙ ap (λ (l : List Placed). l ++ p ∷ []) (append-nil (share i n w))
+    ∙ add_all (share i n w ++ portion i n i (Some p)) (share i n (w ++ p ∷ []) ++ []) (p ∷ []) (mark_of i m) (mark_of-from i m (omega arith))
+    (ap (λ (l : List Placed). (share i n w ++ l) ++ p ∷ []) (portion-from i n i p (omega arith)) ∙ ap (λ (l : List Placed). l ++ p ∷ []) (append-nil (share i n w))
     ∙ ap (λ (l : List Placed). share i n w ++ l) (sym (cond-true (goes_placed i n p) (p ∷ []) [] goes)) ∙ whole i) in
     let others : (k : ℕ) → (k ≡ i → ⊥) → k < n → P k (put_on puts k) =
-    λ k e l. same_records _ _ _ _ (all k l) (ap (λ (x : List Placed). share k n w ++ x) (⊎_elim (λ (x : k < i). part-before k n i p x)
-    (λ (x : i < k). part-from k n i p (omega arith) ∙ sym (cond-false (goes_placed k n p) (p ∷ []) [] (last k x l))) (apart k i e)) ∙ whole k) in
+    λ k e l. same_records _ _ _ _ (all k l) (ap (λ (x : List Placed). share k n w ++ x) (⊎_elim (λ (x : k < i). portion-before k n i p x)
+    (λ (x : i < k). portion-from k n i p (omega arith) ∙ sym (cond-false (goes_placed k n p) (p ∷ []) [] (last k x l))) (apart k i e)) ∙ whole k) in
     let Q : ℕ → Type 0 = λ j. (k : ℕ) → k < length (with_put puts i (One p)) → put_on (with_put puts i (One p)) k ≡ map One (share k j (w ++ p ∷ []) ++ []) ++ mark_of k m in
     subst Q (sym (length-set puts i (put_on puts i ++ One p ∷ []))) (each_after P puts i (One p ∷ []) h here others)
 

@@ -1,5 +1,5 @@
 pub mod Senders
-pub mod Parts
+pub mod Portions
 pub mod Sending
 pub mod Progresses
 pub mod Routers

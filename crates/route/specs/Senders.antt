@@ -2,7 +2,7 @@
 -- many its sender knows to have room.
 use Rattle.std.specs.Prelude.{ℕ, List, map}
 use Rattle.lane.specs.declared.item.Item.{Item}
-use Rattle.lane.specs.declared.ends.Sender.{Sender}
+use Rattle.lane.specs.declared.sender.Sender.{Sender}
 use Rattle.lane.specs.Lanes.{LaneId, lane_of, put_of, capacity_of, room_of}
 use Rattle.trace.specs.declared.records.Placed.{Placed}
 

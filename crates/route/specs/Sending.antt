@@ -37,9 +37,9 @@ first_lane n (Read l) = l % n
 first_lane n (Write l) = l % n
 
 -- what lane k has of the record that is being sent, while the turn is at lane `turn`
-abbrev pub part : ℕ → ℕ → ℕ → Option Placed → List Placed
-part k n turn None = []
-part k n turn (Some p) = if nat_lt k turn && goes_placed k n p then p ∷ [] else []
+abbrev pub portion : ℕ → ℕ → ℕ → Option Placed → List Placed
+portion k n turn None = []
+portion k n turn (Some p) = if nat_lt k turn && goes_placed k n p then p ∷ [] else []
 
 -- the mark, where lane k is among the first `marked`
 abbrev pub mark_of : ℕ → ℕ → List (Item Placed)
@@ -48,7 +48,7 @@ mark_of k marked = if nat_lt k marked then Finish ∷ [] else []
 -- of n lanes, with `on k` put on lane k: each has its share of w, what it has of the pending record,
 -- and its mark
 abbrev pub AllSent : ℕ → List Placed → ℕ → Option Placed → ℕ → (ℕ → List (Item Placed)) → Type 0
-AllSent n w turn pending marked on = (k : ℕ) → k < n → on k ≡ map One (share k n w ++ part k n turn pending) ++ mark_of k marked
+AllSent n w turn pending marked on = (k : ℕ) → k < n → on k ≡ map One (share k n w ++ portion k n turn pending) ++ mark_of k marked
 
 -- the records that were sent whole, after a step that may have sent the pending one
 abbrev pub sent_whole : List Placed → Option Placed → Option Placed → List Placed

@@ -1,10 +1,10 @@
 //! Records that are sent at once.
 ghost use Rattle.std.specs.Prelude.{◌≡◌, ℕ, ◌+◌, ◌<◌, ◌≤◌, List, [], ◌∷◌, ◌++◌, length, take, ◌≢◌, vec_len, IfOk, IsTrue, IsFalse};
-ghost use Rattle.lane.specs.declared.ends.TheConstants.{BLOCK};
+ghost use Rattle.lane.specs.declared.sender.TheConstants.{BLOCK};
 ghost use Rattle.trace.specs.declared.records.Placed.{Placed};
-ghost use Rattle.route.specs.Parts.{part_at, AreNoLonger};
+ghost use Rattle.route.specs.Portions.{portion_at, AreNoLonger};
 
-use crate::part::{Part, clear_all, push_on, push_on_all};
+use crate::portion::{Portion, clear_all, push_on, push_on_all};
 use crate::turns::{lane_of, location_of};
 use lane::BLOCK;
 use std::alloc::Global;
@@ -14,24 +14,24 @@ use trace::{NoMemory, Placed};
 /// are sent lane after lane.
 #[derive(Drop)]
 pub struct Batch {
-    parts: Vec<Part>,
-    // no part is longer
+    portions: Vec<Portion>,
+    // no portion is longer
     longest: usize,
     // nor ever longer than this
     most: usize,
-    // the lane whose part is being sent, and how many records of that part were sent
+    // the lane whose portion is being sent, and how many records of that portion were sent
     turn: usize,
     sent: usize,
-    ghost some: { 1 ≤ vec_len parts },
+    ghost some: { 1 ≤ vec_len portions },
     ghost within: { longest ≤ most },
     ghost most_within: { (1 ≤ most) × (most ≤ BLOCK) },
-    ghost no_longer: { AreNoLonger longest parts.items },
-    ghost turn_within: { turn ≤ vec_len parts },
-    ghost sent_within: { sent ≤ length (part_at parts.items turn) },
+    ghost no_longer: { AreNoLonger longest portions.items },
+    ghost turn_within: { turn ≤ vec_len portions },
+    ghost sent_within: { sent ≤ length (portion_at portions.items turn) },
 }
 
 impl Batch {
-    ghost use Rattle.route.specs.Batches.{batch_lanes, longest_of, most_of, part_of, batch_turn, sent_count, unsent_part, HasStaged, HasSameParts, IsUnsent, IsSentWhole};
+    ghost use Rattle.route.specs.Batches.{batch_lanes, longest_of, most_of, portion_of, batch_turn, sent_count, unsent_portion, HasStaged, HasSamePortions, IsUnsent, IsSentWhole};
 
     /// Nothing yet, for so many lanes, and for at most so many records on each. It takes memory for all that it may have,
     /// and none after that.
@@ -44,12 +44,12 @@ impl Batch {
         ensures longest { IfOk result (λ b. longest_of b ≡ 0) }
         ensures unsent { IfOk result IsUnsent }
     {
-        let mut parts = Vec::with_capacity(alloc, lanes)?;
+        let mut portions = Vec::with_capacity(alloc, lanes)?;
         for _ in 0..lanes {
-            parts.push_reserved(Part::new(alloc)?);
+            portions.push_reserved(Portion::new(alloc)?);
         }
         Ok(Batch {
-            parts,
+            portions,
             longest: 0,
             most,
             turn: 0,
@@ -57,18 +57,19 @@ impl Batch {
         })
     }
 
-    /// Stages the record behind the others. False where a lane's part is full; then nothing changes.
+    /// Stages the record behind the others. False where a lane's portion is full; then nothing changes.
     #[inline(always)]
     pub fn add(&mut self, placed: Placed) -> bool
         requires { IsUnsent self.old }
-        ensures joined { IsTrue result → (us : List Placed) → HasStaged us self.old → HasStaged (us ++ placed ∷ []) self.new }
+        ensures joined { IsTrue result → (us : List Placed) → HasStaged us self.old
+            → HasStaged (us ++ placed ∷ []) self.new }
         ensures refused { IsFalse result → self.new ≡ self.old }
         ensures full { IsFalse result → longest_of self.old ≡ most_of self.old }
         ensures lanes { batch_lanes self.new ≡ batch_lanes self.old }
         ensures most { most_of self.new ≡ most_of self.old }
         ensures unsent { IsUnsent self.new }
     {
-        let lanes = self.parts.len();
+        let lanes = self.portions.len();
         match location_of(placed.what) {
             Some(location) => self.add_to(lane_of(location, lanes), placed),
             None => self.add_to_all(placed),
@@ -78,25 +79,26 @@ impl Batch {
     fn add_to(&mut self, lane: usize, placed: Placed) -> bool
         requires within { lane < batch_lanes self.old }
         requires unsent { IsUnsent self.old }
-        ensures here { IsTrue result → part_of self.new lane ≡ part_of self.old lane ++ placed ∷ [] }
-        ensures others { IsTrue result → (k : ℕ) → (k ≡ lane → ⊥) → part_of self.new k ≡ part_of self.old k }
+        ensures here { IsTrue result → portion_of self.new lane ≡ portion_of self.old lane ++ placed ∷ [] }
+        ensures others { IsTrue result → (k : ℕ) → (k ≡ lane → ⊥) → portion_of self.new k ≡ portion_of self.old k }
         ensures refused { IsFalse result → self.new ≡ self.old }
         ensures full { IsFalse result → longest_of self.old ≡ most_of self.old }
         ensures lanes { batch_lanes self.new ≡ batch_lanes self.old }
         ensures most { most_of self.new ≡ most_of self.old }
         ensures unsent { IsUnsent self.new }
     {
-        if self.parts[lane].len() == self.most {
+        if self.portions[lane].len() == self.most {
             return false;
         }
-        push_on(&mut self.parts, lane, placed);
-        self.longest = self.longest.max(self.parts[lane].len());
+        push_on(&mut self.portions, lane, placed);
+        self.longest = self.longest.max(self.portions[lane].len());
         true
     }
 
     fn add_to_all(&mut self, placed: Placed) -> bool
         requires { IsUnsent self.old }
-        ensures each { IsTrue result → (k : ℕ) → k < batch_lanes self.old → part_of self.new k ≡ part_of self.old k ++ placed ∷ [] }
+        ensures each { IsTrue result → (k : ℕ) → k < batch_lanes self.old
+            → portion_of self.new k ≡ portion_of self.old k ++ placed ∷ [] }
         ensures refused { IsFalse result → self.new ≡ self.old }
         ensures full { IsFalse result → longest_of self.old ≡ most_of self.old }
         ensures lanes { batch_lanes self.new ≡ batch_lanes self.old }
@@ -106,20 +108,20 @@ impl Batch {
         if self.longest == self.most {
             return false;
         }
-        push_on_all(&mut self.parts, placed);
+        push_on_all(&mut self.portions, placed);
         self.longest += 1;
         true
     }
 
     /// Turns to the next lane that lacks records of the batch, or behind the last lane.
     pub(crate) fn turn_on(&mut self)
-        ensures parts { HasSameParts self.old self.new }
+        ensures portions { HasSamePortions self.old self.new }
         ensures sent { (k : ℕ) → sent_count self.new k ≡ sent_count self.old k }
-        ensures lacks { batch_turn self.new < batch_lanes self.new → unsent_part self.new (batch_turn self.new) ≢ [] }
+        ensures lacks { batch_turn self.new < batch_lanes self.new → unsent_portion self.new (batch_turn self.new) ≢ [] }
         ensures whole { batch_turn self.new ≡ batch_lanes self.new → IsSentWhole self.new }
     {
-        for lane in self.turn..self.parts.len() {
-            if self.sent < self.parts[lane].len() {
+        for lane in self.turn..self.portions.len() {
+            if self.sent < self.portions[lane].len() {
                 return;
             }
             self.turn = lane + 1;
@@ -137,18 +139,18 @@ impl Batch {
     /// The next records for that lane, at most so many.
     pub(crate) fn next(&self, most: usize) -> &[Placed]
         requires { batch_turn self.now < batch_lanes self.now }
-        ensures next { result.now ≡ take most (unsent_part self.now (batch_turn self.now)) }
+        ensures next { result.now ≡ take most (unsent_portion self.now (batch_turn self.now)) }
         ensures most { length result.now ≤ BLOCK }
     {
-        let part = &self.parts[self.turn];
-        let count = (part.len() - self.sent).min(most);
-        part.between(self.sent, self.sent + count)
+        let portion = &self.portions[self.turn];
+        let count = (portion.len() - self.sent).min(most);
+        portion.between(self.sent, self.sent + count)
     }
 
     /// Counts so many records more for that lane as sent.
     pub(crate) fn count_sent(&mut self, count: usize)
-        requires { count ≤ length (unsent_part self.old (batch_turn self.old)) }
-        ensures parts { HasSameParts self.old self.new }
+        requires { count ≤ length (unsent_portion self.old (batch_turn self.old)) }
+        ensures portions { HasSamePortions self.old self.new }
         ensures turn { batch_turn self.new ≡ batch_turn self.old }
         ensures here { sent_count self.new (batch_turn self.old) ≡ sent_count self.old (batch_turn self.old) + count }
         ensures others { (k : ℕ) → (k ≡ batch_turn self.old → ⊥) → sent_count self.new k ≡ sent_count self.old k }
@@ -164,7 +166,7 @@ impl Batch {
         ensures unsent { IsUnsent self.new }
         ensures lanes { batch_lanes self.new ≡ batch_lanes self.old }
     {
-        clear_all(&mut self.parts);
+        clear_all(&mut self.portions);
         self.longest = 0;
         self.turn = 0;
         self.sent = 0;

@@ -4,7 +4,7 @@
 
 mod batch;
 pub mod laws;
-mod part;
+mod portion;
 mod progress;
 mod puts;
 mod routing;

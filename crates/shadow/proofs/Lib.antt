@@ -1,4 +1,4 @@
-pub mod BlockLemmas
+pub mod PageLemmas
 pub mod CellLemmas
 pub mod FoundLaws
 pub mod StateLemmas

@@ -22,9 +22,9 @@ abbrev pub untouched : Cell
 untouched = record { writer = None; reader = None; told = false }
 
 -- whether the kept name stands in a P-bag
-abbrev pub is_parallel : List Active → Option Named → Bool
-is_parallel fs None = false
-is_parallel fs (Some n) = in_p fs n.procedure
+abbrev pub stands_in_p : List Active → Option Named → Bool
+stands_in_p fs None = false
+stands_in_p fs (Some n) = in_p fs n.procedure
 
 -- the kept access, where it stands in a P-bag
 abbrev pub parallel_access : List Active → Kind → Option Named → Option Access
@@ -42,7 +42,7 @@ name_of fs place = Some (record { procedure = current fs; place = place })
 
 -- after a read the reader is the executing procedure, unless the kept one stands in a P-bag
 abbrev pub reader_after : List Active → ℕ → Option Named → Option Named
-reader_after fs place kept = if is_parallel fs kept then kept else name_of fs place
+reader_after fs place kept = if stands_in_p fs kept then kept else name_of fs place
 
 -- what is kept of the location after an access of it
 abbrev pub touched : List Active → Kind → ℕ → Cell → Cell

@@ -1,5 +1,5 @@
 pub mod Before
-pub mod Blocks
+pub mod Pages
 pub mod Cells
 pub mod Found
 pub mod Memory
@@ -7,3 +7,4 @@ pub mod Slots
 pub use Rattle.bags.specs.Procedures
 pub use Rattle.trace.specs.Accesses
 pub use Rattle.trace.specs.Shares
+pub mod Touches

@@ -6,20 +6,20 @@ use Rattle.trace.specs.declared.records.Placed.{Placed}
 use Rattle.bags.specs.Procedures.{Procedures}
 use Rattle.shadow.specs.Cells.{Cell, untouched}
 use Rattle.shadow.specs.Before.{IsCellBefore}
-use Rattle.shadow.specs.Blocks.{cell_of}
+use Rattle.shadow.specs.Pages.{cell_of}
 use Rattle.shadow.specs.Found.{state_after}
 
--- how many shards the cells are numbered for, the blocks of the locations that were touched, the place of the last touch,
+-- how many shards the cells are numbered for, the pages of the locations that were touched, the place of the last touch,
 -- and the count of its bags
 pub record Memory : Type 0 where
   pub shards : ℕ
-  pub blocks : List (ℕ × List Cell)
+  pub pages : List (ℕ × List Cell)
   pub last_place : ℕ
   pub least_count : ℕ
 
 -- what is kept of a location
 abbrev pub kept_of : Memory → ℕ → Cell
-kept_of m l = cell_of m.shards m.blocks l
+kept_of m l = cell_of m.shards m.pages l
 
 abbrev pub last_place_of : Memory → ℕ
 last_place_of m = m.last_place

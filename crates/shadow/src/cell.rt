@@ -4,6 +4,7 @@ ghost use Rattle.std.specs.Option.{ForSome};
 ghost use Rattle.trace.specs.Bounds.{most_records};
 ghost use Rattle.shadow.specs.Cells.{untouched, race_at, race_with, touched, rival, parallel_access, reader_after, name_of};
 ghost use Rattle.shadow.specs.Before.{IsNameBefore, IsCellBefore, CanRace};
+ghost use Rattle.shadow.specs.Touches.{MayTouch, HasTouched};
 
 use bags::Bags;
 use std::marker::Model;
@@ -126,12 +127,8 @@ impl Kept {
     /// An access of the location by the executing procedure: the race that it tells, if any.
     #[inline(always)]
     pub fn touch(&mut self, bags: &Bags, location: u64, kind: Kind, place: u64) -> Option<Race>
-        requires earlier { IsCellBefore place bags.now.count self.old }
-        requires from_one { 1 ≤ place }
-        requires to_limit { place ≤ most_records }
-        ensures race { result ≡ race_at bags.now.active location kind place self.old }
-        ensures kept { self.new ≡ touched bags.now.active kind place self.old }
-        ensures earlier { IsCellBefore (place + 1) bags.now.count self.new }
+        requires { MayTouch bags.now place self.old }
+        ensures { HasTouched bags.now location kind place self.old self.new result }
     {
         let first = rival(bags, kind, place, self);
         match kind {

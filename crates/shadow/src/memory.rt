@@ -4,8 +4,8 @@ ghost use Rattle.trace.specs.Bounds.{most_records};
 ghost use Rattle.shadow.specs.Cells.{untouched, race_at, touched};
 ghost use Rattle.shadow.specs.Found.{with_cell};
 
-use crate::blocks::Blocks;
 use crate::cell::Kept;
+use crate::pages::Pages;
 use crate::spot::spot_of;
 use bags::Bags;
 use std::alloc::Global;
@@ -17,7 +17,7 @@ use trace::{Kind, NoMemory, Race};
 #[derive(Drop)]
 pub struct Shadow<S: BuildHasher> {
     shards: u64,
-    blocks: Blocks<S>,
+    pages: Pages<S>,
     last_place: u64,
     least_count: u64,
     ghost shards_within: { 1 ≤ shards },
@@ -28,9 +28,9 @@ impl<S: BuildHasher> Model for Shadow<S> {
 
     ghost Value = { Memory };
 
-    ghost view = { λ s. record { shards = s.shards; blocks = s.blocks; last_place = s.last_place; least_count = s.least_count } };
+    ghost view = { λ s. record { shards = s.shards; pages = s.pages; last_place = s.last_place; least_count = s.least_count } };
 
-    ghost invariant = { λ s. IsMemoryBefore (record { shards = s.shards; blocks = s.blocks; last_place = s.last_place; least_count = s.least_count }) };
+    ghost invariant = { λ s. IsMemoryBefore (record { shards = s.shards; pages = s.pages; last_place = s.last_place; least_count = s.least_count }) };
 }
 
 impl<S: BuildHasher> Shadow<S> {
@@ -45,7 +45,7 @@ impl<S: BuildHasher> Shadow<S> {
         Shadow::for_shards(alloc, hasher, 1)
     }
 
-    /// The shadow memory of one of so many shards, of which nothing was touched: its blocks are full where the locations
+    /// The shadow memory of one of so many shards, of which nothing was touched: its pages are full where the locations
     /// of one shard alone are touched. It takes no memory.
     pub fn for_shards(alloc: Global, hasher: S, shards: u64) -> Shadow<S>
         requires { 1 ≤ shards }
@@ -55,7 +55,7 @@ impl<S: BuildHasher> Shadow<S> {
     {
         Shadow {
             shards,
-            blocks: Blocks::with_hasher(alloc, hasher),
+            pages: Pages::with_hasher(alloc, hasher),
             last_place: 0,
             least_count: 1,
         }
@@ -88,8 +88,10 @@ impl<S: BuildHasher> Shadow<S> {
         requires to_limit { place ≤ most_records }
         requires no_fewer { least_count_of self.old ≤ bags.now.count }
 
-        ensures race { IfOk result (λ race. race ≡ race_at bags.now.active location kind place (kept_of self.old location)) }
-        ensures kept { OnOk result ((l : ℕ) → kept_of self.new l ≡ with_cell location (touched bags.now.active kind place (kept_of self.old location)) (kept_of self.old) l) }
+        ensures race { IfOk result
+            (λ race. race ≡ race_at bags.now.active location kind place (kept_of self.old location)) }
+        ensures kept { OnOk result ((l : ℕ) → kept_of self.new l ≡ with_cell location
+            (touched bags.now.active kind place (kept_of self.old location)) (kept_of self.old) l) }
         ensures last_place { OnOk result (last_place_of self.new ≡ place) }
         ensures least_count { OnOk result (least_count_of self.new ≡ bags.now.count) }
 
@@ -98,23 +100,23 @@ impl<S: BuildHasher> Shadow<S> {
         ensures not_there { OnErr result (kept_of self.old location ≡ untouched) }
     {
         let spot = spot_of(location, self.shards);
-        let remembered = self.blocks.remembered(spot);
-        let at = if self.blocks.is_at(remembered, spot.page) {
+        let remembered = self.pages.remembered(spot);
+        let at = if self.pages.is_at(remembered, spot.page) {
             remembered
         } else {
-            match self.blocks.look_up(spot.slot, spot.page) {
+            match self.pages.look_up(spot.slot, spot.page) {
                 Some(found) => found,
                 None => {
                     let mut kept = Kept::untouched();
                     let told = kept.touch(bags, location, kind, place);
-                    self.blocks.add(spot.page, spot.seat, kept)?;
+                    self.pages.add(spot.page, spot.seat, kept)?;
                     self.last_place = place;
                     self.least_count = bags.count();
                     return Ok(told);
                 }
             }
         };
-        let race = self.blocks.touch(at, spot, bags, location, kind, place);
+        let race = self.pages.touch(at, spot, bags, location, kind, place);
         self.last_place = place;
         self.least_count = bags.count();
         Ok(race)

@@ -25,8 +25,10 @@ pub fn apply<S: BuildHasher>(
     requires ready { AreReadyFor bags.old shadow.old placed.place }
     requires to_limit { placed.place ≤ most_records }
 
-    ensures seen { OnOk result ((u : List Placed) → HaveSeen u bags.old shadow.old → HaveSeen (u ++ placed ∷ []) bags.new shadow.new) }
-    ensures found { IfOk result (λ race. (u : List Placed) → HaveSeen u bags.old shadow.old → found (u ++ placed ∷ []) ≡ found u ++ option_to_list race) }
+    ensures seen { OnOk result ((u : List Placed) → HaveSeen u bags.old shadow.old
+        → HaveSeen (u ++ placed ∷ []) bags.new shadow.new) }
+    ensures found { IfOk result (λ race. (u : List Placed) → HaveSeen u bags.old shadow.old
+        → found (u ++ placed ∷ []) ≡ found u ++ option_to_list race) }
     ensures ready { (next : ℕ) → placed.place < next → AreReadyFor bags.new shadow.new next }
 
     // A refusal changes nothing, and comes only at a spawn or at the first access of a location.

@@ -1,18 +1,18 @@
 //! Where the cell of a location lies.
 ghost use Rattle.std.specs.Prelude.{◌≡◌, ◌+◌, ◌*◌, ◌/◌, ◌%◌, ◌<◌, ◌≤◌, ◌^◌};
-ghost use Rattle.shadow.specs.Blocks.{page_of, seat_of};
+ghost use Rattle.shadow.specs.Pages.{page_of, seat_of};
 
-/// How many cells a block has.
+/// How many cells a page has.
 const SEATS: u64 = 8;
 
 /// Where a location's cell lies.
 #[derive(Clone, Copy)]
 pub struct Spot {
-    /// The number of the block that has the cell.
+    /// The number of the page that has the cell.
     pub page: u64,
-    /// The cell's seat in the block.
+    /// The cell's seat in the page.
     pub seat: usize,
-    /// The block's slot among the 256 that remember a place each.
+    /// The page's slot among the 256 that remember an index each.
     pub slot: usize,
     ghost seat_within: { seat < 8 },
     ghost slot_within: { slot < 256 },
@@ -44,8 +44,8 @@ pub fn spot_of(location: u64, shards: u64) -> Spot
     }
 }
 
-// Where the cell of a shard's location lies, by its number among those of the shard. Locations of one block are eight
-// apart among these, so blocks are filled by programs whose accesses are one, two, four or eight bytes apart.
+// Where the cell of a shard's location lies, by its number among those of the shard. Locations of one page are eight
+// apart among these, so pages are filled by programs whose accesses are one, two, four or eight bytes apart.
 #[inline(always)]
 fn spot_at(number: u64, shard: u64, shards: u64) -> Spot
     requires { number * shards + shard < 2 ^ 64 }
@@ -60,7 +60,7 @@ fn spot_at(number: u64, shard: u64, shards: u64) -> Spot
     }
 }
 
-// The slot of a block, by its number among those of its shard. Numbers that lie side by side have slots of their own.
+// The slot of a page, by its number among those of its shard. Numbers that lie side by side have slots of their own.
 #[inline(always)]
 fn slot_of(own: u64) -> usize
     ensures { result < 256 }

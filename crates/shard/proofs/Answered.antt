@@ -9,13 +9,13 @@ use Rattle.lane.specs.Items.{records}
 use Rattle.shard.specs.declared.Back.{Back}
 use Rattle.shard.specs.declared.Back.TheVariants.{NoMemory}
 use Rattle.shard.specs.Backs.{races_of, fails}
-use Rattle.shard.specs.Working.{told, TellsFound}
+use Rattle.shard.specs.Working.{race_items, TellsFound}
 
-races-told : (rs : List RaceAt) → races_of (records (told rs ++ Finish ∷ [])) ≡ rs
+races-told : (rs : List RaceAt) → races_of (records (race_items rs ++ Finish ∷ [])) ≡ rs
 races-told [] = refl
 races-told (r ∷ rs) = ap (λ (l : List RaceAt). r ∷ l) (races-told rs)
 
-fails-starved : (rs : List RaceAt) → fails (records (told rs ++ One NoMemory ∷ Finish ∷ [])) ≡ true
+fails-starved : (rs : List RaceAt) → fails (records (race_items rs ++ One NoMemory ∷ Finish ∷ [])) ≡ true
 fails-starved [] = refl
 fails-starved (r ∷ rs) = fails-starved rs
 

@@ -7,7 +7,8 @@ use Rattle.trace.specs.declared.records.Placed.{Placed}
 use Rattle.trace.specs.Traces.{opens, closes}
 use Rattle.bags.specs.Procedures.{Procedures, Active, event, after_sync, after_return, bags_from}
 use Rattle.shadow.proofs.FoundLaws.{bags-state_after}
-use Rattle.shard.specs.Shards.{ShardState, Accepts, HasApplied, IsNew, is_root_return}
+use Rattle.shadow.specs.Memory.{HaveSeen}
+use Rattle.shard.specs.Shards.{ShardState, Accepts, IsFresh, is_root_return}
 use Rattle.shard.proofs.Follows.{following}
 use Rattle.shard.specs.Working.{Follow, AreInOrder, MayTake}
 
@@ -76,12 +77,12 @@ bags_from-push s [] p = refl
 bags_from-push s (q ∷ u) p = bags_from-push (event s q.what) u p
 
 -- the bags of a shard after one more record
-bags_next : (u : List Placed) (p : Placed) (s z : ShardState) → HasApplied u s → HasApplied (u ++ p ∷ []) z → z.bags ≡ event s.bags p.what
+bags_next : (u : List Placed) (p : Placed) (s z : ShardState) → HaveSeen u s.bags s.memory → HaveSeen (u ++ p ∷ []) z.bags z.memory → z.bags ≡ event s.bags p.what
 bags_next u p s z h k =
     k.bags_are ∙ bags-state_after (u ++ p ∷ []) ∙ bags_from-push _ u p ∙ ap (λ (b : Procedures). event b p.what) (sym (h.bags_are ∙ bags-state_after u))
 
 -- a new shard may take any records in order
-pub takes_new : (s : ShardState) → IsNew s → (rest : List Placed) → AreInOrder rest ↔ MayTake s rest
+pub takes_new : (s : ShardState) → IsFresh s → (rest : List Placed) → AreInOrder rest ↔ MayTake s rest
 takes_new s new rest =
     let one : length s.bags.active ≡ 1 = ap (λ (b : Procedures). length b.active) new.applied.bags_are in
     let P : ℕ → Type 0 = λ m. Follow m 1 rest in
@@ -104,7 +105,7 @@ pub takes_one : (s : ShardState) (p : Placed) → Accepts s p.place → MayTake 
 takes_one s p a = record { after_end = λ e. absurd (let z = a.running in cc); before_end = λ e. (a.later, a.to_limit, (λ is one. refl), tt) }
 
 -- what may be taken after one more record
-module _ (u : List Placed) (p : Placed) (s z : ShardState) (a : Accepts s p.place) (h : HasApplied u s) (k : HasApplied (u ++ p ∷ []) z) (place : z.last_place ≡ p.place) (ended : z.ended ≡ is_root_return s.bags p.what) (rest : List Placed) where
+module _ (u : List Placed) (p : Placed) (s z : ShardState) (a : Accepts s p.place) (h : HaveSeen u s.bags s.memory) (k : HaveSeen (u ++ p ∷ []) z.bags z.memory) (place : z.last_place ≡ p.place) (ended : z.ended ≡ is_root_return s.bags p.what) (rest : List Placed) where
   active : z.ended ≡ false → length z.bags.active ≡ (length s.bags.active + opens p.what) - closes p.what
   active e = ap (λ (b : Procedures). length b.active) (bags_next u p s z h k) ∙ length-event s.bags p.what (sym ended ∙ e)
 

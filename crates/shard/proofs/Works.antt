@@ -12,8 +12,9 @@ use Rattle.lane.specs.declared.item.Item.TheVariants.{One, Finish}
 use Rattle.lane.specs.Items.{IsBeginning}
 use Rattle.shard.specs.declared.Back.{Back}
 use Rattle.shard.specs.declared.Back.TheVariants.{Race, NoMemory}
-use Rattle.shard.specs.Shards.{ShardState, Accepts, HasApplied, IsNew, is_root_return, capped_count}
-use Rattle.shard.specs.Working.{AreInOrder, told, HasStopped, out_of_order, no_memory, Answers, IsGoing, HasWorked, IsOfShare, TellsFound}
+use Rattle.shadow.specs.Memory.{HaveSeen}
+use Rattle.shard.specs.Shards.{ShardState, Accepts, IsFresh, is_root_return, capped_count}
+use Rattle.shard.specs.Working.{AreInOrder, race_items, HasStopped, out_of_order, no_memory, HasHandedBack, IsGoing, HasWorked, IsOfShare, TellsFound}
 use Rattle.shard.proofs.Orders.{in_order-front, length-in_order, takes_new, takes_none, takes_next, takes_one, takes_after}
 use Rattle.shard.proofs.Shares.{in_order}
 
@@ -28,19 +29,19 @@ count_more u p n e = capped_more (length u) n (2 ^ 64 - 1) e ∙ ap capped_count
 so_far : (u : List Placed) (s : ShardState) (put : List (Item Back)) → IsGoing u s put → AreInOrder u
 so_far u s put g = let P : List Placed → Type 0 = AreInOrder in subst P (append-nil u) ((g.goes_on []).1 (takes_none s))
 
-told-append : (xs ys : List RaceAt) → told (xs ++ ys) ≡ told xs ++ told ys
+told-append : (xs ys : List RaceAt) → race_items (xs ++ ys) ≡ race_items xs ++ race_items ys
 told-append xs ys = map-append (λ (r : RaceAt). One (Race r)) xs ys
 
-pub worked_new : (s : ShardState) → IsNew s → HasWorked [] s [] false
+pub worked_new : (s : ShardState) → IsFresh s → HasWorked [] s [] false
 worked_new s new = record {
   taken = new.none_taken;
   going = λ e. record { applied = new.applied; goes_on = takes_new s new; races = refl };
   at_end = λ e. absurd (cc);
 }
 
--- a record was applied, and its race was told
-pub worked_applied : (u : List Placed) (p : Placed) (s z : ShardState) (put more : List (Item Back)) (o : Option RaceAt) (stopped : Bool) → more ≡ put ++ told (option_to_list o) → stopped ≡ false → Accepts s p.place → z.last_place ≡ p.place → z.ended ≡ is_root_return s.bags p.what → z.taken ≡ capped_count (s.taken + 1)
-    → ((u : List Placed) → HasApplied u s → HasApplied (u ++ p ∷ []) z) → ((u : List Placed) → HasApplied u s → found (u ++ p ∷ []) ≡ found u ++ option_to_list o)
+-- a record was applied, and its race was race_items
+pub worked_applied : (u : List Placed) (p : Placed) (s z : ShardState) (put more : List (Item Back)) (o : Option RaceAt) (stopped : Bool) → more ≡ put ++ race_items (option_to_list o) → stopped ≡ false → Accepts s p.place → z.last_place ≡ p.place → z.ended ≡ is_root_return s.bags p.what → z.taken ≡ capped_count (s.taken + 1)
+    → ((u : List Placed) → HaveSeen u s.bags s.memory → HaveSeen (u ++ p ∷ []) z.bags z.memory) → ((u : List Placed) → HaveSeen u s.bags s.memory → found (u ++ p ∷ []) ≡ found u ++ option_to_list o)
     → HasWorked u s put stopped → HasWorked (u ++ p ∷ []) z more stopped
 worked_applied u p s z put more o stopped adds is a place ended taken applied finds h =
     let g = h.going is in
@@ -50,7 +51,7 @@ worked_applied u p s z put more o stopped adds is a place ended taken applied fi
       going = λ e. record {
         applied = k;
         goes_on = λ rest. takes_after u p s z a g.applied k place ended rest (g.goes_on (p ∷ rest));
-        races = adds ∙ ap (λ (x : List (Item Back)). x ++ told (option_to_list o)) g.races ∙ sym (told-append (found u) (option_to_list o)) ∙ ap told (sym (finds u g.applied));
+        races = adds ∙ ap (λ (x : List (Item Back)). x ++ race_items (option_to_list o)) g.races ∙ sym (told-append (found u) (option_to_list o)) ∙ ap race_items (sym (finds u g.applied));
       };
       at_end = λ e. absurd (cc);
     }
@@ -82,20 +83,20 @@ worked_skipped u p s z put stopped refuses taken h = record {
       (cases_Bool stopped);
 }
 
-pub answers : (u : List Placed) (s : ShardState) (put : List (Item Back)) (stopped : Bool) → HasWorked u s put stopped → Answers u put
+pub answers : (u : List Placed) (s : ShardState) (put : List (Item Back)) (stopped : Bool) → HasWorked u s put stopped → HasHandedBack u put
 answers u s put stopped h = ⊎_elim (λ t. inr (h.at_end t)) (λ f. let g = h.going f in inl (so_far u s put g, g.races)) (cases_Bool stopped)
 
 -- the races found in a beginning
 found_front : (v u : List Placed) → IsBeginning v u → IsBeginning (found v) (found u)
 found_front v u (rest, is) = (found_from (state_from start v) rest, ap found is ∙ found_from-append start v rest)
 
-tells : (u : List Placed) (put : List (Item Back)) → AreInOrder u → Answers u put → TellsFound u (put ++ Finish ∷ [])
+tells : (u : List Placed) (put : List (Item Back)) → AreInOrder u → HasHandedBack u put → TellsFound u (put ++ Finish ∷ [])
 tells u put fine (inl (o, e)) = inl (ap (λ (x : List (Item Back)). x ++ Finish ∷ []) e)
 tells u put fine (inr (out_of_order v rest p is o out e)) =
     let P : List Placed → Type 0 = AreInOrder in
     absurd (out (in_order-front (v ++ p ∷ []) rest (subst P (is ∙ sym (append_assoc v (p ∷ []) rest)) fine)))
 tells u put fine (inr (no_memory v rest p is o e)) =
-    inr (found v, found_front v u (p ∷ rest, is), ap (λ (x : List (Item Back)). x ++ Finish ∷ []) e ∙ append_assoc (told (found v)) (One NoMemory ∷ []) (Finish ∷ []))
+    inr (found v, found_front v u (p ∷ rest, is), ap (λ (x : List (Item Back)). x ++ Finish ∷ []) e ∙ append_assoc (race_items (found v)) (One NoMemory ∷ []) (Finish ∷ []))
 
 pub tells_share : (u : List Placed) (s : ShardState) (put : List (Item Back)) (stopped : Bool) → HasWorked u s put stopped → IsOfShare u → (s.taken ≡ length u) × TellsFound u (put ++ Finish ∷ [])
 tells_share u s put stopped h of =

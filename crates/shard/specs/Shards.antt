@@ -1,9 +1,8 @@
 -- Promised: a shard: its bags and its shadow memory, and how far it has come.
-use Rattle.std.specs.Prelude.{◌≡◌, ℕ, ◌-◌, ◌<◌, ◌≤◌, ◌^◌, Bool, false, List, [], length, min, ◌==◌}
+use Rattle.std.specs.Prelude.{◌≡◌, ℕ, ◌-◌, ◌<◌, ◌≤◌, ◌^◌, Bool, false, [], length, min, ◌==◌}
 use Rattle.trace.specs.Bounds.{most_records}
 use Rattle.trace.specs.declared.records.Record.{Record}
 use Rattle.trace.specs.declared.records.Record.TheVariants.{Spawn, Return, Sync, Read, Write}
-use Rattle.trace.specs.declared.records.Placed.{Placed}
 use Rattle.bags.specs.Procedures.{Procedures}
 use Rattle.shadow.specs.Memory.{Memory, HaveSeen, IsSameMemory}
 
@@ -23,13 +22,9 @@ pub record Accepts (s : ShardState) (place : ℕ) : Type 0 where
   pub to_limit : place ≤ most_records
   pub running : s.ended ≡ false
 
--- the bags and the shadow memory are those after the records u
-abbrev pub HasApplied : List Placed → ShardState → Type 0
-HasApplied u s = HaveSeen u s.bags s.memory
-
 -- no record was taken
-pub record IsNew (s : ShardState) : Type 0 where
-  pub applied : HasApplied [] s
+pub record IsFresh (s : ShardState) : Type 0 where
+  pub applied : HaveSeen [] s.bags s.memory
   pub at_first : s.last_place ≡ 0
   pub running : s.ended ≡ false
   pub none_taken : s.taken ≡ 0

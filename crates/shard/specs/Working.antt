@@ -1,5 +1,5 @@
 -- Promised: what a worker is given, and what it hands back.
-use Rattle.std.specs.Prelude.{◌≡◌, ℕ, ◌+◌, ◌-◌, ◌<◌, ◌≤◌, ◌^◌, ◌↔◌, ◌⊎◌, Bool, true, false, List, [], ◌∷◌, ◌++◌, length, map}
+use Rattle.std.specs.Prelude.{◌≡◌, ℕ, ◌+◌, ◌-◌, ◌<◌, ◌≤◌, ◌↔◌, ◌⊎◌, Bool, true, false, List, [], ◌∷◌, ◌++◌, length, map}
 use Rattle.trace.specs.Bounds.{most_records}
 use Rattle.trace.specs.declared.records.Record.{Record}
 use Rattle.trace.specs.declared.records.Record.TheVariants.{Return}
@@ -13,7 +13,8 @@ use Rattle.lane.specs.declared.item.Item.TheVariants.{One, Finish}
 use Rattle.lane.specs.Items.{IsBeginning}
 use Rattle.shard.specs.declared.Back.{Back}
 use Rattle.shard.specs.declared.Back.TheVariants.{Race, NoMemory}
-use Rattle.shard.specs.Shards.{ShardState, HasApplied, capped_count}
+use Rattle.shadow.specs.Memory.{HaveSeen}
+use Rattle.shard.specs.Shards.{ShardState, capped_count}
 
 -- the records, without their places
 abbrev pub whats : List Placed → List Record
@@ -30,18 +31,18 @@ pub record AreInOrder (u : List Placed) : Type 0 where
   pub ended_last : (i : ℕ) → i < length u → IsRootReturn (whats u) i → ⊥
 
 -- races as they are handed back
-abbrev pub told : List RaceAt → List (Item Back)
-told rs = map (λ r. One (Race r)) rs
+abbrev pub race_items : List RaceAt → List (Item Back)
+race_items rs = map (λ r. One (Race r)) rs
 
 -- A worker applies no more from record p on: the record was out of order, or it was in order and a growth was
 -- refused. What the worker has put are the races of the records before, and after a refused growth one NoMemory.
 pub data HasStopped (u : List Placed) (put : List (Item Back)) : Type 0 where
-  out_of_order : (v rest : List Placed) (p : Placed) → u ≡ v ++ p ∷ rest → AreInOrder v → (AreInOrder (v ++ p ∷ []) → ⊥) → put ≡ told (found v) → HasStopped u put
-  no_memory : (v rest : List Placed) (p : Placed) → u ≡ v ++ p ∷ rest → AreInOrder (v ++ p ∷ []) → put ≡ told (found v) ++ One NoMemory ∷ [] → HasStopped u put
+  out_of_order : (v rest : List Placed) (p : Placed) → u ≡ v ++ p ∷ rest → AreInOrder v → (AreInOrder (v ++ p ∷ []) → ⊥) → put ≡ race_items (found v) → HasStopped u put
+  no_memory : (v rest : List Placed) (p : Placed) → u ≡ v ++ p ∷ rest → AreInOrder (v ++ p ∷ []) → put ≡ race_items (found v) ++ One NoMemory ∷ [] → HasStopped u put
 
 -- what a worker has put that was given the records u: the races found in them where they are in order, or less
-abbrev pub Answers : List Placed → List (Item Back) → Type 0
-Answers u put = (AreInOrder u × (put ≡ told (found u))) ⊎ HasStopped u put
+abbrev pub HasHandedBack : List Placed → List (Item Back) → Type 0
+HasHandedBack u put = (AreInOrder u × (put ≡ race_items (found u))) ⊎ HasStopped u put
 
 -- after a place, and where so many procedures are active: the places rise, and nothing follows the root's return
 abbrev pub Follow : ℕ → ℕ → List Placed → Type 0
@@ -55,9 +56,9 @@ pub record MayTake (s : ShardState) (rest : List Placed) : Type 0 where
 
 -- a worker applies what comes: it has applied the records u and put their races
 pub record IsGoing (u : List Placed) (s : ShardState) (put : List (Item Back)) : Type 0 where
-  pub applied : HasApplied u s
+  pub applied : HaveSeen u s.bags s.memory
   pub goes_on : (rest : List Placed) → AreInOrder (u ++ rest) ↔ MayTake s rest
-  pub races : put ≡ told (found u)
+  pub races : put ≡ race_items (found u)
 
 -- a worker was given the records u
 pub record HasWorked (u : List Placed) (s : ShardState) (put : List (Item Back)) (stopped : Bool) : Type 0 where
@@ -78,4 +79,4 @@ pub record IsOfShare (u : List Placed) : Type 0 where
 
 -- the races found in u and the mark, or where memory was refused a beginning of them, one NoMemory and the mark
 abbrev pub TellsFound : List Placed → List (Item Back) → Type 0
-TellsFound u put = (put ≡ told (found u) ++ Finish ∷ []) ⊎ ((rs : List RaceAt) × IsBeginning rs (found u) × (put ≡ told rs ++ One NoMemory ∷ Finish ∷ []))
+TellsFound u put = (put ≡ race_items (found u) ++ Finish ∷ []) ⊎ ((rs : List RaceAt) × IsBeginning rs (found u) × (put ≡ race_items rs ++ One NoMemory ∷ Finish ∷ []))

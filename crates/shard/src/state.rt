@@ -3,8 +3,8 @@ ghost use Rattle.std.specs.Prelude.{◌≡◌, ◌↔◌, ◌+◌, ◌<◌, ◌�
 ghost use Rattle.std.specs.Option.{option_to_list};
 ghost use Rattle.trace.specs.declared.records.Placed.{Placed};
 ghost use Rattle.shadow.specs.Found.{found};
-ghost use Rattle.shadow.specs.Memory.{MayGrow};
-ghost use Rattle.shard.specs.Shards.{Accepts, HasApplied, IsNew, IsSameShard, is_root_return, capped_count};
+ghost use Rattle.shadow.specs.Memory.{HaveSeen, MayGrow};
+ghost use Rattle.shard.specs.Shards.{Accepts, IsFresh, IsSameShard, is_root_return, capped_count};
 
 use bags::Bags;
 use shadow::Shadow;
@@ -45,7 +45,7 @@ impl<S: BuildHasher + Drop> Model for Shard<S> {
 impl<S: BuildHasher + Drop> Shard<S> {
     /// The shard of this number, before its first record.
     pub fn new(alloc: Global, index: u32, hasher: S) -> Result<Shard<S>, NoMemory>
-        ensures new { IfOk result IsNew }
+        ensures new { IfOk result IsFresh }
         ensures index { IfOk result (λ shard. shard.index ≡ index) }
     {
         Shard::of_shards(alloc, index, 1, hasher)
@@ -60,7 +60,7 @@ impl<S: BuildHasher + Drop> Shard<S> {
         hasher: S,
     ) -> Result<Shard<S>, NoMemory>
         requires { 1 ≤ shards }
-        ensures new { IfOk result IsNew }
+        ensures new { IfOk result IsFresh }
         ensures index { IfOk result (λ shard. shard.index ≡ index) }
     {
         Ok(Shard {
@@ -90,9 +90,12 @@ impl<S: BuildHasher + Drop> Shard<S> {
         requires { Accepts self.old placed.place }
 
         // The answers are the races found, each at its second place.
-        ensures applied { OnOk result ((u : List Placed) → HasApplied u self.old → HasApplied (u ++ placed ∷ []) self.new) }
-        ensures found { IfOk result (λ race. (u : List Placed) → HasApplied u self.old → found (u ++ placed ∷ []) ≡ found u ++ option_to_list race) }
-        ensures at_second { IfOk result (λ race. (u : List Placed) → HasApplied u self.old → IfSome race (λ r. r.second.place ≡ placed.place)) }
+        ensures applied { OnOk result ((u : List Placed) → HaveSeen u self.old.bags self.old.memory
+            → HaveSeen (u ++ placed ∷ []) self.new.bags self.new.memory) }
+        ensures found { IfOk result (λ race. (u : List Placed) → HaveSeen u self.old.bags self.old.memory
+            → found (u ++ placed ∷ []) ≡ found u ++ option_to_list race) }
+        ensures at_second { IfOk result (λ race. (u : List Placed) → HaveSeen u self.old.bags self.old.memory
+            → IfSome race (λ r. r.second.place ≡ placed.place)) }
 
         ensures index { OnOk result (self.new.index ≡ self.old.index) }
         ensures last_place { OnOk result (self.new.last_place ≡ placed.place) }

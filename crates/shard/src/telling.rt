@@ -1,6 +1,6 @@
 //! A worker's lane back: races gathered there, and put once there is room.
 ghost use Rattle.std.specs.Prelude.{◌≡◌, ◌≤◌, false, [], ◌∷◌, ◌++◌, length, map};
-ghost use Rattle.lane.specs.declared.ends.TheConstants.{BLOCK};
+ghost use Rattle.lane.specs.declared.sender.TheConstants.{BLOCK};
 ghost use Rattle.lane.specs.declared.item.Item.TheVariants.{One, Finish};
 ghost use Rattle.lane.specs.Items.{has_mark};
 ghost use Rattle.lane.specs.Lanes.{lane_of, end_lane, put_of, all_put};

@@ -1,7 +1,7 @@
 //! The worker's loop.
 ghost use Rattle.std.specs.Prelude.{◌≡◌, []};
 ghost use Rattle.lane.specs.Lanes.{put_of, taken_of};
-ghost use Rattle.shard.specs.Shards.{IsNew};
+ghost use Rattle.shard.specs.Shards.{IsFresh};
 ghost use Rattle.shard.specs.Worked.{DidWork};
 
 use crate::Back;
@@ -36,7 +36,7 @@ pub fn work<R: Wait, S: BuildHasher + Drop, G: Gate>(
     back: Sender<Back>,
     gate: &G,
 ) -> Worked<S>
-    requires new { IsNew shard }
+    requires new { IsFresh shard }
     requires none_taken { taken_of taker ≡ [] }
     requires none_put { put_of back ≡ [] }
     ensures { DidWork taker back result }

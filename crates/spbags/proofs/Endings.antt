@@ -1,11 +1,11 @@
 -- How an answer ends: with what was put and passed on, or with a fault that was told.
-use Rattle.std.proofs.Common.{◌≡◌, ℕ, ◌<◌, ◌≤◌, List, refl, sym, subst, inl, inr, arith}
+use Rattle.std.proofs.Common.{◌≡◌, ℕ, ◌<◌, List, refl, sym, subst, inl, inr, arith}
 use Rattle.std.proofs.KnownBytes.{Keeps-refl}
 use Rattle.trace.specs.declared.records.Record.{Record}
 use Rattle.trace.specs.declared.faults.Fault.{Fault}
 use Rattle.trace.specs.Devices.{Device, Change, ◌⇝◌}
 use Rattle.trace.specs.Writers.{IsUntouched, WasGiven}
-use Rattle.trace.specs.Runs.{OfTrace, ReadsWhole, IsRefused}
+use Rattle.trace.specs.Endings.{OfTrace, ReadsWhole, IsRefused}
 use Rattle.trace.proofs.Feedings.{at_limits}
 use Rattle.audit.specs.declared.answers.Confirm.{Confirm}
 use Rattle.audit.specs.declared.answers.Confirm.TheVariants.{Yes, No}
@@ -31,13 +31,13 @@ module _ {IsWant : Fault → Type 0} {records depths : ℕ} {Says : List Record 
       let P : ℕ → Type 0 = λ s. OfTrace records depths trace (λ w. Says w text s) in
       record {
         low = omega (arith, whole.0, low);
-        told = λ _. record { text = text; read = subst P (sym whole.0) run; took = whole.1; silent = whole.2 };
+        answered = λ _. record { text = text; read = subst P (sym whole.0) run; took = whole.1; silent = whole.2 };
         failed = λ two. absurd (omega (arith, whole.0, low, two));
       }
   answered result status text low run (inr front) = record {
     low = omega (arith, front.0);
-    told = λ less. absurd (omega (arith, front.0, less));
-    failed = λ _. inr (record { text = text; status = status; read = run; took = front.1; told = front.2 });
+    answered = λ less. absurd (omega (arith, front.0, less));
+    failed = λ _. inr (record { text = text; status = status; read = run; took = front.1; said = front.2 });
   }
 
   -- a fault that was told is why there is no answer
@@ -46,8 +46,8 @@ module _ {IsWant : Fault → Type 0} {records depths : ℕ} {Says : List Record 
       let At : ℕ → ℕ → Type 0 = λ r d. IsRefused IsWant r d trace f in
       record {
         low = omega arith;
-        told = λ less. absurd (omega (arith, less));
-        failed = λ _. inl (record { fault = f; refused = at_limits At limit records depth depths e e' why; untouched = untouched; told = told });
+        answered = λ less. absurd (omega (arith, less));
+        failed = λ _. inl (record { fault = f; refused = at_limits At limit records depth depths e e' why; untouched = untouched; said = told });
       }
 
 pub status_low : (answer : Confirm) → status_of answer < 2

@@ -1,73 +1,95 @@
 -- How an answer ends of what names stand for.
-use Rattle.std.proofs.Common.{◌≡◌, ℕ, List, [], Option, None, true, false, refl, sym, ap, ◌∙◌, subst, inl, inr}
+use Rattle.std.proofs.Common.{◌≡◌, ℕ, List, [], Option, None, Result, string_bytes, refl, sym, ap, ◌∙◌, subst, inl, inr}
 use Rattle.std.specs.Prelude.{◌==◌, if◌then◌else◌}
 use Rattle.std.specs.declared.io.buffered.BufReader.{BufReader}
 use Rattle.std.specs.Io.Buffered.{reader_inner, reader_buffer, reader_capacity, reader_remaining}
 use Rattle.std.proofs.KnownBytes.{prepend_known-nil}
-use Rattle.std.proofs.lemmas.Bool.{true≢false}
 use Rattle.std.specs.Io.KnownBytes.{prepend_known}
 use Rattle.trace.specs.declared.faults.Fault.TheVariants.{NoMemory}
 use Rattle.trace.specs.Bounds.{most_records}
 use Rattle.trace.specs.Devices.{Device, Change, ◌⇝◌}
 use Rattle.trace.specs.Writers.{IsUntouched, WasGiven}
-use Rattle.trace.proofs.Runs.{refused_for_want}
-use Rattle.words.specs.declared.asking.Asked.{Asked}
-use Rattle.words.specs.declared.asking.Asked.TheVariants as asked
-use Rattle.words.specs.Asked.{depth_of, asks_report}
+use Rattle.trace.proofs.Endings.{refused_for_want}
+use Rattle.words.specs.declared.asking.Question.{Question}
+use Rattle.words.specs.declared.asking.Question.TheVariants as question
+use Rattle.words.specs.declared.asking.Confirm.{Confirm}
+use Rattle.words.specs.Asked.{depth_of, trace_name}
 use Rattle.texts.specs.declared.reports.ReportRefusal.TheVariants as refusals
 use Rattle.texts.specs.Messages.{message}
 use Rattle.texts.proofs.Refusals.{refused_for}
 use Rattle.spbags.specs.Questions.{Answers, IsWant}
 use Rattle.spbags.specs.Answered.{IsAnswered, IsConfirmed}
-use Rattle.spbags.specs.Files.{untried, IsAnsweredOf}
+use Rattle.spbags.specs.declared.input.Input.{Input}
+use Rattle.spbags.specs.Inputs.{StandsFor, StandsBeside}
+use Rattle.spbags.specs.Files.{untried, HasAnsweredOf, HasConfirmedOf}
 use Rattle.spbags.proofs.Endings.{refused}
 
 -- want of memory is a want of every reading
-wants_memory : (asked : Asked) → IsWant asked NoMemory
-wants_memory (asked.Check c) = inl refl
-wants_memory (asked.Pairs p) = refl
-wants_memory (asked.Measure m) = refl
-wants_memory (asked.Confirm c) = refl
+wants_memory : (q : Question) → IsWant q NoMemory
+wants_memory (question.Check c) = inl refl
+wants_memory (question.Pairs p) = refl
+wants_memory (question.Measure m) = refl
 
 -- what is said of a trace that wasn't touched
 untouched_too : {U V : Type 0} {records depths : ℕ} {trace report out err : Change} {status : ℕ} → (U → V) → IsConfirmed U records depths trace report out err status → IsConfirmed V records depths trace report out err status
 untouched_too f (inl (unread, none)) = inl (f unread, none)
 untouched_too f (inr both) = inr both
 
-module _ (asked : Asked) {trace report : Option (List ℕ)} {out err : Change} where
-  -- nothing was read, for want of memory
-  pub nothing_read : IsUntouched out → WasGiven (message NoMemory) err → IsAnsweredOf asked trace report out err 2
-  nothing_read untouched told = record {
-    trace_left = untried trace;
-    report_left = untried report;
-    alone = λ _. refused refl refl (refused_for_want (IsWant asked) most_records (depth_of asked) (untried trace ⇝ untried trace) NoMemory (wants_memory asked)) untouched told;
-    with_report = λ _. inl (refl, record { refusal = refusals.NoMemory; refused = refused_for (untried report ⇝ untried report) refusals.NoMemory tt; untouched = untouched; told = told; is_two = refl });
+module _ {F E : Type 0} (Gives : List ℕ → Result F E → Type 0) (known : Input F → Option (List ℕ)) {out err : Change} where
+  -- nothing was read of a trace, for want of memory
+  pub trace_unread : (q : Question) (trace : Input F) → StandsFor Gives (trace_name q) trace → IsUntouched out → WasGiven (message NoMemory) err → HasAnsweredOf Gives known q out err 2
+  trace_unread q trace stands untouched told = record {
+    trace = trace;
+    stands = stands;
+    left = untried (known trace);
+    answered = refused refl refl (refused_for_want (IsWant q) most_records (depth_of q) (untried (known trace) ⇝ untried (known trace)) NoMemory (wants_memory q)) untouched told;
+  }
+
+  -- nor of a report
+  pub report_unread : (c : Confirm) (trace report : Input F) → StandsFor Gives (string_bytes c.trace) trace → StandsBeside Gives (string_bytes c.report) trace report
+      → IsUntouched out → WasGiven (message NoMemory) err → HasConfirmedOf Gives known c out err 2
+  report_unread c trace report stands beside untouched told = record {
+    trace = trace;
+    report = report;
+    trace_stands = stands;
+    report_stands = beside;
+    trace_left = untried (known trace);
+    report_left = untried (known report);
+    confirmed = inl (
+      refl,
+      record {
+        refusal = refusals.NoMemory;
+        refused = refused_for (untried (known report) ⇝ untried (known report)) refusals.NoMemory tt;
+        untouched = untouched;
+        said = told;
+        is_two = refl;
+      },
+    );
   }
 
   -- a trace alone was answered for
-  pub answered_alone : (status : ℕ) (before after : Device) → before ≡ untried trace → asks_report asked ≡ false → IsAnswered (IsWant asked) most_records (depth_of asked) (Answers asked) (before ⇝ after) out err status
-      → IsAnsweredOf asked trace report out err status
-  answered_alone status before after is none answered =
-      let P : Device → Type 0 = λ d. IsAnswered (IsWant asked) most_records (depth_of asked) (Answers asked) (d ⇝ after) out err status in
-      record {
-        trace_left = after;
-        report_left = untried report;
-        alone = λ _. subst P is answered;
-        with_report = λ asks. absurd (true≢false (sym asks ∙ none));
-      }
+  pub answered_alone : (q : Question) (trace : Input F) (status : ℕ) (before after : Device) → StandsFor Gives (trace_name q) trace → before ≡ untried (known trace)
+      → IsAnswered (IsWant q) most_records (depth_of q) (Answers q) (before ⇝ after) out err status → HasAnsweredOf Gives known q out err status
+  answered_alone q trace status before after stands is answered =
+      let P : Device → Type 0 = λ d. IsAnswered (IsWant q) most_records (depth_of q) (Answers q) (d ⇝ after) out err status in
+      record { trace = trace; stands = stands; left = after; answered = subst P is answered }
 
   -- a report and a trace were answered for
-  pub answered_both : {R : Type 0} (state : R → Device) (status : ℕ) (before after : R) (report_before report_after : Device) → state before ≡ untried trace → report_before ≡ untried report → asks_report asked ≡ true
-      → IsConfirmed (after ≡ before) most_records (depth_of asked) (state before ⇝ state after) (report_before ⇝ report_after) out err status → IsAnsweredOf asked trace report out err status
-  answered_both {R} state status before after report_before report_after is is' asks confirmed =
-      let P : Device → Type 0 = λ d. IsConfirmed (state after ≡ untried trace) most_records (depth_of asked) (untried trace ⇝ state after) (d ⇝ report_after) out err status in
-      let Q : Device → Type 0 = λ d. IsConfirmed (state after ≡ untried trace) most_records (depth_of asked) (d ⇝ state after) (report_before ⇝ report_after) out err status in
+  pub answered_both : (c : Confirm) (trace report : Input F) {R : Type 0} (state : R → Device) (status : ℕ) (before after : R) (report_before report_after : Device)
+      → StandsFor Gives (string_bytes c.trace) trace → StandsBeside Gives (string_bytes c.report) trace report → state before ≡ untried (known trace) → report_before ≡ untried (known report)
+      → IsConfirmed (after ≡ before) most_records c.depth (state before ⇝ state after) (report_before ⇝ report_after) out err status → HasConfirmedOf Gives known c out err status
+  answered_both c trace report {R} state status before after report_before report_after stands beside is is' confirmed =
+      let P : Device → Type 0 = λ d. IsConfirmed (state after ≡ untried (known trace)) most_records c.depth (untried (known trace) ⇝ state after) (d ⇝ report_after) out err status in
+      let Q : Device → Type 0 = λ d. IsConfirmed (state after ≡ untried (known trace)) most_records c.depth (d ⇝ state after) (report_before ⇝ report_after) out err status in
       let untouched : Q (state before) = untouched_too (λ e. ap state e ∙ is) confirmed in
       record {
+        trace = trace;
+        report = report;
+        trace_stands = stands;
+        report_stands = beside;
         trace_left = state after;
         report_left = report_after;
-        alone = λ none. absurd (true≢false (sym asks ∙ none));
-        with_report = λ _. subst P is' (subst Q is untouched);
+        confirmed = subst P is' (subst Q is untouched);
       }
 
 -- a reader that has room to read ahead, and has read nothing ahead, has left what its own reader has

@@ -11,9 +11,9 @@ use Rattle.trace.specs.Races.{IsAccess, IsRead, IsWrite}
 use Rattle.trace.proofs.Lists.{Contains-nil}
 use Rattle.audit.specs.Pairs.{IsPair, ArePairs}
 use Rattle.collect.specs.ReportText.{rtext}
-use Rattle.detect.specs.Dag.{HasRace, HasLocation}
+use Rattle.detect.specs.Racy.{HasRace, HasLocation}
 use Rattle.detect.specs.declared.sharded.Run.{Run}
-use Rattle.detect.specs.Ran.{RunAnswers}
+use Rattle.detect.specs.RunReports.{RunAnswers}
 use Rattle.spbags.specs.Questions.{AnswersCheck}
 
 no_location : (l : ℕ) → HasLocation [] l → ⊥

@@ -5,7 +5,7 @@ use Rattle.trace.specs.declared.faults.Fault.{Fault}
 use Rattle.trace.specs.Accesses.{RaceAt}
 use Rattle.trace.specs.Devices.{Change}
 use Rattle.trace.specs.Writers.{IsUntouched, Took, TookFront, WasGiven}
-use Rattle.trace.specs.Runs.{OfTrace, IsRefused, IsWantOfMemory}
+use Rattle.trace.specs.Endings.{OfTrace, IsRefused, IsWantOfMemory}
 use Rattle.texts.specs.declared.reports.ReportRefusal.{ReportRefusal}
 use Rattle.texts.specs.Messages.{message, report_message, cannot_write}
 use Rattle.texts.specs.ReportBytes.{GivesReport, IsRefusal}
@@ -23,7 +23,7 @@ pub record HasRefused (IsWant : Fault → Type 0) (records depths : ℕ) (trace 
   pub fault : Fault
   pub refused : IsRefused IsWant records depths trace fault
   pub untouched : IsUntouched out
-  pub told : WasGiven (message fault) err
+  pub said : WasGiven (message fault) err
 
 -- the trace was read whole, and writing what answers the question failed, which standard error was told
 pub record FailedToWrite (records depths : ℕ) (Says : List Record → List ℕ → ℕ → Type 0) (trace out err : Change) : Type 0 where
@@ -31,14 +31,14 @@ pub record FailedToWrite (records depths : ℕ) (Says : List Record → List ℕ
   pub status : ℕ
   pub read : OfTrace records depths trace (λ w. Says w text status)
   pub took : TookFront text out
-  pub told : WasGiven cannot_write err
+  pub said : WasGiven cannot_write err
 
 -- Status 0 or 1 is an answer, and status 2 is none. So a source that holds a trace and doesn't fail has status 2 only
 -- where something was wanting, which standard error was told, or where standard output failed: by `honest` of the
 -- refusal, and by `failed` of what standard output took.
 pub record IsAnswered (IsWant : Fault → Type 0) (records depths : ℕ) (Says : List Record → List ℕ → ℕ → Type 0) (trace out err : Change) (status : ℕ) : Type 0 where
   pub low : status ≤ 2
-  pub told : status < 2 → HasAnswered records depths Says trace out err status
+  pub answered : status < 2 → HasAnswered records depths Says trace out err status
   pub failed : status ≡ 2 → HasRefused IsWant records depths trace out err ⊎ FailedToWrite records depths Says trace out err
 
 -- there is no report, which standard error was told, and nothing of an answer was written
@@ -46,7 +46,7 @@ pub record HasNoReport (report out err : Change) (status : ℕ) : Type 0 where
   pub refusal : ReportRefusal
   pub refused : IsRefusal report refusal
   pub untouched : IsUntouched out
-  pub told : WasGiven (report_message refusal) err
+  pub said : WasGiven (report_message refusal) err
   pub is_two : status ≡ 2
 
 -- the report was read whole, and then it was answered whether its entries are races of the trace

@@ -1,5 +1,5 @@
 -- Promised: what a name on the command line stands for.
-use Rattle.std.specs.Prelude.{◌≡◌, ◌↔◌, ℕ, ⊤, List, Option, None, Result, Ok, Err, codes}
+use Rattle.std.specs.Prelude.{◌≡◌, ◌↔◌, ◌⊎◌, ℕ, ⊤, List, Option, None, Result, Ok, Err, codes}
 use Rattle.spbags.specs.declared.input.Input.{Input}
 use Rattle.spbags.specs.declared.input.Input.TheVariants.{File, Standard, Missing}
 
@@ -25,6 +25,10 @@ IsOpened {E = E} Gives Missing = (e : E) × Gives (Err e)
 pub record StandsFor {F E : Type 0} (Gives : List ℕ → Result F E → Type 0) (name : List ℕ) (input : Input F) : Type 0 where
   pub standard : IsStandard input ↔ (name ≡ codes "-")
   pub opened : IsOpened (Gives name) input
+
+-- what the name of a report stands for, which isn't opened where its trace is missing
+abbrev pub StandsBeside : {F E : Type 0} → (List ℕ → Result F E → Type 0) → List ℕ → Input F → Input F → Type 0
+StandsBeside Gives name trace report = StandsFor Gives name report ⊎ (IsMissing trace × IsMissing report)
 
 -- the bytes that are still to come, where the file tells them
 abbrev pub known_bytes : {F : Type 0} → (F → Option (List ℕ)) → Input F → Option (List ℕ)

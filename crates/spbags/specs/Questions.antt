@@ -3,10 +3,10 @@ use Rattle.std.specs.Prelude.{◌≡◌, ℕ, ◌↔◌, List, []}
 use Rattle.trace.specs.declared.records.Record.{Record}
 use Rattle.trace.specs.declared.records.Access.{Access}
 use Rattle.trace.specs.declared.faults.Fault.{Fault}
-use Rattle.trace.specs.Runs.{IsWantOfMemory, IsWantOfMemoryOrThread}
+use Rattle.trace.specs.Endings.{IsWantOfMemory, IsWantOfMemoryOrThread}
 use Rattle.trace.specs.Accesses.{RaceAt}
 use Rattle.collect.specs.ReportText.{rtext}
-use Rattle.detect.specs.Dag.{HasRace}
+use Rattle.detect.specs.Racy.{HasRace}
 use Rattle.detect.specs.Reported.{IsReportOf}
 use Rattle.audit.specs.declared.answers.Measure.{Measure}
 use Rattle.audit.specs.declared.answers.Confirm.{Confirm}
@@ -14,8 +14,8 @@ use Rattle.audit.specs.declared.answers.Confirm.TheVariants.{Yes, No}
 use Rattle.audit.specs.Measures.{IsMeasure}
 use Rattle.audit.specs.Pairs.{ArePairs}
 use Rattle.audit.specs.Confirms.{Confirms}
-use Rattle.words.specs.declared.asking.Asked.{Asked}
-use Rattle.words.specs.declared.asking.Asked.TheVariants as asked
+use Rattle.words.specs.declared.asking.Question.{Question}
+use Rattle.words.specs.declared.asking.Question.TheVariants as question
 use Rattle.texts.specs.Texts.{pairs_text, measure_text, confirm_text}
 
 -- `check`: the report of the trace. The status is 0 where it has no race, and 1 exactly where some location has one.
@@ -54,15 +54,13 @@ pub record AnswersConfirm (entries : List RaceAt) (w : List Record) (text : List
   pub is_status : status ≡ status_of answer
 
 -- the text and the status that answer what is asked of a trace alone
-abbrev pub Answers : Asked → List Record → List ℕ → ℕ → Type 0
-Answers (asked.Check c) w text status = AnswersCheck w text status
-Answers (asked.Pairs p) w text status = AnswersPairs p.location w text status
-Answers (asked.Measure m) w text status = AnswersMeasure w text status
-Answers (asked.Confirm c) w text status = ⊥
+abbrev pub Answers : Question → List Record → List ℕ → ℕ → Type 0
+Answers (question.Check c) w text status = AnswersCheck w text status
+Answers (question.Pairs p) w text status = AnswersPairs p.location w text status
+Answers (question.Measure m) w text status = AnswersMeasure w text status
 
 -- what reading the trace may want: memory, and for `check`, which starts threads, a thread
-abbrev pub IsWant : Asked → Fault → Type 0
-IsWant (asked.Check c) = IsWantOfMemoryOrThread
-IsWant (asked.Pairs p) = IsWantOfMemory
-IsWant (asked.Measure m) = IsWantOfMemory
-IsWant (asked.Confirm c) = IsWantOfMemory
+abbrev pub IsWant : Question → Fault → Type 0
+IsWant (question.Check c) = IsWantOfMemoryOrThread
+IsWant (question.Pairs p) = IsWantOfMemory
+IsWant (question.Measure m) = IsWantOfMemory

@@ -2,11 +2,11 @@
 ghost use Rattle.std.specs.Prelude.{◌≡◌, ◌<◌, ◌↔◌, ℕ, [], List, IfSome, IfNone, IfOk, MatchResult, vec_len, false};
 ghost use Rattle.trace.specs.Devices.{Device, ◌⇝◌};
 ghost use Rattle.trace.specs.Writers.{IsUntouched, TookFront, WasGiven, Puts};
-ghost use Rattle.trace.specs.Runs.{EndsReading, IsWantOfMemoryOrThread};
-ghost use Rattle.detect.specs.Ran.{RunAnswers};
+ghost use Rattle.trace.specs.Endings.{EndsReading, IsWantOfMemoryOrThread};
+ghost use Rattle.detect.specs.RunReports.{RunAnswers};
 ghost use Rattle.texts.specs.Sinks.{Tells};
-ghost use Rattle.words.specs.Asked.{depth_of, asks_report};
-ghost use Rattle.words.specs.Faults.{help_of, refusal};
+ghost use Rattle.words.specs.Asked.{depth_of};
+ghost use Rattle.words.specs.Refusals.{help_of, refusal};
 ghost use Rattle.spbags.specs.Questions.{Answers, AnswersCheck, IsWant};
 ghost use Rattle.trace.specs.Bounds.{most_records};
 ghost use Rattle.spbags.specs.Answered.{IsAnswered};
@@ -21,30 +21,29 @@ use std::sync::Wait;
 use std::thread::Threads;
 use texts::{put, say, say_fault};
 use trace::{Fault, Limits, NoMemory, Sink, Source, WriteFault};
-use words::{Asked, Check, WordsFault};
+use words::{Check, Question, WordsFault};
 
 /// The most records that a trace may have: 2^48.
 pub const MOST_RECORDS: u64 = 1 << 48;
 
-/// Answers what the words ask of a trace alone, and gives the exit status: 0 for no race, or for the numbers of a
-/// trace, 1 for a race, 2 for a fault. For `check` this starts threads, and waits for them.
+/// Answers what is asked of a trace alone, and gives the exit status: 0 for no race, or for the numbers of a trace, 1 for
+/// a race, 2 for a fault. For `check` this starts threads, and waits for them.
 pub fn answer<T: Threads + Wait + Sync, R: Source, W: Sink, E: Sink>(
     rt: &T,
     alloc: Global,
-    asked: &Asked,
+    question: &Question,
     trace: &mut R,
     out: &mut W,
     err: &mut E,
 ) -> u8
-    requires alone { asks_report asked.now ≡ false }
-    ensures { IsAnswered (IsWant asked.now) most_records (depth_of asked.now) (Answers asked.now)
-        (R.state trace.old ⇝ R.state trace.new) (W.state out.old ⇝ W.state out.new) (E.state err.old ⇝ E.state err.new) result }
+    ensures { IsAnswered (IsWant question.now) most_records (depth_of question.now) (Answers question.now)
+        (R.state trace.old ⇝ R.state trace.new) (W.state out.old ⇝ W.state out.new)
+        (E.state err.old ⇝ E.state err.new) result }
 {
-    match asked {
-        Asked::Check(check) => answer_check(rt, alloc, check, trace, out, err),
-        Asked::Pairs(pairs) => answer_pairs(alloc, pairs.depth, pairs.location, trace, out, err),
-        Asked::Measure(measure) => answer_measure(alloc, measure.depth, trace, out, err),
-        Asked::Confirm(_) => unreachable!(),
+    match question {
+        Question::Check(check) => answer_check(rt, alloc, check, trace, out, err),
+        Question::Pairs(pairs) => answer_pairs(alloc, pairs.depth, pairs.location, trace, out, err),
+        Question::Measure(measure) => answer_measure(alloc, measure.depth, trace, out, err),
     }
 }
 
@@ -58,7 +57,8 @@ fn answer_check<T: Threads + Wait + Sync, R: Source, W: Sink, E: Sink>(
     err: &mut E,
 ) -> u8
     ensures { IsAnswered IsWantOfMemoryOrThread most_records check.now.depth AnswersCheck
-        (R.state trace.old ⇝ R.state trace.new) (W.state out.old ⇝ W.state out.new) (E.state err.old ⇝ E.state err.new) result }
+        (R.state trace.old ⇝ R.state trace.new) (W.state out.old ⇝ W.state out.new)
+        (E.state err.old ⇝ E.state err.new) result }
 {
     match run_on(rt, alloc, check, trace) {
         Ok(ran) => {
@@ -137,14 +137,16 @@ pub(crate) fn finish<W: Sink, E: Sink>(
 }
 
 fn passed_on<W: Sink>(put: Result<(), WriteFault>, out: &mut W) -> Result<(), WriteFault>
-    ensures { (text : List ℕ) (before : Device) → Puts put text (before ⇝ W.state out.old) → Puts result text (before ⇝ W.state out.new) }
+    ensures { (text : List ℕ) (before : Device) → Puts put text (before ⇝ W.state out.old)
+        → Puts result text (before ⇝ W.state out.new) }
 {
     put?;
     flush(out)
 }
 
 fn flush<W: Sink>(out: &mut W) -> Result<(), WriteFault>
-    ensures { MatchResult result (λ _. IsUntouched (W.state out.old ⇝ W.state out.new)) (λ _. TookFront [] (W.state out.old ⇝ W.state out.new)) }
+    ensures { MatchResult result (λ _. IsUntouched (W.state out.old ⇝ W.state out.new))
+        (λ _. TookFront [] (W.state out.old ⇝ W.state out.new)) }
 {
     out.flush()?;
     Ok(())
@@ -155,7 +157,8 @@ fn flush<W: Sink>(out: &mut W) -> Result<(), WriteFault>
 pub fn refuse<W: Sink, E: Sink>(fault: &WordsFault, out: &mut W, err: &mut E) -> u8
     ensures refused { IfNone (help_of fault.now) ((result ≡ 2) × IsUntouched (W.state out.old ⇝ W.state out.new)
         × WasGiven (refusal fault.now) (E.state err.old ⇝ E.state err.new)) }
-    ensures helped { IfSome (help_of fault.now) (λ text. Tells result 0 text (W.state out.old ⇝ W.state out.new) (E.state err.old ⇝ E.state err.new)) }
+    ensures helped { IfSome (help_of fault.now)
+        (λ text. Tells result 0 text (W.state out.old ⇝ W.state out.new) (E.state err.old ⇝ E.state err.new)) }
 {
     match fault {
         WordsFault::Bad => {

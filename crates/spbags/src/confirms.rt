@@ -1,8 +1,7 @@
 //! The answer to `confirm`.
-ghost use Rattle.std.specs.Prelude.{◌≡◌, true};
+ghost use Rattle.std.specs.Prelude.{◌≡◌};
 ghost use Rattle.trace.specs.Devices.{◌⇝◌};
-ghost use Rattle.trace.specs.Runs.{IsWantOfMemory};
-ghost use Rattle.words.specs.Asked.{depth_of, asks_report};
+ghost use Rattle.trace.specs.Endings.{IsWantOfMemory};
 ghost use Rattle.spbags.specs.Questions.{AnswersConfirm, status_of};
 ghost use Rattle.trace.specs.Bounds.{most_records};
 ghost use Rattle.spbags.specs.Answered.{IsAnswered, IsConfirmed};
@@ -13,27 +12,23 @@ use collect::Report;
 use std::alloc::Global;
 use texts::{put_confirm, report_from, say_fault, say_refusal};
 use trace::{Sink, Source};
-use words::Asked;
 
 /// Answers whether every entry of a report is a race of a trace, and gives the exit status: 0 for yes, 1 for no, 2 for
 /// a fault. The report is read first, and where it is faulty the trace isn't read.
 pub fn answer_confirm<R: Source, Q: Source, W: Sink, E: Sink>(
     alloc: Global,
-    asked: &Asked,
+    asked: &words::Confirm,
     trace: &mut R,
     report: &mut Q,
     out: &mut W,
     err: &mut E,
 ) -> u8
-    requires { asks_report asked.now ≡ true }
-    ensures { IsConfirmed (trace.new ≡ trace.old) most_records (depth_of asked.now) (R.state trace.old ⇝ R.state trace.new)
-        (Q.state report.old ⇝ Q.state report.new) (W.state out.old ⇝ W.state out.new) (E.state err.old ⇝ E.state err.new) result }
+    ensures { IsConfirmed (trace.new ≡ trace.old) most_records asked.now.depth (R.state trace.old ⇝ R.state trace.new)
+        (Q.state report.old ⇝ Q.state report.new) (W.state out.old ⇝ W.state out.new)
+        (E.state err.old ⇝ E.state err.new) result }
 {
-    let Asked::Confirm(words) = asked else {
-        unreachable!()
-    };
     match report_from(alloc, report) {
-        Ok(entries) => answer_entries(alloc, words.depth, &entries, trace, out, err),
+        Ok(entries) => answer_entries(alloc, asked.depth, &entries, trace, out, err),
         Err(refusal) => {
             say_refusal(refusal, err);
             2
@@ -51,7 +46,8 @@ fn answer_entries<R: Source, W: Sink, E: Sink>(
     err: &mut E,
 ) -> u8
     ensures { IsAnswered IsWantOfMemory most_records depth (AnswersConfirm entries.now)
-        (R.state trace.old ⇝ R.state trace.new) (W.state out.old ⇝ W.state out.new) (E.state err.old ⇝ E.state err.new) result }
+        (R.state trace.old ⇝ R.state trace.new) (W.state out.old ⇝ W.state out.new)
+        (E.state err.old ⇝ E.state err.new) result }
 {
     match confirm(alloc, limits_of(depth), trace, entries) {
         Ok(answer) => {

@@ -3,12 +3,10 @@ ghost use Rattle.std.specs.Prelude.{OnOk};
 ghost use Rattle.std.specs.Fn.{FnReturnsAt};
 ghost use Rattle.std.specs.Io.{ReadsAtMost};
 ghost use Rattle.std.specs.Io.KnownBytes.{ReadConsumes};
-ghost use Rattle.spbags.specs.Files.{AreNamed};
-ghost use Rattle.spbags.specs.Inputs.{IsMissing, StandsFor, known_bytes};
+ghost use Rattle.spbags.specs.Inputs.{IsMissing, StandsFor, StandsBeside, known_bytes};
 
 use std::io;
 use std::io::{ErrorKind, Read, Stdin};
-use words::Asked;
 
 /// What a name on the command line stands for.
 #[derive(Drop)]
@@ -55,31 +53,18 @@ impl<F: Read> Read for Input<F> {
     }
 }
 
-/// What the words name.
-#[derive(Drop)]
-pub struct Inputs<F> {
-    /// The trace.
-    pub trace: Input<F>,
-    /// The report; missing where none is asked for.
-    pub report: Input<F>,
-}
-
-/// Opens the trace that is named, and then the report where one is asked for. Where the trace of a report can't be
-/// opened the report isn't opened either.
-pub fn open_asked<F, O: Fn(&str) -> io::Result<F>>(
+/// Opens the report that a trace is to confirm. Where the trace can't be opened the report isn't opened either.
+pub fn open_report<F, O: Fn(&str) -> io::Result<F>>(
     rt: &HostRuntime,
-    asked: &Asked,
+    trace: &Input<F>,
+    name: &str,
     opener: &O,
-) -> Inputs<F>
+) -> Input<F>
     requires { O.IsAlwaysCallable opener.now }
-    ensures { AreNamed (FnReturnsAt O.Fn opener.now) asked.now result.trace result.report }
+    ensures { StandsBeside (FnReturnsAt O.Fn opener.now) name.now trace.now result }
 {
-    let trace = Input::open(rt, asked.trace(), opener);
-    let report = match trace {
-        Input::File(_) | Input::Standard(_) if asked.asks_report() => {
-            Input::open(rt, asked.report(), opener)
-        }
-        _ => Input::Missing,
-    };
-    Inputs { trace, report }
+    match trace {
+        Input::File(_) | Input::Standard(_) => Input::open(rt, name, opener),
+        Input::Missing => Input::Missing,
+    }
 }

@@ -3,8 +3,7 @@
 
 ghost use Rattle.std.specs.Fn.{FnReturnsAt};
 ghost use Rattle.trace.specs.Devices.{◌⇝◌};
-ghost use Rattle.spbags.specs.declared.input.Input.{Input};
-ghost use Rattle.spbags.specs.Files.{AreNamed, IsAnsweredOf};
+ghost use Rattle.spbags.specs.Files.{HasAnsweredOf, HasConfirmedOf, IsAnsweredOf};
 ghost use Rattle.spbags.specs.Inputs.{known_bytes};
 
 mod answers;
@@ -16,7 +15,7 @@ mod tests;
 
 pub use answers::{MOST_RECORDS, answer, limits_of, refuse};
 pub use confirms::answer_confirm;
-pub use input::{Input, Inputs, open_asked};
+pub use input::{Input, open_report};
 use std::fs::File;
 use std::io::{BufReader, BufWriter, ErrorKind, Read};
 use std::process::ExitCode;
@@ -24,7 +23,7 @@ use std::sync::Wait;
 use std::thread::Threads;
 use std::{env, io};
 use trace::{Counted, Sink};
-pub use words::{Asked, Check, Confirm, Measure, Pairs, VERSION, WordsFault, read_words};
+pub use words::{Asked, Check, Confirm, Measure, Pairs, Question, VERSION, WordsFault, read_words};
 
 fn main(rt: HostRuntime) -> ExitCode {
     let alloc = rt.alloc();
@@ -71,8 +70,7 @@ fn answer_asked<T: Threads + Wait + Sync, W: Sink, E: Sink>(
 // How many bytes are read ahead of a trace, so that a long one takes few calls of the system.
 const AHEAD: usize = 1 << 16;
 
-// Opens the trace, then the report where one is asked for, and then answers of these. Without memory to read ahead
-// nothing is read.
+// Answers what is asked, of what the names stand for.
 fn answer_from_files<T, F, O, W: Sink, E: Sink>(
     threads: &T,
     rt: &HostRuntime,
@@ -86,20 +84,63 @@ where
     F: Read + Drop,
     O: Fn(&str) -> io::Result<F>,
     requires { O.IsAlwaysCallable opener.now }
-    ensures { (trace : Input F) × (report : Input F) × AreNamed (FnReturnsAt O.Fn opener.now) asked.now trace report
-        × IsAnsweredOf asked.now (known_bytes F.remaining trace) (known_bytes F.remaining report)
+    ensures { IsAnsweredOf (FnReturnsAt O.Fn opener.now) (known_bytes F.remaining) asked.now
+        (W.state out.old ⇝ W.state out.new) (E.state err.old ⇝ E.state err.new) result }
+{
+    match asked {
+        Asked::Question(question) => question_from_files(threads, rt, question, opener, out, err),
+        Asked::Confirm(confirm) => confirm_from_files(rt, confirm, opener, out, err),
+    }
+}
+
+// Opens the trace, and answers of it. Without memory to read ahead nothing is read.
+fn question_from_files<T, F, O, W: Sink, E: Sink>(
+    threads: &T,
+    rt: &HostRuntime,
+    question: &Question,
+    opener: &O,
+    out: &mut W,
+    err: &mut E,
+) -> u8
+where
+    T: Threads + Wait + Sync,
+    F: Read + Drop,
+    O: Fn(&str) -> io::Result<F>,
+    requires { O.IsAlwaysCallable opener.now }
+    ensures { HasAnsweredOf (FnReturnsAt O.Fn opener.now) (known_bytes F.remaining) question.now
         (W.state out.old ⇝ W.state out.new) (E.state err.old ⇝ E.state err.new) result }
 {
     let alloc = rt.alloc();
-    let Inputs { trace, report } = open_asked(rt, asked, opener);
+    let trace = Input::open(rt, question.trace(), opener);
     let Ok(ahead) = BufReader::with_capacity(alloc, AHEAD, trace) else {
         return refuse(&WordsFault::NoMemory, out, err);
     };
     let mut trace = Counted::new(ahead);
-    if asked.asks_report() {
-        let mut report = Counted::new(report);
-        answer_confirm(alloc, asked, &mut trace, &mut report, out, err)
-    } else {
-        answer(threads, alloc, asked, &mut trace, out, err)
-    }
+    answer(threads, alloc, question, &mut trace, out, err)
+}
+
+// Opens the trace and then the report, and answers of both. Without memory to read ahead nothing is read.
+fn confirm_from_files<F, O, W: Sink, E: Sink>(
+    rt: &HostRuntime,
+    confirm: &Confirm,
+    opener: &O,
+    out: &mut W,
+    err: &mut E,
+) -> u8
+where
+    F: Read + Drop,
+    O: Fn(&str) -> io::Result<F>,
+    requires { O.IsAlwaysCallable opener.now }
+    ensures { HasConfirmedOf (FnReturnsAt O.Fn opener.now) (known_bytes F.remaining) confirm.now
+        (W.state out.old ⇝ W.state out.new) (E.state err.old ⇝ E.state err.new) result }
+{
+    let alloc = rt.alloc();
+    let trace = Input::open(rt, confirm.trace.as_str(), opener);
+    let report = open_report(rt, &trace, confirm.report.as_str(), opener);
+    let Ok(ahead) = BufReader::with_capacity(alloc, AHEAD, trace) else {
+        return refuse(&WordsFault::NoMemory, out, err);
+    };
+    let mut trace = Counted::new(ahead);
+    let mut report = Counted::new(report);
+    answer_confirm(alloc, confirm, &mut trace, &mut report, out, err)
 }

@@ -1,6 +1,6 @@
 //! The answers to `pairs` and `measure`.
 ghost use Rattle.trace.specs.Devices.{◌⇝◌};
-ghost use Rattle.trace.specs.Runs.{IsWantOfMemory};
+ghost use Rattle.trace.specs.Endings.{IsWantOfMemory};
 ghost use Rattle.spbags.specs.Questions.{AnswersPairs, AnswersMeasure};
 ghost use Rattle.trace.specs.Bounds.{most_records};
 ghost use Rattle.spbags.specs.Answered.{IsAnswered};
@@ -21,7 +21,8 @@ pub(crate) fn answer_pairs<R: Source, W: Sink, E: Sink>(
     err: &mut E,
 ) -> u8
     ensures { IsAnswered IsWantOfMemory most_records depth (AnswersPairs location)
-        (R.state trace.old ⇝ R.state trace.new) (W.state out.old ⇝ W.state out.new) (E.state err.old ⇝ E.state err.new) result }
+        (R.state trace.old ⇝ R.state trace.new) (W.state out.old ⇝ W.state out.new)
+        (E.state err.old ⇝ E.state err.new) result }
 {
     match pairs(alloc, limits_of(depth), trace, location) {
         Ok(pairs) => {
@@ -45,7 +46,8 @@ pub(crate) fn answer_measure<R: Source, W: Sink, E: Sink>(
     err: &mut E,
 ) -> u8
     ensures { IsAnswered IsWantOfMemory most_records depth AnswersMeasure
-        (R.state trace.old ⇝ R.state trace.new) (W.state out.old ⇝ W.state out.new) (E.state err.old ⇝ E.state err.new) result }
+        (R.state trace.old ⇝ R.state trace.new) (W.state out.old ⇝ W.state out.new)
+        (E.state err.old ⇝ E.state err.new) result }
 {
     match measure(alloc, limits_of(depth), trace) {
         Ok(numbers) => {

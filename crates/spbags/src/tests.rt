@@ -91,10 +91,9 @@ fn answer_any<T: Threads + Wait + Sync, R: Source, Q: Source, W: Sink, E: Sink>(
     out: &mut W,
     err: &mut E,
 ) -> u8 {
-    if asked.asks_report() {
-        answer_confirm(alloc, asked, trace, report, out, err)
-    } else {
-        answer(rt, alloc, asked, trace, out, err)
+    match asked {
+        Asked::Question(question) => answer(rt, alloc, question, trace, out, err),
+        Asked::Confirm(confirm) => answer_confirm(alloc, confirm, trace, report, out, err),
     }
 }
 

@@ -2,7 +2,7 @@
 use Rattle.std.specs.Prelude.{ℕ, List, ◌++◌, codes, decimal, length}
 use Rattle.std.specs.List.{flat_map}
 use Rattle.trace.specs.declared.records.Access.{Access}
-use Rattle.collect.specs.ReportText.{told}
+use Rattle.collect.specs.ReportText.{access_text}
 use Rattle.audit.specs.declared.answers.Measure.{Measure}
 use Rattle.audit.specs.declared.answers.Confirm.{Confirm}
 use Rattle.audit.specs.declared.answers.Confirm.TheVariants.{Yes, No}
@@ -13,7 +13,7 @@ number_line word n = word ++ decimal n ++ codes "\n"
 
 -- the line of a race of the location that was asked for: its first access and its second
 abbrev pub pair_line : Access × Access → List ℕ
-pair_line p = (codes "pair " ++ told p.0 ++ codes " ") ++ (told p.1 ++ codes "\n")
+pair_line p = (codes "pair " ++ access_text p.0 ++ codes " ") ++ (access_text p.1 ++ codes "\n")
 
 abbrev pub pairs_text : List (Access × Access) → List ℕ
 pairs_text ps = number_line (codes "pairs ") (length ps) ++ flat_map pair_line ps

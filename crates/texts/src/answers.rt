@@ -2,7 +2,7 @@
 ghost use Rattle.std.specs.Prelude.{◌≡◌, ◌++◌, codes};
 ghost use Rattle.trace.specs.Devices.{◌⇝◌};
 ghost use Rattle.trace.specs.Writers.{Puts};
-ghost use Rattle.collect.specs.ReportText.{told};
+ghost use Rattle.collect.specs.ReportText.{access_text};
 ghost use Rattle.texts.specs.Texts.{pair_line, pairs_text, measure_text, confirm_text};
 
 use crate::messages::{put, put_at};
@@ -29,7 +29,7 @@ fn put_pair<W: Sink>(pair: &(Access, Access), sink: &mut W) -> Result<(), WriteF
 
 // The first access of a race, as it stands in its line.
 fn put_first<W: Sink>(first: Access, sink: &mut W) -> Result<(), WriteFault>
-    ensures { Puts result (codes "pair " ++ told first ++ codes " ") (W.state sink.old ⇝ W.state sink.new) }
+    ensures { Puts result (codes "pair " ++ access_text first ++ codes " ") (W.state sink.old ⇝ W.state sink.new) }
 {
     match first.kind {
         Kind::Read => put_at(b"pair read ", first.place, b" ", sink),
@@ -39,7 +39,7 @@ fn put_first<W: Sink>(first: Access, sink: &mut W) -> Result<(), WriteFault>
 
 // The second access of a race, as it stands in its line.
 fn put_second<W: Sink>(second: Access, sink: &mut W) -> Result<(), WriteFault>
-    ensures { Puts result (told second ++ codes "\n") (W.state sink.old ⇝ W.state sink.new) }
+    ensures { Puts result (access_text second ++ codes "\n") (W.state sink.old ⇝ W.state sink.new) }
 {
     match second.kind {
         Kind::Read => put_at(b"read ", second.place, b"\n", sink),

@@ -54,7 +54,8 @@ impl From<AllocError> for ReportRefusal {
 
 /// Reads a report to its end. Of one that has too many bytes one byte too many is read, and no more.
 pub fn report_from<Q: Source>(alloc: Global, source: &mut Q) -> Result<Report, ReportRefusal>
-    ensures { MatchResult result (GivesReport (Q.state source.old ⇝ Q.state source.new)) (IsRefusal (Q.state source.old ⇝ Q.state source.new)) }
+    ensures { MatchResult result (GivesReport (Q.state source.old ⇝ Q.state source.new))
+        (IsRefusal (Q.state source.old ⇝ Q.state source.new)) }
 {
     let bytes = bytes_from(alloc, source)?;
     let report = read_report(alloc, bytes.as_slice())?;
@@ -78,12 +79,14 @@ fn bytes_from<Q: Source>(alloc: Global, source: &mut Q) -> Result<Vec<u8>, Repor
 // Appends the next bytes of a source, and no more than one above the most. Whether there were any.
 fn read_more<Q: Source>(bytes: &mut Vec<u8>, source: &mut Q) -> Result<bool, ReportRefusal>
     requires { length bytes.old.items ≤ most_report_bytes }
-    ensures came { OnOk result ((came : List ℕ) × Gave (Q.state source.old ⇝ Q.state source.new) came × (bytes.new.items ≡ bytes.old.items ++ came)) }
+    ensures came { OnOk result ((came : List ℕ) × Gave (Q.state source.old ⇝ Q.state source.new) came
+        × (bytes.new.items ≡ bytes.old.items ++ came)) }
     ensures within { OnOk result (length bytes.new.items ≤ most_report_bytes + 1) }
     ensures some { result ≡ Ok true → length bytes.old.items < length bytes.new.items }
     ensures none { result ≡ Ok false → (bytes.new.items ≡ bytes.old.items) × IsUsedUp (Q.state source.new) }
     ensures steady { OnOk result (IsSteady (Q.state source.old ⇝ Q.state source.new)) }
-    ensures refused { IfErr result (λ e. ((e ≡ ReportRefusal.Read) × Keeps (Q.state source.old).bytes (Q.state source.new).bytes
+    ensures refused { IfErr result
+        (λ e. ((e ≡ ReportRefusal.Read) × Keeps (Q.state source.old).bytes (Q.state source.new).bytes
         × HasFailed (Q.state source.old ⇝ Q.state source.new)) ⊎ (e ≡ ReportRefusal.NoMemory)) }
 {
     let mut buffer = [0; 4096];

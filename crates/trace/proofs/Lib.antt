@@ -20,4 +20,4 @@ pub mod SpelledLines
 pub mod Cuttings
 pub mod ShareLemmas
 pub mod Sixteens
-pub mod Runs
+pub mod Endings

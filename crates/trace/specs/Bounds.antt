@@ -22,3 +22,7 @@ IsShardCount n = (1 ≤ n) × (n ≤ most_shards)
 
 abbrev pub IsCapacity : ℕ → Type 0
 IsCapacity n = (1 ≤ n) × (n ≤ most_items)
+
+-- how deep the program may be told that procedures nest
+abbrev pub IsDepth : ℕ → Type 0
+IsDepth n = n ≤ 1000000

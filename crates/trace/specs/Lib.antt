@@ -15,5 +15,5 @@ pub mod Cuts
 pub mod Fronts
 pub mod Feeding
 pub mod Writers
-pub mod Runs
+pub mod Endings
 pub mod Watching

@@ -1,4 +1,4 @@
-//! Placed records from a source of bytes: a reader and a nest behind one buffer, and how they have ended.
+//! Placed records from a source of bytes: a reader of lines and a nest behind one buffer, and how they have ended.
 ghost use Rattle.std.specs.Prelude.{◌≡◌, ◌≢◌, ℕ, ◌+◌, ◌≤◌, ◌<◌, List, [], ◌++◌, ◌∷◌, length, take, Option, Ok, Err, Some, None, IfOk, IfErr, OnErr, true, false, IfSome};
 ghost use Rattle.std.specs.Option.{option_to_list};
 ghost use Rattle.trace.specs.declared.records.Record.{Record};
@@ -71,7 +71,8 @@ impl Intake {
     pub fn next_from<S: Source>(&mut self, source: &mut S) -> Result<Option<Placed>, Fault>
         ensures fed { GivesNext self.old self.new (S.state source.old ⇝ S.state source.new) result }
         ensures good { self.old.ending ≡ Good → (result ≡ Ok None) × (self.new ≡ self.old) × (source.new ≡ source.old) }
-        ensures bad { (f : Fault) → self.old.ending ≡ Bad f → (result ≡ Err f) × (self.new ≡ self.old) × (source.new ≡ source.old) }
+        ensures bad { (f : Fault) → self.old.ending ≡ Bad f → (result ≡ Err f) × (self.new ≡ self.old)
+            × (source.new ≡ source.old) }
         ensures limits { HasSameLimits self.old self.new }
     {
         match self.ending {
@@ -130,7 +131,8 @@ impl Intake {
     // Gets the next bytes of the source where all that have come were used. Whether there are any.
     #[inline(always)]
     fn fill<S: Source>(&mut self, source: &mut S) -> Result<bool, Failed>
-        ensures came { (came : List ℕ) × Gave (S.state source.old ⇝ S.state source.new) came × (self.new ≡ record self.old { coming = self.old.coming ++ came }) }
+        ensures came { (came : List ℕ) × Gave (S.state source.old ⇝ S.state source.new) came
+            × (self.new ≡ record self.old { coming = self.old.coming ++ came }) }
         ensures some { result ≡ Ok true → 0 < length self.new.coming }
         ensures none { result ≡ Ok false → (self.new.coming ≡ []) × IsUsedUp (S.state source.new) }
         ensures failed { OnErr result (self.new.coming ≡ []) }
@@ -139,14 +141,10 @@ impl Intake {
         if self.start < self.end {
             return Ok(true);
         }
-        match source.get(&mut self.buffer) {
-            Ok(count) => {
-                self.start = 0;
-                self.end = count;
-                Ok(count > 0)
-            }
-            Err(failed) => Err(failed),
-        }
+        let count = source.get(&mut self.buffer)?;
+        self.start = 0;
+        self.end = count;
+        Ok(count > 0)
     }
 
     // Uses bytes that have come, up to the end of the next record's line.
@@ -157,23 +155,22 @@ impl Intake {
         ensures fault { (w : List Record) (bytes : List ℕ) → HasUsed w bytes self.old →
             IfErr result (λ f. IsBadLine self.old.reading.limit bytes f) }
         ensures none { IfOk result (λ what. what ≡ None → self.new.coming ≡ []) }
-        ensures held_back { IfOk result (λ what. what ≡ None → held_back self.new.reading ≡ held_back self.old.reading + length self.old.coming) }
+        ensures held_back { IfOk result (λ what. what ≡ None
+            → held_back self.new.reading ≡ held_back self.old.reading + length self.old.coming) }
         ensures short { length self.new.reading.rest ≤ longest_line }
         ensures nesting { self.new.nesting ≡ self.old.nesting }
         ensures ending { self.new.ending ≡ self.old.ending }
-        ensures line { (w : List Record) (bytes : List ℕ) → HasUsed w bytes self.old → IfErr result (λ f. f.line ≤ length w + 2) }
+        ensures line { (w : List Record) (bytes : List ℕ) → HasUsed w bytes self.old
+            → IfErr result (λ f. f.line ≤ length w + 2) }
         ensures limit { self.new.reading.limit ≡ self.old.reading.limit }
         ensures room { IfOk result (λ what. self.new.nesting.count + length (option_to_list what) ≤ most_records) }
-        ensures behind { IfOk result (λ what. self.new.nesting.count + length (option_to_list what) ≤ self.new.reading.count) }
+        ensures behind { IfOk result
+            (λ what. self.new.nesting.count + length (option_to_list what) ≤ self.new.reading.count) }
     {
         let bytes: &[u8] = &self.buffer;
-        match self.reader.step(&bytes[self.start..self.end]) {
-            Err(fault) => Err(fault),
-            Ok(taken) => {
-                self.start += taken.used;
-                Ok(taken.what)
-            }
-        }
+        let taken = self.reader.step(&bytes[self.start..self.end])?;
+        self.start += taken.used;
+        Ok(taken.what)
     }
 
     // Gives a record its place.
@@ -182,7 +179,8 @@ impl Intake {
         requires room { self.old.nesting.count < most_records }
         requires behind { self.old.nesting.count < self.old.reading.count }
         requires running { self.old.ending ≡ Running }
-        ensures fed { (w : List Record) (bytes : List ℕ) (c : Change) → IsSteady c → HasUsed (w ++ what ∷ []) bytes self.old → HasNested w self.old.nesting →
+        ensures fed { (w : List Record) (bytes : List ℕ) (c : Change) → IsSteady c
+            → HasUsed (w ++ what ∷ []) bytes self.old → HasNested w self.old.nesting →
             IsFed self.old.reading.limit self.old.nesting.max_depth w bytes c self.new result }
         ensures limits { HasSameLimits self.old self.new }
     {
@@ -195,7 +193,8 @@ impl Intake {
     // At the end of the input: the reader is asked first, then the nest.
     fn finish(&mut self) -> Result<Option<Placed>, Fault>
         requires nothing { self.old.coming ≡ [] }
-        ensures fed { (w : List Record) (bytes : List ℕ) (c : Change) → IsSteady c → IsUsedUp c.new → HasFed w bytes self.old →
+        ensures fed { (w : List Record) (bytes : List ℕ) (c : Change) → IsSteady c → IsUsedUp c.new
+            → HasFed w bytes self.old →
             IsFed self.old.reading.limit self.old.nesting.max_depth w bytes c self.new result }
         ensures limits { HasSameLimits self.old self.new }
     {
@@ -222,7 +221,7 @@ impl Intake {
 #[derive(Drop)]
 pub struct Feed<R> {
     pub intake: Intake,
-    pub reader: R,
+    pub source: R,
 }
 
 impl<R: Source> Feed<R> {
@@ -230,23 +229,24 @@ impl<R: Source> Feed<R> {
     ghost use Rattle.trace.specs.declared.feeding.Ending.TheVariants.{Good, Bad};
 
     /// Nothing has been read.
-    pub fn new(limits: Limits, reader: R) -> Self
+    pub fn new(limits: Limits, source: R) -> Self
         ensures intake { result.intake ≡ before_all limits.records limits.depth }
-        ensures reader { result.reader ≡ reader }
+        ensures source { result.source ≡ source }
     {
         Feed {
             intake: Intake::new(limits),
-            reader,
+            source,
         }
     }
 
     /// As `Intake::next_from`, from its own source.
     pub fn next(&mut self) -> Result<Option<Placed>, Fault>
-        ensures fed { GivesNext self.old.intake self.new.intake (R.state self.old.reader ⇝ R.state self.new.reader) result }
+        ensures fed { GivesNext self.old.intake self.new.intake
+            (R.state self.old.source ⇝ R.state self.new.source) result }
         ensures good { self.old.intake.ending ≡ Good → (result ≡ Ok None) × (self.new ≡ self.old) }
         ensures bad { (f : Fault) → self.old.intake.ending ≡ Bad f → (result ≡ Err f) × (self.new ≡ self.old) }
         ensures limits { HasSameLimits self.old.intake self.new.intake }
     {
-        self.intake.next_from(&mut self.reader)
+        self.intake.next_from(&mut self.source)
     }
 }

@@ -66,7 +66,8 @@ pub fn texts()
     ensures none_in_front { (records depths : ℕ) (w : List Record) (bytes more : List ℕ) (f : Fault)
         → AllFit w → IsWellNested w records depths → text w ≡ bytes ++ more
         → IsFirstFault records depths bytes f → ⊥ }
-    ensures only_read { (records depths : ℕ) (u w : List Record) (bytes left : List ℕ) (c : Change) (feed : Feeding) (f : Fault)
+    ensures only_read { (records depths : ℕ) (u w : List Record) (bytes left : List ℕ) (c : Change) (feed : Feeding)
+        (f : Fault)
         → AllFit u → IsWellNested u records depths → bytes ++ left ≡ text u
         → c.new.bytes ≡ Some left → IsFed records depths w bytes c feed (Err f) → f ≡ Read }
 {}

@@ -58,8 +58,10 @@ impl Nest {
     pub fn accept(&mut self, what: Record) -> Result<Placed, NestFault>
         requires { self.old.count < most_records }
         ensures place { IfOk result (λ p. p ≡ record { place = self.old.count + 1; what = what }) }
-        ensures accepted { (u : List Record) → HasNested u self.old → OnOk result (HasNested (u ++ what ∷ []) self.new) }
-        ensures misplaced { (u : List Record) → HasNested u self.old → IfErr result (λ f. IsMisplaced self.old.max_depth u what f.kind) }
+        ensures accepted { (u : List Record) → HasNested u self.old
+            → OnOk result (HasNested (u ++ what ∷ []) self.new) }
+        ensures misplaced { (u : List Record) → HasNested u self.old
+            → IfErr result (λ f. IsMisplaced self.old.max_depth u what f.kind) }
         ensures fault_place { IfErr result (λ f. f.place ≡ self.old.count + 1) }
         ensures refused { OnErr result (self.new ≡ self.old) }
         ensures limit { self.new.max_depth ≡ self.old.max_depth }
@@ -97,8 +99,10 @@ impl Nest {
 
     /// Whether the accepted records are well nested, so that none may follow.
     pub fn end(&self) -> Result<(), NestFault>
-        ensures ok { (u : List Record) → HasNested u self.now → OnOk result (IsWellNested u self.now.count self.now.max_depth) }
-        ensures not_well { (u : List Record) → HasNested u self.now → OnErr result ((records depths : ℕ) → IsWellNested u records depths → ⊥) }
+        ensures ok { (u : List Record) → HasNested u self.now
+            → OnOk result (IsWellNested u self.now.count self.now.max_depth) }
+        ensures not_well { (u : List Record) → HasNested u self.now
+            → OnErr result ((records depths : ℕ) → IsWellNested u records depths → ⊥) }
         ensures unfinished { IfErr result (λ f. f ≡ record { place = self.now.count + 1; kind = Unfinished }) }
         ensures err { (u : List Record) → HasNested u self.now → OnErr result (HasEnded u → ⊥) }
     {

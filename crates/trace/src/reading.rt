@@ -171,7 +171,8 @@ impl Reader {
     pub(crate) fn front(&self, piece: &[u8]) -> Option<Front>
         ensures used { IfSome result (λ f. f.used ≤ length piece.now) }
         ensures taken { (w : List Record) (bytes : List ℕ) → HasRead w bytes self.now →
-            IfSome result (λ f. HasRead (w ++ f.record ∷ []) (bytes ++ take f.used piece.now) (record self.now { count = self.now.count + 1 })) }
+            IfSome result (λ f. HasRead (w ++ f.record ∷ []) (bytes ++ take f.used piece.now)
+            (record self.now { count = self.now.count + 1 })) }
         ensures at_line { IfSome result (λ _. IsBetweenLines self.now) }
         ensures below { IfSome result (λ _. self.now.count < self.now.limit) }
         ensures no_fault { IfSome result (λ _. self.now.fault ≡ None) }
@@ -211,21 +212,15 @@ impl Reader {
         if self.begun {
             return self.next(piece);
         }
-        match self.open(piece) {
-            Err(fault) => Err(fault),
-            Ok(used) => {
-                if !self.begun {
-                    return Ok(Taken { used, what: None });
-                }
-                match self.next(&piece[used..]) {
-                    Err(fault) => Err(fault),
-                    Ok(taken) => Ok(Taken {
-                        used: used + taken.used,
-                        what: taken.what,
-                    }),
-                }
-            }
+        let used = self.open(piece)?;
+        if !self.begun {
+            return Ok(Taken { used, what: None });
         }
+        let taken = self.next(&piece[used..])?;
+        Ok(Taken {
+            used: used + taken.used,
+            what: taken.what,
+        })
     }
 
     // Reads on in line 1, up to its end where that comes.
@@ -315,7 +310,8 @@ impl Reader {
     /// Whether the bytes so far are the whole text of a trace. `Ok` changes nothing.
     pub fn end(&mut self) -> Result<(), TextFault>
         ensures ok { (w : List Record) (bytes : List ℕ) → HasRead w bytes self.old → OnOk result (bytes ≡ text w) }
-        ensures not_text { (w : List Record) (bytes : List ℕ) → HasRead w bytes self.old → OnErr result (bytes ≢ text w) }
+        ensures not_text { (w : List Record) (bytes : List ℕ) → HasRead w bytes self.old
+            → OnErr result (bytes ≢ text w) }
         ensures truncated { (w : List Record) (bytes : List ℕ) → HasRead w bytes self.old →
             IfErr result (IsTruncated self.old.limit bytes) }
         ensures unchanged { OnOk result (self.new ≡ self.old) }

@@ -2,7 +2,7 @@
 ghost use Rattle.std.specs.Prelude.{◌∷◌, ◌++◌, List, [], OnOk};
 ghost use Rattle.trace.specs.declared.records.Record.{Record};
 ghost use Rattle.trace.specs.Devices.{◌⇝◌};
-ghost use Rattle.trace.specs.Runs.{EndsReading, IsWantOfMemory};
+ghost use Rattle.trace.specs.Endings.{EndsReading, IsWantOfMemory};
 ghost use Rattle.trace.specs.Watching.{ComesAfter};
 
 use crate::devices::Source;
@@ -18,23 +18,24 @@ pub trait Watch {
     /// Takes the next record. After a refused growth it is of no more use.
     fn take(&mut self, placed: Placed) -> Result<(), NoMemory>
         requires { (first : Self) × (u : List Record) × has_seen first u self.old × ComesAfter u placed }
-        ensures { OnOk result ((first : Self) (u : List Record) → has_seen first u self.old → ComesAfter u placed → has_seen first (u ++ placed.what ∷ []) self.new) };
+        ensures { OnOk result ((first : Self) (u : List Record) → has_seen first u self.old → ComesAfter u placed
+            → has_seen first (u ++ placed.what ∷ []) self.new) };
 }
 
 /// Shows all records of a trace, up to its end, or to the first fault or refused growth.
 #[inline(always)]
 pub fn read_to_end<R: Source, W: Watch>(
     limits: Limits,
-    reader: &mut R,
+    source: &mut R,
     watch: &mut W,
 ) -> Result<(), Fault>
     requires { W.has_seen watch.old [] watch.old }
-    ensures { EndsReading IsWantOfMemory limits.records limits.depth (R.state reader.old ⇝ R.state reader.new)
+    ensures { EndsReading IsWantOfMemory limits.records limits.depth (R.state source.old ⇝ R.state source.new)
         (λ _ w. W.has_seen watch.old w watch.new) result }
 {
     let mut intake = Intake::new(limits);
     'records: loop {
-        match intake.next_from(reader)? {
+        match intake.next_from(source)? {
             None => return Ok(()),
             Some(placed) => watch.take(placed)?,
         }

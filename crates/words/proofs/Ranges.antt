@@ -1,10 +1,15 @@
 -- What is asked lies in its ranges.
-use Rattle.words.specs.Asked.{IsInRange}
+use Rattle.words.specs.Asked.{IsQuestionInRange, IsInRange}
+use Rattle.words.specs.declared.asking.Question.{Question}
+use Rattle.words.specs.declared.asking.Question.TheVariants.{Check, Pairs, Measure}
 use Rattle.words.specs.declared.asking.Asked.{Asked}
-use Rattle.words.specs.declared.asking.Asked.TheVariants.{Check, Pairs, Measure, Confirm}
+use Rattle.words.specs.declared.asking.Asked.TheVariants as asked
+
+question_in_range : (q : Question) → IsQuestionInRange q
+question_in_range (Check c) = (c.shards_within, c.capacity_within, c.depth_within, c.trace_named)
+question_in_range (Pairs p) = (p.depth_within, p.trace_named)
+question_in_range (Measure m) = (m.depth_within, m.trace_named)
 
 pub in_range : (a : Asked) → IsInRange a
-in_range (Check c) = (c.shards_within, c.capacity_within, c.depth_within, c.trace_named)
-in_range (Pairs p) = (p.depth_within, p.trace_named)
-in_range (Measure m) = (m.depth_within, m.trace_named)
-in_range (Confirm c) = (c.depth_within, c.trace_named, c.report_named, c.one_standard)
+in_range (asked.Question q) = question_in_range q
+in_range (asked.Confirm c) = record { depth = c.depth_within; trace_named = c.trace_named; report_named = c.report_named; one_standard = c.one_standard }

@@ -1,18 +1,25 @@
 //! What is asked: a command with its numbers and its names, each in its range.
 ghost use Rattle.std.specs.Prelude.{◌≡◌, ◌<◌, ◌≤◌, string_len, string_bytes, codes};
-ghost use Rattle.trace.specs.Bounds.{IsShardCount, IsCapacity};
+ghost use Rattle.trace.specs.Bounds.{IsShardCount, IsCapacity, IsDepth};
 
 /// What the words ask for.
 #[derive(Debug, Drop, PartialEq, Eq)]
 pub enum Asked {
+    /// What a trace alone answers.
+    Question(Question),
+    /// Whether the entries of a report are races.
+    Confirm(Confirm),
+}
+
+/// What is asked of a trace alone.
+#[derive(Debug, Drop, PartialEq, Eq)]
+pub enum Question {
     /// The races of a trace.
     Check(Check),
     /// All races of one location.
     Pairs(Pairs),
     /// The numbers of a trace.
     Measure(Measure),
-    /// Whether the entries of a report are races.
-    Confirm(Confirm),
 }
 
 /// `check`: the races of a trace.
@@ -28,7 +35,7 @@ pub struct Check {
     pub trace: String,
     ghost shards_within: { IsShardCount shards },
     ghost capacity_within: { IsCapacity capacity },
-    ghost depth_within: { depth ≤ 1000000 },
+    ghost depth_within: { IsDepth depth },
     ghost trace_named: { 0 < string_len trace },
 }
 
@@ -41,7 +48,7 @@ pub struct Pairs {
     pub trace: String,
     /// The location.
     pub location: u64,
-    ghost depth_within: { depth ≤ 1000000 },
+    ghost depth_within: { IsDepth depth },
     ghost trace_named: { 0 < string_len trace },
 }
 
@@ -52,7 +59,7 @@ pub struct Measure {
     pub depth: u32,
     /// The name of the trace's file; `-` is standard input.
     pub trace: String,
-    ghost depth_within: { depth ≤ 1000000 },
+    ghost depth_within: { IsDepth depth },
     ghost trace_named: { 0 < string_len trace },
 }
 
@@ -65,44 +72,23 @@ pub struct Confirm {
     pub trace: String,
     /// The name of the report's file; `-` is standard input, where it isn't the trace's.
     pub report: String,
-    ghost depth_within: { depth ≤ 1000000 },
+    ghost depth_within: { IsDepth depth },
     ghost trace_named: { 0 < string_len trace },
     ghost report_named: { 0 < string_len report },
     ghost one_standard: { string_bytes trace ≡ codes "-" → string_bytes report ≡ codes "-" → ⊥ },
 }
 
-impl Asked {
-    ghost use Rattle.words.specs.Asked.{asks_report, trace_name, report_name};
+impl Question {
+    ghost use Rattle.words.specs.Asked.{trace_name};
 
     /// The name of the trace's file.
     pub fn trace(&self) -> &str
         ensures { result.now ≡ trace_name self.now }
     {
         match self {
-            Asked::Check(check) => check.trace.as_str(),
-            Asked::Pairs(pairs) => pairs.trace.as_str(),
-            Asked::Measure(measure) => measure.trace.as_str(),
-            Asked::Confirm(confirm) => confirm.trace.as_str(),
-        }
-    }
-
-    /// Whether a report is read too.
-    pub fn asks_report(&self) -> bool
-        ensures { result ≡ asks_report self.now }
-    {
-        match self {
-            Asked::Check(_) | Asked::Pairs(_) | Asked::Measure(_) => false,
-            Asked::Confirm(_) => true,
-        }
-    }
-
-    /// The name of the report's file; an empty one where none is read.
-    pub fn report(&self) -> &str
-        ensures { result.now ≡ report_name self.now }
-    {
-        match self {
-            Asked::Check(_) | Asked::Pairs(_) | Asked::Measure(_) => "",
-            Asked::Confirm(confirm) => confirm.report.as_str(),
+            Question::Check(check) => check.trace.as_str(),
+            Question::Pairs(pairs) => pairs.trace.as_str(),
+            Question::Measure(measure) => measure.trace.as_str(),
         }
     }
 }

@@ -7,6 +7,6 @@ mod reading;
 #[cfg(test)]
 mod tests;
 
-pub use asking::{Asked, Check, Confirm, Measure, Pairs};
+pub use asking::{Asked, Check, Confirm, Measure, Pairs, Question};
 pub use commands::VERSION;
 pub use reading::{WordsFault, read_words};

@@ -1,9 +1,9 @@
 //! The command line: what its words ask for.
 ghost use Rattle.std.specs.Prelude.{◌<◌, ◌≤◌, string_len, IfOk};
-ghost use Rattle.trace.specs.Bounds.{IsShardCount, IsCapacity};
+ghost use Rattle.trace.specs.Bounds.{IsShardCount, IsCapacity, IsDepth};
 ghost use Rattle.words.specs.Asked.{IsInRange};
 
-use crate::asking::{Asked, Check, Confirm, Measure, Pairs};
+use crate::asking::{Asked, Check, Confirm, Measure, Pairs, Question};
 use crate::commands::program;
 use clap::error::ErrorKind;
 use clap::{ArgMatches, Error};
@@ -65,16 +65,16 @@ pub fn read_words(alloc: Global, words: &[String]) -> Result<Asked, WordsFault>
 // What is asked by the command that was found.
 fn asked_of(alloc: Global, matches: &ArgMatches<'_>) -> Result<Asked, WordsFault> {
     if let Some(found) = matches.subcommand_matches("check") {
-        return check_of(alloc, found);
+        return Ok(Asked::Question(Question::Check(check_of(alloc, found)?)));
     }
     if let Some(found) = matches.subcommand_matches("pairs") {
-        return pairs_of(alloc, found);
+        return Ok(Asked::Question(Question::Pairs(pairs_of(alloc, found)?)));
     }
     if let Some(found) = matches.subcommand_matches("measure") {
-        return measure_of(alloc, found);
+        return Ok(Asked::Question(Question::Measure(measure_of(alloc, found)?)));
     }
     match matches.subcommand_matches("confirm") {
-        Some(found) => confirm_of(alloc, found),
+        Some(found) => Ok(Asked::Confirm(confirm_of(alloc, found)?)),
         None => Err(WordsFault::Bad),
     }
 }
@@ -91,58 +91,56 @@ fn fault_of(alloc: Global, error: &Error) -> WordsFault {
     }
 }
 
-fn check_of(alloc: Global, found: &ArgMatches<'_>) -> Result<Asked, WordsFault> {
+fn check_of(alloc: Global, found: &ArgMatches<'_>) -> Result<Check, WordsFault> {
     let shards = shards_of(found)?;
     let capacity = capacity_of(found)?;
     let depth = depth_of(found)?;
     let trace = name_of(alloc, found, "FILE")?;
-    Ok(Asked::Check(Check {
+    Ok(Check {
         shards,
         capacity,
         depth,
         trace,
-    }))
+    })
 }
 
-fn pairs_of(alloc: Global, found: &ArgMatches<'_>) -> Result<Asked, WordsFault> {
+fn pairs_of(alloc: Global, found: &ArgMatches<'_>) -> Result<Pairs, WordsFault> {
     let depth = depth_of(found)?;
     let trace = name_of(alloc, found, "FILE")?;
     let location = location_of(found)?;
-    Ok(Asked::Pairs(Pairs {
+    Ok(Pairs {
         depth,
         trace,
         location,
-    }))
+    })
 }
 
-fn measure_of(alloc: Global, found: &ArgMatches<'_>) -> Result<Asked, WordsFault> {
+fn measure_of(alloc: Global, found: &ArgMatches<'_>) -> Result<Measure, WordsFault> {
     let depth = depth_of(found)?;
     let trace = name_of(alloc, found, "FILE")?;
-    Ok(Asked::Measure(Measure { depth, trace }))
+    Ok(Measure { depth, trace })
 }
 
 // What `confirm` is asked. Standard input can't be both of its files.
-fn confirm_of(alloc: Global, found: &ArgMatches<'_>) -> Result<Asked, WordsFault> {
+fn confirm_of(alloc: Global, found: &ArgMatches<'_>) -> Result<Confirm, WordsFault> {
     let depth = depth_of(found)?;
     let trace = name_of(alloc, found, "TRACE")?;
     let report = name_of(alloc, found, "REPORT")?;
     if trace.as_str() == "-" && report.as_str() == "-" {
         return Err(WordsFault::Bad);
     }
-    Ok(Asked::Confirm(Confirm {
+    Ok(Confirm {
         depth,
         trace,
         report,
-    }))
+    })
 }
 
 // The name of a file. An empty name is no name.
 fn name_of(alloc: Global, found: &ArgMatches<'_>, argument: &str) -> Result<String, WordsFault>
     ensures { IfOk result (λ name. 0 < string_len name) }
 {
-    let Some(name) = found.get_str(argument) else {
-        return Err(WordsFault::Bad);
-    };
+    let name = found.get_str(argument).ok_or(WordsFault::Bad)?;
     if name.is_empty() {
         return Err(WordsFault::Bad);
     }
@@ -152,13 +150,8 @@ fn name_of(alloc: Global, found: &ArgMatches<'_>, argument: &str) -> Result<Stri
 
 // A location, spelled as a trace spells it.
 fn location_of(found: &ArgMatches<'_>) -> Result<u64, WordsFault> {
-    let Some(digits) = found.get_str("L") else {
-        return Err(WordsFault::Bad);
-    };
-    match decimal_of(digits.as_bytes()) {
-        Some(location) => Ok(location),
-        None => Err(WordsFault::Bad),
-    }
+    let digits = found.get_str("L").ok_or(WordsFault::Bad)?;
+    decimal_of(digits.as_bytes()).ok_or(WordsFault::Bad)
 }
 
 // How many threads the locations are divided among.
@@ -185,7 +178,7 @@ fn capacity_of(found: &ArgMatches<'_>) -> Result<u32, WordsFault>
 
 // How deep procedures may nest.
 fn depth_of(found: &ArgMatches<'_>) -> Result<u32, WordsFault>
-    ensures { IfOk result (λ depth. depth ≤ 1000000) }
+    ensures { IfOk result IsDepth }
 {
     match number_of(found, "depth")? {
         None => Ok(USUAL_DEPTH),
@@ -199,8 +192,6 @@ fn number_of(found: &ArgMatches<'_>, option: &str) -> Result<Option<u64>, WordsF
     let Some(digits) = found.get_str(option) else {
         return Ok(None);
     };
-    match decimal_of(digits.as_bytes()) {
-        Some(number) => Ok(Some(number)),
-        None => Err(WordsFault::Bad),
-    }
+    let number = decimal_of(digits.as_bytes()).ok_or(WordsFault::Bad)?;
+    Ok(Some(number))
 }

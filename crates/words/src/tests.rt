@@ -1,5 +1,5 @@
 //! Command lines, and the texts that they ask for.
-use crate::{Asked, VERSION, WordsFault, read_words};
+use crate::{Asked, Question, VERSION, WordsFault, read_words};
 use std::alloc::{AllocError, Global};
 use std::string::ToString;
 use std::test::Fail;
@@ -26,7 +26,8 @@ fn reads_command_lines(rt: HostRuntime) -> Result<(), Fail> {
     ];
     for (line, depth, name) in table {
         let words = words_of(rt.alloc(), line)?;
-        let Ok(Asked::Check(check)) = read_words(rt.alloc(), words.as_slice()) else {
+        let Ok(Asked::Question(Question::Check(check))) = read_words(rt.alloc(), words.as_slice())
+        else {
             return Err(Fail::from(line));
         };
         assert_eq!(rt; check.depth, depth, "{line}");
@@ -48,7 +49,8 @@ fn reads_shards_and_capacity(rt: HostRuntime) -> Result<(), Fail> {
     ];
     for (line, shards, capacity, depth) in table {
         let words = words_of(rt.alloc(), line)?;
-        let Ok(Asked::Check(check)) = read_words(rt.alloc(), words.as_slice()) else {
+        let Ok(Asked::Question(Question::Check(check))) = read_words(rt.alloc(), words.as_slice())
+        else {
             return Err(Fail::from(line));
         };
         assert_eq!(rt; check.shards, shards, "{line}");
@@ -74,7 +76,8 @@ fn reads_questions(rt: HostRuntime) -> Result<(), Fail> {
     ];
     for (line, depth, trace, location) in table {
         let words = words_of(rt.alloc(), line)?;
-        let Ok(Asked::Pairs(pairs)) = read_words(rt.alloc(), words.as_slice()) else {
+        let Ok(Asked::Question(Question::Pairs(pairs))) = read_words(rt.alloc(), words.as_slice())
+        else {
             return Err(Fail::from(line));
         };
         assert_eq!(rt; pairs.depth, depth, "{line}");
@@ -83,7 +86,10 @@ fn reads_questions(rt: HostRuntime) -> Result<(), Fail> {
     }
     for (line, depth) in [("measure -", 65536), ("measure - --depth 3", 3)] {
         let words = words_of(rt.alloc(), line)?;
-        let Ok(Asked::Measure(measure)) = read_words(rt.alloc(), words.as_slice()) else {
+        let Ok(Asked::Question(Question::Measure(measure))) = read_words(
+            rt.alloc(),
+            words.as_slice(),
+        ) else {
             return Err(Fail::from(line));
         };
         assert_eq!(rt; measure.depth, depth, "{line}");

@@ -1,8 +1,8 @@
-//! How the tests detect: from a reader that hands out pieces, to the report's text or the fault.
+//! How the tests detect: from a source that hands out pieces, to the report's text or the fault.
 ghost use Rattle.std.specs.Prelude.{◌≡◌, ◌≤◌, None, IfOk, vec_len};
 ghost use Rattle.trace.specs.Devices.{◌⇝◌};
-ghost use Rattle.trace.specs.Runs.{EndsReading, IsWantOfMemoryOrThread};
-ghost use Rattle.detect.specs.Ran.{RunAnswers};
+ghost use Rattle.trace.specs.Endings.{EndsReading, IsWantOfMemoryOrThread};
+ghost use Rattle.detect.specs.RunReports.{RunAnswers};
 
 use crate::{Plan, Run, detect, detect_plain};
 use collect::{Report, write_report};
@@ -52,11 +52,11 @@ pub fn run_from<T: Threads + Wait + Sync, R: Source, G: Gate + Sync>(
     alloc: Global,
     shards: u32,
     limits: Limits,
-    reader: &mut R,
+    source: &mut R,
     gate: &G,
 ) -> Result<Run, Fault>
     requires { (1 ≤ shards) × (shards ≤ 64) }
-    ensures { EndsReading IsWantOfMemoryOrThread limits.records limits.depth (R.state reader.old ⇝ R.state reader.new)
+    ensures { EndsReading IsWantOfMemoryOrThread limits.records limits.depth (R.state source.old ⇝ R.state source.new)
         (RunAnswers shards) result }
 {
     let hashers = hashers(alloc, shards)?;
@@ -64,13 +64,13 @@ pub fn run_from<T: Threads + Wait + Sync, R: Source, G: Gate + Sync>(
         rt,
         alloc,
         Plan::new(shards, 1, limits),
-        reader,
+        source,
         gate,
         hashers,
     )
 }
 
-/// Detects so from a reader that hands out one byte at each call.
+/// Detects so from a source that hands out one byte at each call.
 pub fn run<T: Threads + Wait + Sync>(
     rt: &T,
     alloc: Global,

@@ -4,7 +4,7 @@ ghost use Rattle.trace.specs.declared.records.Record.{Record};
 ghost use Rattle.trace.specs.Traces.{IsWellNested};
 ghost use Rattle.trace.specs.Text.{text, AllFit};
 ghost use Rattle.trace.specs.Faults.{IsFaultOfAll};
-ghost use Rattle.trace.specs.Runs.{IsWantOfMemory, IsWantOfMemoryOrThread};
+ghost use Rattle.trace.specs.Endings.{IsWantOfMemory, IsWantOfMemoryOrThread};
 ghost use Rattle.detect.specs.Reported.{IsReportOf};
 
 use super::answers::{Hasher, run_from, text_of};
@@ -46,7 +46,8 @@ fn report_plain(alloc: Global, limits: Limits, bytes: &[u8], size: usize) -> Res
     ensures report { (w : List Record) → bytes.now ≡ text w → AllFit w → IsWellNested w limits.records limits.depth
         → MatchResult result (IsReportOf w) IsWantOfMemory }
     // Otherwise the fault is the first of these bytes.
-    ensures fault { IfErr result (λ fault. IsWantOfMemory fault ⊎ IsFaultOfAll limits.records limits.depth bytes.now fault) }
+    ensures fault { IfErr result (λ fault. IsWantOfMemory fault
+        ⊎ IsFaultOfAll limits.records limits.depth bytes.now fault) }
 {
     let mut told = Told { bytes, size };
     detect_plain(alloc, limits, &mut told, Hasher::default())
@@ -65,7 +66,8 @@ fn report_sharded<T: Threads + Wait + Sync>(
     requires size { 1 ≤ size }
     ensures report { (w : List Record) → bytes.now ≡ text w → AllFit w → IsWellNested w limits.records limits.depth
         → MatchResult result (IsReportOf w) IsWantOfMemoryOrThread }
-    ensures fault { IfErr result (λ fault. IsWantOfMemoryOrThread fault ⊎ IsFaultOfAll limits.records limits.depth bytes.now fault) }
+    ensures fault { IfErr result (λ fault. IsWantOfMemoryOrThread fault
+        ⊎ IsFaultOfAll limits.records limits.depth bytes.now fault) }
 {
     let mut told = Told { bytes, size };
     Ok(run_from(rt, alloc, shards, limits, &mut told, &Open)?.report)

@@ -3,7 +3,7 @@ ghost use Rattle.std.specs.Prelude.{◌≡◌, ℕ, ◌<◌, ◌≤◌, ◌+◌,
 ghost use Rattle.lane.specs.declared.item.Item.TheVariants.{One, Finish};
 ghost use Rattle.trace.specs.declared.records.Placed.{Placed};
 ghost use Rattle.route.specs.Sending.{first_lane, with_put, with_puts, sent_whole, HaveMarks};
-ghost use Rattle.route.specs.Batches.{batch_lanes, batch_turn, unsent_part, HasStaged, HasSameParts, IsUnsent, IsSentWhole, IsAsFarSent, IsSending, LacksRoom, SendsNext};
+ghost use Rattle.route.specs.Batches.{batch_lanes, batch_turn, unsent_portion, HasStaged, HasSamePortions, IsUnsent, IsSentWhole, IsAsFarSent, IsSending, LacksRoom, SendsNext};
 ghost use Rattle.route.specs.Progresses.{OnIdle, OnMoved, IfBlocked};
 ghost use Rattle.route.specs.Routers.{puts_of, lane_count, pending_of, turn_of, marked_of, HasSent, IsOnLanes, IsUnchanged, IsLastLane, HasRefused, capacity_on, room_on};
 
@@ -119,8 +119,9 @@ impl Router {
         // w is what was sent whole before the batch
         ensures sending { (w : List Placed) → IsSending w batch.old self.old → IsSending w batch.new self.new }
         ensures begun { (w : List Placed) → IsUnsent batch.old → HasSent w self.old → IsSending w batch.old self.old }
-        ensures sent { OnIdle result ((w us : List Placed) → HasStaged us batch.old → IsSending w batch.old self.old → HasSent (w ++ us) self.new) }
-        ensures parts { HasSameParts batch.old batch.new }
+        ensures sent { OnIdle result ((w us : List Placed) → HasStaged us batch.old → IsSending w batch.old self.old
+            → HasSent (w ++ us) self.new) }
+        ensures portions { HasSamePortions batch.old batch.new }
         ensures pending { pending_of self.new ≡ None }
         ensures marked { marked_of self.new ≡ 0 }
         ensures lanes { IsOnLanes self.old self.new }
@@ -148,13 +149,15 @@ impl Router {
         requires idle { pending_of self.old ≡ None }
         requires unmarked { marked_of self.old ≡ 0 }
         requires lanes { batch_lanes batch.now ≡ lane_count self.old }
-        requires lacks { unsent_part batch.now (batch_turn batch.now) ≢ [] }
+        requires lacks { unsent_portion batch.now (batch_turn batch.now) ≢ [] }
         requires within { batch_turn batch.now < batch_lanes batch.now }
         ensures put { IfSome result (λ count. puts_of self.new ≡ with_puts (puts_of self.old) (batch_turn batch.now)
-            (map One (take count (unsent_part batch.now (batch_turn batch.now))))) }
-        ensures count { IfSome result (λ count. (1 ≤ count) × (count ≤ length (unsent_part batch.now (batch_turn batch.now)))) }
+            (map One (take count (unsent_portion batch.now (batch_turn batch.now))))) }
+        ensures count { IfSome result (λ count. (1 ≤ count)
+            × (count ≤ length (unsent_portion batch.now (batch_turn batch.now)))) }
         ensures refused { IfNone result (IsUnchanged self.old self.new) }
-        ensures few { IfNone result (room_on self.new (batch_turn batch.now) < length (unsent_part batch.now (batch_turn batch.now))) }
+        ensures few { IfNone result
+            (room_on self.new (batch_turn batch.now) < length (unsent_portion batch.now (batch_turn batch.now))) }
         ensures held { IfNone result (1 ≤ capacity_on self.old (batch_turn batch.now)
             → room_on self.new (batch_turn batch.now) < capacity_on self.old (batch_turn batch.now)) }
         ensures pending { pending_of self.new ≡ pending_of self.old }

@@ -1,14 +1,13 @@
 //! A trace in memory, whose source tells its bytes: the answer is of these very bytes.
-ghost use Rattle.std.specs.Prelude.{◌≡◌, ◌<◌, ℕ, List, false};
+ghost use Rattle.std.specs.Prelude.{◌≡◌, ◌<◌, ℕ, List};
 ghost use Rattle.trace.specs.declared.records.Record.{Record};
 ghost use Rattle.trace.specs.Text.{text, AllFit};
 ghost use Rattle.trace.specs.Devices.{◌⇝◌};
 ghost use Rattle.trace.specs.Writers.{IsUntouched, Took};
-ghost use Rattle.words.specs.Asked.{asks_report};
 ghost use Rattle.spbags.specs.Questions.{Answers};
 
 use super::{Ran, assert_left, trace_of, words_of};
-use crate::{Asked, answer, read_words};
+use crate::{Asked, Question, answer, read_words};
 use std::alloc::Global;
 use std::sync::Wait;
 use std::test::Fail;
@@ -20,19 +19,18 @@ use trace::{Counted, Sink};
 fn answer_bytes<T: Threads + Wait + Sync, W: Sink, E: Sink>(
     rt: &T,
     alloc: Global,
-    asked: &Asked,
+    question: &Question,
     bytes: &[u8],
     out: &mut W,
     err: &mut E,
 ) -> u8
-    requires { asks_report asked.now ≡ false }
     ensures { (w : List Record) → bytes.now ≡ text w → AllFit w → result < 2 → (answer : List ℕ)
-        × Answers asked.now w answer result
+        × Answers question.now w answer result
         × Took answer (W.state out.old ⇝ W.state out.new)
         × IsUntouched (E.state err.old ⇝ E.state err.new) }
 {
     let mut trace = Counted::new(bytes);
-    answer(rt, alloc, asked, &mut trace, out, err)
+    answer(rt, alloc, question, &mut trace, out, err)
 }
 
 const TRACE: &str = "spawn, write 3, return, spawn, write 3, return, write 3, return";
@@ -53,16 +51,15 @@ fn answers_of_told_bytes(rt: HostRuntime) -> Result<(), Fail> {
     let trace = trace_of(rt.alloc(), TRACE)?;
     for (line, text, status) in ANSWERS {
         let words = words_of(rt.alloc(), line)?;
-        let Ok(asked) = read_words(rt.alloc(), words.as_slice()) else {
+        let Ok(Asked::Question(question)) = read_words(rt.alloc(), words.as_slice()) else {
             return Err(Fail::from(line));
         };
-        assert!(rt; !asked.asks_report(), "{line}");
         let mut out = Vec::new(rt.alloc());
         let mut err = Vec::new(rt.alloc());
         let given = answer_bytes(
             &rt,
             rt.alloc(),
-            &asked,
+            &question,
             trace.as_slice(),
             &mut Counted::new(&mut out),
             &mut Counted::new(&mut err),

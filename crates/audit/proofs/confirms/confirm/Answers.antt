@@ -1,7 +1,7 @@
 use Rattle.std.proofs.Common.{List, refl, subst}
 use Rattle.trace.specs.Accesses.{RaceAt}
-use Rattle.trace.proofs.Runs.{ends_refused, refused_for_want}
-use Rattle.audit.specs.Confirming.{HasConfirmed}
+use Rattle.trace.proofs.Endings.{ends_refused, refused_for_want}
+use Rattle.audit.specs.Entries.{HasConfirmed}
 use Rattle.audit.proofs.ConfirmLemmas.{answer_of}
 use Rattle.audit.proofs.confirms.confirm.Goals as goal
 

@@ -2,7 +2,7 @@ use Rattle.std.proofs.Common.{◌≡◌, ℕ, vec_len, List, inl, refl, sym, sub
 use Rattle.trace.specs.Accesses.{RaceAt}
 use Rattle.collect.specs.Collected.{IsCollected}
 use Rattle.detect.proofs.RunAnswers.{failed_run, none_refused, finished_of, of_good}
-use Rattle.trace.proofs.Runs.{ends_refused, refused_for_want}
+use Rattle.trace.proofs.Endings.{ends_refused, refused_for_want}
 use Rattle.detect.specs.Rooms.{HasRoom}
 use Rattle.detect.proofs.RunReported.{run_answers}
 use Rattle.detect.proofs.closing.close.Goals as goal
@@ -30,7 +30,7 @@ returns g c n records depths change some most h =
     let f = ends.says in
     let same = c.settle_shards.ensures.same in
     let later = c.settle_backs.ensures.same in
-    let answers = run_answers n records depths done ends.trace _ _ c.told.result some most ends.read.whole.well_nested f
+    let answers = run_answers n records depths done ends.trace _ _ c.run_of.result some most ends.read.whole.well_nested f
     (record {
       puts_are = c.into_ends-ends.ensures.puts;
       told_are = same.told;
@@ -38,14 +38,14 @@ returns g c n records depths change some most h =
       settled_back = λ k lt. c.settle_backs.ensures.settled k (omega (arith, lt, f.workers, same.count, c.settle_shards.new.workers.ok.0));
     })
     good
-    (λ held holds. let P : List RaceAt → Type 0 = IsCollected held in subst P (sym c.told.ensures.report) (c.in_ok-report.ensures.ok held holds))
-    (c.told.ensures.taken ∙ later.counts ∙ same.counts)
-    (c.told.ensures.lanes ∙ later.taken ∙ same.taken)
-    (omega (arith, c.told.result.lanes.ok.0, c.told.ensures.lane_count, c.settle_backs.new.workers.ok.0, later.count, same.count, f.workers)) in
+    (λ held holds. let P : List RaceAt → Type 0 = IsCollected held in subst P (sym c.run_of.ensures.report) (c.in_ok-report.ensures.ok held holds))
+    (c.run_of.ensures.taken ∙ later.counts ∙ same.counts)
+    (c.run_of.ensures.lanes ∙ later.taken ∙ same.taken)
+    (omega (arith, c.run_of.result.lanes.ok.0, c.run_of.ensures.lane_count, c.settle_backs.new.workers.ok.0, later.count, same.count, f.workers)) in
     record { trace = ends.trace; read = ends.read; says = answers }
 
-pub told-requires : goal.told-requires
-told-requires g c =
+pub run_of-requires : goal.run_of-requires
+run_of-requires g c =
     let done = c.args.done in
     let P : ℕ → Type 0 = λ m. HasRoom m c.args.lists in
     let count : vec_len done.workers ≡ vec_len c.settle_backs.new.workers = omega (arith, done.workers.ok.0, c.settle_shards.ensures.same.count, c.settle_backs.ensures.same.count, c.settle_backs.new.workers.ok.0) in

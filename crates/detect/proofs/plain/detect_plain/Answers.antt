@@ -1,7 +1,7 @@
 use Rattle.std.proofs.Common.{refl}
 use Rattle.trace.specs.Traces.{placed}
-use Rattle.trace.proofs.Runs.{ends_refused, refused_for_want}
-use Rattle.detect.proofs.Runs.{report_of}
+use Rattle.trace.proofs.Endings.{ends_refused, refused_for_want}
+use Rattle.detect.proofs.Detected.{report_of}
 use Rattle.detect.proofs.plain.detect_plain.Goals as goal
 
 pub returns-in_err-detector : goal.returns-in_err-detector

@@ -1,7 +1,7 @@
 use Rattle.std.proofs.Common.{◌≡◌, List, None}
 use Rattle.trace.specs.declared.records.Placed.{Placed}
 use Rattle.route.specs.Routers.{pending_of, HasSent, IsOnLanes}
-use Rattle.detect.specs.Gatherings.{IsFurther}
+use Rattle.detect.specs.LanesBack.{IsFurther}
 use Rattle.detect.proofs.sending.mark_all.Given as goal
 
 abbrev pub invariant-loop : goal.invariant-loop

@@ -2,15 +2,15 @@ use Rattle.std.proofs.Common.{rules, ◌≡◌, ℕ, List, [], ◌∷◌, ◌++�
 use Rattle.trace.specs.declared.records.Placed.{Placed}
 use Rattle.trace.specs.Traces.{placed}
 use Rattle.trace.specs.Devices.{Change, ◌⇝◌}
-use Rattle.trace.specs.Runs.{IsWantOfMemory}
+use Rattle.trace.specs.Endings.{IsWantOfMemory}
 use Rattle.trace.specs.Feeding.{Feeding, HasFed, IsWhole}
 use Rattle.trace.proofs.Feedings.{consumes_none, consumes_more, fed_none, at_limits}
-use Rattle.trace.proofs.Runs.{ends_refused, refused_by_fault, given_next, given_end}
-use Rattle.detect.proofs.Runs.{placed-next}
+use Rattle.trace.proofs.Endings.{ends_refused, refused_by_fault, given_next, given_end}
+use Rattle.detect.proofs.Detected.{placed-next}
 use Rattle.detect.proofs.Sendings.{on_lanes_refl, on_lanes_trans}
 use Rattle.detect.specs.Sent.{HasSentBut}
 use Rattle.detect.proofs.SentBut.{none_but}
-use Rattle.detect.proofs.Gatherings.{further_refl, further_trans}
+use Rattle.detect.proofs.LanesBack.{further_refl, further_trans}
 use Rattle.detect.proofs.sending.send_all.Goals as goal
 
 pub records-init : goal.records-init
@@ -68,7 +68,7 @@ returns-in_err-next_from-in-None-clause-sent g c =
     let kept : HasFed i.trace i.came c.next_known.new.self = subst (HasFed i.trace i.came) (sym same) i.fed in
     let fed = c.in_err-next_from-in-None.ensures.fed i.trace i.came kept in
     ends_refused _ _ _ _ _ _ _ c.from_residual.ensures.1
-    (refused_by_fault IsWantOfMemory _ _ _ _ (g.R.Source.state c.args.reader.now) (g.R.Source.state c.records.reader) (g.R.Source.state c.next_from.new.source) i.came fed.0 _
+    (refused_by_fault IsWantOfMemory _ _ _ _ (g.R.Source.state c.args.source.now) (g.R.Source.state c.records.source) (g.R.Source.state c.next_from.new.source) i.came fed.0 _
     (c.next_known.ensures.limits.records ∙ i.records) (c.next_known.ensures.limits.depths ∙ i.depths) i.steady i.gave fed.1 fed.2.0)
 
 pub returns-in-None-2-clause-sent : goal.returns-in-None-2-clause-sent
@@ -77,7 +77,7 @@ returns-in-None-2-clause-sent g c =
     let same : c.next_known.new.self ≡ c.records.intake = search rules in
     let kept : HasFed i.trace i.came c.next_known.new.self = subst (HasFed i.trace i.came) (sym same) i.fed in
     let fed = c.in_ok-next_from-in-None.ensures.fed i.trace i.came kept in
-    let change : Change = g.R.Source.state c.records.reader ⇝ g.R.Source.state c.next_from.new.source in
+    let change : Change = g.R.Source.state c.records.source ⇝ g.R.Source.state c.next_from.new.source in
     let end = given_end _ _ _ _ change _ _ c.in-None-2.is fed.2 in
     let P : ℕ → ℕ → Type 0 = λ r d. IsWhole r d i.trace (i.came ++ fed.0) (g.R.Source.state c.next_from.new.source) in
     record {
@@ -95,7 +95,7 @@ records-smaller g c =
     let i = c.records.invariant in
     let same : c.next_known.new.self ≡ c.records.intake = search rules in
     let kept : HasFed i.trace i.came c.next_known.new.self = subst (HasFed i.trace i.came) (sym same) i.fed in
-    let change : Change = g.R.Source.state c.records.reader ⇝ g.R.Source.state c.next_from.new.source in
+    let change : Change = g.R.Source.state c.records.source ⇝ g.R.Source.state c.next_from.new.source in
     let next = given_next _ _ _ _ change _ _ _ c.in-Some-2.is (c.in_ok-next_from-in-None.ensures.fed i.trace i.came kept).2 in
     omega (arith, next.1.has_used.has_read.count_is, next.1.has_used.has_read.within, i.fed.has_used.has_read.count_is, c.next_from.ensures.limits.records, c.next_known.ensures.limits.records, i.records, length-append i.trace (c.in-Some-2.placed.what ∷ []))
 
@@ -105,7 +105,7 @@ records-preserved g c =
     let same : c.next_known.new.self ≡ c.records.intake = search rules in
     let kept : HasFed i.trace i.came c.next_known.new.self = subst (HasFed i.trace i.came) (sym same) i.fed in
     let fed = c.in_ok-next_from-in-None.ensures.fed i.trace i.came kept in
-    let change : Change = g.R.Source.state c.records.reader ⇝ g.R.Source.state c.next_from.new.source in
+    let change : Change = g.R.Source.state c.records.source ⇝ g.R.Source.state c.next_from.new.source in
     let next = given_next _ _ _ _ change _ _ _ c.in-Some-2.is fed.2 in
     let P : List Placed → Type 0 = λ u. HasSentBut c.send-in-Some-2.new.batch u c.send-in-Some-2.new.router in
     let sent = none_but c.send_batch.new.batch (placed i.trace) c.send_batch.new.router c.send_batch.ensures.empty (c.send_batch.ensures.sent (placed i.trace) i.sent) in

@@ -6,14 +6,14 @@ use Rattle.trace.specs.Feeding.{HasFed}
 use Rattle.route.specs.Routers.{lane_count, pending_of, marked_of, IsOnLanes}
 use Rattle.route.specs.Batches.{batch_lanes, IsUnsent}
 use Rattle.detect.specs.Sent.{HasSentBut}
-use Rattle.detect.specs.Gatherings.{IsFurther}
+use Rattle.detect.specs.LanesBack.{IsFurther}
 use Rattle.detect.proofs.sending.send_all.Given as goal
 
 abbrev pub invariant-records : goal.invariant-records
 invariant-records g l = record {
   trace : List Record;
   came : List ℕ;
-  gave : Gave (g.R.Source.state l.fn.reader ⇝ g.R.Source.state l.reader) came;
+  gave : Gave (g.R.Source.state l.fn.source ⇝ g.R.Source.state l.source) came;
   fed : HasFed trace came l.intake;
   sent : HasSentBut l.batch (placed trace) l.router;
   batch : batch_lanes l.batch ≡ lane_count l.router;
@@ -22,7 +22,7 @@ invariant-records g l = record {
   unmarked : marked_of l.router ≡ 0;
   lanes : IsOnLanes l.fn.router l.router;
   further : IsFurther l.fn.gathering l.gathering;
-  steady : IsSteady (g.R.Source.state l.fn.reader ⇝ g.R.Source.state l.reader);
+  steady : IsSteady (g.R.Source.state l.fn.source ⇝ g.R.Source.state l.source);
   records : l.intake.reading.limit ≡ l.fn.limits.records;
   depths : l.intake.nesting.max_depth ≡ l.fn.limits.depth;
 }

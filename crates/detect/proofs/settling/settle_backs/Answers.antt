@@ -4,7 +4,7 @@ use Rattle.lane.specs.Lanes.{end_lane, taker_lane, taken_of, all_put}
 use Rattle.shard.specs.declared.working.Worked.{Worked}
 use Rattle.detect.specs.Gathered.{given_by}
 use Rattle.detect.specs.Closing.{told_by, IsSettled}
-use Rattle.detect.proofs.Gatherings.{ended_to}
+use Rattle.detect.proofs.LanesBack.{ended_to}
 use Rattle.detect.proofs.Receipts.{at_same, within_same, at_map, settled_at, same_set}
 use Rattle.detect.proofs.settling.settle_backs.Goals as goal
 

@@ -3,7 +3,7 @@ use Rattle.std.proofs.Math.Seq.{map-set_same}
 use Rattle.lane.specs.Lanes.{end_lane, taker_lane, taken_of, all_put}
 use Rattle.shard.specs.declared.working.Worked.{Worked}
 use Rattle.detect.specs.Closing.{taken_by, IsSettled}
-use Rattle.detect.proofs.Gatherings.{ended_to}
+use Rattle.detect.proofs.LanesBack.{ended_to}
 use Rattle.detect.proofs.Receipts.{at_same, within_same, at_map, settled_at, same_set}
 use Rattle.detect.proofs.settling.settle_shards.Goals as goal
 

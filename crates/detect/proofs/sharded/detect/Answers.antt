@@ -1,5 +1,5 @@
 use Rattle.std.proofs.Common.{◌≡◌, ◌≤◌, ℕ, inl, refl, sym, ◌∙◌, vec_len, subst, arith, rules}
-use Rattle.trace.proofs.Runs.{ends_refused, refused_for_want}
+use Rattle.trace.proofs.Endings.{ends_refused, refused_for_want}
 use Rattle.detect.specs.Rooms.{HasRoom}
 use Rattle.detect.proofs.RunDone.{closed_if, room_if}
 use Rattle.detect.proofs.RunAnswers.{run_ends}

@@ -1,13 +1,13 @@
 use Rattle.std.proofs.Common.{List, length, sym, ap, subst, arith, ◌∙◌}
 use Rattle.std.proofs.lemmas.List.{nil_from_length}
 use Rattle.detect.specs.declared.jobs.Job.{Job}
-use Rattle.detect.specs.Working.{AllNew}
+use Rattle.detect.specs.Workers.{AllFresh}
 use Rattle.detect.proofs.WorkersDone.{started_more, started_all, split_more}
 use Rattle.detect.proofs.workers.start_all.Goals as goal
 
 pub start-requires-after_bounds : goal.start-requires-after_bounds
 start-requires-after_bounds g c κs within =
-    let P : List (Job g.row.S.Denot g.row.S-Hasher.Denot) → Type 0 = AllNew in
+    let P : List (Job g.row.S.Denot g.row.S-Hasher.Denot) → Type 0 = AllFresh in
     (subst P c.in-Some.ensures.steps.0 c.loop-job.invariant.new).0
 
 pub push_reserved-requires : goal.push_reserved-requires
@@ -18,7 +18,7 @@ push_reserved-requires g c =
 pub loop-job-preserved : goal.loop-job-preserved
 loop-job-preserved g c =
     let i = c.loop-job.invariant in
-    let P : List (Job g.row.S.Denot g.row.S-Hasher.Denot) → Type 0 = AllNew in
+    let P : List (Job g.row.S.Denot g.row.S-Hasher.Denot) → Type 0 = AllFresh in
     record {
       split = split_more c.loop-job.yielded c.in-Some.job c.next.new.self.rest.items _ _ c.in-Some.ensures.steps.0 i.split;
       new = (subst P c.in-Some.ensures.steps.0 i.new).1;

@@ -2,9 +2,9 @@ use Rattle.std.proofs.Common.{◌≤◌, ℕ, [], ◌∷◌, ◌++◌, refl, sym
 use Rattle.trace.specs.Bounds.{most_records}
 use Rattle.trace.specs.Devices.{Change, ◌⇝◌}
 use Rattle.trace.specs.Feeding.{Feeding, HasFed, IsWhole}
-use Rattle.trace.specs.Runs.{IsWantOfMemory}
+use Rattle.trace.specs.Endings.{IsWantOfMemory}
 use Rattle.trace.proofs.Feedings.{consumes_none, consumes_more, fed_none, at_limits}
-use Rattle.trace.proofs.Runs.{refused_by_fault, ends_refused, given_next, given_end}
+use Rattle.trace.proofs.Endings.{refused_by_fault, ends_refused, given_next, given_end}
 use Rattle.trace.proofs.watching.read_to_end.Goals as goal
 
 pub records-init : goal.records-init
@@ -26,13 +26,13 @@ returns-in_err-next_from g c =
     let i = c.records.invariant in
     let fed = c.in_err-next_from.ensures.fed i.trace i.came i.fed in
     ends_refused _ _ _ _ _ _ _ c.from_residual.ensures.1
-    (refused_by_fault IsWantOfMemory _ _ _ _ (g.R.Source.state c.args.reader.now) (g.R.Source.state c.records.reader) (g.R.Source.state c.next_from.new.source) i.came fed.0 _ i.records i.depths i.steady i.gave fed.1 fed.2.0)
+    (refused_by_fault IsWantOfMemory _ _ _ _ (g.R.Source.state c.args.source.now) (g.R.Source.state c.records.source) (g.R.Source.state c.next_from.new.source) i.came fed.0 _ i.records i.depths i.steady i.gave fed.1 fed.2.0)
 
 pub returns-in-None : goal.returns-in-None
 returns-in-None g c =
     let i = c.records.invariant in
     let fed = c.in_ok-next_from.ensures.fed i.trace i.came i.fed in
-    let change : Change = g.R.Source.state c.records.reader ⇝ g.R.Source.state c.next_from.new.source in
+    let change : Change = g.R.Source.state c.records.source ⇝ g.R.Source.state c.next_from.new.source in
     let end = given_end _ _ _ _ change _ _ c.in-None.is fed.2 in
     let P : ℕ → ℕ → Type 0 = λ r d. IsWhole r d i.trace (i.came ++ fed.0) (g.R.Source.state c.next_from.new.source) in
     record {
@@ -44,7 +44,7 @@ returns-in-None g c =
 pub take-requires : goal.take-requires
 take-requires g c =
     let i = c.records.invariant in
-    let change : Change = g.R.Source.state c.records.reader ⇝ g.R.Source.state c.next_from.new.source in
+    let change : Change = g.R.Source.state c.records.source ⇝ g.R.Source.state c.next_from.new.source in
     let next = given_next _ _ _ _ change _ _ _ c.in-Some.is (c.in_ok-next_from.ensures.fed i.trace i.came i.fed).2 in
     let limit : c.in-Some.placed.place ≤ most_records = omega (arith, next.0, next.1.has_used.has_read.within, c.next_from.ensures.limits.records, i.records, c.args.limits.within, length-append i.trace (c.in-Some.placed.what ∷ [])) in
     (_, i.trace, i.seen, record { place_is = next.0; to_limit = limit })
@@ -52,7 +52,7 @@ take-requires g c =
 pub records-smaller : goal.records-smaller
 records-smaller g c =
     let i = c.records.invariant in
-    let change : Change = g.R.Source.state c.records.reader ⇝ g.R.Source.state c.next_from.new.source in
+    let change : Change = g.R.Source.state c.records.source ⇝ g.R.Source.state c.next_from.new.source in
     let next = given_next _ _ _ _ change _ _ _ c.in-Some.is (c.in_ok-next_from.ensures.fed i.trace i.came i.fed).2 in
     omega (arith, next.1.has_used.has_read.count_is, next.1.has_used.has_read.within, i.fed.has_used.has_read.count_is, c.next_from.ensures.limits.records, i.records, length-append i.trace (c.in-Some.placed.what ∷ []))
 
@@ -60,7 +60,7 @@ pub records-preserved : goal.records-preserved
 records-preserved g c =
     let i = c.records.invariant in
     let fed = c.in_ok-next_from.ensures.fed i.trace i.came i.fed in
-    let change : Change = g.R.Source.state c.records.reader ⇝ g.R.Source.state c.next_from.new.source in
+    let change : Change = g.R.Source.state c.records.source ⇝ g.R.Source.state c.next_from.new.source in
     let next = given_next _ _ _ _ change _ _ _ c.in-Some.is fed.2 in
     let limit : c.in-Some.placed.place ≤ most_records = omega (arith, next.0, next.1.has_used.has_read.within, c.next_from.ensures.limits.records, i.records, c.args.limits.within, length-append i.trace (c.in-Some.placed.what ∷ [])) in
     record {

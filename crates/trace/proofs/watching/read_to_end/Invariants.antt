@@ -8,10 +8,10 @@ abbrev pub invariant-records : goal.invariant-records
 invariant-records g l = record {
   trace : List Record;
   came : List ℕ;
-  gave : Gave (g.R.Source.state l.fn.reader ⇝ g.R.Source.state l.reader) came;
+  gave : Gave (g.R.Source.state l.fn.source ⇝ g.R.Source.state l.source) came;
   fed : HasFed trace came l.intake;
   seen : g.W.Watch.has_seen l.fn.watch trace l.watch;
-  steady : IsSteady (g.R.Source.state l.fn.reader ⇝ g.R.Source.state l.reader);
+  steady : IsSteady (g.R.Source.state l.fn.source ⇝ g.R.Source.state l.source);
   records : l.intake.reading.limit ≡ l.fn.limits.records;
   depths : l.intake.nesting.max_depth ≡ l.fn.limits.depth;
 }

@@ -1,4 +1,4 @@
-use Rattle.detect.proofs.Runs.{reported_if}
+use Rattle.detect.proofs.Detected.{reported_if}
 use Rattle.detect.proofs.detector.Detector.finish.Goals as goal
 
 pub returns : goal.returns

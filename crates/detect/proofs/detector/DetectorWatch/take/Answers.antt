@@ -2,9 +2,9 @@ use Rattle.std.proofs.Common.{◌≡◌, List, [], ◌∷◌, ◌++◌, Option, 
 use Rattle.std.specs.Option.{option_to_list}
 use Rattle.trace.specs.Accesses.{RaceAt}
 use Rattle.trace.specs.declared.records.Placed.{Placed}
-use Rattle.shadow.specs.Memory.{HaveSeen, AreReadyFor}
+use Rattle.shadow.specs.Memory.{HaveSeen}
 use Rattle.shadow.specs.Found.{found}
-use Rattle.detect.proofs.Runs.{detected_none, detected_if, followed_more, followed_if, ready_at}
+use Rattle.detect.proofs.Detected.{detected_none, detected_if, followed_more, followed_if, ready_at}
 use Rattle.detect.proofs.detector.DetectorWatch.take.Goals as goal
 
 pub apply-requires-clause-ready : goal.apply-requires-clause-ready

@@ -1,5 +1,5 @@
 use Rattle.std.proofs.Common.{◌≡◌}
-use Rattle.detect.specs.Gatherings.{IsFurther}
+use Rattle.detect.specs.LanesBack.{IsFurther}
 use Rattle.detect.proofs.gathering.Gathering.finish_lane.Given as goal
 
 abbrev pub invariant-loop : goal.invariant-loop

@@ -1,6 +1,6 @@
 use Rattle.std.proofs.Common.{arith}
-use Rattle.detect.specs.Gatherings.{HasEnded}
-use Rattle.detect.proofs.Gatherings.{further_refl, further_trans, ended_to}
+use Rattle.detect.specs.LanesBack.{HasBackMark}
+use Rattle.detect.proofs.LanesBack.{further_refl, further_trans, ended_to}
 use Rattle.detect.proofs.gathering.Gathering.finish_lanes.Goals as goal
 
 pub loop-shard-init : goal.loop-shard-init
@@ -12,7 +12,7 @@ finish_lane-requires g c = let i = c.loop-shard.invariant.0 in omega (arith, i.c
 pub loop-shard-preserved : goal.loop-shard-preserved
 loop-shard-preserved g c =
     let i = c.loop-shard.invariant in
-    (further_trans _ _ _ i.0 c.finish_lane.ensures.further, λ k h. ended_to (HasEnded c.finish_lane.new.self) c.loop-shard.shard c.finish_lane.ensures.ended (λ j l. c.finish_lane.ensures.further.marks j (i.1 j l)) k (omega (arith, h)))
+    (further_trans _ _ _ i.0 c.finish_lane.ensures.further, λ k h. ended_to (HasBackMark c.finish_lane.new.self) c.loop-shard.shard c.finish_lane.ensures.ended (λ j l. c.finish_lane.ensures.further.marks j (i.1 j l)) k (omega (arith, h)))
 
 pub returns-clause-further : goal.returns-clause-further
 returns-clause-further g c = c.loop-shard.invariant.0

@@ -1,6 +1,6 @@
 use Rattle.std.proofs.Common.{ℕ, ◌<◌}
-use Rattle.detect.specs.Gatherings.{IsFurther, HasEnded}
+use Rattle.detect.specs.LanesBack.{IsFurther, HasBackMark}
 use Rattle.detect.proofs.gathering.Gathering.finish_lanes.Given as goal
 
 abbrev pub invariant-loop-shard : goal.invariant-loop-shard
-invariant-loop-shard g l = IsFurther l.fn.self l.self × ((k : ℕ) → k < l.shard → HasEnded l.self k)
+invariant-loop-shard g l = IsFurther l.fn.self l.self × ((k : ℕ) → k < l.shard → HasBackMark l.self k)

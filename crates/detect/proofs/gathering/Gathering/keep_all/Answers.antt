@@ -1,5 +1,5 @@
 use Rattle.std.proofs.Common.{◌∙◌}
-use Rattle.detect.proofs.Gatherings.{continues_next}
+use Rattle.detect.proofs.LanesBack.{continues_next}
 use Rattle.detect.proofs.gathering.Gathering.keep_all.Goals as goal
 
 pub loop-item-preserved : goal.loop-item-preserved

@@ -1,5 +1,5 @@
 use Rattle.std.proofs.Common.{◌≡◌, take}
-use Rattle.detect.proofs.Gatherings.{Continues}
+use Rattle.detect.proofs.LanesBack.{Continues}
 use Rattle.detect.proofs.gathering.Gathering.keep_all.Given as goal
 
 abbrev pub invariant-loop-item : goal.invariant-loop-item

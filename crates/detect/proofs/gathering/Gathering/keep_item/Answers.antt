@@ -1,4 +1,4 @@
-use Rattle.detect.proofs.Gatherings.{gathers_mark, gathers_item}
+use Rattle.detect.proofs.LanesBack.{gathers_mark, gathers_item}
 use Rattle.detect.proofs.gathering.Gathering.keep_item.Goals as goal
 
 pub returns-in-One-clause-gathers : goal.returns-in-One-clause-gathers

@@ -1,6 +1,6 @@
 use Rattle.std.proofs.Common.{rules, take}
 use Rattle.detect.specs.Gathered.{given_by}
-use Rattle.detect.proofs.Gatherings.{further_kept, within_given}
+use Rattle.detect.proofs.LanesBack.{further_kept, within_given}
 use Rattle.detect.proofs.gathering.Gathering.take_turn.Goals as goal
 
 pub returns : goal.returns

@@ -1,4 +1,4 @@
-use Rattle.detect.proofs.Gatherings.{further_refl, further_trans}
+use Rattle.detect.proofs.LanesBack.{further_refl, further_trans}
 use Rattle.detect.proofs.gathering.Gathering.take_turns.Goals as goal
 
 pub loop-shard-init : goal.loop-shard-init

@@ -1,4 +1,4 @@
-use Rattle.detect.specs.Gatherings.{IsFurther}
+use Rattle.detect.specs.LanesBack.{IsFurther}
 use Rattle.detect.proofs.gathering.Gathering.take_turns.Given as goal
 
 abbrev pub invariant-loop-shard : goal.invariant-loop-shard

@@ -1,4 +1,4 @@
-use Rattle.trace.specs.Runs.{IsWantOfMemory}
+use Rattle.trace.specs.Endings.{IsWantOfMemory}
 use Rattle.detect.specs.Reported.{IsReportOf}
 use Rattle.detect.proofs.ToldBytes.{told_answer, told_refusal}
 use Rattle.detect.proofs.tests.told.report_plain.Goals as goal

@@ -1,8 +1,8 @@
 use Rattle.std.proofs.Common.{Ok}
-use Rattle.trace.specs.Runs.{IsWantOfMemoryOrThread}
-use Rattle.trace.proofs.Runs.{ends_refused}
+use Rattle.trace.specs.Endings.{IsWantOfMemoryOrThread}
+use Rattle.trace.proofs.Endings.{ends_refused}
 use Rattle.detect.specs.Reported.{IsReportOf}
-use Rattle.detect.specs.Ran.{RunAnswers}
+use Rattle.detect.specs.RunReports.{RunAnswers}
 use Rattle.detect.proofs.ToldBytes.{told_answer, told_refusal}
 use Rattle.detect.proofs.tests.told.report_sharded.Goals as goal
 

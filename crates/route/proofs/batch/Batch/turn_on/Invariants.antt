@@ -1,10 +1,10 @@
 use Rattle.std.proofs.Common.{◌≡◌, ℕ}
-use Rattle.route.specs.Batches.{HasSameParts, sent_count}
+use Rattle.route.specs.Batches.{HasSamePortions, sent_count}
 use Rattle.route.proofs.batch.Batch.turn_on.Given as goal
 
 abbrev pub invariant-loop-lane : goal.invariant-loop-lane
 invariant-loop-lane l = record {
-  parts : HasSameParts l.fn.self l.self;
+  portions : HasSamePortions l.fn.self l.self;
   sent : (k : ℕ) → sent_count l.self k ≡ sent_count l.fn.self k;
   turn : l.self.turn ≡ l.lane;
 }

@@ -3,7 +3,8 @@ use Rattle.std.specs.Option.{option_to_list}
 use Rattle.trace.specs.Accesses.{RaceAt}
 use Rattle.trace.specs.declared.records.Placed.{Placed}
 use Rattle.shadow.specs.Found.{found}
-use Rattle.shard.specs.Shards.{ShardState, Accepts, HasApplied, capped_count}
+use Rattle.shadow.specs.Memory.{HaveSeen}
+use Rattle.shard.specs.Shards.{ShardState, Accepts, capped_count}
 use Rattle.shard.proofs.Works.{worked_applied, worked_refused, worked_skipped}
 use Rattle.shard.proofs.worker.Worker.take.Goals as goal
 use Rattle.shard.proofs.worker.Worker.take.Goals.{then-self-via-then-self, then-self-via-else-self+then-not-accepts}
@@ -18,13 +19,13 @@ returns-then-self-clause-worked g c u h =
 
 pub returns-in-Ok-None-clause-worked : goal.returns-in-Ok-None-clause-worked
 returns-in-Ok-None-clause-worked g c u h =
-    let P : Option RaceAt → Type 0 = λ o. (u : List Placed) → HasApplied u c.args.self.now.shard → found (u ++ c.args.placed ∷ []) ≡ found u ++ option_to_list o in
+    let P : Option RaceAt → Type 0 = λ o. (u : List Placed) → HaveSeen u c.args.self.now.shard.bags c.args.self.now.shard.memory → found (u ++ c.args.placed ∷ []) ≡ found u ++ option_to_list o in
     worked_applied u c.args.placed c.args.self.now.shard c.apply.new.self _ _ None c.args.self.now.stopped (sym (append-nil _)) c.if-self.false (c.accepts.ensures.0 c.if-not-accepts.false)
     c.in-Ok-None.ensures.last_place c.in-Ok-None.ensures.ended c.in-Ok-None.ensures.taken c.in-Ok-None.ensures.applied (subst P c.in-Ok-None.field-0-is c.in-Ok-None.ensures.found) h
 
 pub returns-in-Ok-Some-clause-worked : goal.returns-in-Ok-Some-clause-worked
 returns-in-Ok-Some-clause-worked g c u h =
-    let P : Option RaceAt → Type 0 = λ o. (u : List Placed) → HasApplied u c.args.self.now.shard → found (u ++ c.args.placed ∷ []) ≡ found u ++ option_to_list o in
+    let P : Option RaceAt → Type 0 = λ o. (u : List Placed) → HaveSeen u c.args.self.now.shard.bags c.args.self.now.shard.memory → found (u ++ c.args.placed ∷ []) ≡ found u ++ option_to_list o in
     worked_applied u c.args.placed c.args.self.now.shard c.apply.new.self _ _ (Some c.in-Ok-Some.race) c.args.self.now.stopped c.tell_race.ensures.told c.if-self.false (c.accepts.ensures.0 c.if-not-accepts.false)
     c.in-Ok-Some.ensures.last_place c.in-Ok-Some.ensures.ended c.in-Ok-Some.ensures.taken c.in-Ok-Some.ensures.applied (subst P c.in-Ok-Some.field-0-is c.in-Ok-Some.ensures.found) h
 

@@ -1,0 +1,8 @@
+use Rattle.std.proofs.Common.{subst, ◌∙◌, ap, map}
+use Rattle.collect.specs.Reports.{IsReportList}
+use Rattle.audit.specs.Entries.{entry_of}
+use Rattle.audit.proofs.ConfirmLemmas.{confirming_none}
+use Rattle.audit.proofs.confirms.Confirming.new.Goals as goal
+
+pub returns : goal.returns
+returns c = confirming_none c.args.report.now _ (subst IsReportList c.races.ensures.races c.races.ensures.report) (c.in_ok-entries_of.ensures ∙ ap (map entry_of) c.races.ensures.races) c.new.ensures

@@ -1,0 +1,28 @@
+use Rattle.std.proofs.Common.{List, subst, sym, ◌∙◌, ap, refl, OnOk}
+use Rattle.trace.specs.declared.records.Kind.TheVariants.{Read, Write}
+use Rattle.audit.specs.declared.meetings.Meetings.{Meetings}
+use Rattle.audit.specs.declared.confirms.Entry.{Entry}
+use Rattle.audit.specs.declared.confirms.Confirming.{Confirming}
+use Rattle.audit.specs.Meetings.{Moves}
+use Rattle.audit.specs.Entries.{Touches, races_of}
+use Rattle.audit.proofs.ConfirmLemmas.{confirming_access_if, confirming_other_if, not_access}
+use Rattle.audit.proofs.confirms.ConfirmingWatch.take.Goals as goal
+use Rattle.audit.proofs.confirms.ConfirmingWatch.take.Goals.{in-Read, in-Write, in-Spawn}
+
+pub returns : goal.returns
+returns c =
+    let Moved : Meetings → Type 0 = λ m. OnOk c.take.result (Moves c.args.placed.place c.args.placed.what m.executing m.waiting.items c.take.new.self.executing c.take.new.self.waiting.items) in
+    elim c.match-placed.branch [
+      | in-Read w ↦
+          (let P : List Entry → Type 0 = Touches c.args.self.now.meetings w.in-Read.location (record { kind = Read; place = c.args.placed.place }) c.args.self.now.entries.items in
+          confirming_access_if c.args.self.now _ c.args.placed w.in-Read.location (record { kind = Read; place = c.args.placed.place }) c.take.result w.in-Read.is refl
+          (ap (λ (s : Confirming). races_of s.entries.items) w.self-is ∙ w.touch.ensures.same_races) (subst P (sym (ap (λ (s : Confirming). s.entries.items) w.self-is)) w.touch.ensures.entries)
+          (subst Moved (ap (λ (s : Confirming). s.meetings) w.self-is ∙ w.touch.ensures.meetings) c.take.ensures))
+      | in-Write w ↦
+          (let P : List Entry → Type 0 = Touches c.args.self.now.meetings w.in-Write.location (record { kind = Write; place = c.args.placed.place }) c.args.self.now.entries.items in
+          confirming_access_if c.args.self.now _ c.args.placed w.in-Write.location (record { kind = Write; place = c.args.placed.place }) c.take.result w.in-Write.is refl
+          (ap (λ (s : Confirming). races_of s.entries.items) w.self-is ∙ w.touch-in-Write.ensures.same_races) (subst P (sym (ap (λ (s : Confirming). s.entries.items) w.self-is)) w.touch-in-Write.ensures.entries)
+          (subst Moved (ap (λ (s : Confirming). s.meetings) w.self-is ∙ w.touch-in-Write.ensures.meetings) c.take.ensures))
+      | in-Spawn w ↦ confirming_other_if c.args.self.now _ c.args.placed c.take.result (not_access _ w.in-Spawn.is) (ap (λ (s : Confirming). s.entries.items) w.self-is)
+          (subst Moved (ap (λ (s : Confirming). s.meetings) w.self-is) c.take.ensures)
+    ]

@@ -1,0 +1,7 @@
+use Rattle.std.proofs.Common.{◌≡◌, ◌<◌, ℕ, Some, slice_get}
+use Rattle.audit.specs.declared.confirms.Entry.{Entry}
+use Rattle.audit.specs.declared.confirms.Standing.TheVariants.{Confirmed}
+use Rattle.audit.proofs.confirms.answer_of.Given as goal
+
+abbrev pub invariant-loop-index : goal.invariant-loop-index
+invariant-loop-index l = (k : ℕ) (e : Entry) → k < l.index → slice_get l.entries k ≡ Some e → e.standing ≡ Confirmed

@@ -1,6 +1,0 @@
-use Rattle.std.proofs.Common.{refl}
-use Rattle.audit.proofs.Measured.{measured_none}
-use Rattle.audit.proofs.measuring.Measuring.new.Goals as goal
-
-pub returns : goal.returns
-returns c = measured_none _ refl c.new.ensures.items refl refl refl refl

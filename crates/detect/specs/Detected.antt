@@ -1,0 +1,23 @@
+-- Private: what a run over the records of a trace has found.
+use Rattle.std.specs.Prelude.{◌≡◌, ◌+◌, false, List, length}
+use Rattle.shard.specs.declared.Back.{Back}
+use Rattle.trace.specs.declared.records.Record.{Record}
+use Rattle.trace.specs.declared.records.Placed.{Placed}
+use Rattle.trace.specs.Traces.{placed}
+use Rattle.bags.specs.Procedures.{Procedures}
+use Rattle.shadow.specs.Memory.{Memory, HaveSeen, AreReadyFor}
+use Rattle.shadow.specs.Found.{found}
+use Rattle.collect.specs.Collected.{Kept, KeepsBest, races_of, fails}
+
+-- the bags and the shadow memory have seen the records u, and the collector was given the races found in them
+pub record HasDetected (u : List Placed) (bags : Procedures) (memory : Memory) (collector : Kept) : Type 0 where
+  pub seen : HaveSeen u bags memory
+  pub given : List Back
+  pub holds : KeepsBest given collector
+  pub none_failed : fails given ≡ false
+  pub races : races_of given ≡ found u
+
+-- so the first records of a trace were detected, and the next one may come
+pub record HasFollowed (u : List Record) (bags : Procedures) (memory : Memory) (collector : Kept) : Type 0 where
+  pub detected : HasDetected (placed u) bags memory collector
+  pub ready : AreReadyFor bags memory (length u + 1)

@@ -1,0 +1,51 @@
+-- Private: what the workers are given, and what they have done.
+use Rattle.std.specs.Prelude.{◌≡◌, List, [], ◌∷◌, map, ⊤}
+use Rattle.std.specs.List.{AllByRecursion}
+use Rattle.trace.specs.declared.records.Placed.{Placed}
+use Rattle.lane.specs.declared.sender.Sender.{Sender}
+use Rattle.lane.specs.declared.taker.Taker.{Taker}
+use Rattle.lane.specs.Lanes.{LaneId, taker_lane, taken_of, lane_of, put_of}
+use Rattle.std.specs.declared.thread.PromisedHandle.{PromisedHandle}
+use Rattle.shard.specs.declared.Back.{Back}
+use Rattle.shard.specs.declared.working.Worked.{Worked}
+use Rattle.shard.specs.Shards.{IsFresh}
+use Rattle.shard.specs.Worked.{DidWork}
+use Rattle.detect.specs.declared.jobs.Job.{Job}
+use Rattle.detect.specs.declared.jobs.WorkOf.{WorkOf}
+
+module _ {S H : Type 0} where
+  -- the shard is new, and nothing was taken or put
+  pub record IsFreshJob (job : Job S H) : Type 0 where
+    pub shard : IsFresh job.shard
+    pub none_taken : taken_of job.taker ≡ []
+    pub none_put : put_of job.back ≡ []
+
+  abbrev pub AllFresh : List (Job S H) → Type 0
+  AllFresh jobs = AllByRecursion IsFreshJob jobs
+
+  -- the lanes to the shards, and the lanes back
+  abbrev pub to_shards : List (Job S H) → List LaneId
+  to_shards jobs = map (λ j. taker_lane j.taker) jobs
+
+  abbrev pub from_shards : List (Job S H) → List LaneId
+  from_shards jobs = map (λ j. lane_of j.back) jobs
+
+  -- both lanes of a shard
+  abbrev pub job_lanes : Job S H → LaneId × LaneId
+  job_lanes job = (taker_lane job.taker, lane_of job.back)
+
+  abbrev pub handle_lanes : PromisedHandle (Worked S H) WorkOf → LaneId × LaneId
+  handle_lanes handle = (taker_lane handle.promise.taker.value, lane_of handle.promise.back.value)
+
+  -- a worker that was given these lanes has done its work
+  pub record DidOn (lanes : LaneId × LaneId) (worked : Worked S H) : Type 0 where
+    pub taker : Taker Placed
+    pub back : Sender Back
+    pub lanes_are : lanes ≡ (taker_lane taker, lane_of back)
+    pub did : DidWork taker back worked
+
+  abbrev pub AllDid : List (LaneId × LaneId) → List (Worked S H) → Type 0
+  AllDid [] [] = ⊤
+  AllDid [] (w ∷ ws) = ⊥
+  AllDid (l ∷ ls) [] = ⊥
+  AllDid (l ∷ ls) (w ∷ ws) = DidOn l w × AllDid ls ws

@@ -1,0 +1,116 @@
+//! The end of a lane that takes.
+ghost use Rattle.std.specs.Prelude.{◌≡◌, ◌<◌, ◌≤◌, min, true, false, [], ◌∷◌, ◌++◌, length, take, IfSome, IfNone, IsSome};
+ghost use Rattle.rtrb.specs.Ring.{received};
+ghost use Rattle.lane.specs.Items.{has_mark, mark_last, IsBeginning};
+
+use crate::item::{Item, MarkLast};
+use crate::sender::{End, Sender};
+use rtrb::Consumer;
+use std::alloc::Global;
+
+/// The end that takes.
+#[derive(Drop)]
+pub struct Taker<T> {
+    pub(crate) ring: Consumer<Item<T>, Global, MarkLast>,
+    pub(crate) ended: bool,
+    ghost known: { has_mark (received ring) ≡ ended },
+    ghost last: { mark_last (received ring) ≡ true },
+}
+
+impl<T: Copy + Send> Taker<T> {
+    ghost use Rattle.lane.specs.Lanes.{lane_of, taker_lane, end_lane, put_of, all_put, taken_of, waiting_of, taker_capacity};
+
+    /// The next item, or `None` because the lane was empty; after the mark always `None`.
+    #[tactic(auto, using(crate::proofs::Marks::has_mark_more, crate::proofs::Marks::mark_last_more))]
+    pub fn take(&mut self) -> Option<Item<T>>
+        ensures lane { taker_lane self.new ≡ taker_lane self.old }
+        ensures capacity { taker_capacity self.new ≡ taker_capacity self.old }
+        ensures some { IfSome result (λ x. (taken_of self.new ≡ taken_of self.old ++ x ∷ [])
+            × (has_mark (taken_of self.old) ≡ false)) }
+        ensures none { IfNone result (taken_of self.new ≡ taken_of self.old) }
+        ensures succeeds { 0 < length (waiting_of self.old) → has_mark (taken_of self.old) ≡ false → IsSome result }
+        ensures ended { has_mark (taken_of self.old) ≡ true → result ≡ None }
+    {
+        if self.ended {
+            return None;
+        }
+        let item = self.ring.pop().ok()?;
+        self.ended = item.is_finish();
+        Some(item)
+    }
+
+    /// Takes as many of the next items as there are, at most so many as the slice has, and tells how many. Those stand
+    /// in its front; what follows them there means nothing. After the mark it takes none.
+    #[tactic(auto, using(crate::proofs::Marks::ended_by, crate::proofs::Marks::mark_last_block))]
+    pub fn take_block(&mut self, items: &mut [Item<T>]) -> usize
+        ensures lane { taker_lane self.new ≡ taker_lane self.old }
+        ensures capacity { taker_capacity self.new ≡ taker_capacity self.old }
+        ensures within { result ≤ length items.old }
+        ensures least { has_mark (taken_of self.old) ≡ false
+            → min (length (waiting_of self.old)) (length items.old) ≤ result }
+        ensures taken { taken_of self.new ≡ taken_of self.old ++ take result items.new }
+        ensures last { mark_last (taken_of self.new) ≡ true }
+        ensures ended { has_mark (taken_of self.old) ≡ true → result ≡ 0 }
+    {
+        if self.ended {
+            return 0;
+        }
+        let count = self.ring.pop_partial_slice(items);
+        if count > 0 {
+            self.ended = items[count - 1].is_finish();
+        }
+        count
+    }
+
+    /// How many items the taker knows to wait, without a look at the other end. While that is above 0 and the mark wasn't
+    /// taken `take` gives one.
+    pub fn ready(&self) -> usize
+        ensures { result ≡ length (waiting_of self.now) }
+    {
+        self.ring.cached_slots()
+    }
+
+    /// How many items the lane holds at most.
+    pub fn capacity(&self) -> usize
+        ensures { result ≡ taker_capacity self.now }
+    {
+        self.ring.capacity()
+    }
+
+    /// Whether the mark was taken.
+    pub fn ended(&self) -> bool
+        ensures { result ≡ has_mark (taken_of self.now) }
+    {
+        self.ended
+    }
+
+    /// Looks at the other end: what was taken, and then what waits, is what was put.
+    pub fn beside(&mut self, sender: &mut Sender<T>)
+        requires { lane_of sender.old ≡ taker_lane self.old }
+        ensures lane { (taker_lane self.new ≡ taker_lane self.old) × (lane_of sender.new ≡ lane_of sender.old) }
+        ensures capacity { taker_capacity self.new ≡ taker_capacity self.old }
+        ensures taken { taken_of self.new ≡ taken_of self.old }
+        ensures put { put_of sender.new ≡ put_of sender.old }
+        ensures waiting { taken_of self.new ++ waiting_of self.new ≡ put_of sender.new }
+        ensures last { mark_last (put_of sender.new) ≡ true }
+    {
+        self.ring.slots_beside(&mut sender.ring);
+    }
+
+    /// Compares the ends of one lane: what was taken is a beginning of what was put, and with the
+    /// mark all of it.
+    #[tactic(auto, using(crate::proofs::Marks::all_taken))]
+    pub fn settle(&mut self, end: &mut End<T>)
+        requires { end_lane end.old ≡ taker_lane self.old }
+        ensures lane { (taker_lane self.new ≡ taker_lane self.old) × (end_lane end.new ≡ end_lane end.old) }
+        ensures capacity { taker_capacity self.new ≡ taker_capacity self.old }
+        ensures taken { taken_of self.new ≡ taken_of self.old }
+        ensures put { all_put end.new ≡ all_put end.old }
+        ensures waiting { taken_of self.new ++ waiting_of self.new ≡ all_put end.new }
+        ensures prefix { IsBeginning (taken_of self.new) (all_put end.new) }
+        ensures last { mark_last (all_put end.new) ≡ true }
+        ensures whole { has_mark (taken_of self.new) ≡ true → taken_of self.new ≡ all_put end.new }
+    {
+        self.ring.slots_beside(&mut end.sender.ring);
+    }
+}

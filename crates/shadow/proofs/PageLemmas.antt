@@ -1,0 +1,119 @@
+-- Pages in a list by their numbers: their indices, and what is kept after one seat was put.
+use Rattle.std.proofs.Common.{◌≡◌, ◌≢◌, ◌≤◌, ◌+◌, ◌*◌, ◌/◌, ◌%◌, ℕ, zero, suc, ◌⊎◌, inl, inr, arith, ⊎_elim, List, [], ◌∷◌, Option, None, Some, true, false, cond, if◌then◌else◌, ◌==◌, ◌&&◌, nat_eq, unwrap_or, slice_get, option_map, position, get_or, length, ◌<◌, refl, sym, subst, ap, ◌∙◌}
+use Rattle.std.specs.Map.{lookup, keys_of, values_of}
+use Rattle.std.proofs.lemmas.Bool.{cases_eq, eqb-true, eq-eqb, ne_eqb}
+use Rattle.std.proofs.lemmas.Bool.Decides.{eqb_tells}
+use Rattle.std.proofs.lemmas.Nat.{div-add-mod', div-mul-add, mod-mul-add}
+use Rattle.std.proofs.Math.Nat.{mod-lt}
+use Rattle.std.proofs.lemmas.List.Quantifiers.{position-Some}
+use Rattle.trace.specs.declared.records.Kind.{Kind}
+use Rattle.trace.specs.Accesses.{RaceAt}
+use Rattle.bags.specs.Procedures.{Procedures}
+use Rattle.shadow.specs.Before.{IsCellBefore}
+use Rattle.shadow.specs.Touches.{HasTouched}
+use Rattle.shadow.specs.Cells.{Cell, touched}
+use Rattle.shadow.specs.Pages.{cells_of, cell_at, cell_in, cell_of, page_of, seat_of, IsPageAt, HasPut}
+use Rattle.shadow.specs.Found.{with_cell}
+
+-- a number at the place that its look-up gives
+pub at_its_index : (es : List (ℕ × List Cell)) (i page : ℕ) → position (nat_eq page) (keys_of es) ≡ Some i → IsPageAt es i page
+at_its_index es i page is =
+    let first = position-Some (nat_eq page) (keys_of es) i 0 is in
+    there es i first.1 first.0 first.2
+  where
+    there : (es : List (ℕ × List Cell)) (i : ℕ) → nat_eq page (get_or (keys_of es) i 0) ≡ true → i < length (keys_of es) → ((k : ℕ) → k < i → nat_eq page (get_or (keys_of es) k 0) ≡ false) → IsPageAt es i page
+    there [] i at within before = absurd (omega arith)
+    there ((n, b) ∷ es) zero at within before = let same : n ≡ page = sym (eqb-true page n at) in rw at (ap (λ m. Some (m, b)) same)
+    there (e ∷ es) (suc i) at within before = rw (before 0 (omega arith)) (there es i at (omega arith) (λ k lt. before (suc k) (omega arith)))
+
+-- a page's index has a value
+value_at : (es : List (ℕ × List Cell)) (i page : ℕ) (c : List Cell) → slice_get es i ≡ Some (page, c) → slice_get (values_of es) i ≡ Some c
+value_at [] i page c e = ap (λ (o : Option (ℕ × List Cell)). option_map (λ p. p.1) o) e
+value_at ((n, d) ∷ es) zero page c e = ap (λ (o : Option (ℕ × List Cell)). option_map (λ p. p.1) o) e
+value_at (d ∷ es) (suc i) page c e = value_at es i page c e
+
+-- at a page's index there is a value
+pub some_value : (es : List (ℕ × List Cell)) (i page : ℕ) (o : Option (List Cell)) → IsPageAt es i page → o ≡ slice_get (values_of es) i → o ≡ None → ⊥
+some_value es i page o at is none = let e : None ≡ Some (cells_of es page) = sym none ∙ is ∙ value_at es i page (cells_of es page) at in absurd (cc)
+
+-- the value at a page's index is the page
+pub value_there : (es : List (ℕ × List Cell)) (i page : ℕ) (b : List Cell) → IsPageAt es i page → Some b ≡ slice_get (values_of es) i → b ≡ cells_of es page
+value_there es i page b at is = ap (λ o. unwrap_or o []) (is ∙ value_at es i page (cells_of es page) at)
+
+-- what is kept after one page was changed in one seat, where each look-up tells so
+pub put_changed : (es fs : List (ℕ × List Cell)) (page seat : ℕ) (c : Cell) (b : List Cell)
+    → ((k : ℕ) → cell_at b k ≡ (if k == seat then c else cell_at (cells_of es page) k))
+    → ((q : ℕ) → lookup (nat_eq q) fs ≡ cond (nat_eq page q) (Some b) (lookup (nat_eq q) es))
+    → HasPut page seat c es fs
+put_changed es fs page seat c b seats looks q k = rw looks (⊎_elim same other (eqb_tells page q))
+  where
+    Changed : Type 0
+    Changed = cell_at (unwrap_or (cond (nat_eq page q) (Some b) (lookup (nat_eq q) es)) []) k ≡ (if q == page && k == seat then c else cell_at (cells_of es q) k)
+
+    same : (nat_eq page q ≡ true) × (page ≡ q) → Changed
+    same (is, e) = rw (is, eq-eqb q page (sym e)) (seats k ∙ ap (λ p. if k == seat then c else cell_at (cells_of es p) k) e)
+
+    other : (nat_eq page q ≡ false) × (page ≢ q) → Changed
+    other (is, ne) = rw (is, ne_eqb q page (λ e. ne (sym e))) refl
+
+-- a page that was left but for one seat
+pub but_one_seat : (old new : List Cell) (seat : ℕ) → ((k : ℕ) → k ≢ seat → cell_at new k ≡ cell_at old k) → (k : ℕ) → cell_at new k ≡ (if k == seat then cell_at new seat else cell_at old k)
+but_one_seat old new seat others k = elim (cases_eq k seat) [
+  | inl e ↦ rw (eq-eqb k seat e) (ap (cell_at new) e)
+  | inr n ↦ rw (ne_eqb k seat n) (others k n)
+]
+
+-- what was put stands there
+pub put_here : (es fs : List (ℕ × List Cell)) (page seat : ℕ) (c : Cell) → HasPut page seat c es fs → cell_in fs page seat ≡ c
+put_here es fs page seat c put =
+    let here : cell_in fs page seat ≡ (if page == page && seat == seat then c else cell_in es page seat) = put page seat in
+    rw (eq-eqb page page refl, eq-eqb seat seat refl) at here
+
+-- an access of the location in a seat
+pub touch_put : {s : Procedures} {l place : ℕ} {kind : Kind} {race : Option RaceAt} (es fs : List (ℕ × List Cell)) (page seat : ℕ) → HasTouched s l kind place (cell_in es page seat) (cell_in fs page seat) race
+    → HasPut page seat (cell_in fs page seat) es fs → HasPut page seat (touched s.active kind place (cell_in es page seat)) es fs
+touch_put es fs page seat t put = subst (λ (c : Cell). HasPut page seat c es fs) t.kept put
+
+pub touch_before : {s : Procedures} {l place : ℕ} {kind : Kind} {old new : Cell} {race : Option RaceAt} → HasTouched s l kind place old new race → IsCellBefore (place + 1) s.count (touched s.active kind place old)
+touch_before {s = s} {place = place} t = subst (IsCellBefore (place + 1) s.count) t.kept t.earlier
+
+-- two numbers of a shard's locations that have one page there have seats of their own
+one_number : (a b : ℕ) → a / 64 * 8 + a % 8 ≡ b / 64 * 8 + b % 8 → a / 8 % 8 ≡ b / 8 % 8 → a ≡ b
+one_number a b pages seats = omega (arith, pages, seats)
+
+-- two locations of one page have seats of their own
+one_seat : (n l q : ℕ) → 1 ≤ n → page_of n l ≡ page_of n q → seat_of n l ≡ seat_of n q → l ≡ q
+one_seat n l q some pages seats = sym (div-add-mod' l n) ∙ ap (λ x. x * n + l % n) numbers ∙ ap (λ x. q / n * n + x) shards ∙ div-add-mod' q n
+  where
+    own : ℕ → ℕ
+    own x = x / 64 * 8 + x % 8
+
+    shards : l % n ≡ q % n
+    shards = sym (mod-mul-add (own (l / n)) n (l % n) (mod-lt l some)) ∙ ap (λ x. x % n) pages ∙ mod-mul-add (own (q / n)) n (q % n) (mod-lt q some)
+
+    owns : own (l / n) ≡ own (q / n)
+    owns = sym (div-mul-add (own (l / n)) n (l % n) (mod-lt l some)) ∙ ap (λ x. x / n) pages ∙ div-mul-add (own (q / n)) n (q % n) (mod-lt q some)
+
+    numbers : l / n ≡ q / n
+    numbers = one_number (l / n) (q / n) owns seats
+
+-- a location's cell is a seat of its own, so a put there changes what is kept of no other location
+pub put_is_of : (n : ℕ) (es fs : List (ℕ × List Cell)) (l : ℕ) (c : Cell) → 1 ≤ n → HasPut (page_of n l) (seat_of n l) c es fs
+    → (q : ℕ) → cell_of n fs q ≡ with_cell l c (cell_of n es) q
+put_is_of n es fs l c some put q = put (page_of n q) (seat_of n q) ∙ ap (λ t. if t then c else cell_of n es q) (⊎_elim same other (eqb_tells q l))
+  where
+    One : Type 0
+    One = (page_of n q == page_of n l && seat_of n q == seat_of n l) ≡ (q == l)
+
+    same : (nat_eq q l ≡ true) × (q ≡ l) → One
+    same (is, e) = rw (is, eq-eqb (page_of n q) (page_of n l) (ap (page_of n) e), eq-eqb (seat_of n q) (seat_of n l) (ap (seat_of n) e)) refl
+
+    other : (nat_eq q l ≡ false) × (q ≢ l) → One
+    other (is, ne) = rw is (not_both (eqb_tells (page_of n q) (page_of n l)) (eqb_tells (seat_of n q) (seat_of n l)))
+      where
+        not_both : ((nat_eq (page_of n q) (page_of n l) ≡ true) × (page_of n q ≡ page_of n l)) ⊎ ((nat_eq (page_of n q) (page_of n l) ≡ false) × (page_of n q ≢ page_of n l))
+            → ((nat_eq (seat_of n q) (seat_of n l) ≡ true) × (seat_of n q ≡ seat_of n l)) ⊎ ((nat_eq (seat_of n q) (seat_of n l) ≡ false) × (seat_of n q ≢ seat_of n l))
+            → (page_of n q == page_of n l && seat_of n q == seat_of n l) ≡ false
+        not_both (inl (p, pages)) (inl (s, seats)) = absurd (ne (one_seat n q l some pages seats))
+        not_both (inl (p, pages)) (inr (s, seats)) = rw (p, s) refl
+        not_both (inr (p, pages)) s = rw p refl

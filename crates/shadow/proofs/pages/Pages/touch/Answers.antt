@@ -1,0 +1,43 @@
+use Rattle.std.proofs.Common.{◌+◌, Some, List, ap, sym, ◌∙◌, subst, refl}
+use Rattle.std.proofs.lemmas.Cmp.{nat_eq_equiv}
+use Rattle.indexmap.proofs.CallerLemmas.{updates-with_value_at}
+use Rattle.std.specs.Option.{option_copied_mut}
+use Rattle.shadow.specs.Cells.{Cell}
+use Rattle.shadow.specs.Touches.{HasTouched}
+use Rattle.shadow.specs.Pages.{cells_of, cell_at, IsPageAt}
+use Rattle.shadow.proofs.PageLemmas.{but_one_seat, put_changed, put_here, some_value, value_there}
+use Rattle.shadow.proofs.pages.Pages.touch.Goals as goal
+
+pub touch-requires-clause-may : goal.touch-requires-clause-may
+touch-requires-clause-may g c =
+    let there : IsPageAt c.self.inside.map.entries c.args.at c.args.spot.page = rw c.self.view_is c.requires.there in
+    let is = value_there c.self.inside.map.entries c.args.at c.args.spot.page c.in-Some.cells.now there c.in-Some.ensures.value in
+    rw (is, c.self.view_is) c.requires.may
+
+pub unreachable-requires : goal.unreachable-requires
+unreachable-requires g c =
+    let there : IsPageAt c.self.inside.map.entries c.args.at c.args.spot.page = rw c.self.view_is c.requires.there in
+    some_value c.self.inside.map.entries c.args.at c.args.spot.page _ there c.get_index_mut.ensures.value (ap option_copied_mut c.in-None.is)
+
+pub returns-clause-touched : goal.returns-clause-touched
+returns-clause-touched g c =
+    let es = c.self.inside.map.entries in
+    let page = c.args.spot.page in
+    let seat = c.args.spot.seat in
+    let there : IsPageAt es c.args.at page = rw c.self.view_is c.requires.there in
+    let is = value_there es c.args.at page c.in-Some.cells.now there c.in-Some.ensures.value in
+    let updates = updates-with_value_at c.self.inside.map c.args.at c.touch.new.self nat_eq_equiv c.get_index_mut.ensures.unique page c.in-Some.cells.now (there ∙ ap (λ b. Some (page, b)) (sym is)) in
+    let put = put_changed es _ page seat (cell_at c.touch.new.self seat) c.touch.new.self (λ k. but_one_seat c.in-Some.cells.now c.touch.new.self seat c.touch.ensures.others k ∙ rw is refl) updates.0 in
+    let P : List Cell → Cell → Type 0 = λ old new. HasTouched c.args.bags.now c.args.location c.args.kind c.args.place (cell_at old seat) new c.touch.result in
+    rw (← c.self.view_is) (subst (P (cells_of es page)) (sym (put_here es _ page seat _ put)) (subst (λ (b : List Cell). P b (cell_at c.touch.new.self seat)) is c.touch.ensures.touched))
+
+pub returns-clause-others : goal.returns-clause-others
+returns-clause-others g c =
+    let es = c.self.inside.map.entries in
+    let page = c.args.spot.page in
+    let seat = c.args.spot.seat in
+    let there : IsPageAt es c.args.at page = rw c.self.view_is c.requires.there in
+    let is = value_there es c.args.at page c.in-Some.cells.now there c.in-Some.ensures.value in
+    let updates = updates-with_value_at c.self.inside.map c.args.at c.touch.new.self nat_eq_equiv c.get_index_mut.ensures.unique page c.in-Some.cells.now (there ∙ ap (λ b. Some (page, b)) (sym is)) in
+    let put = put_changed es _ page seat (cell_at c.touch.new.self seat) c.touch.new.self (λ k. but_one_seat c.in-Some.cells.now c.touch.new.self seat c.touch.ensures.others k ∙ rw is refl) updates.0 in
+    rw (← c.self.view_is, put_here es _ page seat _ put) put

@@ -1,0 +1,72 @@
+//! Pages of cells: what is kept of eight locations.
+ghost use Rattle.std.specs.Prelude.{◌≡◌, ◌≢◌, ◌==◌, ◌<◌, ℕ, if◌then◌else◌};
+ghost use Rattle.shadow.specs.Pages.{cell_at};
+ghost use Rattle.shadow.specs.Cells.{untouched};
+ghost use Rattle.shadow.specs.Touches.{MayTouch, HasTouched};
+
+use crate::cell::Kept;
+use bags::Bags;
+use std::marker::Model;
+use trace::{Kind, Race};
+
+/// What is kept of eight locations.
+#[derive(Drop)]
+pub struct Page {
+    cells: [Kept; 8],
+}
+
+impl Model for Page {
+    ghost use Rattle.std.specs.Prelude.{List};
+    ghost use Rattle.shadow.specs.Cells.{Cell};
+
+    ghost Value = { List Cell };
+
+    ghost view = { λ b. b.cells };
+}
+
+impl Page {
+    /// Nothing is kept of any location.
+    pub fn untouched() -> Page
+        ensures { (seat : ℕ) → cell_at result seat ≡ untouched }
+    {
+        Page {
+            cells: [
+                Kept::untouched(),
+                Kept::untouched(),
+                Kept::untouched(),
+                Kept::untouched(),
+                Kept::untouched(),
+                Kept::untouched(),
+                Kept::untouched(),
+                Kept::untouched(),
+            ],
+        }
+    }
+
+    /// An access of the location that is kept in this seat: the race that it tells, if any. The others are left.
+    #[inline(always)]
+    pub fn touch(
+        &mut self,
+        seat: usize,
+        bags: &Bags,
+        location: u64,
+        kind: Kind,
+        place: u64,
+    ) -> Option<Race>
+        requires within { seat < 8 }
+        requires may { MayTouch bags.now place (cell_at self.old seat) }
+        ensures touched { HasTouched bags.now location kind place (cell_at self.old seat) (cell_at self.new seat) result }
+        ensures others { (k : ℕ) → k ≢ seat → cell_at self.new k ≡ cell_at self.old k }
+    {
+        self.cells[seat].touch(bags, location, kind, place)
+    }
+
+    /// Keeps this in the seat, and leaves the others.
+    #[inline(always)]
+    pub fn put(&mut self, seat: usize, kept: Kept)
+        requires { seat < 8 }
+        ensures { (k : ℕ) → cell_at self.new k ≡ (if k == seat then kept else cell_at self.old k) }
+    {
+        self.cells[seat] = kept;
+    }
+}

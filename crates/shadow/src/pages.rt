@@ -1,0 +1,177 @@
+//! The pages that were touched, by their numbers.
+ghost use Rattle.std.specs.Prelude.{◌≡◌, ◌<◌, [], IfSome, IsTrue, OnOk, OnErr};
+ghost use Rattle.shadow.specs.Pages.{cells_of, cell_in, IsPageAt, IsLookedUp, HasPut};
+ghost use Rattle.shadow.specs.Touches.{MayTouch, HasTouched};
+
+use crate::cell::Kept;
+use crate::page::Page;
+use crate::spot::Spot;
+use bags::Bags;
+use indexmap::IndexMap;
+use std::alloc::Global;
+use std::hash::BuildHasher;
+use std::marker::Model;
+use trace::{Kind, NoMemory, Race};
+
+/// How many indices are remembered.
+const SLOTS: usize = 256;
+
+/// How many slots before its own a page has that of the page whose locations come before its own.
+const NEIGHBOUR: usize = 9;
+
+/// Pages by their numbers. Where a late look-up found a page is remembered, and tried first at the next one.
+#[derive(Drop)]
+pub struct Pages<S: BuildHasher> {
+    map: IndexMap<u64, Page, S>,
+    // Indices in the map, one for all numbers of a slot. None of them is trusted.
+    recent: [usize; SLOTS],
+}
+
+impl<S: BuildHasher> Model for Pages<S> {
+    ghost use Rattle.std.specs.Prelude.{ℕ, List};
+    ghost use Rattle.shadow.specs.Cells.{Cell};
+
+    ghost Value = { List (ℕ × List Cell) };
+
+    ghost view = { λ b. b.map.entries };
+}
+
+impl<S: BuildHasher> Pages<S> {
+    /// No page. It takes no memory.
+    pub fn with_hasher(alloc: Global, hasher: S) -> Pages<S>
+        ensures { result ≡ [] }
+    {
+        Pages {
+            map: IndexMap::with_hasher(alloc, hasher),
+            recent: [0; SLOTS],
+        }
+    }
+
+    /// The index that is remembered for the spot's slot. It may be another page's.
+    #[inline(always)]
+    pub fn remembered(&self, spot: Spot) -> usize {
+        self.recent[spot.slot]
+    }
+
+    /// Whether the page of this number stands at this index.
+    #[inline(always)]
+    pub fn is_at(&self, index: usize, page: u64) -> bool
+        ensures { IsTrue result → IsPageAt self.now index page }
+    {
+        match self.map.get_index(index) {
+            Some((found, _)) => *found == page,
+            None => false,
+        }
+    }
+
+    /// Where the page of this number stands, if it is there. It is remembered for the slot.
+    #[inline(never)]
+    pub fn look_up(&mut self, slot: usize, page: u64) -> Option<usize>
+        requires { slot < 256 }
+        ensures same { self.new ≡ self.old }
+        ensures found { IsLookedUp self.old page result }
+    {
+        if let Some(index) = self.behind_its_neighbour(slot, page) {
+            self.recent[slot] = index;
+            return Some(index);
+        }
+        self.search(slot, page)
+    }
+
+    // The page's index, if it stands one or two behind the last one found of the neighbour's slot. A program that goes
+    // through an array adds its pages one after another, or by turns with those of the locations between.
+    fn behind_its_neighbour(&self, slot: usize, page: u64) -> Option<usize>
+        requires { slot < 256 }
+        ensures { IfSome result (λ i. IsPageAt self.now i page) }
+    {
+        let neighbour = self.recent[(slot + SLOTS - NEIGHBOUR) % SLOTS];
+        for step in 1..3 {
+            let near = neighbour.wrapping_add(step);
+            if self.is_at(near, page) {
+                return Some(near);
+            }
+        }
+        None
+    }
+
+    fn search(&mut self, slot: usize, page: u64) -> Option<usize>
+        requires { slot < 256 }
+        ensures same { self.new ≡ self.old }
+        ensures found { IsLookedUp self.old page result }
+    {
+        let index = self.map.get_index_of(&page)?;
+        self.recent[slot] = index;
+        Some(index)
+    }
+
+    /// An access of the location of this spot, whose page stands at this index: the race that it tells, if any.
+    #[inline(always)]
+    pub fn touch(
+        &mut self,
+        at: usize,
+        spot: Spot,
+        bags: &Bags,
+        location: u64,
+        kind: Kind,
+        place: u64,
+    ) -> Option<Race>
+        requires there { IsPageAt self.old at spot.page }
+        requires may { MayTouch bags.now place (cell_in self.old spot.page spot.seat) }
+        ensures touched { HasTouched bags.now location kind place
+            (cell_in self.old spot.page spot.seat) (cell_in self.new spot.page spot.seat) result }
+        ensures others { HasPut spot.page spot.seat (cell_in self.new spot.page spot.seat) self.old self.new }
+    {
+        match self.map.get_index_mut(at) {
+            Some(cells) => cells.touch(spot.seat, bags, location, kind, place),
+            None => unreachable!(),
+        }
+    }
+
+    /// Adds the page of this number, and keeps this in its seat.
+    ///
+    /// On an error nothing has changed.
+    #[cold]
+    #[inline(never)]
+    pub fn add(&mut self, page: u64, seat: usize, kept: Kept) -> Result<(), NoMemory>
+        requires new { cells_of self.old page ≡ [] }
+        requires within { seat < 8 }
+        ensures ok { OnOk result (HasPut page seat kept self.old self.new) }
+        ensures err { OnErr result (self.new ≡ self.old) }
+    {
+        let mut cells = Page::untouched();
+        cells.put(seat, kept);
+        self.map.insert(page, cells)?;
+        Ok(())
+    }
+}
+
+#[cfg(test)]
+mod tests {
+    use super::*;
+    use crate::spot::spot_of;
+    use std::hash::{BuildHasherDefault, FoldHasher};
+    use std::test::Fail;
+
+    /// How many pages 10,000 locations take that follow one another in the third of so many shards.
+    fn pages_taken(alloc: Global, shards: u64) -> Result<usize, Fail> {
+        let mut pages = Pages::with_hasher(alloc, BuildHasherDefault::<FoldHasher>::default());
+        for number in 0..10_000u64 {
+            if 1 <= shards && shards <= 64 {
+                let spot = spot_of(number.wrapping_mul(shards).wrapping_add(2), shards);
+                if pages.look_up(spot.slot, spot.page).is_none() {
+                    pages.add(spot.page, spot.seat, Kept::untouched())?;
+                }
+            }
+        }
+        Ok(pages.map.len())
+    }
+
+    #[test]
+    fn pages_are_full(rt: HostRuntime) -> Result<(), Fail> {
+        for shards in [1, 2, 3, 4, 5, 6, 8, 12, 16, 32, 61, 64] {
+            let taken = pages_taken(rt.alloc(), shards)?;
+            assert!(rt; 1250 <= taken && taken <= 1264, "{shards}");
+        }
+        Ok(())
+    }
+}
