@@ -1,10 +1,10 @@
--- A search by steps that are powers of two: what it knows after so many probes, and how many it makes.
-use Rattle.std.proofs.Common.{◌≡◌, ℕ, zero, suc, ◌+◌, ◌-◌, ◌*◌, ◌/◌, ◌^◌, ◌<◌, ◌≤◌, List, length, subst, arith}
+-- A search by halves: what it knows after so many probes, and how many it makes.
+use Rattle.std.proofs.Common.{◌≡◌, ℕ, zero, suc, ◌+◌, ◌-◌, ◌/◌, ◌^◌, ◌<◌, ◌≤◌, List, length, subst, arith}
 use Rattle.std.proofs.Math.Nat.{pow-zero, two-pow-succ, lt_of_not-le}
 use Rattle.std.proofs.lemmas.Nat.{pow_pos}
 use Rattle.std.proofs.lemmas.Int.Digits.{length-digits_of_step, length-digits_of-le}
-use Rattle.bags.specs.Stretch.{Stretch}
-use Rattle.bags.specs.Search.{first_at}
+use Rattle.bags.specs.declared.Ranges.{Ranges}
+use Rattle.bags.specs.Search.{own_at}
 use Rattle.bags.specs.Numbers.{digits}
 
 -- a number from 2 ^ j on has more than j digits
@@ -25,70 +25,66 @@ below_digits n = lt_of_not-le (λ h. omega (arith, digits_from (digits n) n h))
 pub digits_of_fewer : (m n : ℕ) → m ≤ n → digits m ≤ digits n
 digits_of_fewer m n h = length-digits_of-le 2 (digits n) m (omega arith) (omega (arith, below_digits n))
 
--- the greatest power of two that is not above a number
-pub digits_are : (n j : ℕ) → 2 ^ j ≤ n → n < 2 ^ suc j → digits n ≡ suc j
-digits_are n j low high = omega (arith, digits_from j n low, length-digits_of-le 2 (suc j) n (omega arith) high)
-
--- the keeper is among the next 2 ^ halvings from a candidate on, where the next step is half of that; and the probes so far
-pub record Stepped (stretches : List Stretch) (keeper step probes procedure : ℕ) : Type 0 where
+-- the keeper is among the next so many from a candidate on, which so many halvings leave one of; and the probes so far
+pub record Halved (ranges : List Ranges) (keeper span probes procedure : ℕ) : Type 0 where
   pub halvings : ℕ
-  pub long : step ≡ 2 ^ halvings / 2
-  pub within : keeper < length stretches
-  pub not_above : first_at stretches keeper ≤ procedure
-  pub next_above : keeper + 2 ^ halvings < length stretches → procedure < first_at stretches (keeper + 2 ^ halvings)
-  pub counted : probes + halvings ≤ digits (length stretches)
+  pub short : span ≤ 2 ^ halvings
+  pub some : 1 ≤ span
+  pub within : keeper + span ≤ length ranges
+  pub not_above : own_at ranges keeper ≤ procedure
+  pub next_above : keeper + span < length ranges → procedure < own_at ranges (keeper + span)
+  pub counted : probes + halvings ≤ digits (length ranges)
 
-pub at_first : (stretches : List Stretch) (step procedure : ℕ) → first_at stretches 0 ≤ procedure → 0 < length stretches → 2 * step ≡ 2 ^ digits (length stretches)
-    → Stepped stretches 0 step 0 procedure
-at_first stretches step procedure root some long = record {
-  halvings = digits (length stretches);
-  long = omega arith;
-  within = some;
+pub at_first : (ranges : List Ranges) (procedure : ℕ) → own_at ranges 0 ≤ procedure → 0 < length ranges → Halved ranges 0 (length ranges) 0 procedure
+at_first ranges procedure root some = record {
+  halvings = digits (length ranges);
+  short = omega (arith, below_digits (length ranges));
+  some = some;
+  within = omega arith;
   not_above = root;
-  next_above = λ m. absurd (omega (arith, below_digits (length stretches)));
+  next_above = λ m. absurd (omega arith);
   counted = omega arith;
 }
 
--- a step that is left
-record IsStep (step halvings : ℕ) : Type 0 where
+-- half of more than one
+record IsHalf (span halvings : ℕ) : Type 0 where
   pub fewer : ℕ
   pub one_fewer : halvings ≡ fewer + 1
-  pub is : 2 ^ fewer ≡ step
-  pub twice : 2 ^ halvings ≡ step + step
+  pub short : span - span / 2 ≤ 2 ^ fewer
 
-step_of : (step halvings : ℕ) → step ≡ 2 ^ halvings / 2 → 0 < step → IsStep step halvings
-step_of step zero long some = absurd (omega (arith, pow-zero 2))
-step_of step (suc j) long some = record {
+half_of : (span halvings : ℕ) → span ≤ 2 ^ halvings → 1 < span → IsHalf span halvings
+half_of span zero short more = absurd (omega (arith, pow-zero 2))
+half_of span (suc j) short more = record {
   fewer = j;
   one_fewer = omega arith;
-  is = omega (arith, two-pow-succ j);
-  twice = omega (arith, two-pow-succ j);
+  short = omega (arith, two-pow-succ j);
 }
 
--- a step to a stretch that begins by the procedure
-pub after_yes : (stretches : List Stretch) (keeper step probes procedure : ℕ) → Stepped stretches keeper step probes procedure → 0 < step → keeper + step < length stretches
-    → first_at stretches (keeper + step) ≤ procedure → Stepped stretches (keeper + step) (step / 2) (probes + 1) procedure
-after_yes stretches keeper step probes procedure h some within found =
-    let s = step_of step h.halvings h.long some in
-    let end : keeper + 2 ^ h.halvings ≡ keeper + step + 2 ^ s.fewer = omega (arith, s.is, s.twice) in record {
-      halvings = s.fewer;
-      long = omega (arith, s.is);
-      within = within;
+-- a probe whose answer is yes
+pub after_yes : (ranges : List Ranges) (keeper span probes procedure : ℕ) → Halved ranges keeper span probes procedure → 1 < span
+    → own_at ranges (keeper + span / 2) ≤ procedure → Halved ranges (keeper + span / 2) (span - span / 2) (probes + 1) procedure
+after_yes ranges keeper span probes procedure h more found =
+    let half = half_of span h.halvings h.short more in
+    let end : keeper + span ≡ keeper + span / 2 + (span - span / 2) = omega arith in record {
+      halvings = half.fewer;
+      short = half.short;
+      some = omega arith;
+      within = omega (arith, h.within);
       not_above = found;
-      next_above = λ m. subst (λ (n : ℕ). procedure < first_at stretches n) end (h.next_above (omega arith));
-      counted = omega (arith, h.counted, s.one_fewer);
+      next_above = λ m. subst (λ (n : ℕ). procedure < own_at ranges n) end (h.next_above (omega arith));
+      counted = omega (arith, h.counted, half.one_fewer);
     }
 
--- a stretch at the step that begins above the procedure, or none
-pub after_no : (stretches : List Stretch) (keeper step probes more procedure : ℕ) → Stepped stretches keeper step probes procedure → 0 < step → more ≤ probes + 1
-    → (keeper + step < length stretches → procedure < first_at stretches (keeper + step)) → Stepped stretches keeper (step / 2) more procedure
-after_no stretches keeper step probes more procedure h some most above =
-    let s = step_of step h.halvings h.long some in
-    let end : keeper + step ≡ keeper + 2 ^ s.fewer = omega (arith, s.is) in record {
-      halvings = s.fewer;
-      long = omega (arith, s.is);
-      within = h.within;
+-- a probe whose answer is no
+pub after_no : (ranges : List Ranges) (keeper span probes procedure : ℕ) → Halved ranges keeper span probes procedure → 1 < span
+    → procedure < own_at ranges (keeper + span / 2) → Halved ranges keeper (span / 2) (probes + 1) procedure
+after_no ranges keeper span probes procedure h more above =
+    let half = half_of span h.halvings h.short more in record {
+      halvings = half.fewer;
+      short = omega (arith, half.short);
+      some = omega arith;
+      within = omega (arith, h.within);
       not_above = h.not_above;
-      next_above = λ m. subst (λ (n : ℕ). procedure < first_at stretches n) end (above (omega arith));
-      counted = omega (arith, h.counted, s.one_fewer);
+      next_above = λ m. above;
+      counted = omega (arith, h.counted, half.one_fewer);
     }

@@ -1,6 +1,6 @@
 -- The bags after t records: at each level of the active procedures, the places of the procedures in the
 -- S-bag are serial, and those in the P-bag are kept parallel.
-use Rattle.std.proofs.Common.{◌≡◌, ℕ, suc, ◌+◌, ◌<◌, ◌≤◌, Bool, true, false, ◌||◌, List, [], ◌∷◌, length, ◌⊎◌, inl, inr, refl, sym, ◌∙◌, subst, ap, arith, eqb, if◌then◌else◌}
+use Rattle.std.proofs.Common.{◌≡◌, ℕ, suc, ◌+◌, ◌<◌, ◌≤◌, Bool, true, false, ◌||◌, List, [], ◌∷◌, length, ◌⊎◌, inl, inr, refl, sym, ◌∙◌, subst, ap, arith, eqb}
 use Rattle.std.proofs.lemmas.Bool.{cases_eq, both_ways, or_cases, eqb-true, eq-eqb}
 use Rattle.std.specs.List.{list_any}
 use Rattle.std.specs.Cmp.{nat_cmp_total}
@@ -16,7 +16,6 @@ pub record Stands (v : World) (proc : ℕ → ℕ) (m t count d : ℕ) (f : Acti
   pub parallel : (i : ℕ) → 1 ≤ i → i ≤ m → set.contains f.parallel (proc i) ≡ true → Kept v t d i
   pub serial_below : (p : ℕ) → set.contains f.serial p ≡ true → p < count
   pub parallel_below : (p : ℕ) → set.contains f.parallel p ≡ true → p < count
-  pub spawned : f.is_called ≡ false
   pub home : ℕ
   pub home_from : 1 ≤ home
   pub home_upto : home ≤ suc t
@@ -75,7 +74,6 @@ more_stand v proc m t count d f a b h = record {
   ];
   serial_below = h.serial_below;
   parallel_below = h.parallel_below;
-  spawned = h.spawned;
   home = h.home;
   home_from = h.home_from;
   home_upto = h.home_upto;
@@ -114,7 +112,6 @@ more_of_new v proc t old count d f n s l = more_stand v proc t t count d f
       parallel = s.parallel;
       serial_below = λ p c. omega (arith, s.serial_below p c);
       parallel_below = λ p c. omega (arith, s.parallel_below p c);
-      spawned = s.spawned;
       home = s.home;
       home_from = s.home_from;
       home_upto = s.home_upto;
@@ -138,7 +135,6 @@ stays v proc m t count d f l n s = record {
   parallel = λ i x y c. kept_stays v t d i l n (s.parallel i x y c);
   serial_below = s.serial_below;
   parallel_below = s.parallel_below;
-  spawned = s.spawned;
   home = s.home;
   home_from = s.home_from;
   home_upto = omega (arith, s.home_upto);
@@ -166,7 +162,6 @@ syncs v proc m t count d f b j e l s = record {
   parallel = λ i x y c. in_none (proc i) c;
   serial_below = λ p c. elim (in_union f.serial f.parallel p c) [ inl q ↦ s.serial_below p q | inr q ↦ s.parallel_below p q ];
   parallel_below = λ p c. in_none p c;
-  spawned = s.spawned;
   home = s.home;
   home_from = s.home_from;
   home_upto = omega (arith, s.home_upto);
@@ -177,20 +172,8 @@ syncs v proc m t count d f b j e l s = record {
 
 -- a return
 
--- what the parent f keeps where its child g was spawned
-abbrev taken : Active → Active → Active
-taken f g = record { own = f.own; is_called = f.is_called; serial = f.serial; parallel = set.union f.parallel (set.union g.serial g.parallel) }
-
-adopts_spawned : (f g : Active) → g.is_called ≡ false → adopts f g ≡ taken f g
-adopts_spawned f g e i = record {
-  own = f.own;
-  is_called = f.is_called;
-  serial = if e i then set.union f.serial (set.union g.serial g.parallel) else f.serial;
-  parallel = if e i then f.parallel else set.union f.parallel (set.union g.serial g.parallel);
-}
-
 closes : (v : World) (proc : ℕ → ℕ) (t count d : ℕ) (f g : Active) → suc (suc t) ≤ v.size → v.shape (suc t) ≡ spawned_return → v.depth (suc t) ≡ suc d → v.depth (suc (suc t)) ≡ d
-    → Stands v proc (suc t) t count (suc d) g → Stands v proc (suc t) t count d f → Stands v proc (suc t) (suc t) count d (taken f g)
+    → Stands v proc (suc t) t count (suc d) g → Stands v proc (suc t) t count d f → Stands v proc (suc t) (suc t) count d (adopts f g)
 closes v proc t count d f g b e a l u s = record {
   serial = λ i x y c. serial_stays v t d i (omega arith) (s.serial i x y c);
   parallel = λ i x y c. elim (in_union f.parallel (set.union g.serial g.parallel) (proc i) c) [
@@ -205,7 +188,6 @@ closes v proc t count d f g b e a l u s = record {
     | inl q ↦ s.parallel_below p q
     | inr q ↦ elim (in_union g.serial g.parallel p q) [ inl w ↦ u.serial_below p w | inr w ↦ u.parallel_below p w ]
   ];
-  spawned = s.spawned;
   home = s.home;
   home_from = s.home_from;
   home_upto = omega (arith, s.home_upto);
@@ -227,7 +209,7 @@ somewhere-synced f fs p =
     (λ i. (set.contains-union nat_cmp_total f.serial f.parallel p i || set.contains-empty nat_cmp p i) || somewhere fs p)
     ∙ regroup_sync (set.contains f.serial p) (set.contains f.parallel p) (somewhere fs p)
 
-somewhere-takes_in : (f g : Active) (fs : List Active) (p : ℕ) → somewhere (taken f g ∷ fs) p ≡ somewhere (g ∷ f ∷ fs) p
+somewhere-takes_in : (f g : Active) (fs : List Active) (p : ℕ) → somewhere (adopts f g ∷ fs) p ≡ somewhere (g ∷ f ∷ fs) p
 somewhere-takes_in f g fs p =
     (λ i. (set.contains f.serial p || set.contains-union nat_cmp_total f.parallel (set.union g.serial g.parallel) p i) || somewhere fs p)
     ∙ (λ i. (set.contains f.serial p || (set.contains f.parallel p || set.contains-union nat_cmp_total g.serial g.parallel p i)) || somewhere fs p)
@@ -284,18 +266,16 @@ at_return v proc t count (g ∷ []) b n d p h = absurd (omega (arith, h.deep))
 at_return v proc t count (g ∷ f ∷ fs) b n d p h = from_top h.each
   where
     from_next : Stands v proc (suc t) t count (suc (length fs)) g → AllStand v proc (suc t) t count (f ∷ fs) → Invariant v proc (suc t) count (adopts f g ∷ fs)
-    from_next u (one_more s r) =
-        subst (λ (a : Active). Invariant v proc (suc t) count (a ∷ fs)) (sym (adopts_spawned f g u.spawned))
-        (finish v proc t count s.home (taken f g) fs b s.home_from s.home_upto s.home_own s.home_level s.home_above (omega (arith, h.deep)) p
+    from_next u (one_more s r) = finish v proc t count s.home (adopts f g) fs b s.home_from s.home_upto s.home_own s.home_level s.home_above (omega (arith, h.deep)) p
         (one_more (closes v proc t count (length fs) f g b n (omega (arith, h.deep)) (omega (arith, h.deep)) u s)
         (stay v proc (suc t) t count fs (omega (arith, h.deep)) (λ j. omega (arith, h.deep)) r))
-        (λ i x y. somewhere-takes_in f g fs (proc i) ∙ h.stand i x y))
+        (λ i x y. somewhere-takes_in f g fs (proc i) ∙ h.stand i x y)
 
     from_top : AllStand v proc (suc t) t count (g ∷ f ∷ fs) → Invariant v proc (suc t) count (adopts f g ∷ fs)
     from_top (one_more u r) = from_next u r
 
 pub at_spawn : (v : World) (proc : ℕ → ℕ) (t count : ℕ) (fs : List Active) → suc (suc t) ≤ v.size → joins (v.shape (suc t)) ≡ false → v.depth (suc (suc t)) ≡ suc (v.depth (suc t))
-    → proc (suc (suc t)) ≡ count → Invariant v proc t count fs → Invariant v proc (suc t) (count + 1) (opened false count ∷ fs)
+    → proc (suc (suc t)) ≡ count → Invariant v proc t count fs → Invariant v proc (suc t) (count + 1) (opened count ∷ fs)
 at_spawn v proc t count fs b n d p h = record {
   deep = omega (arith, h.deep);
   each = one_more (record {
@@ -307,7 +287,6 @@ at_spawn v proc t count fs b n d p h = record {
     parallel = λ i x y c. in_none (proc i) c;
     serial_below = λ q c. omega (arith, in_one count q c);
     parallel_below = λ q c. in_none q c;
-    spawned = refl;
     home = suc (suc t);
     home_from = omega arith;
     home_upto = omega arith;
@@ -328,17 +307,17 @@ at_spawn v proc t count fs b n d p h = record {
     only : (k t : ℕ) → suc (suc t) ≤ k → k ≤ suc (suc t) → k ≡ suc (suc t)
     only k t x y = omega arith
 
-    new_stands : (q : ℕ) → q ≡ count → somewhere (opened false count ∷ fs) q ≡ true
-    new_stands q e = ap (λ (j : ℕ). somewhere (opened false count ∷ fs) j) e
+    new_stands : (q : ℕ) → q ≡ count → somewhere (opened count ∷ fs) q ≡ true
+    new_stands q e = ap (λ (j : ℕ). somewhere (opened count ∷ fs) j) e
         ∙ ap (λ (c : Bool). (c || set.contains (set.empty {R = nat_cmp}) count) || somewhere fs count) (one_in count)
 
     or_more : (c d : Bool) → d ≡ true → (c || d) ≡ true
     or_more c d e = grind arith
 
-    old_stands : (q : ℕ) → somewhere fs q ≡ true → somewhere (opened false count ∷ fs) q ≡ true
-    old_stands q e = or_more (set.contains (opened false count).serial q || set.contains (opened false count).parallel q) (somewhere fs q) e
+    old_stands : (q : ℕ) → somewhere fs q ≡ true → somewhere (opened count ∷ fs) q ≡ true
+    old_stands q e = or_more (set.contains (opened count).serial q || set.contains (opened count).parallel q) (somewhere fs q) e
 
-pub at_start : (v : World) (proc : ℕ → ℕ) → v.depth 1 ≡ 0 → proc 1 ≡ 0 → Invariant v proc 0 1 (opened false 0 ∷ [])
+pub at_start : (v : World) (proc : ℕ → ℕ) → v.depth 1 ≡ 0 → proc 1 ≡ 0 → Invariant v proc 0 1 (opened 0 ∷ [])
 at_start v proc d p = record {
   deep = omega arith;
   each = one_more (record {
@@ -346,7 +325,6 @@ at_start v proc d p = record {
     parallel = λ i x y c. in_none (proc i) c;
     serial_below = λ q c. omega (arith, in_one 0 q c);
     parallel_below = λ q c. in_none q c;
-    spawned = refl;
     home = 1;
     home_from = omega arith;
     home_upto = omega arith;
@@ -354,8 +332,8 @@ at_start v proc d p = record {
     home_level = d;
     home_above = λ k x y. omega arith;
   }) none;
-  stand = λ i x y. ap (λ (j : ℕ). somewhere (opened false 0 ∷ []) (proc j)) (sym (only i x y))
-      ∙ ap (λ (j : ℕ). somewhere (opened false 0 ∷ []) j) p
+  stand = λ i x y. ap (λ (j : ℕ). somewhere (opened 0 ∷ []) (proc j)) (sym (only i x y))
+      ∙ ap (λ (j : ℕ). somewhere (opened 0 ∷ []) j) p
       ∙ ap (λ (c : Bool). (c || set.contains (set.empty {R = nat_cmp}) 0) || false) (one_in 0);
 }
   where

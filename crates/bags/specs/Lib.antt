@@ -1,7 +1,5 @@
 pub mod Procedures
 pub mod Paths
-pub mod Stretches
-pub mod Stretch
-pub mod Held
+pub mod Ranges
 pub mod Search
 pub mod Numbers

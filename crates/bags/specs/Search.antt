@@ -1,9 +1,9 @@
--- Private: the first numbers of stretches.
+-- Private: the numbers of the active procedures, the root's first.
 use Rattle.std.specs.Prelude.{ℕ, zero, suc, List, [], ◌∷◌}
-use Rattle.bags.specs.Stretch.{Stretch}
+use Rattle.bags.specs.declared.Ranges.{Ranges}
 
--- the first number at an index, or 0 past the end
-abbrev pub first_at : List Stretch → ℕ → ℕ
-first_at [] i = 0
-first_at (s ∷ ss) zero = s.first
-first_at (s ∷ ss) (suc i) = first_at ss i
+-- the own number at an index, or 0 past the end
+abbrev pub own_at : List Ranges → ℕ → ℕ
+own_at [] i = 0
+own_at (f ∷ fs) zero = f.own
+own_at (f ∷ fs) (suc i) = own_at fs i

@@ -1,29 +1,27 @@
 //! S-bags and P-bags: which completed procedures are parallel to the one that executes.
 //!
-//! Procedures are numbered by their spawns and calls. A stretch is a longest run of consecutive procedures that stand in
-//! one bag of one active procedure; so the list of stretches says what all the bags hold.
+//! Procedures are numbered by their spawns. So a bag holds consecutive numbers, and two numbers for each
+//! active procedure say what all the bags hold.
 #![tactic(auto)]
 
-ghost use Rattle.std.specs.Prelude.{◌≡◌, ◌+◌, ◌*◌, ◌<◌, ◌≤◌, ◌^◌, true, false, length, IfOk, OnOk, OnErr};
+ghost use Rattle.std.specs.Prelude.{◌≡◌, ◌+◌, ◌*◌, ◌<◌, ◌≤◌, ◌^◌, length, IfOk, OnOk, OnErr};
 ghost use Rattle.trace.specs.Bounds.{most_records};
-ghost use Rattle.bags.specs.Search.{first_at};
-ghost use Rattle.bags.specs.Stretches.{stretches};
+ghost use Rattle.bags.specs.Search.{own_at};
 ghost use Rattle.bags.specs.Numbers.{digits};
 
 use std::alloc::Global;
 use std::marker::Model;
-use stretch::Stretch;
 use trace::NoMemory;
 
+mod first;
 pub mod laws;
-mod stretch;
 
-/// An active procedure.
+/// The numbers of an active procedure. Its S-bag holds the procedures from its own number on, and its
+/// P-bag those from `parallel_from` on, up to the number of the next active procedure.
 #[derive(Clone, Copy)]
-struct Nested {
-    /// Where its stretches begin. The first of them begins with the procedure itself, in its S-bag.
-    begins: usize,
-    is_called: bool,
+struct Ranges {
+    own: first::First,
+    parallel_from: u64,
 }
 
 /// The bags of the active procedures of a serial run, which begins in its root.
@@ -32,9 +30,7 @@ struct Nested {
 #[derive(Drop)]
 pub struct Bags {
     /// The active procedures; the last one executes.
-    nested: Vec<Nested>,
-    /// Their stretches: the root's first, then those of the next active procedure, and so on.
-    stretches: Vec<Stretch>,
+    nested: Vec<Ranges>,
     count: u64,
 }
 
@@ -45,69 +41,42 @@ impl Model for Bags {
 
     ghost coded = { coded_procedures };
 
-    ghost use Rattle.bags.specs.Held.{procedures_of, AreHeld};
+    ghost use Rattle.bags.specs.Ranges.{procedures_of, AreHeld};
 
-    ghost view = { λ b. procedures_of b.count b.stretches.items b.nested.items };
+    ghost view = { λ b. procedures_of b.count b.nested.items };
 
-    ghost invariant = { λ b. AreHeld b.count b.stretches.items b.nested.items };
+    ghost invariant = { λ b. AreHeld b.count b.nested.items };
 }
 
 impl Bags {
     ghost use Rattle.bags.specs.Paths.{TellsPaths};
-    ghost use Rattle.bags.specs.Procedures.{at_start, entered, event, in_p};
-    ghost use Rattle.trace.specs.declared.records.Record.TheVariants.{Sync, Return};
+    ghost use Rattle.bags.specs.Procedures.{at_start, event, in_p};
+    ghost use Rattle.trace.specs.declared.records.Record.TheVariants.{Spawn, Sync, Return};
 
     /// The bags at the start: the root alone is active.
     pub fn new(alloc: Global) -> Result<Bags, NoMemory>
         ensures { IfOk result (λ bags. bags ≡ at_start) }
     {
         let mut nested = Vec::new(alloc);
-        nested.push(Nested {
-            begins: 0,
-            is_called: false,
-        })?;
-        let mut stretches = Vec::new(alloc);
-        stretches.push(Stretch::new(0, false))?;
-        Ok(Bags {
-            nested,
-            stretches,
-            count: 1,
-        })
+        let root = Ranges {
+            own: first::First::new(0),
+            parallel_from: 1,
+        };
+        nested.push(root)?;
+        Ok(Bags { nested, count: 1 })
     }
 
     /// The executing procedure spawns a child, which executes from here on.
     pub fn spawn(&mut self) -> Result<(), NoMemory>
         requires { self.old.count ≤ most_records }
-        ensures ok { OnOk result (self.new ≡ entered self.old false) }
+        ensures ok { OnOk result (self.new ≡ event self.old Spawn) }
         ensures err { OnErr result (self.new ≡ self.old) }
     {
-        self.enter(false)
-    }
-
-    /// The executing procedure calls a child, which executes from here on.
-    pub fn call(&mut self) -> Result<(), NoMemory>
-        requires { self.old.count ≤ most_records }
-        ensures ok { OnOk result (self.new ≡ entered self.old true) }
-        ensures err { OnErr result (self.new ≡ self.old) }
-    {
-        self.enter(true)
-    }
-
-    // Both lists grow before anything changes.
-    #[inline(always)]
-    fn enter(&mut self, is_called: bool) -> Result<(), NoMemory>
-        requires { self.old.count ≤ most_records }
-        ensures ok { OnOk result (self.new ≡ entered self.old is_called) }
-        ensures err { OnErr result (self.new ≡ self.old) }
-    {
-        self.nested.reserve(1)?;
-        self.stretches.reserve(1)?;
-        self.nested.push_reserved(Nested {
-            begins: self.stretches.len(),
-            is_called,
-        });
-        self.stretches
-            .push_reserved(Stretch::new(self.count, false));
+        let child = Ranges {
+            own: first::First::new(self.count),
+            parallel_from: self.count + 1,
+        };
+        self.nested.push(child)?;
         self.count += 1;
         Ok(())
     }
@@ -116,8 +85,8 @@ impl Bags {
     pub fn sync(&mut self)
         ensures { self.new ≡ event self.old Sync }
     {
-        let executing = self.nested[self.nested.len() - 1];
-        self.stretches.truncate(executing.begins + 1);
+        let executing = self.nested.len() - 1;
+        self.nested[executing].parallel_from = self.count;
     }
 
     /// The executing procedure returns to its parent, which executes from here on.
@@ -125,16 +94,7 @@ impl Bags {
         requires { 1 < length self.old.active }
         ensures { self.new ≡ event self.old Return }
     {
-        let executing = self.nested[self.nested.len() - 1];
         let _ = self.nested.pop();
-        let own = self.stretches[executing.begins];
-        let last = self.stretches[executing.begins - 1];
-        self.stretches.truncate(executing.begins);
-        // What it kept goes to one bag of its parent, and joins the parent's last stretch where that is of the same bag.
-        let is_parallel = !executing.is_called;
-        if last.is_parallel() != is_parallel {
-            self.stretches.push_reserved(own.moved(is_parallel));
-        }
     }
 
     /// How many procedures there are so far, completed ones among them.
@@ -153,11 +113,11 @@ impl Bags {
         self.nested.len() as u64
     }
 
-    /// How many numbers are held in all: one for each active procedure, and one for each stretch.
+    /// How many numbers are held in all.
     pub fn held(&self) -> u64
-        ensures { result ≡ length self.now.active + stretches self.now }
+        ensures { result ≡ 2 * length self.now.active }
     {
-        (self.nested.len() + self.stretches.len()) as u64
+        2 * self.nested.len() as u64
     }
 
     /// Whether a procedure stands in a P-bag: whether it is parallel to what executes next.
@@ -173,53 +133,71 @@ impl Bags {
     }
 
     /// The answer of `in_p`, and the probes that it took: how often the procedure's number was compared with
-    /// the first number of a stretch.
+    /// the first number of an active one.
     #[inline(always)]
     pub fn in_p_counted(&self, procedure: u64) -> (bool, u32)
         requires { procedure < self.now.count }
         ensures bags { result.0 ≡ in_p self.now.active procedure }
         ensures paths { TellsPaths self.now procedure result.0 }
-        ensures probes { result.1 ≤ digits (stretches self.now) }
+        ensures probes { result.1 ≤ digits (length self.now.active) }
     {
         let mut probes = 0;
-        let keeper = keeper_of(&self.stretches, procedure, &mut probes);
-        (self.stretches[keeper].is_parallel(), probes)
+        let executing = self.nested[self.nested.len() - 1];
+        if executing.parallel_from <= procedure {
+            return (true, 0);
+        }
+        if procedure < self.nested[0].parallel_from {
+            return (false, 0);
+        }
+        // So the root doesn't execute. Between where two P-bags begin lie the first one and the next S-bag; which two they
+        // are is told at once where they are the newest or the oldest.
+        let parent = self.nested[self.nested.len() - 2];
+        if parent.parallel_from <= procedure {
+            return (!executing.own.is_at_most(procedure, &mut probes), probes);
+        }
+        let second = self.nested[1];
+        if procedure < second.parallel_from {
+            return (!second.own.is_at_most(procedure, &mut probes), probes);
+        }
+        let grandparent = self.nested[self.nested.len() - 3];
+        if grandparent.parallel_from <= procedure {
+            return (!parent.own.is_at_most(procedure, &mut probes), probes);
+        }
+        let third = self.nested[2];
+        if procedure < third.parallel_from {
+            return (!third.own.is_at_most(procedure, &mut probes), probes);
+        }
+        let older = &self.nested[..self.nested.len() - 2];
+        let keeper = keeper_of(older, procedure, &mut probes);
+        (self.nested[keeper].parallel_from <= procedure, probes)
     }
 }
 
-/// The index of the stretch that a procedure lies in: the last one whose first number is not above it. It is searched by
-/// steps that are powers of two, each half as long as the one before.
-#[tactic(auto, using(crate::proofs::Segments::first_at_is))]
+/// The index of the active procedure that keeps a procedure: the last one whose number is not above it. It is
+/// searched by halves.
+#[tactic(auto, using(crate::proofs::RangeLemmas::own_at_is))]
 #[inline(always)]
-fn keeper_of(stretches: &[Stretch], procedure: u64, probes: &mut u32) -> usize
-    requires some { 0 < length stretches.now }
-    requires root { first_at stretches.now 0 ≤ procedure }
+fn keeper_of(ranges: &[Ranges], procedure: u64, probes: &mut u32) -> usize
+    requires some { 0 < length ranges.now }
+    requires root { own_at ranges.now 0 ≤ procedure }
     requires uncounted { probes.old ≡ 0 }
-    ensures within { result < length stretches.now }
-    ensures not_above { first_at stretches.now result ≤ procedure }
-    ensures next_above { result + 1 < length stretches.now → procedure < first_at stretches.now (result + 1) }
-    ensures probes { probes.new ≤ digits (length stretches.now) }
+    ensures within { result < length ranges.now }
+    ensures not_above { own_at ranges.now result ≤ procedure }
+    ensures next_above { result + 1 < length ranges.now → procedure < own_at ranges.now (result + 1) }
+    ensures probes { probes.new ≤ digits (length ranges.now) }
 {
     let mut keeper = 0;
-    let mut step = longest_step(stretches.len());
-    while step > 0 {
-        if step < stretches.len() - keeper
-            && stretches[keeper + step].begins_by(procedure, probes)
-        {
-            keeper += step;
+    let mut span = ranges.len();
+    while span > 1 {
+        let half = span / 2;
+        if ranges[keeper + half].own.is_at_most(procedure, probes) {
+            keeper += half;
+            span -= half;
+        } else {
+            span = half;
         }
-        step /= 2;
     }
     keeper
-}
-
-/// The greatest power of two that is not above a length.
-#[inline(always)]
-fn longest_step(len: usize) -> usize
-    requires { 0 < len }
-    ensures { 2 * result ≡ 2 ^ digits len }
-{
-    1 << len.ilog2()
 }
 
 #[cfg(test)]
@@ -232,21 +210,12 @@ mod tests {
     /// The call that a record makes.
     fn call(bags: &mut Bags, what: Record) -> Result<(), NoMemory> {
         match what {
-            Record::Spawn => enter(bags, false)?,
+            Record::Spawn if bags.count() <= 1000 => bags.spawn()?,
             Record::Sync => bags.sync(),
             Record::Return if bags.active() > 1 => bags.ret(),
             _ => (),
         }
         Ok(())
-    }
-
-    /// A spawn or a call.
-    fn enter(bags: &mut Bags, is_called: bool) -> Result<(), NoMemory> {
-        match is_called {
-            _ if bags.count() > 1000 => Ok(()),
-            true => bags.call(),
-            false => bags.spawn(),
-        }
     }
 
     /// The procedures that stand in a P-bag, and the most probes that a look-up takes.
@@ -344,7 +313,7 @@ mod tests {
             call(&mut bags, what)?;
         }
         let (in_p, most) = looked_up(rt.alloc(), &bags)?;
-        assert_eq!(rt; sizes(&bags), (2, 3, 5));
+        assert_eq!(rt; sizes(&bags), (2, 3, 4));
         assert_eq!(rt; in_p.as_slice(), [1].as_slice());
         assert!(rt; most <= 2);
 
@@ -355,9 +324,9 @@ mod tests {
             call(&mut bags, Record::Return)?;
         }
         let (in_p, most) = looked_up(rt.alloc(), &bags)?;
-        assert_eq!(rt; sizes(&bags), (1, 3, 3));
+        assert_eq!(rt; sizes(&bags), (1, 3, 2));
         assert_eq!(rt; in_p.as_slice(), [1, 2].as_slice());
-        assert!(rt; most <= 2);
+        assert!(rt; most <= 1);
         Ok(())
     }
 
@@ -376,9 +345,9 @@ mod tests {
         }
         let (in_p, most) = looked_up(rt.alloc(), &bags)?;
         let all: Vec<u64> = (1..1001).collect(rt.alloc())?;
-        assert_eq!(rt; sizes(&bags), (1, 1001, 3));
+        assert_eq!(rt; sizes(&bags), (1, 1001, 2));
         assert_eq!(rt; in_p.as_slice(), all.as_slice());
-        assert!(rt; most <= 2);
+        assert!(rt; most <= 1);
         Ok(())
     }
 
@@ -392,65 +361,6 @@ mod tests {
         let (is_parallel, probes) = bags.in_p_counted(bags.current());
         assert_eq!(rt; (bags.active(), is_parallel), (17, false));
         assert!(rt; probes <= 1);
-        Ok(())
-    }
-
-    // A spawned child and then a called one: the root's S-bag holds itself and the called one.
-    #[test]
-    fn called_after_spawned(rt: HostRuntime) -> Result<(), Fail> {
-        let mut bags = Bags::new(rt.alloc())?;
-        for is_called in [false, true] {
-            enter(&mut bags, is_called)?;
-            call(&mut bags, Record::Return)?;
-        }
-        let (in_p, most) = looked_up(rt.alloc(), &bags)?;
-        assert_eq!(rt; sizes(&bags), (1, 3, 4));
-        assert_eq!(rt; in_p.as_slice(), [1].as_slice());
-        assert!(rt; most <= 2);
-        Ok(())
-    }
-
-    // The numbers of spawned children are odd.
-    #[test]
-    fn calls_between_spawns(rt: HostRuntime) -> Result<(), Fail> {
-        let mut bags = Bags::new(rt.alloc())?;
-        for number in 0..1000 {
-            enter(&mut bags, number % 2 == 1)?;
-            call(&mut bags, Record::Return)?;
-        }
-        let (in_p, most) = looked_up(rt.alloc(), &bags)?;
-        let odd: Vec<u64> = (0..500).map(|half| 2 * half + 1).collect(rt.alloc())?;
-        assert_eq!(rt; sizes(&bags), (1, 1001, 1002));
-        assert_eq!(rt; in_p.as_slice(), odd.as_slice());
-        assert!(rt; most <= 10);
-
-        bags.sync();
-        let (in_p, most) = looked_up(rt.alloc(), &bags)?;
-        assert_eq!(rt; sizes(&bags), (1, 1001, 2));
-        assert!(rt; in_p.is_empty());
-        assert!(rt; most <= 1);
-        Ok(())
-    }
-
-    // A called child's sync and return wait for its own children, and not for those of its caller.
-    #[test]
-    fn syncs_of_called(rt: HostRuntime) -> Result<(), Fail> {
-        let mut bags = Bags::new(rt.alloc())?;
-        enter(&mut bags, false)?;
-        call(&mut bags, Record::Return)?;
-        enter(&mut bags, true)?;
-        call(&mut bags, Record::Sync)?;
-        assert_eq!(rt; looked_up(rt.alloc(), &bags)?.0.as_slice(), [1].as_slice());
-        call(&mut bags, Record::Return)?;
-        assert_eq!(rt; looked_up(rt.alloc(), &bags)?.0.as_slice(), [1].as_slice());
-
-        let mut bags = Bags::new(rt.alloc())?;
-        enter(&mut bags, true)?;
-        enter(&mut bags, false)?;
-        call(&mut bags, Record::Return)?;
-        assert_eq!(rt; looked_up(rt.alloc(), &bags)?.0.as_slice(), [2].as_slice());
-        call(&mut bags, Record::Return)?;
-        assert!(rt; looked_up(rt.alloc(), &bags)?.0.is_empty());
         Ok(())
     }
 }
