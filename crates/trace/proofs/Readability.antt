@@ -6,7 +6,7 @@ use Rattle.std.proofs.lemmas.List.{append-nil, append_cancel_left}
 use Rattle.std.proofs.lemmas.List.Elements.{All-from_recursion, All-nil, All-cons, All-head, All-tail, All-push}
 use Rattle.std.proofs.lemmas.Fmt.{decimal_by_steps, decimal_injective}
 use Rattle.trace.specs.declared.records.Record.{Record}
-use Rattle.trace.specs.declared.records.Record.TheVariants.{Spawn, Call, Return, Sync, Read, Write}
+use Rattle.trace.specs.declared.records.Record.TheVariants.{Spawn, Return, Sync, Read, Write}
 use Rattle.trace.specs.declared.faults.TextFault.{TextFault}
 use Rattle.trace.specs.declared.faults.TextKind.{TextKind}
 use Rattle.trace.specs.declared.faults.TextKind.TheVariants.{Line, TooMany, Truncated}
@@ -62,7 +62,6 @@ unended-header = unended_word (codes "trace 1") (omega arith)
 
 pub unended-spell : (r : Record) → Fits r → IsUnended (spell r)
 unended-spell Spawn fits = unended_word (codes "spawn") (omega arith)
-unended-spell Call fits = elim fits [ ]
 unended-spell Return fits = unended_word (codes "return") (omega arith)
 unended-spell Sync fits = unended_word (codes "sync") (omega arith)
 unended-spell (Read l) fits = unended-append (codes "read ") (decimal l) (unended_word (codes "read ") (omega arith)) (unended-decimal l fits)
@@ -80,32 +79,26 @@ differ_third a b c d e f xs ys other eq = other (cc)
 -- a record has one spelling of its own
 pub spell_injective : (r s : Record) → Fits r → Fits s → spell r ≡ spell s → r ≡ s
 spell_injective Spawn Spawn fr fs e = refl
-spell_injective Spawn Call fr fs e = elim fs [ ]
 spell_injective Spawn Return fr fs e = absurd (differ_first _ _ _ _ (omega arith) e)
 spell_injective Spawn Sync fr fs e = absurd (differ_second _ _ _ _ _ _ (omega arith) e)
 spell_injective Spawn (Read m) fr fs e = absurd (differ_first _ _ _ _ (omega arith) e)
 spell_injective Spawn (Write m) fr fs e = absurd (differ_first _ _ _ _ (omega arith) e)
-spell_injective Call s fr fs e = elim fr [ ]
 spell_injective Return Spawn fr fs e = absurd (differ_first _ _ _ _ (omega arith) e)
-spell_injective Return Call fr fs e = elim fs [ ]
 spell_injective Return Return fr fs e = refl
 spell_injective Return Sync fr fs e = absurd (differ_first _ _ _ _ (omega arith) e)
 spell_injective Return (Read m) fr fs e = absurd (differ_third _ _ _ _ _ _ _ _ (omega arith) e)
 spell_injective Return (Write m) fr fs e = absurd (differ_first _ _ _ _ (omega arith) e)
 spell_injective Sync Spawn fr fs e = absurd (differ_second _ _ _ _ _ _ (omega arith) e)
-spell_injective Sync Call fr fs e = elim fs [ ]
 spell_injective Sync Return fr fs e = absurd (differ_first _ _ _ _ (omega arith) e)
 spell_injective Sync Sync fr fs e = refl
 spell_injective Sync (Read m) fr fs e = absurd (differ_first _ _ _ _ (omega arith) e)
 spell_injective Sync (Write m) fr fs e = absurd (differ_first _ _ _ _ (omega arith) e)
 spell_injective (Read l) Spawn fr fs e = absurd (differ_first _ _ _ _ (omega arith) e)
-spell_injective (Read l) Call fr fs e = elim fs [ ]
 spell_injective (Read l) Return fr fs e = absurd (differ_third _ _ _ _ _ _ _ _ (omega arith) e)
 spell_injective (Read l) Sync fr fs e = absurd (differ_first _ _ _ _ (omega arith) e)
 spell_injective (Read l) (Read m) fr fs e = ap Read (decimal_injective l m fr fs (append_cancel_left (codes "read ") _ _ e))
 spell_injective (Read l) (Write m) fr fs e = absurd (differ_first _ _ _ _ (omega arith) e)
 spell_injective (Write l) Spawn fr fs e = absurd (differ_first _ _ _ _ (omega arith) e)
-spell_injective (Write l) Call fr fs e = elim fs [ ]
 spell_injective (Write l) Return fr fs e = absurd (differ_first _ _ _ _ (omega arith) e)
 spell_injective (Write l) Sync fr fs e = absurd (differ_first _ _ _ _ (omega arith) e)
 spell_injective (Write l) (Read m) fr fs e = absurd (differ_first _ _ _ _ (omega arith) e)
@@ -288,7 +281,6 @@ no_first_fault_first records depths rest g h (bad_place n bad first) = no_bad_pl
 
 closes_none : (r : Record) → opens r ≡ 1 → closes r ≡ 0
 closes_none Spawn e = refl
-closes_none Call e = refl
 closes_none Return e = absurd (omega arith)
 closes_none Sync e = refl
 closes_none (Read l) e = refl

@@ -7,7 +7,7 @@ use Rattle.std.proofs.Math.Seq.{take-add, take-length}
 use Rattle.std.proofs.lemmas.List.Elements.{All-append}
 use Rattle.std.proofs.lemmas.Fmt.{length-decimal-le}
 use Rattle.trace.specs.declared.records.Record.{Record}
-use Rattle.trace.specs.declared.records.Record.TheVariants.{Spawn, Call, Return, Sync, Read, Write}
+use Rattle.trace.specs.declared.records.Record.TheVariants.{Spawn, Return, Sync, Read, Write}
 use Rattle.trace.specs.Text.{newline, header, spell, Fits, ended, line, text, IsUnended}
 
 pub text-push : (w : List Record) (r : Record) → text (w ++ r ∷ []) ≡ text w ++ line r
@@ -16,7 +16,6 @@ text-push w r = ap (λ x. ended header ++ x) (flat_map-append line w (r ∷ []) 
 -- no line has more than 26 bytes
 pub length-spell : (r : Record) → Fits r → length (spell r) ≤ 26
 length-spell Spawn fits = omega arith
-length-spell Call fits = elim fits [ ]
 length-spell Return fits = omega arith
 length-spell Sync fits = omega arith
 length-spell (Read l) fits = omega (arith, length-append (codes "read ") (decimal l), length-decimal-le 20 l (omega arith) (omega arith) fits)

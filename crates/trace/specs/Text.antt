@@ -2,7 +2,7 @@
 use Rattle.std.specs.Prelude.{◌≢◌, ℕ, ◌<◌, ◌≤◌, ◌^◌, List, [], ◌∷◌, ◌++◌, length, All, codes, decimal}
 use Rattle.std.specs.List.{flat_map, AllByRecursion}
 use Rattle.trace.specs.declared.records.Record.{Record}
-use Rattle.trace.specs.declared.records.Record.TheVariants.{Spawn, Call, Return, Sync, Read, Write}
+use Rattle.trace.specs.declared.records.Record.TheVariants.{Spawn, Return, Sync, Read, Write}
 use Rattle.trace.specs.Bounds.{longest_line}
 
 -- the byte that ends a line
@@ -15,16 +15,14 @@ header = codes "trace 1"
 -- a record as it is spelled
 abbrev pub spell : Record → List ℕ
 spell Spawn = codes "spawn"
-spell Call = codes "call"
 spell Return = codes "return"
 spell Sync = codes "sync"
 spell (Read l) = codes "read " ++ decimal l
 spell (Write l) = codes "write " ++ decimal l
 
--- what has a spelling: no call, and a record whose location fits 64 bits
+-- what has a spelling: a record whose location fits 64 bits
 abbrev pub Fits : Record → Type 0
 Fits Spawn = Unit {0}
-Fits Call = ⊥
 Fits Return = Unit {0}
 Fits Sync = Unit {0}
 Fits (Read l) = l < 2 ^ 64

@@ -9,11 +9,9 @@ use std::marker::Model;
 pub enum Record {
     /// The executing procedure spawns a child, which executes from the next record on.
     Spawn,
-    /// The executing procedure calls another, which executes from the next record on and returns before it goes on.
-    Call,
     /// The executing procedure returns, after the sync that every return implies.
     Return,
-    /// The executing procedure waits for the children that it has spawned itself.
+    /// The executing procedure waits for the children that it has spawned.
     Sync,
     /// A read of a location.
     Read(u64),

@@ -34,7 +34,6 @@ pub fn write_record<W: Sink>(what: &Record, sink: &mut W) -> Result<(), WriteFau
 {
     match what {
         Record::Spawn => put_all(sink, b"spawn\n"),
-        Record::Call => put_all(sink, b"call\n"),
         Record::Return => put_all(sink, b"return\n"),
         Record::Sync => put_all(sink, b"sync\n"),
         Record::Read(location) => put_access(sink, b"read ", *location),
