@@ -5,6 +5,8 @@ mod ends;
 mod item;
 mod sender;
 mod taker;
+#[cfg(test)]
+mod tests;
 mod waiting;
 
 pub use ends::lane;

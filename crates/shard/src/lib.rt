@@ -4,6 +4,8 @@
 mod gate;
 mod state;
 mod telling;
+#[cfg(test)]
+mod tests;
 mod worker;
 mod working;
 

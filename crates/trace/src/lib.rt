@@ -12,6 +12,8 @@ mod numbers;
 pub mod parallel;
 pub mod reading;
 pub mod records;
+#[cfg(test)]
+mod tests;
 pub mod watching;
 pub mod writers;
 
