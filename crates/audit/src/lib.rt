@@ -8,8 +8,6 @@ pub mod laws;
 pub mod location_races;
 pub mod measures;
 mod meetings;
-#[cfg(test)]
-mod tests;
 
 pub use answers::{Confirm, Measure};
 pub use confirms::confirm;

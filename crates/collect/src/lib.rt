@@ -6,8 +6,6 @@ pub mod laws;
 mod lines;
 pub mod readers;
 pub mod reports;
-#[cfg(test)]
-mod tests;
 pub mod writers;
 
 pub use collectors::Collector;

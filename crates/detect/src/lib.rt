@@ -13,8 +13,6 @@ mod running;
 mod sending;
 mod settling;
 pub mod sharded;
-#[cfg(test)]
-mod tests;
 mod workers;
 
 pub use plain::detect_plain;

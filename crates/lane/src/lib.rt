@@ -5,8 +5,6 @@ mod ends;
 mod item;
 mod sender;
 mod taker;
-#[cfg(test)]
-mod tests;
 mod waiting;
 
 pub use ends::lane;

@@ -8,8 +8,6 @@ mod portion;
 mod progress;
 mod puts;
 mod routing;
-#[cfg(test)]
-mod tests;
 mod turns;
 
 pub use batch::Batch;

@@ -4,8 +4,6 @@
 mod gate;
 mod state;
 mod telling;
-#[cfg(test)]
-mod tests;
 mod worker;
 mod working;
 

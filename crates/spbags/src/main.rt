@@ -1,29 +1,12 @@
 //! The program `spbags`: the races of a trace, and questions about it.
 #![tactic(auto)]
 
-ghost use Rattle.std.specs.Fn.{FnReturnsAt};
-ghost use Rattle.trace.specs.Devices.{◌⇝◌};
-ghost use Rattle.spbags.specs.Files.{HasAnsweredOf, HasConfirmedOf, IsAnsweredOf};
-ghost use Rattle.spbags.specs.Inputs.{known_bytes};
-
-mod answers;
-mod confirms;
-mod input;
-mod questions;
-#[cfg(test)]
-mod tests;
-
-pub use answers::{MOST_RECORDS, answer, limits_of, refuse};
-pub use confirms::answer_confirm;
-pub use input::{Input, open_report};
-use std::fs::File;
-use std::io::{BufReader, BufWriter, ErrorKind, Read};
+use replies::{answer_asked, refuse};
+use std::env;
+use std::io::{BufWriter, ErrorKind};
 use std::process::ExitCode;
-use std::sync::Wait;
-use std::thread::Threads;
-use std::{env, io};
-use trace::{Counted, Sink};
-pub use words::{Asked, Check, Confirm, Measure, Pairs, Question, VERSION, WordsFault, read_words};
+use trace::Counted;
+use words::{Asked, WordsFault, read_words};
 
 fn main(rt: HostRuntime) -> ExitCode {
     let alloc = rt.alloc();
@@ -53,94 +36,4 @@ fn read_arguments(rt: &HostRuntime) -> Result<Asked, WordsFault> {
     };
     let words = arguments.skip(1).collect::<Vec<String>>(rt.alloc())?;
     read_words(rt.alloc(), words.as_slice())
-}
-
-// Answers what is asked, from the files of the system.
-fn answer_asked<T: Threads + Wait + Sync, W: Sink, E: Sink>(
-    threads: &T,
-    rt: &HostRuntime,
-    asked: &Asked,
-    out: &mut W,
-    err: &mut E,
-) -> u8 {
-    let opener = |name: &str| File::open(rt, name);
-    answer_from_files(threads, rt, asked, &opener, out, err)
-}
-
-// How many bytes are read ahead of a trace, so that a long one takes few calls of the system.
-const AHEAD: usize = 1 << 16;
-
-// Answers what is asked, of what the names stand for.
-fn answer_from_files<T, F, O, W: Sink, E: Sink>(
-    threads: &T,
-    rt: &HostRuntime,
-    asked: &Asked,
-    opener: &O,
-    out: &mut W,
-    err: &mut E,
-) -> u8
-where
-    T: Threads + Wait + Sync,
-    F: Read + Drop,
-    O: Fn(&str) -> io::Result<F>,
-    requires { O.IsAlwaysCallable opener.now }
-    ensures { IsAnsweredOf (FnReturnsAt O.Fn opener.now) (known_bytes F.remaining) asked.now
-        (W.state out.old ⇝ W.state out.new) (E.state err.old ⇝ E.state err.new) result }
-{
-    match asked {
-        Asked::Question(question) => question_from_files(threads, rt, question, opener, out, err),
-        Asked::Confirm(confirm) => confirm_from_files(rt, confirm, opener, out, err),
-    }
-}
-
-// Opens the trace, and answers of it. Without memory to read ahead nothing is read.
-fn question_from_files<T, F, O, W: Sink, E: Sink>(
-    threads: &T,
-    rt: &HostRuntime,
-    question: &Question,
-    opener: &O,
-    out: &mut W,
-    err: &mut E,
-) -> u8
-where
-    T: Threads + Wait + Sync,
-    F: Read + Drop,
-    O: Fn(&str) -> io::Result<F>,
-    requires { O.IsAlwaysCallable opener.now }
-    ensures { HasAnsweredOf (FnReturnsAt O.Fn opener.now) (known_bytes F.remaining) question.now
-        (W.state out.old ⇝ W.state out.new) (E.state err.old ⇝ E.state err.new) result }
-{
-    let alloc = rt.alloc();
-    let trace = Input::open(rt, question.trace(), opener);
-    let Ok(ahead) = BufReader::with_capacity(alloc, AHEAD, trace) else {
-        return refuse(&WordsFault::NoMemory, out, err);
-    };
-    let mut trace = Counted::new(ahead);
-    answer(threads, alloc, question, &mut trace, out, err)
-}
-
-// Opens the trace and then the report, and answers of both. Without memory to read ahead nothing is read.
-fn confirm_from_files<F, O, W: Sink, E: Sink>(
-    rt: &HostRuntime,
-    confirm: &Confirm,
-    opener: &O,
-    out: &mut W,
-    err: &mut E,
-) -> u8
-where
-    F: Read + Drop,
-    O: Fn(&str) -> io::Result<F>,
-    requires { O.IsAlwaysCallable opener.now }
-    ensures { HasConfirmedOf (FnReturnsAt O.Fn opener.now) (known_bytes F.remaining) confirm.now
-        (W.state out.old ⇝ W.state out.new) (E.state err.old ⇝ E.state err.new) result }
-{
-    let alloc = rt.alloc();
-    let trace = Input::open(rt, confirm.trace.as_str(), opener);
-    let report = open_report(rt, &trace, confirm.report.as_str(), opener);
-    let Ok(ahead) = BufReader::with_capacity(alloc, AHEAD, trace) else {
-        return refuse(&WordsFault::NoMemory, out, err);
-    };
-    let mut trace = Counted::new(ahead);
-    let mut report = Counted::new(report);
-    answer_confirm(alloc, confirm, &mut trace, &mut report, out, err)
 }

@@ -4,8 +4,6 @@
 mod answers;
 mod messages;
 mod reports;
-#[cfg(test)]
-mod tests;
 
 pub use answers::{put_confirm, put_measure, put_pairs};
 pub use messages::{put, say, say_fault, say_refusal};

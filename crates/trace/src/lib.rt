@@ -12,8 +12,6 @@ mod numbers;
 pub mod parallel;
 pub mod reading;
 pub mod records;
-#[cfg(test)]
-mod tests;
 pub mod watching;
 pub mod writers;
 

@@ -4,8 +4,6 @@
 mod asking;
 mod commands;
 mod reading;
-#[cfg(test)]
-mod tests;
 
 pub use asking::{Asked, Check, Confirm, Measure, Pairs, Question};
 pub use commands::VERSION;

@@ -1,0 +1,277 @@
+//! The questions on traces that are cut in two pieces at every place, and after every byte; and on readers that fail.
+
+use super::rows::{
+    GRANDCHILD_SYNCED, LIMITS, READER_MOVES_TO_CHILD, SYNC_IN_SIBLING, SYNC_ORDERS, THREE_WRITES,
+    TWO_READERS_THEN_WRITE, Told, WRITE_WRITE, listed,
+};
+use audit::{Confirm, Measure, confirm, measure};
+use collect::{Report, read_report};
+use std::alloc::Global;
+use std::io::{self, ErrorKind, Read};
+use std::process::Abort;
+use std::test::Fail;
+use trace::{Counted, Fault, Kind, Limits, NestFault, NestKind, TextFault, TextKind};
+
+/// Hands out the bytes up to the cut in pieces of the size, and then the others. One call fails, where that is asked:
+/// the calls after it go on as if it hadn't been.
+#[derive(Clone, Copy)]
+struct Parts<'a> {
+    first: &'a [u8],
+    second: &'a [u8],
+    size: usize,
+    calls: usize,
+    fails_at: Option<usize>,
+}
+
+impl<'a> Parts<'a> {
+    fn cut(bytes: &'a [u8], place: usize) -> Parts<'a> {
+        let (first, second) = bytes.split_at(place.min(bytes.len()));
+        Parts {
+            first,
+            second,
+            size: 4096,
+            calls: 0,
+            fails_at: None,
+        }
+    }
+
+    fn byte_by_byte(bytes: &'a [u8], fails_at: Option<usize>) -> Parts<'a> {
+        Parts {
+            first: bytes,
+            second: b"",
+            size: 1,
+            calls: 0,
+            fails_at,
+        }
+    }
+}
+
+impl Read for Parts<'_> {
+    fn read(&mut self, buffer: &mut [u8]) -> io::Result<usize> {
+        let call = self.calls;
+        self.calls = call.saturating_add(1);
+        if self.fails_at == Some(call) {
+            return Err(io::Error::from(ErrorKind::Interrupted));
+        }
+        if self.first.is_empty() {
+            self.first = self.second;
+            self.second = b"";
+        }
+        let part: &[u8] = self.first;
+        let count = self.size.min(part.len()).min(buffer.len());
+        buffer[..count].copy_from_slice(&part[..count]);
+        self.first = &part[count..];
+        Ok(count)
+    }
+}
+
+/// What is asked beside the trace, and how deep it may be.
+#[derive(Clone, Copy)]
+struct Question<'a> {
+    depth: u32,
+    location: u64,
+    report: &'a Report,
+}
+
+/// What the three questions answer.
+type Answers = (
+    Result<Measure, Fault>,
+    Result<Vec<Told>, Fault>,
+    Result<Confirm, Fault>,
+);
+
+fn ask(alloc: Global, question: Question<'_>, parts: Parts<'_>) -> Answers {
+    let limits = Limits {
+        records: LIMITS.records,
+        depth: question.depth,
+    };
+    let measured = measure(alloc, limits, &mut Counted::new(parts));
+    let told = listed(alloc, limits, &mut Counted::new(parts), question.location);
+    let confirmed = confirm(alloc, limits, &mut Counted::new(parts), question.report);
+    (measured, told, confirmed)
+}
+
+/// A trace, one of its locations, the text of a report that is confirmed, the measure, and the location's races.
+type Row = (
+    &'static [u8],
+    u64,
+    &'static [u8],
+    (u64, u64, u64, u32),
+    &'static [Told],
+);
+
+const ROWS: [Row; 10] = [
+    (
+        WRITE_WRITE,
+        5,
+        b"races 1\nrace 5 write 2 write 4\n",
+        (5, 4, 1, 1),
+        &[((Kind::Write, 2), (Kind::Write, 4))],
+    ),
+    (SYNC_ORDERS, 5, b"races 0\n", (6, 6, 1, 1), &[]),
+    (
+        b"trace 1\nspawn\nread 5\nreturn\nread 5\nreturn\n",
+        5,
+        b"races 0\n",
+        (5, 4, 1, 1),
+        &[],
+    ),
+    (
+        TWO_READERS_THEN_WRITE,
+        9,
+        b"races 1\nrace 9 read 2 write 7\n",
+        (8, 5, 2, 1),
+        &[
+            ((Kind::Read, 2), (Kind::Write, 7)),
+            ((Kind::Read, 5), (Kind::Write, 7)),
+        ],
+    ),
+    (
+        READER_MOVES_TO_CHILD,
+        9,
+        b"races 1\nrace 9 read 3 write 5\n",
+        (6, 5, 1, 1),
+        &[((Kind::Read, 3), (Kind::Write, 5))],
+    ),
+    (GRANDCHILD_SYNCED, 1, b"races 0\n", (8, 8, 2, 2), &[]),
+    (
+        SYNC_IN_SIBLING,
+        1,
+        b"races 1\nrace 1 write 2 write 6\n",
+        (8, 6, 2, 1),
+        &[((Kind::Write, 2), (Kind::Write, 6))],
+    ),
+    (
+        b"trace 1\nspawn\nspawn\nwrite 1\nreturn\nreturn\nread 1\nreturn\n",
+        1,
+        b"races 1\nrace 1 write 3 read 6\n",
+        (7, 6, 2, 2),
+        &[((Kind::Write, 3), (Kind::Read, 6))],
+    ),
+    (
+        b"trace 1\nwrite 18446744073709551615\nreturn\n",
+        18446744073709551615,
+        b"races 0\n",
+        (2, 2, 0, 0),
+        &[],
+    ),
+    (
+        THREE_WRITES,
+        3,
+        b"races 1\nrace 3 write 2 write 5\n",
+        (8, 5, 2, 1),
+        &[
+            ((Kind::Write, 2), (Kind::Write, 5)),
+            ((Kind::Write, 2), (Kind::Write, 7)),
+            ((Kind::Write, 5), (Kind::Write, 7)),
+        ],
+    ),
+];
+
+/// Asserts what is answered of a row from these parts.
+fn assert_answers(rt: &impl Abort, alloc: Global, row: Row, parts: Parts<'_>) -> Result<(), Fail> {
+    let (text, location, report, (work, span, spawns, depth), pairs) = row;
+    let report = read_report(alloc, report)?;
+    let question = Question {
+        depth: LIMITS.depth,
+        location,
+        report: &report,
+    };
+    let (measured, told, confirmed) = ask(alloc, question, parts);
+    let wanted = Measure {
+        work,
+        span,
+        spawns,
+        depth,
+    };
+    assert_eq!(rt; measured, Ok(wanted), "{text:?}");
+    assert_eq!(rt; told?.as_slice(), pairs, "{text:?}");
+    assert_eq!(rt; confirmed, Ok(Confirm::Yes), "{text:?}");
+    Ok(())
+}
+
+#[test]
+fn answers_of_pieces(rt: HostRuntime) -> Result<(), Fail> {
+    for row in ROWS {
+        for cut in 0..=row.0.len() {
+            assert_answers(&rt, rt.alloc(), row, Parts::cut(row.0, cut))?;
+        }
+        let parts = Parts::byte_by_byte(row.0, None);
+        assert_answers(&rt, rt.alloc(), row, parts)?;
+    }
+    Ok(())
+}
+
+/// Asserts that there is this fault for an answer from these parts.
+fn assert_fault(
+    rt: &impl Abort,
+    alloc: Global,
+    depth: u32,
+    fault: Fault,
+    parts: Parts<'_>,
+) -> Result<(), Fail> {
+    let report = read_report(alloc, b"races 0\n")?;
+    let question = Question {
+        depth,
+        location: 5,
+        report: &report,
+    };
+    let wanted = (Err(fault), Err(fault), Err(fault));
+    assert_eq!(rt; ask(alloc, question, parts), wanted, "{:?}", parts.first);
+    Ok(())
+}
+
+fn text(line: u64, kind: TextKind) -> Fault {
+    Fault::Text(TextFault { line, kind })
+}
+
+fn nest(place: u64, kind: NestKind) -> Fault {
+    Fault::Nest(NestFault { place, kind })
+}
+
+#[test]
+fn faults_of_pieces(rt: HostRuntime) -> Result<(), Fail> {
+    let rows: [(u32, &[u8], Fault); 8] = [
+        (
+            9,
+            b"trace 1\nwrite 18446744073709551616\nreturn\n",
+            text(2, TextKind::Line),
+        ),
+        (9, b"", text(1, TextKind::Truncated)),
+        (9, b"trace 1\n", nest(1, NestKind::Unfinished)),
+        (9, b"trace 1\nreturn\nread 1\n", nest(2, NestKind::AfterEnd)),
+        (9, b"trace 1\nread 01\nreturn\n", text(2, TextKind::Line)),
+        (9, b"trace 1\nreturn", text(2, TextKind::Truncated)),
+        (1, b"trace 1\nspawn\nspawn\n", nest(2, NestKind::TooDeep)),
+        (0, WRITE_WRITE, nest(1, NestKind::TooDeep)),
+    ];
+    for (depth, text, fault) in rows {
+        for cut in 0..=text.len() {
+            let parts = Parts::cut(text, cut);
+            assert_fault(&rt, rt.alloc(), depth, fault, parts)?;
+        }
+        let parts = Parts::byte_by_byte(text, None);
+        assert_fault(&rt, rt.alloc(), depth, fault, parts)?;
+    }
+    Ok(())
+}
+
+// A call that fails isn't tried again, and no answer comes of what was read before; but a fault that came before is told.
+#[test]
+fn failing_calls(rt: HostRuntime) -> Result<(), Fail> {
+    for call in 0..=WRITE_WRITE.len() {
+        let parts = Parts::byte_by_byte(WRITE_WRITE, Some(call));
+        assert_fault(&rt, rt.alloc(), 9, Fault::Read, parts)?;
+    }
+    let rows: [(&[u8], Fault); 4] = [
+        (b"trace 1\nx\n", text(2, TextKind::Line)),
+        (b"trace 1\nretu", Fault::Read),
+        (b"trace 1\nreturn\n", Fault::Read),
+        (b"trace 1\nreturn\nsync\n", nest(2, NestKind::AfterEnd)),
+    ];
+    for (text, fault) in rows {
+        let parts = Parts::byte_by_byte(text, Some(text.len()));
+        assert_fault(&rt, rt.alloc(), 9, fault, parts)?;
+    }
+    Ok(())
+}

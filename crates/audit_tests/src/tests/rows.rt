@@ -1,0 +1,265 @@
+//! The worked rows of the questions.
+
+use audit::{Confirm, Measure, confirm, measure, pairs};
+use collect::read_report;
+use std::alloc::Global;
+use std::process::Abort;
+use std::test::Fail;
+use trace::{
+    Counted, Fault, Kind, Limits, NestFault, NestKind, Record, Source, WriteFault, write_header,
+    write_record,
+};
+
+const EMPTY: &[u8] = b"trace 1\nreturn\n";
+
+pub const WRITE_WRITE: &[u8] = b"trace 1\nspawn\nwrite 5\nreturn\nwrite 5\nreturn\n";
+
+pub const SYNC_ORDERS: &[u8] = b"trace 1\nspawn\nwrite 5\nreturn\nsync\nwrite 5\nreturn\n";
+
+pub const SYNC_IN_SIBLING: &[u8] =
+    b"trace 1\nspawn\nwrite 1\nreturn\nspawn\nsync\nwrite 1\nreturn\nreturn\n";
+
+pub const TWO_READERS_THEN_WRITE: &[u8] =
+    b"trace 1\nspawn\nread 9\nreturn\nspawn\nread 9\nreturn\nwrite 9\nreturn\n";
+
+pub const GRANDCHILD_SYNCED: &[u8] =
+    b"trace 1\nspawn\nspawn\nwrite 1\nreturn\nreturn\nsync\nread 1\nreturn\n";
+
+pub const THREE_WRITES: &[u8] =
+    b"trace 1\nspawn\nwrite 3\nreturn\nspawn\nwrite 3\nreturn\nwrite 3\nreturn\n";
+
+pub const READER_MOVES_TO_CHILD: &[u8] =
+    b"trace 1\nread 9\nspawn\nread 9\nreturn\nwrite 9\nreturn\n";
+
+const THREE_SHARDS: &[u8] = b"trace 1\nspawn\nwrite 8\nwrite 2\nreturn\nread 8\nread 2\nreturn\n";
+
+const READ_THEN_WRITE_IN_CHILD: &[u8] =
+    b"trace 1\nspawn\nread 7\nwrite 7\nreturn\nwrite 7\nreturn\n";
+
+pub const LIMITS: Limits = Limits {
+    records: 1 << 48,
+    depth: 9,
+};
+
+fn measured(alloc: Global, text: &[u8]) -> Result<Measure, Fault> {
+    measure(alloc, LIMITS, &mut Counted::new(text))
+}
+
+#[test]
+fn measures(rt: HostRuntime) {
+    let rows: [(&str, &[u8], (u64, u64, u64, u32)); 8] = [
+        ("empty", EMPTY, (1, 1, 0, 0)),
+        ("write-write", WRITE_WRITE, (5, 4, 1, 1)),
+        ("sync-orders", SYNC_ORDERS, (6, 6, 1, 1)),
+        ("sync-in-sibling", SYNC_IN_SIBLING, (8, 6, 2, 1)),
+        (
+            "two-readers-then-write",
+            TWO_READERS_THEN_WRITE,
+            (8, 5, 2, 1),
+        ),
+        ("grandchild-synced", GRANDCHILD_SYNCED, (8, 8, 2, 2)),
+        ("three-writes", THREE_WRITES, (8, 5, 2, 1)),
+        (
+            "read-then-write-in-child",
+            READ_THEN_WRITE_IN_CHILD,
+            (6, 5, 1, 1),
+        ),
+    ];
+    for (name, text, (work, span, spawns, depth)) in rows {
+        let wanted = Measure {
+            work,
+            span,
+            spawns,
+            depth,
+        };
+        assert_eq!(rt; measured(rt.alloc(), text), Ok(wanted), "{name}");
+    }
+}
+
+/// The places and kinds of a pair.
+pub type Told = ((Kind, u64), (Kind, u64));
+
+/// All races of a location.
+pub fn listed<R: Source>(
+    alloc: Global,
+    limits: Limits,
+    reader: &mut R,
+    location: u64,
+) -> Result<Vec<Told>, Fault> {
+    let mut told = Vec::new(alloc);
+    for (first, second) in &pairs(alloc, limits, reader, location)? {
+        let pair = ((first.kind, first.place), (second.kind, second.place));
+        told.push(pair).map_err(|_| Fault::NoMemory)?;
+    }
+    Ok(told)
+}
+
+#[test]
+fn pairs_of_locations(rt: HostRuntime) -> Result<(), Fail> {
+    let (read, write) = (Kind::Read, Kind::Write);
+    let rows: [(&str, &[u8], u64, &[Told]); 8] = [
+        ("empty", EMPTY, 0, &[]),
+        (
+            "reader-moves-to-child",
+            READER_MOVES_TO_CHILD,
+            9,
+            &[((read, 3), (write, 5))],
+        ),
+        ("grandchild-synced", GRANDCHILD_SYNCED, 1, &[]),
+        (
+            "two-readers-then-write",
+            TWO_READERS_THEN_WRITE,
+            9,
+            &[((read, 2), (write, 7)), ((read, 5), (write, 7))],
+        ),
+        (
+            "three-writes",
+            THREE_WRITES,
+            3,
+            &[
+                ((write, 2), (write, 5)),
+                ((write, 2), (write, 7)),
+                ((write, 5), (write, 7)),
+            ],
+        ),
+        ("three-writes", THREE_WRITES, 4, &[]),
+        (
+            "read-then-write-in-child",
+            READ_THEN_WRITE_IN_CHILD,
+            7,
+            &[((read, 2), (write, 5)), ((write, 3), (write, 5))],
+        ),
+        ("sync-orders", SYNC_ORDERS, 5, &[]),
+    ];
+    for (name, text, location, wanted) in rows {
+        let told = listed(rt.alloc(), LIMITS, &mut Counted::new(text), location)?;
+        assert_eq!(rt; told.as_slice(), wanted, "{name}, location {location}");
+    }
+    Ok(())
+}
+
+/// The answer, or `None` where the report's text is faulty.
+fn confirmed(alloc: Global, text: &[u8], report: &[u8]) -> Result<Option<Confirm>, Fault> {
+    let Ok(report) = read_report(alloc, report) else {
+        return Ok(None);
+    };
+    Ok(Some(confirm(alloc, LIMITS, &mut Counted::new(text), &report)?))
+}
+
+#[test]
+fn confirm_answers(rt: HostRuntime) -> Result<(), Fail> {
+    let rows: [(&str, &[u8], &[u8], Confirm); 9] = [
+        (
+            "write-write",
+            WRITE_WRITE,
+            b"races 1\nrace 5 write 2 write 4\n",
+            Confirm::Yes,
+        ),
+        (
+            "write-write",
+            WRITE_WRITE,
+            b"races 1\nrace 5 write 2 read 4\n",
+            Confirm::No { entry: 1 },
+        ),
+        (
+            "write-write",
+            WRITE_WRITE,
+            b"races 1\nrace 5 write 2 write 9\n",
+            Confirm::No { entry: 1 },
+        ),
+        (
+            "sync-orders",
+            SYNC_ORDERS,
+            b"races 1\nrace 5 write 2 write 5\n",
+            Confirm::No { entry: 1 },
+        ),
+        (
+            "three-writes",
+            THREE_WRITES,
+            b"races 1\nrace 3 write 5 write 7\n",
+            Confirm::Yes,
+        ),
+        ("write-write", WRITE_WRITE, b"races 0\n", Confirm::Yes),
+        (
+            "three-shards",
+            THREE_SHARDS,
+            b"races 2\nrace 2 write 3 read 6\nrace 8 write 2 read 5\n",
+            Confirm::Yes,
+        ),
+        (
+            "three-shards",
+            THREE_SHARDS,
+            b"races 2\nrace 2 write 3 read 6\nrace 8 write 2 read 6\n",
+            Confirm::No { entry: 2 },
+        ),
+        (
+            "three-shards",
+            THREE_SHARDS,
+            b"races 2\nrace 2 write 2 read 6\nrace 8 write 2 read 6\n",
+            Confirm::No { entry: 1 },
+        ),
+    ];
+    for (name, text, report, wanted) in rows {
+        let answer = confirmed(rt.alloc(), text, report)?;
+        assert_eq!(rt; answer, Some(wanted), "{name}");
+    }
+    Ok(())
+}
+
+/// A child and its parent write the same 1,000 locations.
+fn write_thousand_races(text: &mut Vec<u8>) -> Result<(), WriteFault> {
+    let mut sink = Counted::new(text);
+    write_header(&mut sink)?;
+    write_record(&Record::Spawn, &mut sink)?;
+    for k in 0..1000 {
+        write_record(&Record::Write(2 * k), &mut sink)?;
+    }
+    write_record(&Record::Return, &mut sink)?;
+    for k in 0..1000 {
+        write_record(&Record::Write(2 * k), &mut sink)?;
+    }
+    write_record(&Record::Return, &mut sink)
+}
+
+#[test]
+fn thousand_races(rt: HostRuntime) -> Result<(), Fail> {
+    let mut text = Vec::new(rt.alloc());
+    write_thousand_races(&mut text)?;
+    let wanted = Measure {
+        work: 2003,
+        span: 1003,
+        spawns: 1,
+        depth: 1,
+    };
+    assert_eq!(rt; measured(rt.alloc(), &text)?, wanted);
+    for k in 0..1000 {
+        check_only_pair(&rt, rt.alloc(), &text, k)?;
+    }
+    Ok(())
+}
+
+/// The k-th location has one race: the child's k-th write with its parent's.
+fn check_only_pair(rt: &impl Abort, alloc: Global, text: &[u8], k: u64) -> Result<(), Fail> {
+    let k = k.min(1000);
+    let wanted = [((Kind::Write, 2 + k), (Kind::Write, 1003 + k))];
+    assert_eq!(rt;
+        listed(alloc, LIMITS, &mut Counted::new(text), 2 * k)?.as_slice(),
+        wanted.as_slice()
+    );
+    Ok(())
+}
+
+// A fault is the whole answer.
+#[test]
+fn faults(rt: HostRuntime) -> Result<(), Fail> {
+    let text: &[u8] = b"trace 1\nwrite 5\n";
+    let unfinished = Fault::Nest(NestFault {
+        place: 2,
+        kind: NestKind::Unfinished,
+    });
+    assert_eq!(rt; measured(rt.alloc(), text), Err(unfinished));
+    assert!(rt; listed(rt.alloc(), LIMITS, &mut Counted::new(text), 5).is_err());
+    let answer = confirmed(rt.alloc(), text, b"races 0\n");
+    assert_eq!(rt; answer, Err(unfinished));
+    Ok(())
+}

@@ -1,0 +1,156 @@
+//! The rows of the report's text, the collector's example, and writers that fail.
+
+use collect::{Collector, ReportFault, read_report, write_report};
+use shard::Back;
+use std::alloc::Global;
+use std::io::{self, ErrorKind, Write};
+use std::test::Fail;
+use trace::{Access, Counted, Kind, NoMemory, Race};
+
+const WRITE_WRITE: &[u8] = b"races 1\nrace 5 write 2 write 4\n";
+
+// Takes one byte at each call. The call after so many fails, with an error or by taking none, and the next go on.
+#[derive(Drop)]
+struct Drip {
+    bytes: [u8; 64],
+    count: usize,
+    most: usize,
+    error: Option<ErrorKind>,
+    failed: bool,
+}
+
+impl Write for Drip {
+    fn write(&mut self, buffer: &[u8]) -> io::Result<usize> {
+        if self.count == self.most && !self.failed {
+            self.failed = true;
+            return match self.error {
+                Some(kind) => Err(io::Error::from(kind)),
+                None => Ok(0),
+            };
+        }
+        if buffer.is_empty() || self.count >= 64 {
+            return Ok(0);
+        }
+        self.bytes[self.count] = buffer[0];
+        self.count += 1;
+        Ok(1)
+    }
+
+    fn flush(&mut self) -> io::Result<()> {
+        Ok(())
+    }
+}
+
+#[test]
+fn cut_after_each_byte(rt: HostRuntime) -> Result<(), Fail> {
+    let report = read_report(rt.alloc(), WRITE_WRITE)?;
+    for most in 0..=WRITE_WRITE.len() {
+        for error in [Some(ErrorKind::Interrupted), Some(ErrorKind::Other), None] {
+            let mut drip = Drip {
+                bytes: [0; 64],
+                count: 0,
+                most,
+                error,
+                failed: false,
+            };
+            let written = write_report(&report, &mut Counted::new(&mut drip));
+            assert_eq!(rt; written.is_ok(), most == 31, "{error:?} after {most}");
+            assert_eq!(rt; drip.count, most, "{error:?} after {most}");
+            assert_eq!(rt;
+                drip.bytes[..most],
+                WRITE_WRITE[..most],
+                "{error:?} after {most}"
+            );
+        }
+    }
+    Ok(())
+}
+
+// How many races the bytes tell, or the number of their first faulty line.
+fn read(alloc: Global, bytes: &[u8]) -> Result<usize, ReportFault> {
+    Ok(read_report(alloc, bytes)?.races().len())
+}
+
+fn bad(line: u64) -> Result<usize, ReportFault> {
+    Err(ReportFault::Bad { line })
+}
+
+#[test]
+fn rows(rt: HostRuntime) {
+    let rows: [(&[u8], Result<usize, ReportFault>); 20] = [
+        (b"", bad(1)),
+        (b"races 0\n", Ok(0)),
+        (b"races 0", bad(1)),
+        (b"races 0\n\n", bad(2)),
+        (b"races 1\nrace 5 write 2 write 4\n", Ok(1)),
+        (b"races 2\nrace 5 write 2 write 4\n", bad(3)),
+        (b"races 1\nrace 5 read 2 read 4\n", bad(2)),
+        (b"races 1\nrace 5 write 4 write 4\n", bad(2)),
+        (b"races 1\nrace 5 write 0 write 4\n", bad(2)),
+        (
+            b"races 2\nrace 5 write 2 write 4\nrace 5 write 2 write 4\n",
+            bad(3),
+        ),
+        (b"races 1\nrace 5 write 2 write 4\nx", bad(3)),
+        (b"races 1\nrace 05 write 2 write 4\n", bad(2)),
+        (b"races 1\nrace 5 write 2 write 4", bad(2)),
+        (b"races 01\nrace 5 write 2 write 4\n", bad(1)),
+        (b"races 1\nrace 5 write 2 write 281474976710656\n", Ok(1)),
+        (b"races 1\nrace 5 write 2 write 281474976710657\n", bad(2)),
+        (
+            b"races 1\nrace 18446744073709551615 read 2 write 4\n",
+            Ok(1),
+        ),
+        (
+            b"races 1\nrace 18446744073709551616 read 2 write 4\n",
+            bad(2),
+        ),
+        (b"races 18446744073709551615\n", bad(2)),
+        (
+            b"races 2\nrace 4 write 2 read 4\nrace 5 read 2 write 4\n",
+            Ok(2),
+        ),
+    ];
+    for (bytes, want) in rows {
+        assert_eq!(rt; read(rt.alloc(), bytes), want);
+    }
+}
+
+fn race(location: u64, first: u64, second: u64) -> Option<Race> {
+    if 0 < first && first < second && second <= 1 << 48 {
+        let kind = Kind::Write;
+        Some(Race {
+            location,
+            first: Access { kind, place: first },
+            second: Access {
+                kind,
+                place: second,
+            },
+        })
+    } else {
+        None
+    }
+}
+
+#[test]
+fn best_of_each_location(rt: HostRuntime) -> Result<(), Fail> {
+    let mut collector = Collector::new(rt.alloc());
+    for (location, first, second) in [(5, 2, 9), (5, 3, 6), (5, 2, 6), (4, 1, 6)] {
+        let race = race(location, first, second).ok_or("no race")?;
+        collector.take(Back::Race(race))?;
+    }
+    let report = collector.finish()?;
+    assert_eq!(rt; report.races().len(), 2);
+    assert_eq!(rt; Some(report.races()[0]), race(4, 1, 6));
+    assert_eq!(rt; Some(report.races()[1]), race(5, 3, 6));
+    Ok(())
+}
+
+#[test]
+fn shard_without_memory(rt: HostRuntime) -> Result<(), Fail> {
+    let mut collector = Collector::new(rt.alloc());
+    collector.take(Back::NoMemory)?;
+    collector.take(Back::Race(race(4, 1, 6).ok_or("no race")?))?;
+    assert_eq!(rt; collector.finish().err(), Some(NoMemory));
+    Ok(())
+}

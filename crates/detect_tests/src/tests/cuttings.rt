@@ -1,0 +1,139 @@
+//! The worked rows in two pieces, cut at every place: the answers are those of the whole. And readers that fail between
+//! the pieces.
+ghost use Rattle.std.specs.Prelude.{None};
+
+use super::answers::{Hasher, Pieces, run_from, text_of};
+use super::faulty_rows::FAULTY;
+use super::reported_rows::{LIMITS, REPORTED, WRITE_WRITE};
+use detect::detect_plain;
+use shard::Open;
+use std::alloc::Global;
+use std::process::Abort;
+use std::sync::Wait;
+use std::thread::Threads;
+use trace::{Failed, Fault, Limits, Source};
+
+/// Where a text is cut. A call fails there, where that is asked, and then the bytes come one by one.
+#[derive(Clone, Copy)]
+struct Cut<'a> {
+    text: &'a [u8],
+    place: usize,
+    fails: bool,
+}
+
+/// Hands out the bytes up to the cut, and then the others. The calls after one that fails go on as if it hadn't been.
+#[derive(Drop)]
+struct TwoPieces<'a> {
+    first: Pieces<'a>,
+    second: Pieces<'a>,
+    fails: bool,
+    failed: u64,
+}
+
+impl<'a> TwoPieces<'a> {
+    fn of(cut: Cut<'a>) -> TwoPieces<'a> {
+        let (first, second) = cut.text.split_at(cut.place.min(cut.text.len()));
+        let size = if cut.fails { 1 } else { 4096 };
+        TwoPieces {
+            first: Pieces { bytes: first, size },
+            second: Pieces {
+                bytes: second,
+                size,
+            },
+            fails: cut.fails,
+            failed: 0,
+        }
+    }
+}
+
+impl<'a> Source for TwoPieces<'a> {
+    ghost state = { λ s. record { bytes = None; failures = s.failed } };
+
+    fn get(&mut self, buffer: &mut [u8]) -> Result<usize, Failed> {
+        if !self.first.bytes.is_empty() {
+            return self.first.get(buffer);
+        }
+        if self.fails {
+            self.fails = false;
+            self.failed = self.failed.saturating_add(1);
+            return Err(Failed);
+        }
+        self.second.get(buffer)
+    }
+}
+
+/// The text of the report by so many shards, or by one thread.
+fn text_from<T: Threads + Wait + Sync>(
+    rt: &T,
+    alloc: Global,
+    shards: Option<u32>,
+    limits: Limits,
+    cut: Cut<'_>,
+) -> Result<Vec<u8>, Fault> {
+    let mut pieces = TwoPieces::of(cut);
+    let report = match shards {
+        None => detect_plain(alloc, limits, &mut pieces, Hasher::default())?,
+        Some(shards) => {
+            let shards = shards.clamp(1, 64);
+            run_from(rt, alloc, shards, limits, &mut pieces, &Open)?.report
+        }
+    };
+    text_of(alloc, &report)
+}
+
+/// Asserts what one thread, one shard and three answer.
+fn assert_answers<T: Threads + Wait + Sync + Abort>(
+    rt: &T,
+    alloc: Global,
+    limits: Limits,
+    cut: Cut<'_>,
+    wanted: Result<&[u8], Fault>,
+) {
+    for shards in [None, Some(1), Some(3)] {
+        let text = text_from(rt, alloc, shards, limits, cut);
+        let told = match &text {
+            Ok(text) => Ok(text.as_slice()),
+            Err(fault) => Err(*fault),
+        };
+        let Cut { text, place, .. } = cut;
+        assert_eq!(rt; told, wanted, "{text:?} at {place} by {shards:?}");
+    }
+}
+
+#[test]
+fn reports_of_two_pieces(rt: HostRuntime) {
+    for row in REPORTED {
+        let text = row.text;
+        for place in 0..text.len() {
+            let fails = false;
+            let cut = Cut { text, place, fails };
+            assert_answers(&rt, rt.alloc(), LIMITS, cut, Ok(row.report));
+        }
+    }
+}
+
+#[test]
+fn faults_of_two_pieces(rt: HostRuntime) {
+    for row in FAULTY {
+        let text = row.text;
+        for place in 0..text.len() {
+            let fails = false;
+            let cut = Cut { text, place, fails };
+            assert_answers(&rt, rt.alloc(), row.limits, cut, Err(row.fault));
+        }
+    }
+}
+
+// A call that fails isn't tried again, and no answer comes of what was read before.
+#[test]
+fn each_call_fails(rt: HostRuntime) {
+    let text = WRITE_WRITE;
+    let fails = true;
+    for place in 0..text.len() {
+        let cut = Cut { text, place, fails };
+        assert_answers(&rt, rt.alloc(), LIMITS, cut, Err(Fault::Read));
+    }
+    let place = text.len();
+    let at_end = Cut { text, place, fails };
+    assert_answers(&rt, rt.alloc(), LIMITS, at_end, Err(Fault::Read));
+}

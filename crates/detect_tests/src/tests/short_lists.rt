@@ -1,0 +1,202 @@
+//! Every list of at most 7 records over one location: what is detected, and what a shard answers at each place, is
+//! what the definitions tell.
+
+use super::answers::Hasher;
+use super::by_definition::{
+    MOST, Told, first_fault, is_well_nested, paths, race_ending_at, second_place,
+};
+use collect::Report;
+use detect::detect_plain;
+use shard::Shard;
+use std::alloc::Global;
+use std::process::Abort;
+use std::test::Fail;
+use trace::{
+    Counted, Fault, Limits, NestKind, Placed, Race, Record, WriteFault, write_header, write_record,
+};
+
+const LETTERS: [Record; 5] = [
+    Record::Spawn,
+    Record::Return,
+    Record::Sync,
+    Record::Read(0),
+    Record::Write(0),
+];
+
+/// How many lists there are of each length.
+pub const COUNTS: [usize; MOST] = [5, 25, 125, 625, 3125, 15625, 78125];
+
+/// How many lists were read, and with which answers.
+#[derive(Clone, Copy, Debug, PartialEq, Eq)]
+struct Tally {
+    race_free: u64,
+    racy: u64,
+    too_deep: u64,
+    otherwise_faulty: u64,
+}
+
+impl Tally {
+    fn count(&mut self, expected: &Result<Option<Told>, Fault>) {
+        match expected {
+            Ok(None) => self.race_free = self.race_free.saturating_add(1),
+            Ok(Some(_)) => self.racy = self.racy.saturating_add(1),
+            Err(Fault::Nest(nest)) if nest.kind == NestKind::TooDeep => {
+                self.too_deep = self.too_deep.saturating_add(1);
+            }
+            Err(_) => self.otherwise_faulty = self.otherwise_faulty.saturating_add(1),
+        }
+    }
+}
+
+/// The list whose letters are the digits of the number.
+pub fn list_of(number: usize) -> [Record; MOST] {
+    let mut list = [Record::Sync; MOST];
+    let mut rest = number;
+    for i in 0..MOST {
+        list[i] = LETTERS[rest % 5];
+        rest /= 5;
+    }
+    list
+}
+
+/// Writes the text of a list, in place of what was there.
+pub fn write_list(records: &[Record], text: &mut Vec<u8>) -> Result<(), WriteFault> {
+    text.clear();
+    let mut sink = Counted::new(text);
+    write_header(&mut sink)?;
+    for record in records {
+        write_record(record, &mut sink)?;
+    }
+    Ok(())
+}
+
+/// The race that the definitions tell, or the first fault. Only location 0 is accessed.
+fn expected(rt: &impl Abort, records: &[Record], depth: usize) -> Result<Option<Told>, Fault> {
+    let fault = first_fault(records, depth);
+    assert_eq!(rt;
+        fault.is_none(),
+        is_well_nested(records, depth),
+        "{records:?}"
+    );
+    if let Some(fault) = fault {
+        return Err(Fault::Nest(fault));
+    }
+    let paths = paths(records);
+    let Some(second) = second_place(records, &paths, 0) else {
+        return Ok(None);
+    };
+    let race = race_ending_at(records, &paths, 0, second);
+    assert!(rt; race.is_some(), "{records:?}");
+    Ok(race)
+}
+
+fn detected(alloc: Global, text: &[u8], depth: u32) -> Result<Report, Fault> {
+    let limits = Limits {
+        records: 1 << 48,
+        depth,
+    };
+    detect_plain(alloc, limits, &mut Counted::new(text), Hasher::default())
+}
+
+/// The race of a report that has one at most.
+fn only_race(rt: &impl Abort, report: &Report) -> Option<Told> {
+    assert!(rt; report.races().len() <= 1);
+    report.races().first().map(|race| told(*race))
+}
+
+fn told(race: Race) -> Told {
+    Told {
+        location: race.location,
+        first: race.first,
+        second: race.second,
+    }
+}
+
+/// A shard answers the race at its second place, and none elsewhere.
+fn check_shard(
+    rt: &impl Abort,
+    alloc: Global,
+    records: &[Record],
+    wanted: Option<Told>,
+) -> Result<(), Fail> {
+    let mut shard = Shard::new(alloc, 0, Hasher::default())?;
+    for (index, what) in records.iter().enumerate() {
+        let place = index as u64 + 1;
+        let what = *what;
+        if !shard.accepts(place) {
+            return Err("not accepted".into());
+        }
+        let answer = shard.apply(Placed { place, what })?.map(told);
+        let wanted_here = wanted.filter(|race| race.second.place == place);
+        assert_eq!(rt; answer, wanted_here, "place {place} of {records:?}");
+    }
+    Ok(())
+}
+
+/// Detects every list, each after another in the same text.
+fn check_lists(rt: &impl Abort, alloc: Global, depth: u32) -> Result<Tally, Fail> {
+    let mut tally = Tally {
+        race_free: 0,
+        racy: 0,
+        too_deep: 0,
+        otherwise_faulty: 0,
+    };
+    let mut text = Vec::new(alloc);
+    for length in 1..MOST + 1 {
+        for number in 0..COUNTS[length - 1] {
+            let list = list_of(number);
+            let records = &list[..length];
+            write_list(records, &mut text)?;
+            let wanted = expected(rt, records, depth as usize);
+            let found = match detected(alloc, &text, depth) {
+                Ok(report) => Ok(only_race(rt, &report)),
+                Err(fault) => Err(fault),
+            };
+            assert_eq!(rt; found, wanted, "{records:?} within depth {depth}");
+            if let Ok(race) = wanted {
+                check_shard(rt, alloc, records, race)?;
+            }
+            tally.count(&wanted);
+        }
+    }
+    Ok(tally)
+}
+
+#[test]
+fn within_depth_7(rt: HostRuntime) -> Result<(), Fail> {
+    let tally = check_lists(&rt, rt.alloc(), 7)?;
+    let wanted = Tally {
+        race_free: 2_676,
+        racy: 273,
+        too_deep: 0,
+        otherwise_faulty: 94_706,
+    };
+    assert_eq!(rt; tally, wanted);
+    Ok(())
+}
+
+#[test]
+fn within_depth_2(rt: HostRuntime) -> Result<(), Fail> {
+    let tally = check_lists(&rt, rt.alloc(), 2)?;
+    let wanted = Tally {
+        race_free: 2_675,
+        racy: 273,
+        too_deep: 7_210,
+        otherwise_faulty: 87_497,
+    };
+    assert_eq!(rt; tally, wanted);
+    Ok(())
+}
+
+#[test]
+fn within_depth_1(rt: HostRuntime) -> Result<(), Fail> {
+    let tally = check_lists(&rt, rt.alloc(), 1)?;
+    let wanted = Tally {
+        race_free: 2_533,
+        racy: 261,
+        too_deep: 21_672,
+        otherwise_faulty: 73_189,
+    };
+    assert_eq!(rt; tally, wanted);
+    Ok(())
+}

@@ -1,0 +1,100 @@
+//! A source that tells its bytes: what is detected in it is said of these very bytes.
+ghost use Rattle.std.specs.Prelude.{◌≡◌, ◌≤◌, ◌⊎◌, ℕ, List, Some, IfErr, MatchResult};
+ghost use Rattle.trace.specs.declared.records.Record.{Record};
+ghost use Rattle.trace.specs.Traces.{IsWellNested};
+ghost use Rattle.trace.specs.Text.{text, AllFit};
+ghost use Rattle.trace.specs.Faults.{IsFaultOfAll};
+ghost use Rattle.trace.specs.Endings.{IsWantOfMemory, IsWantOfMemoryOrThread};
+ghost use Rattle.detect.specs.Reported.{IsReportOf};
+
+use super::answers::{Hasher, run_from, text_of};
+use super::faulty_rows::FAULTY;
+use super::reported_rows::{LIMITS, REPORTED};
+use collect::Report;
+use detect::detect_plain;
+use shard::Open;
+use std::alloc::Global;
+use std::sync::Wait;
+use std::test::Fail;
+use std::thread::Threads;
+use trace::{Failed, Fault, Limits, Source};
+
+/// Hands out the bytes, so many at each call, and tells those that are left. It never fails.
+#[derive(Drop)]
+struct Told<'a> {
+    bytes: &'a [u8],
+    size: usize,
+    ghost some: { 1 ≤ size },
+}
+
+impl<'a> Source for Told<'a> {
+    ghost state = { λ s. record { bytes = Some s.bytes.now; failures = 0 } };
+
+    fn get(&mut self, buffer: &mut [u8]) -> Result<usize, Failed> {
+        let count = self.size.min(self.bytes.len()).min(buffer.len());
+        let (front, back) = self.bytes.split_at(count);
+        buffer[..count].copy_from_slice(front);
+        self.bytes = back;
+        Ok(count)
+    }
+}
+
+// The report by one thread.
+fn report_plain(alloc: Global, limits: Limits, bytes: &[u8], size: usize) -> Result<Report, Fault>
+    requires { 1 ≤ size }
+    // Of the text of a well nested trace it is the verdict on that trace, where memory isn't refused.
+    ensures report { (w : List Record) → bytes.now ≡ text w → AllFit w → IsWellNested w limits.records limits.depth
+        → MatchResult result (IsReportOf w) IsWantOfMemory }
+    // Otherwise the fault is the first of these bytes.
+    ensures fault { IfErr result (λ fault. IsWantOfMemory fault
+        ⊎ IsFaultOfAll limits.records limits.depth bytes.now fault) }
+{
+    let mut told = Told { bytes, size };
+    detect_plain(alloc, limits, &mut told, Hasher::default())
+}
+
+// The report with a thread for each shard.
+fn report_sharded<T: Threads + Wait + Sync>(
+    rt: &T,
+    alloc: Global,
+    shards: u32,
+    limits: Limits,
+    bytes: &[u8],
+    size: usize,
+) -> Result<Report, Fault>
+    requires shards { (1 ≤ shards) × (shards ≤ 64) }
+    requires size { 1 ≤ size }
+    ensures report { (w : List Record) → bytes.now ≡ text w → AllFit w → IsWellNested w limits.records limits.depth
+        → MatchResult result (IsReportOf w) IsWantOfMemoryOrThread }
+    ensures fault { IfErr result (λ fault. IsWantOfMemoryOrThread fault
+        ⊎ IsFaultOfAll limits.records limits.depth bytes.now fault) }
+{
+    let mut told = Told { bytes, size };
+    Ok(run_from(rt, alloc, shards, limits, &mut told, &Open)?.report)
+}
+
+#[test]
+fn reports_of_told_bytes(rt: HostRuntime) -> Result<(), Fail> {
+    for row in REPORTED {
+        for (shards, size) in [(1, 4096), (3, 5)] {
+            assert!(rt; 1 <= shards && shards <= 64 && 1 <= size);
+            let plain = report_plain(rt.alloc(), LIMITS, row.text, size)?;
+            let text = text_of(rt.alloc(), &plain)?;
+            assert_eq!(rt; text.as_slice(), row.report, "{}", row.name);
+            let sharded = report_sharded(&rt, rt.alloc(), shards, LIMITS, row.text, size)?;
+            let text = text_of(rt.alloc(), &sharded)?;
+            assert_eq!(rt; text.as_slice(), row.report, "{} by {shards}", row.name);
+        }
+    }
+    Ok(())
+}
+
+#[test]
+fn faults_of_told_bytes(rt: HostRuntime) {
+    for row in FAULTY {
+        let plain = report_plain(rt.alloc(), row.limits, row.text, 1).err();
+        assert_eq!(rt; plain, Some(row.fault), "{}", row.name);
+        let sharded = report_sharded(&rt, rt.alloc(), 2, row.limits, row.text, 1).err();
+        assert_eq!(rt; sharded, Some(row.fault), "{}", row.name);
+    }
+}

@@ -1,0 +1,55 @@
+-- How an answer ends: with what was put and passed on, or with a fault that was told.
+use Rattle.std.proofs.Common.{◌≡◌, ℕ, ◌<◌, List, refl, sym, subst, inl, inr, arith}
+use Rattle.std.proofs.KnownBytes.{Keeps-refl}
+use Rattle.trace.specs.declared.records.Record.{Record}
+use Rattle.trace.specs.declared.faults.Fault.{Fault}
+use Rattle.trace.specs.Devices.{Device, Change, ◌⇝◌}
+use Rattle.trace.specs.Writers.{IsUntouched, WasGiven}
+use Rattle.trace.specs.Endings.{OfTrace, ReadsWhole, IsRefused}
+use Rattle.trace.proofs.Feedings.{at_limits}
+use Rattle.audit.specs.declared.answers.Confirm.{Confirm}
+use Rattle.audit.specs.declared.answers.Confirm.TheVariants.{Yes, No}
+use Rattle.texts.specs.Messages.{message}
+use Rattle.texts.specs.Sinks.{Tells}
+use Rattle.replies.specs.Questions.{status_of}
+use Rattle.replies.specs.Answered.{IsAnswered}
+
+-- a device that nothing was done to
+pub untouched : (d : Device) → IsUntouched (d ⇝ d)
+untouched d = record { bytes = Keeps-refl d.bytes; steady = refl }
+
+-- what is said of a trace within the limits of its reading, said within these
+pub says_so : {records depths : ℕ} {c : Change} {P Q : List Record → Type 0} (limit depth : ℕ) → records ≡ limit → depths ≡ depth → ((w : List Record) → P w → Q w) → OfTrace records depths c P → OfTrace limit depth c Q
+says_so {records} {depths} {c} limit depth e f so run =
+    let At : ℕ → ℕ → Type 0 = λ r d. ReadsWhole r d c run.trace in
+    record { trace = run.trace; read = at_limits At records limit depths depth e f run.read; says = so run.trace run.says }
+
+module _ {IsWant : Fault → Type 0} {records depths : ℕ} {Says : List Record → List ℕ → ℕ → Type 0} {trace out err : Change} where
+  -- what was put and passed on is the answer
+  pub answered : (result status : ℕ) (text : List ℕ) → status < 2 → OfTrace records depths trace (λ w. Says w text status) → Tells result status text out err → IsAnswered IsWant records depths Says trace out err result
+  answered result status text low run (inl whole) =
+      let P : ℕ → Type 0 = λ s. OfTrace records depths trace (λ w. Says w text s) in
+      record {
+        low = omega (arith, whole.0, low);
+        answered = λ _. record { text = text; read = subst P (sym whole.0) run; took = whole.1; silent = whole.2 };
+        failed = λ two. absurd (omega (arith, whole.0, low, two));
+      }
+  answered result status text low run (inr front) = record {
+    low = omega (arith, front.0);
+    answered = λ less. absurd (omega (arith, front.0, less));
+    failed = λ _. inr (record { text = text; status = status; read = run; took = front.1; said = front.2 });
+  }
+
+  -- a fault that was told is why there is no answer
+  pub refused : {limit depth : ℕ} {f : Fault} → limit ≡ records → depth ≡ depths → IsRefused IsWant limit depth trace f → IsUntouched out → WasGiven (message f) err → IsAnswered IsWant records depths Says trace out err 2
+  refused {limit} {depth} {f} e e' why untouched told =
+      let At : ℕ → ℕ → Type 0 = λ r d. IsRefused IsWant r d trace f in
+      record {
+        low = omega arith;
+        answered = λ less. absurd (omega (arith, less));
+        failed = λ _. inl (record { fault = f; refused = at_limits At limit records depth depths e e' why; untouched = untouched; said = told });
+      }
+
+pub status_low : (answer : Confirm) → status_of answer < 2
+status_low Yes = omega arith
+status_low (No entry) = omega arith

@@ -1,0 +1,106 @@
+-- How an answer ends of what names stand for.
+use Rattle.std.proofs.Common.{◌≡◌, ℕ, List, [], Option, None, Result, string_bytes, refl, sym, ap, ◌∙◌, subst, inl, inr}
+use Rattle.std.specs.Prelude.{◌==◌, if◌then◌else◌}
+use Rattle.std.specs.declared.io.buffered.BufReader.{BufReader}
+use Rattle.std.specs.Io.Buffered.{reader_inner, reader_buffer, reader_capacity, reader_remaining}
+use Rattle.std.proofs.KnownBytes.{prepend_known-nil}
+use Rattle.std.specs.Io.KnownBytes.{prepend_known}
+use Rattle.trace.specs.declared.faults.Fault.TheVariants.{NoMemory}
+use Rattle.trace.specs.Bounds.{most_records}
+use Rattle.trace.specs.Devices.{Device, Change, ◌⇝◌}
+use Rattle.trace.specs.Writers.{IsUntouched, WasGiven}
+use Rattle.trace.proofs.Endings.{refused_for_want}
+use Rattle.words.specs.declared.asking.Question.{Question}
+use Rattle.words.specs.declared.asking.Question.TheVariants as question
+use Rattle.words.specs.declared.asking.Confirm.{Confirm}
+use Rattle.words.specs.Asked.{depth_of, trace_name}
+use Rattle.texts.specs.declared.reports.ReportRefusal.TheVariants as refusals
+use Rattle.texts.specs.Messages.{message}
+use Rattle.texts.proofs.Refusals.{refused_for}
+use Rattle.replies.specs.Questions.{Answers, IsWant}
+use Rattle.replies.specs.Answered.{IsAnswered, IsConfirmed}
+use Rattle.replies.specs.declared.input.Input.{Input}
+use Rattle.replies.specs.Inputs.{StandsFor, StandsBeside}
+use Rattle.replies.specs.Files.{untried, HasAnsweredOf, HasConfirmedOf}
+use Rattle.replies.proofs.Endings.{refused}
+
+-- want of memory is a want of every reading
+wants_memory : (q : Question) → IsWant q NoMemory
+wants_memory (question.Check c) = inl refl
+wants_memory (question.Pairs p) = refl
+wants_memory (question.Measure m) = refl
+
+-- what is said of a trace that wasn't touched
+untouched_too : {U V : Type 0} {records depths : ℕ} {trace report out err : Change} {status : ℕ} → (U → V) → IsConfirmed U records depths trace report out err status → IsConfirmed V records depths trace report out err status
+untouched_too f (inl (unread, none)) = inl (f unread, none)
+untouched_too f (inr both) = inr both
+
+module _ {F E : Type 0} (Gives : List ℕ → Result F E → Type 0) (known : Input F → Option (List ℕ)) {out err : Change} where
+  -- nothing was read of a trace, for want of memory
+  pub trace_unread : (q : Question) (trace : Input F) → StandsFor Gives (trace_name q) trace → IsUntouched out → WasGiven (message NoMemory) err → HasAnsweredOf Gives known q out err 2
+  trace_unread q trace stands untouched told = record {
+    trace = trace;
+    stands = stands;
+    left = untried (known trace);
+    answered = refused refl refl (refused_for_want (IsWant q) most_records (depth_of q) (untried (known trace) ⇝ untried (known trace)) NoMemory (wants_memory q)) untouched told;
+  }
+
+  -- nor of a report
+  pub report_unread : (c : Confirm) (trace report : Input F) → StandsFor Gives (string_bytes c.trace) trace → StandsBeside Gives (string_bytes c.report) trace report
+      → IsUntouched out → WasGiven (message NoMemory) err → HasConfirmedOf Gives known c out err 2
+  report_unread c trace report stands beside untouched told = record {
+    trace = trace;
+    report = report;
+    trace_stands = stands;
+    report_stands = beside;
+    trace_left = untried (known trace);
+    report_left = untried (known report);
+    confirmed = inl (
+      refl,
+      record {
+        refusal = refusals.NoMemory;
+        refused = refused_for (untried (known report) ⇝ untried (known report)) refusals.NoMemory tt;
+        untouched = untouched;
+        said = told;
+        is_two = refl;
+      },
+    );
+  }
+
+  -- a trace alone was answered for
+  pub answered_alone : (q : Question) (trace : Input F) (status : ℕ) (before after : Device) → StandsFor Gives (trace_name q) trace → before ≡ untried (known trace)
+      → IsAnswered (IsWant q) most_records (depth_of q) (Answers q) (before ⇝ after) out err status → HasAnsweredOf Gives known q out err status
+  answered_alone q trace status before after stands is answered =
+      let P : Device → Type 0 = λ d. IsAnswered (IsWant q) most_records (depth_of q) (Answers q) (d ⇝ after) out err status in
+      record { trace = trace; stands = stands; left = after; answered = subst P is answered }
+
+  -- a report and a trace were answered for
+  pub answered_both : (c : Confirm) (trace report : Input F) {R : Type 0} (state : R → Device) (status : ℕ) (before after : R) (report_before report_after : Device)
+      → StandsFor Gives (string_bytes c.trace) trace → StandsBeside Gives (string_bytes c.report) trace report → state before ≡ untried (known trace) → report_before ≡ untried (known report)
+      → IsConfirmed (after ≡ before) most_records c.depth (state before ⇝ state after) (report_before ⇝ report_after) out err status → HasConfirmedOf Gives known c out err status
+  answered_both c trace report {R} state status before after report_before report_after stands beside is is' confirmed =
+      let P : Device → Type 0 = λ d. IsConfirmed (state after ≡ untried (known trace)) most_records c.depth (untried (known trace) ⇝ state after) (d ⇝ report_after) out err status in
+      let Q : Device → Type 0 = λ d. IsConfirmed (state after ≡ untried (known trace)) most_records c.depth (d ⇝ state after) (report_before ⇝ report_after) out err status in
+      let untouched : Q (state before) = untouched_too (λ e. ap state e ∙ is) confirmed in
+      record {
+        trace = trace;
+        report = report;
+        trace_stands = stands;
+        report_stands = beside;
+        trace_left = state after;
+        report_left = report_after;
+        confirmed = subst P is' (subst Q is untouched);
+      }
+
+-- a reader that has room to read ahead, and has read nothing ahead, has left what its own reader has
+pub nothing_ahead : {X A : Type 0} (remaining : X → Option (List ℕ)) (r : BufReader X A) (x : X) → reader_inner r ≡ x → reader_buffer r ≡ [] → reader_capacity r ≡ 65536 → reader_remaining remaining r ≡ remaining x
+nothing_ahead remaining r x inner empty capacity =
+    let P : ℕ → Type 0 = λ n. (if n == 0 then None else prepend_known (reader_buffer r) (remaining r.inner)) ≡ remaining x in
+    let known : prepend_known (reader_buffer r) (remaining r.inner) ≡ remaining x = ap (λ b. prepend_known b (remaining r.inner)) empty ∙ prepend_known-nil (remaining r.inner) ∙ ap remaining inner in
+    subst P (sym capacity) known
+
+abbrev device : Option (List ℕ) → ℕ → Device
+device bytes failures = record { bytes = bytes; failures = failures }
+
+pub is_untried : {bytes known : Option (List ℕ)} {failures : ℕ} → bytes ≡ known → failures ≡ 0 → device bytes failures ≡ untried known
+is_untried {bytes} {known} {failures} e none = ap (λ b. device b failures) e ∙ ap (device known) none

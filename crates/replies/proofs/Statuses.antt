@@ -1,0 +1,77 @@
+-- What a status says of the races of a trace.
+use Rattle.std.proofs.Common.{◌≡◌, ◌↔◌, ℕ, ◌<◌, List, [], ◌∷◌, refl, arith, subst, ◌≤◌, ◌⊎◌, inl, inr}
+use native.Mathlib.Decide.{dec_le}
+use Rattle.std.specs.List.{Contains}
+use Rattle.trace.specs.declared.records.Record.{Record}
+use Rattle.trace.specs.Accesses.{RaceAt}
+use Rattle.trace.specs.declared.records.Kind.{Kind}
+use Rattle.trace.specs.declared.records.Kind.TheVariants.{Read, Write}
+use Rattle.trace.specs.declared.records.Access.{Access}
+use Rattle.trace.specs.Races.{IsAccess, IsRead, IsWrite}
+use Rattle.trace.proofs.Lists.{Contains-nil}
+use Rattle.audit.specs.Pairs.{IsPair, ArePairs}
+use Rattle.collect.specs.ReportText.{rtext}
+use Rattle.detect.specs.Racy.{HasRace, HasLocation}
+use Rattle.detect.specs.declared.sharded.Run.{Run}
+use Rattle.detect.specs.RunReports.{RunAnswers}
+use Rattle.replies.specs.Questions.{AnswersCheck}
+
+no_location : (l : ℕ) → HasLocation [] l → ⊥
+no_location l (r, (k, within, is), at) = absurd (omega arith)
+
+some_race : (w : List Record) (races : List RaceAt) → ((l : ℕ) → HasRace w l ↔ HasLocation races l) → (races ≡ [] → ⊥) → (l : ℕ) × HasRace w l
+some_race w [] racy some = absurd (some refl)
+some_race w (r ∷ rs) racy some = (r.location, (racy r.location).1 (r, (0, omega arith, refl), refl))
+
+-- where the status is 0 exactly for no race of the report, it is 1 exactly where the trace has a race
+pub one_exactly : (status : ℕ) (races : List RaceAt) (w : List Record) → status < 2 → (status ≡ 0) ↔ (races ≡ []) → ((l : ℕ) → HasRace w l ↔ HasLocation races l) → (status ≡ 1) ↔ ((l : ℕ) × HasRace w l)
+one_exactly status races w low none racy = (to, from)
+  where
+    to : status ≡ 1 → (l : ℕ) × HasRace w l
+    to one = some_race w races racy (λ e. let zero : status ≡ 0 = none.1 e in absurd (omega arith))
+
+    from : (l : ℕ) × HasRace w l → status ≡ 1
+    from (l, race) = go (dec_le status 0)
+      where
+        go : Dec (status ≤ 0) → status ≡ 1
+        go (yes zero) =
+            let e : races ≡ [] = none.0 (omega arith) in
+            let P : List RaceAt → Type 0 = λ rs. HasLocation rs l in
+            absurd (no_location l (subst P e ((racy l).0 race)))
+        go (no more) = omega arith
+
+-- the report of a run answers `check`
+pub check_answered : (shards status : ℕ) (run : Run) (w : List Record) → status < 2 → (status ≡ 0) ↔ (run.report ≡ []) → RunAnswers shards run w → AnswersCheck w (rtext run.report) status
+check_answered shards status run w low zero answers = record {
+  races = run.report;
+  reported = answers.reported;
+  is_text = refl;
+  zero = zero;
+  one = one_exactly status run.report w low zero answers.reported.racy;
+}
+
+kind_at : (w : List Record) (l i : ℕ) → IsRead w l i ⊎ IsWrite w l i → (k : Kind) × IsAccess w l i k
+kind_at w l i (inl r) = (Read, r)
+kind_at w l i (inr r) = (Write, r)
+
+-- where the status is 0 exactly for no pair of the location, it is 1 exactly where it has a race
+pub pairs_one : (status : ℕ) (w : List Record) (l : ℕ) (pairs : List (Access × Access)) → ArePairs w l pairs → status < 2 → (status ≡ 0) ↔ (pairs ≡ []) → (status ≡ 1) ↔ HasRace w l
+pairs_one status w l pairs are low none = (to pairs (λ p. (are.exactly p).0) none.1, from)
+  where
+    to : (ps : List (Access × Access)) → ((p : Access × Access) → Contains ps p → IsPair w l p) → (ps ≡ [] → status ≡ 0) → status ≡ 1 → HasRace w l
+    to [] each empty one = let zero : status ≡ 0 = empty refl in absurd (omega arith)
+    to (p ∷ ps) each empty one = (p.0.place, p.1.place, (each p (0, omega arith, refl)).race)
+
+    from : HasRace w l → status ≡ 1
+    from (i, j, race) = go (dec_le status 0)
+      where
+        go : Dec (status ≤ 0) → status ≡ 1
+        go (yes zero) =
+            let e : pairs ≡ [] = none.0 (omega arith) in
+            let first = kind_at w l i race.first in
+            let second = kind_at w l j race.second in
+            let p : Access × Access = (record { kind = first.0; place = i }, record { kind = second.0; place = j }) in
+            let is : IsPair w l p = record { race = race; first_kind = first.1; second_kind = second.1 } in
+            let P : List (Access × Access) → Type 0 = λ ps. Contains ps p in
+            absurd (Contains-nil p (subst P e ((are.exactly p).1 is)))
+        go (no more) = omega arith

@@ -1,0 +1,41 @@
+-- Promised: what the names stand for that were asked with, and how the answer ends of what they stand for.
+use Rattle.std.specs.Prelude.{◌≡◌, ℕ, List, Option, Result, string_bytes}
+use Rattle.trace.specs.Bounds.{most_records}
+use Rattle.trace.specs.Devices.{Device, Change, ◌⇝◌}
+use Rattle.words.specs.declared.asking.Asked.{Asked}
+use Rattle.words.specs.declared.asking.Asked.TheVariants as asked
+use Rattle.words.specs.declared.asking.Question.{Question}
+use Rattle.words.specs.declared.asking.Confirm.{Confirm}
+use Rattle.words.specs.Asked.{depth_of, trace_name}
+use Rattle.replies.specs.declared.input.Input.{Input}
+use Rattle.replies.specs.Inputs.{StandsFor, StandsBeside}
+use Rattle.replies.specs.Questions.{Answers, IsWant}
+use Rattle.replies.specs.Answered.{IsAnswered, IsConfirmed}
+
+-- a device with these bytes, which no call has failed of
+abbrev pub untried : Option (List ℕ) → Device
+untried bytes = record { bytes = bytes; failures = 0 }
+
+module _ {F E : Type 0} (Gives : List ℕ → Result F E → Type 0) (known : Input F → Option (List ℕ)) where
+  -- the question was answered of the trace that its name stands for, or there is no answer
+  pub record HasAnsweredOf (question : Question) (out err : Change) (status : ℕ) : Type 0 where
+    pub trace : Input F
+    pub stands : StandsFor Gives (trace_name question) trace
+    pub left : Device
+    pub answered : IsAnswered (IsWant question) most_records (depth_of question) (Answers question) (untried (known trace) ⇝ left) out err status
+
+  -- the same of the report and the trace that their names stand for
+  pub record HasConfirmedOf (confirm : Confirm) (out err : Change) (status : ℕ) : Type 0 where
+    pub trace : Input F
+    pub report : Input F
+    pub trace_stands : StandsFor Gives (string_bytes confirm.trace) trace
+    pub report_stands : StandsBeside Gives (string_bytes confirm.report) trace report
+    pub trace_left : Device
+    pub report_left : Device
+    pub confirmed : IsConfirmed (trace_left ≡ untried (known trace)) most_records confirm.depth
+        (untried (known trace) ⇝ trace_left) (untried (known report) ⇝ report_left) out err status
+
+  -- what is asked was answered of what the names stand for
+  abbrev pub IsAnsweredOf : Asked → Change → Change → ℕ → Type 0
+  IsAnsweredOf (asked.Question q) out err status = HasAnsweredOf q out err status
+  IsAnsweredOf (asked.Confirm c) out err status = HasConfirmedOf c out err status

@@ -1,0 +1,37 @@
+-- Promised: what a name on the command line stands for.
+use Rattle.std.specs.Prelude.{◌≡◌, ◌↔◌, ◌⊎◌, ℕ, ⊤, List, Option, None, Result, Ok, Err, codes}
+use Rattle.replies.specs.declared.input.Input.{Input}
+use Rattle.replies.specs.declared.input.Input.TheVariants.{File, Standard, Missing}
+
+-- standard input
+abbrev pub IsStandard : {F : Type 0} → Input F → Type 0
+IsStandard (File f) = ⊥
+IsStandard (Standard s) = ⊤
+IsStandard Missing = ⊥
+
+-- a file that can't be opened
+abbrev pub IsMissing : {F : Type 0} → Input F → Type 0
+IsMissing (File f) = ⊥
+IsMissing (Standard s) = ⊥
+IsMissing Missing = ⊤
+
+-- what an opening gave: a file, or where it is missing an error
+abbrev pub IsOpened : {F E : Type 0} → (Result F E → Type 0) → Input F → Type 0
+IsOpened Gives (File f) = Gives (Ok f)
+IsOpened Gives (Standard s) = ⊤
+IsOpened {E = E} Gives Missing = (e : E) × Gives (Err e)
+
+-- what the name stands for: standard input exactly where it is `-`, otherwise what opening that very name gave
+pub record StandsFor {F E : Type 0} (Gives : List ℕ → Result F E → Type 0) (name : List ℕ) (input : Input F) : Type 0 where
+  pub standard : IsStandard input ↔ (name ≡ codes "-")
+  pub opened : IsOpened (Gives name) input
+
+-- what the name of a report stands for, which isn't opened where its trace is missing
+abbrev pub StandsBeside : {F E : Type 0} → (List ℕ → Result F E → Type 0) → List ℕ → Input F → Input F → Type 0
+StandsBeside Gives name trace report = StandsFor Gives name report ⊎ (IsMissing trace × IsMissing report)
+
+-- the bytes that are still to come, where the file tells them
+abbrev pub known_bytes : {F : Type 0} → (F → Option (List ℕ)) → Input F → Option (List ℕ)
+known_bytes remaining (File f) = remaining f
+known_bytes remaining (Standard s) = None
+known_bytes remaining Missing = None

@@ -1,0 +1,71 @@
+//! The answer to `confirm`.
+ghost use Rattle.std.specs.Prelude.{◌≡◌};
+ghost use Rattle.trace.specs.Devices.{◌⇝◌};
+ghost use Rattle.trace.specs.Endings.{IsWantOfMemory};
+ghost use Rattle.replies.specs.Questions.{AnswersConfirm, status_of};
+ghost use Rattle.trace.specs.Bounds.{most_records};
+ghost use Rattle.replies.specs.Answered.{IsAnswered, IsConfirmed};
+
+use crate::answers::{finish, limits_of};
+use audit::{Confirm, confirm};
+use collect::Report;
+use std::alloc::Global;
+use texts::{put_confirm, report_from, say_fault, say_refusal};
+use trace::{Sink, Source};
+
+/// Answers whether every entry of a report is a race of a trace, and gives the exit status: 0 for yes, 1 for no, 2 for
+/// a fault. The report is read first, and where it is faulty the trace isn't read.
+pub fn answer_confirm<R: Source, Q: Source, W: Sink, E: Sink>(
+    alloc: Global,
+    asked: &words::Confirm,
+    trace: &mut R,
+    report: &mut Q,
+    out: &mut W,
+    err: &mut E,
+) -> u8
+    ensures { IsConfirmed (trace.new ≡ trace.old) most_records asked.now.depth (R.state trace.old ⇝ R.state trace.new)
+        (Q.state report.old ⇝ Q.state report.new) (W.state out.old ⇝ W.state out.new)
+        (E.state err.old ⇝ E.state err.new) result }
+{
+    match report_from(alloc, report) {
+        Ok(entries) => answer_entries(alloc, asked.depth, &entries, trace, out, err),
+        Err(refusal) => {
+            say_refusal(refusal, err);
+            2
+        }
+    }
+}
+
+// Whether the entries of a report are races, and the exit status.
+fn answer_entries<R: Source, W: Sink, E: Sink>(
+    alloc: Global,
+    depth: u32,
+    entries: &Report,
+    trace: &mut R,
+    out: &mut W,
+    err: &mut E,
+) -> u8
+    ensures { IsAnswered IsWantOfMemory most_records depth (AnswersConfirm entries.now)
+        (R.state trace.old ⇝ R.state trace.new) (W.state out.old ⇝ W.state out.new)
+        (E.state err.old ⇝ E.state err.new) result }
+{
+    match confirm(alloc, limits_of(depth), trace, entries) {
+        Ok(answer) => {
+            let put = put_confirm(answer, out);
+            finish(put, status_of(answer), out, err)
+        }
+        Err(fault) => {
+            say_fault(&fault, err);
+            2
+        }
+    }
+}
+
+fn status_of(answer: Confirm) -> u8
+    ensures { result ≡ status_of answer }
+{
+    match answer {
+        Confirm::Yes => 0,
+        Confirm::No { entry: _ } => 1,
+    }
+}

@@ -1,0 +1,131 @@
+//! The program from its words to its bytes, by worked rows: nothing here is taken from its own output.
+
+mod command_lines;
+mod devices;
+mod examples;
+mod failures;
+mod files;
+mod questions;
+mod rows;
+mod told;
+
+use devices::{ENDLESS, Full, Room, Slow};
+use replies::{answer, answer_confirm, refuse};
+use std::alloc::{AllocError, Global};
+use std::process::Abort;
+use std::sync::Wait;
+use std::test::*;
+use std::thread::Threads;
+use trace::{Counted, Sink, Source};
+use words::{Asked, read_words};
+
+/// What a run of the program left.
+#[derive(Debug, Drop)]
+pub struct Ran {
+    pub status: u8,
+    pub out: Vec<u8>,
+    pub err: Vec<u8>,
+}
+
+/// Runs the program on a trace, of which each call of its reader hands at most `step` bytes.
+pub fn run<T: Threads + Wait + Sync>(
+    rt: &T,
+    alloc: Global,
+    line: &str,
+    trace: &[u8],
+    step: usize,
+) -> Result<Ran, AllocError> {
+    run_with_report(rt, alloc, line, trace, b"", step)
+}
+
+/// Runs the program on a trace and a report.
+pub fn run_with_report<T: Threads + Wait + Sync>(
+    rt: &T,
+    alloc: Global,
+    line: &str,
+    trace: &[u8],
+    report: &[u8],
+    step: usize,
+) -> Result<Ran, AllocError> {
+    let mut trace = Counted::new(Slow::new(trace, step));
+    let mut report = Counted::new(Slow::new(report, step));
+    run_on(rt, alloc, line, &mut trace, &mut report, ENDLESS)
+}
+
+/// Runs the program on these devices, with so much room on standard output.
+pub fn run_on<T: Threads + Wait + Sync, R: Source, Q: Source>(
+    rt: &T,
+    alloc: Global,
+    line: &str,
+    trace: &mut R,
+    report: &mut Q,
+    room: Room,
+) -> Result<Ran, AllocError> {
+    let mut out = Vec::new(alloc);
+    let mut err = Vec::new(alloc);
+    let words = words_of(alloc, line)?;
+    let status = {
+        let mut answers = Counted::new(Full::new(&mut out, room));
+        let mut faults = Counted::new(&mut err);
+        match read_words(alloc, words.as_slice()) {
+            Ok(asked) => answer_any(rt, alloc, &asked, trace, report, &mut answers, &mut faults),
+            Err(fault) => refuse(&fault, &mut answers, &mut faults),
+        }
+    };
+    Ok(Ran { status, out, err })
+}
+
+/// Asserts what a run of a case left.
+pub fn assert_left<R: Abort>(rt: &R, ran: &Ran, status: u8, out: &[u8], err: &[u8], case: &str) {
+    assert_eq!(rt; ran.status, status, "{case}");
+    assert_eq!(rt; ran.out.as_slice(), out, "{case}");
+    assert_eq!(rt; ran.err.as_slice(), err, "{case}");
+}
+
+/// Answers what is asked; the report is read only where it is asked for.
+fn answer_any<T: Threads + Wait + Sync, R: Source, Q: Source, W: Sink, E: Sink>(
+    rt: &T,
+    alloc: Global,
+    asked: &Asked,
+    trace: &mut R,
+    report: &mut Q,
+    out: &mut W,
+    err: &mut E,
+) -> u8 {
+    match asked {
+        Asked::Question(question) => answer(rt, alloc, question, trace, out, err),
+        Asked::Confirm(confirm) => answer_confirm(alloc, confirm, trace, report, out, err),
+    }
+}
+
+/// The words of a command line, which stand between spaces.
+pub fn words_of(alloc: Global, line: &str) -> Result<Vec<String>, AllocError> {
+    let mut words = Vec::new(alloc);
+    for word in line.split_whitespace() {
+        words.push(String::from_str(alloc, word)?)?;
+    }
+    Ok(words)
+}
+
+/// The text of a trace whose records stand between commas.
+pub fn trace_of(alloc: Global, records: &str) -> Result<Vec<u8>, AllocError> {
+    let mut text = Vec::from_slice(alloc, b"trace 1\n")?;
+    for record in records.split(", ") {
+        text.extend_from_slice(record.as_bytes())?;
+        text.push(b'\n')?;
+    }
+    Ok(text)
+}
+
+/// A child and its parent write the same thousand locations.
+pub fn flood(alloc: Global) -> Result<Vec<u8>, AllocError> {
+    let mut text = Vec::from_slice(alloc, b"trace 1\nspawn\n")?;
+    for _ in 0..2 {
+        for place in 0..1000u64 {
+            let line = format!(in alloc; "write {}\n", place * 2)?;
+            text.extend_from_slice(line.as_bytes())?;
+        }
+        text.extend_from_slice(b"return\n")?;
+    }
+    Ok(text)
+}

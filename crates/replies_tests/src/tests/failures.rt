@@ -1,0 +1,153 @@
+//! Readers of which each call fails in turn, with every kind of error, and writers that fail or take nothing.
+use super::devices::{ENDLESS, Full, Halting, KINDS, Room, Slow};
+use super::{Ran, assert_left, run_on, trace_of};
+use replies::refuse;
+use std::alloc::{AllocError, Global};
+use std::io::ErrorKind;
+use std::process::Abort;
+use std::sync::Wait;
+use std::test::Fail;
+use std::thread::Threads;
+use trace::Counted;
+use words::WordsFault;
+
+const COMMANDS: [&str; 5] = [
+    "check --shards 1 -",
+    "check --shards 3 --capacity 1 -",
+    "pairs - 5",
+    "measure -",
+    "confirm - b",
+];
+
+const REPORT: &[u8] = b"races 1\nrace 5 write 2 write 4\n";
+
+// Runs a command on a trace of which a call fails.
+fn run_halting<T: Threads + Wait + Sync>(
+    rt: &T,
+    alloc: Global,
+    line: &str,
+    trace: &[u8],
+    call: usize,
+    kind: ErrorKind,
+) -> Result<Ran, AllocError> {
+    let mut trace = Counted::new(Halting::new(trace, call, kind));
+    let mut report = Counted::new(Slow::new(REPORT, 4096));
+    run_on(rt, alloc, line, &mut trace, &mut report, ENDLESS)
+}
+
+// A call that fails isn't tried again, and no answer comes of what was read before. There are more calls than kinds, so
+// each kind has its turn.
+#[test]
+fn every_call_of_the_trace_fails(rt: HostRuntime) -> Result<(), Fail> {
+    let trace = trace_of(rt.alloc(), "spawn, write 5, return, write 5, return")?;
+    for line in COMMANDS {
+        for call in 0..=trace.len() {
+            for kind in [KINDS[call % 41], ErrorKind::Interrupted] {
+                let ran = run_halting(&rt, rt.alloc(), line, trace.as_slice(), call, kind)?;
+                let case = format!(in rt.alloc(); "{line}: {kind:?} at {call}")?;
+                assert_left(&rt, &ran, 2, b"", b"spbags: cannot read\n", case.as_str());
+            }
+        }
+    }
+    Ok(())
+}
+
+// What came before a call that fails is judged first; here all bytes come, and the call fails that would tell the end.
+#[test]
+fn judges_what_came_before(rt: HostRuntime) -> Result<(), Fail> {
+    let table = [
+        ("trace 1\nx\n", "spbags: line 2: bad line\n"),
+        ("trace 1\nreturn\nsync\n", "spbags: place 2: after end\n"),
+        ("trace 1\nretu", "spbags: cannot read\n"),
+        ("trace 1\nreturn\n", "spbags: cannot read\n"),
+        ("", "spbags: cannot read\n"),
+    ];
+    for (trace, want) in table {
+        for line in COMMANDS {
+            let text = trace.as_bytes();
+            let ran = run_halting(&rt, rt.alloc(), line, text, text.len(), ErrorKind::Other)?;
+            let case = format!(in rt.alloc(); "{line}: {trace}")?;
+            assert_left(&rt, &ran, 2, b"", want.as_bytes(), case.as_str());
+        }
+    }
+    Ok(())
+}
+
+// The report is read first: of what is no trace nothing is said.
+#[test]
+fn every_call_of_the_report_fails(rt: HostRuntime) -> Result<(), Fail> {
+    for call in 0..=REPORT.len() {
+        for kind in KINDS {
+            let mut trace = Counted::new(Slow::new(b"x\n", 1));
+            let mut report = Counted::new(Halting::new(REPORT, call, kind));
+            let line = "confirm - b";
+            let ran = run_on(&rt, rt.alloc(), line, &mut trace, &mut report, ENDLESS)?;
+            let case = format!(in rt.alloc(); "{kind:?} at {call}")?;
+            assert_left(&rt, &ran, 2, b"", b"spbags: cannot read\n", case.as_str());
+        }
+    }
+    Ok(())
+}
+
+// Asserts that a command leaves the beginning of its answer for which there is room.
+fn assert_front<T: Threads + Wait + Sync + Abort>(
+    rt: &T,
+    alloc: Global,
+    line: &str,
+    answer: &[u8],
+    room: Room,
+) -> Result<(), AllocError> {
+    let trace = trace_of(
+        alloc,
+        "spawn, write 3, return, spawn, write 3, return, write 3, return",
+    )?;
+    let mut source = Counted::new(Slow::new(trace.as_slice(), 4096));
+    let mut report = Counted::new(Slow::new(b"races 1\nrace 4 write 5 write 7\n", 1));
+    let ran = run_on(rt, alloc, line, &mut source, &mut report, room)?;
+    let (front, _) = answer.split_at(room.bytes.min(answer.len()));
+    let case = format!(in alloc; "{line}: {:?} after {}", room.error, room.bytes)?;
+    assert_left(rt, &ran, 2, front, b"spbags: cannot write\n", case.as_str());
+    Ok(())
+}
+
+// Each write fails in turn, and then the flush.
+#[test]
+fn tells_a_full_output(rt: HostRuntime) -> Result<(), Fail> {
+    let table = [
+        ("check -", "races 1\nrace 3 write 2 write 5\n"),
+        (
+            "pairs - 3",
+            "pairs 3\npair write 2 write 5\npair write 2 write 7\npair write 5 write 7\n",
+        ),
+        ("measure -", "work 8\nspan 5\nspawns 2\ndepth 1\n"),
+        ("confirm - b", "no 1\n"),
+    ];
+    for (line, answer) in table {
+        for bytes in 0..=answer.len() {
+            for error in [Some(KINDS[bytes % 41]), Some(ErrorKind::Interrupted), None] {
+                let room = Room { bytes, error };
+                assert_front(&rt, rt.alloc(), line, answer.as_bytes(), room)?;
+            }
+        }
+    }
+    Ok(())
+}
+
+// A full standard error changes nothing else, and help may fail too.
+#[test]
+fn tells_a_full_output_of_help(rt: HostRuntime) -> Result<(), Fail> {
+    let fault = WordsFault::Help(String::from_str(rt.alloc(), "a text")?);
+    for (bytes, error) in [(3, Some(ErrorKind::StorageFull)), (3, None), (6, None)] {
+        let mut out = Vec::new(rt.alloc());
+        let mut err = Vec::new(rt.alloc());
+        let status = refuse(
+            &fault,
+            &mut Counted::new(Full::new(&mut out, Room { bytes, error })),
+            &mut Counted::new(Full::new(&mut err, Room { bytes: 6, error })),
+        );
+        let ran = Ran { status, out, err };
+        let (front, _) = b"a text".split_at(bytes);
+        assert_left(&rt, &ran, 2, front, b"spbags", "help");
+    }
+    Ok(())
+}

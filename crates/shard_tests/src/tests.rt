@@ -1,0 +1,422 @@
+//! A shard on worked rows, and its worker in one thread and in a thread of its own.
+ghost use Rattle.std.specs.Prelude.{◌≡◌, false};
+ghost use Rattle.lane.specs.Items.{has_mark};
+ghost use Rattle.lane.specs.Lanes.{lane_of, put_of, taker_lane};
+
+use lane::{Item, Sender, Taker, lane};
+use shard::{Back, Gate, Open, Shard, Worked, work};
+use std::alloc::Global;
+use std::hash::{BuildHasherDefault, FoldHasher};
+use std::process::Abort;
+use std::snapshot::Snapshot;
+use std::sync::Wait;
+use std::sync::atomic::{AtomicU64, Ordering};
+use std::test::*;
+use std::thread;
+use std::thread::Promise;
+use trace::Kind::{Read, Write};
+use trace::{Kind, Placed, Race, Record};
+
+type Hasher = BuildHasherDefault<FoldHasher>;
+
+/// A race: its location, and the kind and the place of each of its accesses.
+type Told = (u64, (Kind, u64), (Kind, u64));
+
+const SPAWN: Record = Record::Spawn;
+
+const SYNC: Record = Record::Sync;
+
+const RETURN: Record = Record::Return;
+
+const WRITE_3: Record = Record::Write(3);
+
+const WRITE_8: Record = Record::Write(8);
+
+const WRITE_2: Record = Record::Write(2);
+
+const READ_8: Record = Record::Read(8);
+
+const READ_2: Record = Record::Read(2);
+
+/// The records of row `three-writes`.
+const THREE_WRITES: [Record; 8] = [
+    SPAWN, WRITE_3, RETURN, SPAWN, WRITE_3, RETURN, WRITE_3, RETURN,
+];
+
+/// The records of row `three-shards`.
+const THREE_SHARDS: [Record; 7] = [SPAWN, WRITE_8, WRITE_2, RETURN, READ_8, READ_2, RETURN];
+
+fn told(race: Race) -> Told {
+    let (first, second) = (race.first, race.second);
+    (
+        race.location,
+        (first.kind, first.place),
+        (second.kind, second.place),
+    )
+}
+
+/// The races that a shard tells along records, each at its second place.
+fn races(alloc: Global, records: &[(u64, Record)]) -> Result<(Vec<Told>, u64), Fail> {
+    let mut shard = Shard::new(alloc, 0, Hasher::default())?;
+    let mut all = Vec::new(alloc);
+    for (place, what) in records {
+        let (place, what) = (*place, *what);
+        if !shard.accepts(place) {
+            return Err("not accepted".into());
+        }
+        if let Some(race) = shard.apply(Placed { place, what })? {
+            if race.second.place != place {
+                return Err("told at another place".into());
+            }
+            all.push(told(race))?;
+        }
+    }
+    Ok((all, shard.taken()))
+}
+
+/// The records with the places from 1 on.
+fn placed(alloc: Global, records: &[Record]) -> Result<Vec<(u64, Record)>, Fail> {
+    let mut all = Vec::new(alloc);
+    for (index, what) in records.iter().enumerate() {
+        all.push((index as u64 + 1, *what))?;
+    }
+    Ok(all)
+}
+
+#[test]
+fn rows(rt: HostRuntime) -> Result<(), Fail> {
+    let rows: [(&str, &[Record], &[Told]); 15] = [
+        ("empty", &[RETURN], &[]),
+        (
+            "write-write",
+            &[SPAWN, Record::Write(5), RETURN, Record::Write(5), RETURN],
+            &[(5, (Write, 2), (Write, 4))],
+        ),
+        (
+            "sync-orders",
+            &[
+                SPAWN,
+                Record::Write(5),
+                RETURN,
+                SYNC,
+                Record::Write(5),
+                RETURN,
+            ],
+            &[],
+        ),
+        (
+            "read-read",
+            &[SPAWN, Record::Read(5), RETURN, Record::Read(5), RETURN],
+            &[],
+        ),
+        (
+            "two-readers-then-write",
+            &[
+                SPAWN,
+                Record::Read(9),
+                RETURN,
+                SPAWN,
+                Record::Read(9),
+                RETURN,
+                Record::Write(9),
+                RETURN,
+            ],
+            &[(9, (Read, 2), (Write, 7))],
+        ),
+        (
+            "reader-moves-to-child",
+            &[
+                Record::Read(9),
+                SPAWN,
+                Record::Read(9),
+                RETURN,
+                Record::Write(9),
+                RETURN,
+            ],
+            &[(9, (Read, 3), (Write, 5))],
+        ),
+        (
+            "grandchild-synced",
+            &[
+                SPAWN,
+                SPAWN,
+                Record::Write(1),
+                RETURN,
+                RETURN,
+                SYNC,
+                Record::Read(1),
+                RETURN,
+            ],
+            &[],
+        ),
+        (
+            "sync-in-sibling",
+            &[
+                SPAWN,
+                Record::Write(1),
+                RETURN,
+                SPAWN,
+                SYNC,
+                Record::Write(1),
+                RETURN,
+                RETURN,
+            ],
+            &[(1, (Write, 2), (Write, 6))],
+        ),
+        (
+            "grandchild-unsynced",
+            &[
+                SPAWN,
+                SPAWN,
+                Record::Write(1),
+                RETURN,
+                RETURN,
+                Record::Read(1),
+                RETURN,
+            ],
+            &[(1, (Write, 3), (Read, 6))],
+        ),
+        (
+            "location-range",
+            &[Record::Write(18_446_744_073_709_551_615), RETURN],
+            &[],
+        ),
+        (
+            "three-writes",
+            &THREE_WRITES,
+            &[(3, (Write, 2), (Write, 5))],
+        ),
+        (
+            "first-reader-stays",
+            &[
+                SPAWN,
+                Record::Read(4),
+                RETURN,
+                Record::Read(4),
+                Record::Write(4),
+                RETURN,
+            ],
+            &[(4, (Read, 2), (Write, 5))],
+        ),
+        (
+            "read-then-write-in-child",
+            &[
+                SPAWN,
+                Record::Read(7),
+                Record::Write(7),
+                RETURN,
+                Record::Write(7),
+                RETURN,
+            ],
+            &[(7, (Write, 3), (Write, 5))],
+        ),
+        (
+            "read-in-child-of-writer",
+            &[
+                Record::Write(7),
+                SPAWN,
+                Record::Read(7),
+                RETURN,
+                Record::Write(7),
+                RETURN,
+            ],
+            &[(7, (Read, 3), (Write, 5))],
+        ),
+        (
+            "three-shards",
+            &THREE_SHARDS,
+            &[(8, (Write, 2), (Read, 5)), (2, (Write, 3), (Read, 6))],
+        ),
+    ];
+    for (name, records, expected) in rows {
+        let (found, taken) = races(rt.alloc(), placed(rt.alloc(), records)?.as_slice())?;
+        assert_eq!(rt; found.as_slice(), expected, "{name}");
+        assert_eq!(rt; taken, records.len() as u64, "{name}");
+    }
+    Ok(())
+}
+
+// What shard 1 of 2 gets of row `write-write` with location 5, and what shard 0 gets.
+#[test]
+fn shares(rt: HostRuntime) -> Result<(), Fail> {
+    let write = Record::Write(5);
+    let whole = [(1, SPAWN), (2, write), (3, RETURN), (4, write), (5, RETURN)];
+    let (found, taken) = races(rt.alloc(), &whole)?;
+    assert_eq!(rt; found.as_slice(), [(5, (Write, 2), (Write, 4))].as_slice());
+    assert_eq!(rt; taken, 5);
+    let structure = [(1, SPAWN), (3, RETURN), (5, RETURN)];
+    let (found, taken) = races(rt.alloc(), &structure)?;
+    assert!(rt; found.is_empty());
+    assert_eq!(rt; taken, 3);
+    Ok(())
+}
+
+#[test]
+fn after_the_roots_return(rt: HostRuntime) -> Result<(), Fail> {
+    let mut shard = Shard::new(rt.alloc(), 0, Hasher::default())?;
+    assert!(rt; !shard.accepts(0));
+    assert!(rt; shard.accepts(281_474_976_710_656));
+    assert!(rt; !shard.accepts(281_474_976_710_657));
+    if shard.accepts(3) {
+        assert_eq!(rt;
+            shard.apply(Placed {
+                place: 3,
+                what: RETURN
+            })?,
+            None
+        );
+    }
+    assert!(rt; !shard.accepts(4));
+    assert_eq!(rt; shard.taken(), 1);
+    Ok(())
+}
+
+/// Puts the records with the places from 1 on, and the mark.
+fn fill<R: Abort>(rt: &R, mut sender: Sender<Placed>, records: &[Record])
+    requires { has_mark (put_of sender) ≡ false }
+{
+    for (index, what) in records.iter().enumerate() {
+        let place = index as u64 + 1;
+        let what = *what;
+        assert_eq!(rt; sender.put(Placed { place, what }), Ok(()));
+    }
+    assert!(rt; sender.mark());
+}
+
+/// A gate that counts the passes, and adds up the shards' numbers and the places.
+#[derive(Drop)]
+struct Passes {
+    count: AtomicU64,
+    shards: AtomicU64,
+    places: AtomicU64,
+}
+
+impl Gate for Passes {
+    fn pass(&self, shard: u32, place: u64) {
+        self.count.fetch_add(1, Ordering::SeqCst);
+        self.shards.fetch_add(u64::from(shard), Ordering::SeqCst);
+        self.places.fetch_add(place, Ordering::SeqCst);
+    }
+}
+
+/// What a worker of shard 7 puts on its lane back that is given these records, and its count. At each
+/// record it passes the gate.
+fn worked<R: Wait + Abort>(
+    rt: &R,
+    alloc: Global,
+    records: &[Record],
+) -> Result<(Vec<Item<Back>>, u64), Fail> {
+    let (sender, taker) = lane::<Placed>(alloc, 16)?;
+    let (back, mut back_taker) = lane::<Back>(alloc, 16)?;
+    let shard = Shard::new(alloc, 7, Hasher::default())?;
+    fill(rt, sender, records);
+    let gate = Passes {
+        count: AtomicU64::new(0),
+        shards: AtomicU64::new(0),
+        places: AtomicU64::new(0),
+    };
+    let mut worked = work(rt, shard, taker, back, &gate);
+    let count = records.len() as u64;
+    assert_eq!(rt; gate.count.load(Ordering::SeqCst), count);
+    assert_eq!(rt; gate.shards.load(Ordering::SeqCst), count.saturating_mul(7));
+    assert_eq!(rt;
+        gate.places.load(Ordering::SeqCst),
+        count.saturating_mul(count.saturating_add(1)) / 2
+    );
+    assert!(rt; worked.taker.ended());
+    let mut items = Vec::new(alloc);
+    for _ in 0..16 {
+        if let Some(item) = back_taker.take() {
+            items.push(item)?;
+        }
+    }
+    back_taker.settle(&mut worked.back);
+    Ok((items, worked.shard.taken()))
+}
+
+#[test]
+fn work_in_one_thread(rt: HostRuntime) -> Result<(), Fail> {
+    let (items, taken) = worked(&rt, rt.alloc(), &THREE_WRITES)?;
+    assert_eq!(rt; taken, 8);
+    assert_eq!(rt; items.len(), 2);
+    match items[0] {
+        Item::One(Back::Race(race)) => assert_eq!(rt; told(race), (3, (Write, 2), (Write, 5))),
+        _ => return Err("no race".into()),
+    }
+    assert_eq!(rt; items[1], Item::Finish);
+    Ok(())
+}
+
+// What follows the root's return is taken, and nothing is told of it.
+#[test]
+fn work_past_the_end(rt: HostRuntime) -> Result<(), Fail> {
+    let records = [SPAWN, WRITE_3, RETURN, RETURN, WRITE_3];
+    let (items, taken) = worked(&rt, rt.alloc(), &records)?;
+    assert_eq!(rt; items.as_slice(), [Item::Finish].as_slice());
+    assert_eq!(rt; taken, 5);
+    Ok(())
+}
+
+/// What a worker does with the ends that are handed to its thread.
+#[derive(Drop)]
+struct WorkOf {
+    taker: Snapshot<Taker<Placed>>,
+    back: Snapshot<Sender<Back>>,
+}
+
+impl Promise<Worked<Hasher>> for WorkOf {
+    ghost use Rattle.shard.specs.Worked.{DidWork};
+
+    ghost kept_by = { λ p r. DidWork p.taker.value p.back.value r };
+}
+
+/// Puts the records and the mark, while it takes what comes back up to the mark: how many races those are.
+fn exchange<R: Wait>(
+    rt: &R,
+    sender: &mut Sender<Placed>,
+    back: &mut Taker<Back>,
+    records: &[Record],
+) -> u64
+    ensures put { lane_of sender.new ≡ lane_of sender.old }
+    ensures taken { taker_lane back.new ≡ taker_lane back.old }
+{
+    let mut next = 0;
+    let mut count = 0u64;
+    for _ in rt.forever() {
+        if !sender.marked() {
+            if next >= records.len() {
+                sender.mark();
+            } else {
+                let place = next as u64 + 1;
+                let what = records[next];
+                next += usize::from(sender.put(Placed { place, what }).is_ok());
+            }
+        }
+        match back.take() {
+            Some(Item::One(_)) => count = count.saturating_add(1),
+            Some(Item::Finish) => return count,
+            None => thread::yield_now(),
+        }
+    }
+    unreachable!()
+}
+
+// The lanes hold one item each, so that a race finds the lane back full.
+#[test]
+fn work_in_a_thread(rt: HostRuntime) -> Result<(), Fail> {
+    let (mut sender, taker) = lane::<Placed>(rt.alloc(), 1)?;
+    let (back, mut back_taker) = lane::<Back>(rt.alloc(), 1)?;
+    let shard = Shard::new(rt.alloc(), 0, Hasher::default())?;
+    let promise = WorkOf {
+        taker: Snapshot::of(&taker),
+        back: Snapshot::of(&back),
+    };
+    let child = thread::spawn_with(&rt, promise, move || work(&rt, shard, taker, back, &Open))?;
+    let count = exchange(&rt, &mut sender, &mut back_taker, &THREE_SHARDS);
+    assert_eq!(rt; count, 2);
+    let mut worked = child.join(&rt);
+    worked.taker.settle(&mut sender.end());
+    back_taker.settle(&mut worked.back);
+    assert_eq!(rt; worked.shard.taken(), 7);
+    Ok(())
+}

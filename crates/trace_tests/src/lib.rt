@@ -1,0 +1,7 @@
+//! Tests of `trace`. They stand in a crate of their own, since a crate with tests is proved once more with them.
+#![tactic(auto)]
+
+#[cfg(test)]
+mod parallel;
+#[cfg(test)]
+mod tests;

@@ -1,0 +1,5 @@
+//! Tests of `words`. They stand in a crate of their own, since a crate with tests is proved once more with them.
+#![tactic(auto)]
+
+#[cfg(test)]
+mod tests;

@@ -1,0 +1,281 @@
+//! Command lines, and the texts that they ask for.
+use std::alloc::{AllocError, Global};
+use std::string::ToString;
+use std::test::Fail;
+use words::{Asked, Question, VERSION, WordsFault, read_words};
+
+// The words of a command line, which stand between spaces.
+fn words_of(alloc: Global, line: &str) -> Result<Vec<String>, AllocError> {
+    let mut words = Vec::new(alloc);
+    for word in line.split_whitespace() {
+        words.push(String::from_str(alloc, word)?)?;
+    }
+    Ok(words)
+}
+
+#[test]
+fn reads_command_lines(rt: HostRuntime) -> Result<(), Fail> {
+    let table = [
+        ("check run.trace", 65536, "run.trace"),
+        ("check -", 65536, "-"),
+        ("check --depth 0 -", 0, "-"),
+        ("check --depth=1 -", 1, "-"),
+        ("check - --depth 1", 1, "-"),
+        ("check --depth 1000000 a", 1000000, "a"),
+        ("check -- --depth", 65536, "--depth"),
+    ];
+    for (line, depth, name) in table {
+        let words = words_of(rt.alloc(), line)?;
+        let Ok(Asked::Question(Question::Check(check))) = read_words(rt.alloc(), words.as_slice())
+        else {
+            return Err(Fail::from(line));
+        };
+        assert_eq!(rt; check.depth, depth, "{line}");
+        assert_eq!(rt; check.trace.as_str(), name, "{line}");
+    }
+    Ok(())
+}
+
+#[test]
+fn reads_shards_and_capacity(rt: HostRuntime) -> Result<(), Fail> {
+    let table = [
+        ("check -", 4, 1024, 65536),
+        ("check --shards 1 --capacity 1 -", 1, 1, 65536),
+        ("check --shards 64 --capacity 65536 -", 64, 65536, 65536),
+        ("check --capacity=7 --shards=3 -", 3, 7, 65536),
+        ("check - --shards 2", 2, 1024, 65536),
+        ("check - --capacity 9", 4, 9, 65536),
+        ("check --shards 5 --depth 6 --capacity 7 -", 5, 7, 6),
+    ];
+    for (line, shards, capacity, depth) in table {
+        let words = words_of(rt.alloc(), line)?;
+        let Ok(Asked::Question(Question::Check(check))) = read_words(rt.alloc(), words.as_slice())
+        else {
+            return Err(Fail::from(line));
+        };
+        assert_eq!(rt; check.shards, shards, "{line}");
+        assert_eq!(rt; check.capacity, capacity, "{line}");
+        assert_eq!(rt; check.depth, depth, "{line}");
+    }
+    Ok(())
+}
+
+#[test]
+fn reads_questions(rt: HostRuntime) -> Result<(), Fail> {
+    let table = [
+        ("pairs run.trace 5", 65536, "run.trace", 5),
+        ("pairs - 0", 65536, "-", 0),
+        ("pairs --depth 0 - 7", 0, "-", 7),
+        ("pairs a --depth=1000000 7", 1000000, "a", 7),
+        (
+            "pairs - 18446744073709551615",
+            65536,
+            "-",
+            18446744073709551615,
+        ),
+    ];
+    for (line, depth, trace, location) in table {
+        let words = words_of(rt.alloc(), line)?;
+        let Ok(Asked::Question(Question::Pairs(pairs))) = read_words(rt.alloc(), words.as_slice())
+        else {
+            return Err(Fail::from(line));
+        };
+        assert_eq!(rt; pairs.depth, depth, "{line}");
+        assert_eq!(rt; pairs.trace.as_str(), trace, "{line}");
+        assert_eq!(rt; pairs.location, location, "{line}");
+    }
+    for (line, depth) in [("measure -", 65536), ("measure - --depth 3", 3)] {
+        let words = words_of(rt.alloc(), line)?;
+        let Ok(Asked::Question(Question::Measure(measure))) = read_words(
+            rt.alloc(),
+            words.as_slice(),
+        ) else {
+            return Err(Fail::from(line));
+        };
+        assert_eq!(rt; measure.depth, depth, "{line}");
+        assert_eq!(rt; measure.trace.as_str(), "-", "{line}");
+    }
+    Ok(())
+}
+
+#[test]
+fn reads_names_of_reports(rt: HostRuntime) -> Result<(), Fail> {
+    let table = [
+        (
+            "confirm run.trace run.report",
+            65536,
+            "run.trace",
+            "run.report",
+        ),
+        ("confirm - run.report", 65536, "-", "run.report"),
+        ("confirm run.trace -", 65536, "run.trace", "-"),
+        ("confirm same same", 65536, "same", "same"),
+        ("confirm --depth 9 a b", 9, "a", "b"),
+    ];
+    for (line, depth, trace, report) in table {
+        let words = words_of(rt.alloc(), line)?;
+        let Ok(Asked::Confirm(confirm)) = read_words(rt.alloc(), words.as_slice()) else {
+            return Err(Fail::from(line));
+        };
+        assert_eq!(rt; confirm.depth, depth, "{line}");
+        assert_eq!(rt; confirm.trace.as_str(), trace, "{line}");
+        assert_eq!(rt; confirm.report.as_str(), report, "{line}");
+    }
+    Ok(())
+}
+
+#[test]
+fn refuses_command_lines(rt: HostRuntime) -> Result<(), Fail> {
+    let table = [
+        "",
+        "check",
+        "check a b",
+        "check --depth 1000001 -",
+        "check --depth 007 -",
+        "check --depth 00 -",
+        "check --depth +1 -",
+        "check --depth -1 -",
+        "check --depth 18446744073709551617 -",
+        "check --depth x -",
+        "check --depth= -",
+        "check --depth",
+        "check --depth 1 --depth 1 -",
+        "check --depths 1 -",
+        "check --shards 0 -",
+        "check --shards 65 -",
+        "check --shards 01 -",
+        "check --shards +1 -",
+        "check --shards 4294967297 -",
+        "check --shards 18446744073709551617 -",
+        "check --shards= -",
+        "check --shards",
+        "check --shards 1 --shards 1 -",
+        "check --capacity 0 -",
+        "check --capacity 65537 -",
+        "check --capacity 01 -",
+        "check --capacity x -",
+        "check --capacity 4294967297 -",
+        "check --capacity",
+        "check -x -",
+        "pairs",
+        "pairs -",
+        "pairs - 03",
+        "pairs - x",
+        "pairs - 5 6",
+        "pairs - +5",
+        "pairs - 18446744073709551616",
+        "pairs --depth 1000001 - 5",
+        "pairs --shards 1 - 5",
+        "measure",
+        "measure - 5",
+        "measure --depth 007 -",
+        "measure --capacity 1 -",
+        "confirm",
+        "confirm -",
+        "confirm - -",
+        "confirm a b c",
+        "confirm --depth 1000001 a b",
+        "confirm --shards 1 a b",
+        "--depth 1 check -",
+        "chec -",
+        "help",
+        "-",
+    ];
+    for line in table {
+        let words = words_of(rt.alloc(), line)?;
+        assert!(rt;
+            matches!(
+                read_words(rt.alloc(), words.as_slice()),
+                Err(WordsFault::Bad)
+            ),
+            "{line}"
+        );
+    }
+    let none = [String::new(rt.alloc())];
+    assert!(rt;
+        matches!(
+            read_words(rt.alloc(), none.as_slice()),
+            Err(WordsFault::Bad)
+        )
+    );
+    Ok(())
+}
+
+#[test]
+fn helps(rt: HostRuntime) -> Result<(), Fail> {
+    for line in [
+        "--help",
+        "-h",
+        "check --help",
+        "check -h",
+        "check - --help",
+        "pairs --help",
+        "measure -h",
+        "confirm --help",
+        "--version",
+        "-V",
+    ] {
+        let words = words_of(rt.alloc(), line)?;
+        let Err(WordsFault::Help(text)) = read_words(rt.alloc(), words.as_slice()) else {
+            return Err(Fail::from(line));
+        };
+        assert!(rt; !text.is_empty(), "{line}");
+    }
+    let words = words_of(rt.alloc(), "--version")?;
+    let Err(WordsFault::Help(text)) = read_words(rt.alloc(), words.as_slice()) else {
+        return Err(Fail::from("--version"));
+    };
+    let want = format!(in rt.alloc(); "spbags {VERSION}\n")?;
+    assert_eq!(rt; text.as_str(), want.as_str());
+    Ok(())
+}
+
+// Command lines that ask for help, and what it has to say.
+const HELPS: [(&str, &str); 19] = [
+    ("--help", "trace 1"),
+    ("--help", "`spawn`, `sync`, `return`"),
+    ("--help", "`read L` or `write L`"),
+    ("--help", "0 to 18446744073709551615"),
+    ("--help", "A file named `-` is standard input"),
+    ("--help", "spbags check --help"),
+    ("check --help", "1 to 64, 4 where"),
+    ("check --help", "1 to 65536, 1024 where"),
+    ("check --help", "0 to 1000000, 65536 where"),
+    ("check --help", "Place k stands on line k + 1"),
+    ("check --help", "shard l mod N"),
+    ("pairs --help", "0 to 1000000, 65536 where"),
+    ("pairs --help", "0 to 18446744073709551615"),
+    ("pairs --help", "Place k stands on line k + 1"),
+    ("pairs --help", "comes when the whole trace was read"),
+    ("pairs --help", "four times as long"),
+    ("measure --help", "0 to 1000000, 65536 where"),
+    ("confirm --help", "0 to 1000000, 65536 where"),
+    ("confirm --help", "67108864 bytes"),
+];
+
+#[test]
+fn helps_a_newcomer(rt: HostRuntime) -> Result<(), Fail> {
+    for (line, said) in HELPS {
+        let words = words_of(rt.alloc(), line)?;
+        let Err(WordsFault::Help(text)) = read_words(rt.alloc(), words.as_slice()) else {
+            return Err(Fail::from(line));
+        };
+        assert!(rt; text.as_str().split_once(said).is_some(), "{line}: {said}");
+    }
+    Ok(())
+}
+
+#[test]
+fn shows_its_faults(rt: HostRuntime) -> Result<(), Fail> {
+    assert_eq!(rt;
+        WordsFault::Bad.to_string(rt.alloc())?.as_str(),
+        "bad command line"
+    );
+    assert_eq!(rt;
+        WordsFault::NoMemory.to_string(rt.alloc())?.as_str(),
+        "out of memory"
+    );
+    let help = WordsFault::Help(String::from_str(rt.alloc(), "a text")?);
+    assert_eq!(rt; help.to_string(rt.alloc())?.as_str(), "a text");
+    Ok(())
+}
