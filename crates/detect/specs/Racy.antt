@@ -14,16 +14,19 @@ OfWellNested P = (w : List Record) (records depths : ℕ) → IsWellNested w rec
 -- of three accesses in trace order: where the first and the second are parallel, and the second and the third
 -- are, so are the first and the third
 abbrev pub IsParallelThrough : List Record → Type 0
-IsParallelThrough w = (i j k : ℕ) → i < j → j < k → IsAccessPlace w i → IsAccessPlace w j → IsAccessPlace w k → IsParallel w i j → IsParallel w j k → IsParallel w i k
+IsParallelThrough w = (i j k : ℕ) → i < j → j < k → IsAccessPlace w i → IsAccessPlace w j → IsAccessPlace w k
+    → IsParallel w i j → IsParallel w j k → IsParallel w i k
 
 -- where a path leads from the first to the second, and the first and the third are parallel, so are the second
 -- and the third
 abbrev pub IsParallelAfter : List Record → Type 0
-IsParallelAfter w = (i j k : ℕ) → i < j → j < k → IsAccessPlace w i → IsAccessPlace w j → IsAccessPlace w k → Leads w i j → IsParallel w i k → IsParallel w j k
+IsParallelAfter w = (i j k : ℕ) → i < j → j < k → IsAccessPlace w i → IsAccessPlace w j → IsAccessPlace w k
+    → Leads w i j → IsParallel w i k → IsParallel w j k
 
 -- where any read of a location before an access is parallel to it, the kept reader is
 abbrev pub KeepsParallelReader : List Record → Type 0
-KeepsParallelReader w = (l i j : ℕ) → i < j → IsRead w l i → IsAccessPlace w j → IsParallel w i j → (k : ℕ) × IsKeptReader w l j (Some k) × IsParallel w k j
+KeepsParallelReader w = (l i j : ℕ) → i < j → IsRead w l i → IsAccessPlace w j → IsParallel w i j
+    → (k : ℕ) × IsKeptReader w l j (Some k) × IsParallel w k j
 
 -- the races that are told of the racy locations and whose second place is at most t, by their second places
 pub record AreEarlyRaces (w : List Record) (t : ℕ) (rs : List RaceAt) : Type 0 where

@@ -12,7 +12,8 @@ use Rattle.texts.specs.ReportBytes.{GivesReport, IsRefusal}
 use Rattle.replies.specs.Questions.{AnswersConfirm}
 
 -- the trace was read whole, what answers the question was written, and nothing beside it
-pub record HasAnswered (records depths : ℕ) (Says : List Record → List ℕ → ℕ → Type 0) (trace out err : Change) (status : ℕ) : Type 0 where
+pub record HasAnswered (records depths : ℕ) (Says : List Record → List ℕ → ℕ → Type 0)
+    (trace out err : Change) (status : ℕ) : Type 0 where
   pub text : List ℕ
   pub read : OfTrace records depths trace (λ w. Says w text status)
   pub took : Took text out
@@ -26,7 +27,8 @@ pub record HasRefused (IsWant : Fault → Type 0) (records depths : ℕ) (trace 
   pub said : WasGiven (message fault) err
 
 -- the trace was read whole, and writing what answers the question failed, which standard error was told
-pub record FailedToWrite (records depths : ℕ) (Says : List Record → List ℕ → ℕ → Type 0) (trace out err : Change) : Type 0 where
+pub record FailedToWrite (records depths : ℕ) (Says : List Record → List ℕ → ℕ → Type 0)
+    (trace out err : Change) : Type 0 where
   pub text : List ℕ
   pub status : ℕ
   pub read : OfTrace records depths trace (λ w. Says w text status)
@@ -36,10 +38,12 @@ pub record FailedToWrite (records depths : ℕ) (Says : List Record → List ℕ
 -- Status 0 or 1 is an answer, and status 2 is none. So a source that holds a trace and doesn't fail has status 2 only
 -- where something was wanting, which standard error was told, or where standard output failed: by `honest` of the
 -- refusal, and by `failed` of what standard output took.
-pub record IsAnswered (IsWant : Fault → Type 0) (records depths : ℕ) (Says : List Record → List ℕ → ℕ → Type 0) (trace out err : Change) (status : ℕ) : Type 0 where
+pub record IsAnswered (IsWant : Fault → Type 0) (records depths : ℕ) (Says : List Record → List ℕ → ℕ → Type 0)
+    (trace out err : Change) (status : ℕ) : Type 0 where
   pub low : status ≤ 2
   pub answered : status < 2 → HasAnswered records depths Says trace out err status
-  pub failed : status ≡ 2 → HasRefused IsWant records depths trace out err ⊎ FailedToWrite records depths Says trace out err
+  pub failed : status ≡ 2 → HasRefused IsWant records depths trace out err
+      ⊎ FailedToWrite records depths Says trace out err
 
 -- there is no report, which standard error was told, and nothing of an answer was written
 pub record HasNoReport (report out err : Change) (status : ℕ) : Type 0 where
@@ -58,4 +62,5 @@ pub record HasReport (records depths : ℕ) (trace report out err : Change) (sta
 -- The report is read first; where there is none the trace isn't read. So a report and a trace from sources that hold
 -- them and don't fail have status 2 only for want of memory, or where standard output failed.
 abbrev pub IsConfirmed : (Unread : Type 0) → ℕ → ℕ → Change → Change → Change → Change → ℕ → Type 0
-IsConfirmed Unread records depths trace report out err status = (Unread × HasNoReport report out err status) ⊎ HasReport records depths trace report out err status
+IsConfirmed Unread records depths trace report out err status = (Unread × HasNoReport report out err status)
+    ⊎ HasReport records depths trace report out err status

@@ -1,5 +1,6 @@
 //! Records that are sent at once.
-ghost use Rattle.std.specs.Prelude.{◌≡◌, ℕ, ◌+◌, ◌<◌, ◌≤◌, List, [], ◌∷◌, ◌++◌, length, take, ◌≢◌, vec_len, IfOk, IsTrue, IsFalse};
+ghost use Rattle.std.specs.Prelude.{◌≡◌, ◌≢◌, ◌+◌, ◌<◌, ◌≤◌, ◌∷◌, ◌++◌};
+ghost use Rattle.std.specs.Prelude.{ℕ, List, [], length, take, vec_len, IfOk, IsTrue, IsFalse};
 ghost use Rattle.lane.specs.declared.sender.TheConstants.{BLOCK};
 ghost use Rattle.trace.specs.declared.records.Placed.{Placed};
 ghost use Rattle.route.specs.Portions.{portion_at, AreNoLonger};
@@ -31,7 +32,8 @@ pub struct Batch {
 }
 
 impl Batch {
-    ghost use Rattle.route.specs.Batches.{batch_lanes, longest_of, most_of, portion_of, batch_turn, sent_count, unsent_portion, HasStaged, HasSamePortions, IsUnsent, IsSentWhole};
+    ghost use Rattle.route.specs.Batches.{batch_lanes, longest_of, most_of, portion_of, batch_turn, sent_count, unsent_portion};
+    ghost use Rattle.route.specs.Batches.{HasStaged, HasSamePortions, IsUnsent, IsSentWhole};
 
     /// Nothing yet, for so many lanes, and for at most so many records on each. It takes memory for all that it may have,
     /// and none after that.

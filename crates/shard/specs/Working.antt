@@ -1,5 +1,6 @@
 -- Promised: what a worker is given, and what it hands back.
-use Rattle.std.specs.Prelude.{◌≡◌, ℕ, ◌+◌, ◌-◌, ◌<◌, ◌≤◌, ◌↔◌, ◌⊎◌, Bool, true, false, List, [], ◌∷◌, ◌++◌, length, map}
+use Rattle.std.specs.Prelude.{◌≡◌, ◌+◌, ◌-◌, ◌<◌, ◌≤◌, ◌↔◌, ◌⊎◌, ◌∷◌, ◌++◌}
+use Rattle.std.specs.Prelude.{ℕ, Bool, true, false, List, [], length, map}
 use Rattle.trace.specs.Bounds.{most_records}
 use Rattle.trace.specs.declared.records.Record.{Record}
 use Rattle.trace.specs.declared.records.Record.TheVariants.{Return}
@@ -37,8 +38,10 @@ race_items rs = map (λ r. One (Race r)) rs
 -- A worker applies no more from record p on: the record was out of order, or it was in order and a growth was
 -- refused. What the worker has put are the races of the records before, and after a refused growth one NoMemory.
 pub data HasStopped (u : List Placed) (put : List (Item Back)) : Type 0 where
-  out_of_order : (v rest : List Placed) (p : Placed) → u ≡ v ++ p ∷ rest → AreInOrder v → (AreInOrder (v ++ p ∷ []) → ⊥) → put ≡ race_items (found v) → HasStopped u put
-  no_memory : (v rest : List Placed) (p : Placed) → u ≡ v ++ p ∷ rest → AreInOrder (v ++ p ∷ []) → put ≡ race_items (found v) ++ One NoMemory ∷ [] → HasStopped u put
+  out_of_order : (v rest : List Placed) (p : Placed) → u ≡ v ++ p ∷ rest → AreInOrder v → (AreInOrder (v ++ p ∷ []) → ⊥)
+      → put ≡ race_items (found v) → HasStopped u put
+  no_memory : (v rest : List Placed) (p : Placed) → u ≡ v ++ p ∷ rest → AreInOrder (v ++ p ∷ [])
+      → put ≡ race_items (found v) ++ One NoMemory ∷ [] → HasStopped u put
 
 -- what a worker has put that was given the records u: the races found in them where they are in order, or less
 abbrev pub HasHandedBack : List Placed → List (Item Back) → Type 0
@@ -47,7 +50,8 @@ HasHandedBack u put = (AreInOrder u × (put ≡ race_items (found u))) ⊎ HasSt
 -- after a place, and where so many procedures are active: the places rise, and nothing follows the root's return
 abbrev pub Follow : ℕ → ℕ → List Placed → Type 0
 Follow place active [] = Unit {0}
-Follow place active (p ∷ u) = (place < p.place) × (p.place ≤ most_records) × (p.what ≡ Return → active ≡ 1 → u ≡ []) × Follow p.place ((active + opens p.what) - closes p.what) u
+Follow place active (p ∷ u) = (place < p.place) × (p.place ≤ most_records) × (p.what ≡ Return → active ≡ 1 → u ≡ [])
+    × Follow p.place ((active + opens p.what) - closes p.what) u
 
 -- the records that a shard may take from here on
 pub record MayTake (s : ShardState) (rest : List Placed) : Type 0 where
@@ -79,4 +83,5 @@ pub record IsOfShare (u : List Placed) : Type 0 where
 
 -- the races found in u and the mark, or where memory was refused a beginning of them, one NoMemory and the mark
 abbrev pub TellsFound : List Placed → List (Item Back) → Type 0
-TellsFound u put = (put ≡ race_items (found u) ++ Finish ∷ []) ⊎ ((rs : List RaceAt) × IsBeginning rs (found u) × (put ≡ race_items rs ++ One NoMemory ∷ Finish ∷ []))
+TellsFound u put = (put ≡ race_items (found u) ++ Finish ∷ [])
+    ⊎ ((rs : List RaceAt) × IsBeginning rs (found u) × (put ≡ race_items rs ++ One NoMemory ∷ Finish ∷ []))

@@ -24,7 +24,8 @@ IsNoRecord body = (r : Record) → Fits r → body ≢ spell r
 -- as many records as the limit. A line that is both bad and past the limit is bad.
 pub data IsBadLine (records : ℕ) (bytes : List ℕ) : TextFault → Type 0 where
   bad_header : (body : List ℕ) → IsJudged bytes body → body ≢ header → IsBadLine records bytes (record { line = 1; kind = Header })
-  bad_line : (w : List Record) (rest body : List ℕ) → AllFit w → length w ≤ records → bytes ≡ text w ++ rest → IsJudged rest body → IsNoRecord body
+  bad_line : (w : List Record) (rest body : List ℕ) → AllFit w → length w ≤ records → bytes ≡ text w ++ rest
+      → IsJudged rest body → IsNoRecord body
       → IsBadLine records bytes (record { line = length w + 2; kind = Line })
   too_many : (w : List Record) (r : Record) (more : List ℕ) → AllFit w → length w ≡ records → Fits r → bytes ≡ text w ++ (line r ++ more)
       → IsBadLine records bytes (record { line = length w + 2; kind = TooMany })
@@ -48,23 +49,30 @@ pub data IsMisplaced (depths : ℕ) (u : List Record) (r : Record) : NestKind �
 -- no record of these is misplaced
 pub data AreNested (depths : ℕ) : List Record → Type 0 where
   none : AreNested depths []
-  next : {u : List Record} {r : Record} → AreNested depths u → ((k : NestKind) → IsMisplaced depths u r k → ⊥) → AreNested depths (u ++ r ∷ [])
+  next : {u : List Record} {r : Record} → AreNested depths u → ((k : NestKind) → IsMisplaced depths u r k → ⊥)
+      → AreNested depths (u ++ r ∷ [])
 
 -- the first faulty place: the record there is misplaced, and none before it is
 pub data IsBadPlace (depths : ℕ) (bytes : List ℕ) : NestFault → Type 0 where
-  bad_place : (u : List Record) (r : Record) (more : List ℕ) (k : NestKind) → AllFit u → Fits r → bytes ≡ text u ++ (line r ++ more) → AreNested depths u → IsMisplaced depths u r k
+  bad_place : (u : List Record) (r : Record) (more : List ℕ) (k : NestKind) → AllFit u → Fits r
+      → bytes ≡ text u ++ (line r ++ more) → AreNested depths u → IsMisplaced depths u r k
       → IsBadPlace depths bytes (record { place = length u + 1; kind = k })
 
 -- The first fault of bytes after which others may come: of the first faulty line and the first faulty
 -- place the one that comes first, where the record at place p stands on line p + 1; on one line the line's.
 pub data IsFirstFault (records depths : ℕ) (bytes : List ℕ) : Fault → Type 0 where
-  bad_line : (f : TextFault) → IsBadLine records bytes f → ((n : NestFault) → IsBadPlace depths bytes n → f.line ≤ n.place + 1) → IsFirstFault records depths bytes (Text f)
-  bad_place : (n : NestFault) → IsBadPlace depths bytes n → ((f : TextFault) → IsBadLine records bytes f → n.place + 1 < f.line) → IsFirstFault records depths bytes (Nest n)
+  bad_line : (f : TextFault) → IsBadLine records bytes f
+      → ((n : NestFault) → IsBadPlace depths bytes n → f.line ≤ n.place + 1)
+      → IsFirstFault records depths bytes (Text f)
+  bad_place : (n : NestFault) → IsBadPlace depths bytes n
+      → ((f : TextFault) → IsBadLine records bytes f → n.place + 1 < f.line)
+      → IsFirstFault records depths bytes (Nest n)
 
 -- The first fault of bytes that have ended. A rest without a line end is a fault where nothing before it is;
 -- and last, that the root hasn't returned.
 pub data IsFaultOfAll (records depths : ℕ) (bytes : List ℕ) : Fault → Type 0 where
   before_end : (f : Fault) → IsFirstFault records depths bytes f → IsFaultOfAll records depths bytes f
-  truncated : (f : TextFault) → IsTruncated records bytes f → ((g : Fault) → IsFirstFault records depths bytes g → ⊥) → IsFaultOfAll records depths bytes (Text f)
+  truncated : (f : TextFault) → IsTruncated records bytes f → ((g : Fault) → IsFirstFault records depths bytes g → ⊥)
+      → IsFaultOfAll records depths bytes (Text f)
   unfinished : (w : List Record) → AllFit w → length w ≤ records → bytes ≡ text w → AreNested depths w → (HasEnded w → ⊥)
       → IsFaultOfAll records depths bytes (Nest (record { place = length w + 1; kind = Unfinished }))

@@ -1,11 +1,14 @@
 //! What a router does.
-ghost use Rattle.std.specs.Prelude.{◌≡◌, ℕ, ◌<◌, ◌≤◌, ◌+◌, ◌++◌, ◌↔◌, ◌≢◌, List, [], length, take, map, is_some, IsTrue, IsFalse, IfSome, IfNone};
+ghost use Rattle.std.specs.Prelude.{◌≡◌, ◌<◌, ◌≤◌, ◌+◌, ◌++◌, ◌↔◌, ◌≢◌};
+ghost use Rattle.std.specs.Prelude.{ℕ, List, [], length, take, map, is_some, IsTrue, IsFalse, IfSome, IfNone};
 ghost use Rattle.lane.specs.declared.item.Item.TheVariants.{One, Finish};
 ghost use Rattle.trace.specs.declared.records.Placed.{Placed};
 ghost use Rattle.route.specs.Sending.{first_lane, with_put, with_puts, sent_whole, HaveMarks};
-ghost use Rattle.route.specs.Batches.{batch_lanes, batch_turn, unsent_portion, HasStaged, HasSamePortions, IsUnsent, IsSentWhole, IsAsFarSent, IsSending, LacksRoom, SendsNext};
+ghost use Rattle.route.specs.Batches.{batch_lanes, batch_turn, unsent_portion, HasStaged, HasSamePortions};
+ghost use Rattle.route.specs.Batches.{IsUnsent, IsSentWhole, IsAsFarSent, IsSending, LacksRoom, SendsNext};
 ghost use Rattle.route.specs.Progresses.{OnIdle, OnMoved, IfBlocked};
-ghost use Rattle.route.specs.Routers.{puts_of, lane_count, pending_of, turn_of, marked_of, HasSent, IsOnLanes, IsUnchanged, IsLastLane, HasRefused, capacity_on, room_on};
+ghost use Rattle.route.specs.Routers.{puts_of, lane_count, pending_of, turn_of, marked_of, capacity_on, room_on};
+ghost use Rattle.route.specs.Routers.{HasSent, IsOnLanes, IsUnchanged, IsLastLane, HasRefused};
 
 use super::Router;
 use crate::batch::Batch;
