@@ -23,6 +23,10 @@ pub take_six : (xs : List ℕ) (a b c d e f : ℕ) → 6 ≤ length xs → get_o
 take_six (u ∷ xs) a b c d e f h p q r s t v = let rest = take_five xs b c d e f (omega arith) q r s t v in cc
 take_six [] a b c d e f h p q r s t v = absurd (omega arith)
 
+pub take_seven : (xs : List ℕ) (a b c d e f g : ℕ) → 7 ≤ length xs → get_or xs 0 0 ≡ a → get_or xs 1 0 ≡ b → get_or xs 2 0 ≡ c → get_or xs 3 0 ≡ d → get_or xs 4 0 ≡ e → get_or xs 5 0 ≡ f → get_or xs 6 0 ≡ g → take 7 xs ≡ a ∷ b ∷ c ∷ d ∷ e ∷ f ∷ g ∷ []
+take_seven (u ∷ xs) a b c d e f g h p q r s t v w = let rest = take_six xs b c d e f g (omega arith) q r s t v w in cc
+take_seven [] a b c d e f g h p q r s t v w = absurd (omega arith)
+
 -- a word, and after it digits in front of a line's end
 pub word_and_digits : (piece word digits : List ℕ) (k d n : ℕ) → take k piece ≡ word → digits ≡ take 16 (drop k piece) → d < 16 → k + 16 ≤ length piece → take d digits ≡ decimal n → get_or digits d 0 ≡ newline
     → take (k + (d + 1)) piece ≡ word ++ ended (decimal n)

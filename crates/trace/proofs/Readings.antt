@@ -1,11 +1,12 @@
 -- The fault that a step of a reader finds.
-use Rattle.std.proofs.Common.{◌≡◌, ◌≢◌, ℕ, ◌+◌, ◌-◌, ◌<◌, ◌≤◌, Bool, true, false, List, [], ◌∷◌, ◌++◌, length, take, drop, get_or, arith, sym, ◌∙◌, ap, subst, append_assoc, length-append}
-use Rattle.std.proofs.lemmas.List.{take-append-drop, length-take}
+use Rattle.std.proofs.Common.{◌≡◌, ◌≢◌, ℕ, ◌+◌, ◌-◌, ◌<◌, ◌≤◌, Bool, true, false, List, [], ◌∷◌, ◌++◌, length, take, drop, get_or, Option, Some, None, IfSome, arith, sym, ◌∙◌, ap, subst, append_assoc, length-append}
+use Rattle.std.specs.Option.{option_to_list}
+use Rattle.std.proofs.lemmas.List.{append-nil, take-append-drop, length-take}
 use Rattle.trace.specs.declared.records.Record.{Record}
 use Rattle.trace.specs.declared.faults.TextKind.TheVariants.{Header, Line, TooMany, Truncated}
 use Rattle.trace.specs.Text.{newline, header, spell, Fits, ended, line, text, IsUnended, IsOpen}
 use Rattle.trace.specs.Faults.{IsJudged, at_end, at_length, IsNoRecord, IsBadLine, bad_header, bad_line, too_many, IsTruncated, no_header, no_line_end}
-use Rattle.trace.specs.Reading.{Reading, AreBytes, HasRead}
+use Rattle.trace.specs.Reading.{Reading, AreBytes, HasRead, IsBetweenLines}
 use Rattle.trace.proofs.Texts.{length-spell, unended-append, split-ended}
 
 bytes_begun : (b : Bool) (w : List Record) (rest bytes : List ℕ) → b ≡ true → AreBytes b w rest bytes → bytes ≡ text w ++ rest
@@ -15,6 +16,12 @@ bytes_begun false w rest bytes e h = absurd (cc)
 bytes_first : (b : Bool) (w : List Record) (rest bytes : List ℕ) → b ≡ false → AreBytes b w rest bytes → (w ≡ []) × (bytes ≡ rest)
 bytes_first true w rest bytes e h = absurd (cc)
 bytes_first false w rest bytes e h = h
+
+-- between two lines the bytes are the text of the records, that of the last one among them
+pub up_to_line_end : (w : List Record) (o : Option Record) (bytes : List ℕ) (s : Reading) → HasRead (w ++ option_to_list o) bytes s → IfSome o (λ _. IsBetweenLines s) → IfSome o (λ r. bytes ≡ text (w ++ r ∷ []))
+up_to_line_end w None bytes s h between = tt
+up_to_line_end w (Some r) bytes s h between =
+    bytes_begun s.begun (w ++ r ∷ []) s.rest bytes between.begun h.bytes_are ∙ ap (λ x. text (w ++ r ∷ []) ++ x) between.nothing_held ∙ append-nil _
 
 pub open_nil : IsOpen []
 open_nil = record { unended = λ k d h. absurd (omega arith); short = omega arith }

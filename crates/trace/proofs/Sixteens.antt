@@ -273,6 +273,11 @@ each_byte [] h = tt
 each_byte (b ∷ bs) h = (omega (arith, h 0), each_byte bs (λ i. h (suc i)))
 
 -- digits in front of which stands no zero are the decimal of the number that their values write
+-- a line's end behind a digit above 0 isn't the first byte
+pub some_digit : (bs : List ℕ) (n : ℕ) → get_or bs n 0 ≡ 10 → 48 < get_or bs 0 0 → 0 < n
+some_digit bs zero e h = absurd (omega (arith, e, h))
+some_digit bs (suc n) e h = omega arith
+
 pub front_spelled : (bs : List ℕ) (n r : ℕ) → length bs ≡ 16 → ((i : ℕ) → Fits w8 (get_or bs i 0)) → n < 16 → AllBelowBase 10 (take n (values bs))
     → r ≡ number_from_digits 10 (behind n (values bs)) → get_or bs 0 0 ≢ 48 → 0 < n → take n bs ≡ decimal r
 front_spelled bs n r long fit few h is first some =

@@ -14,6 +14,7 @@ pub mod Nesting
 pub mod Cuts
 pub mod Fronts
 pub mod Feeding
+pub mod Easy
 pub mod Writers
 pub mod Endings
 pub mod Watching

@@ -9,6 +9,7 @@ ghost use Rattle.trace.specs.Bounds.{most_records, longest_line};
 
 use crate::devices::{Failed, Source};
 use crate::faults::{Fault, TextFault};
+use crate::lines::LONGEST;
 use crate::nesting::Nest;
 use crate::reading::Reader;
 use crate::records::{Limits, Placed, Record};
@@ -31,18 +32,24 @@ pub struct Intake {
     buffer: [u8; 4096],
     start: usize,
     end: usize,
+    // Before this index of the buffer a record is read with no look at the rest: see `IsEasy`.
+    easy_until: usize,
     ending: Ending,
 }
 
 impl Model for Intake {
-    ghost use Rattle.std.specs.Prelude.{◌≤◌, ◌-◌, length, take, drop};
+    ghost use Rattle.std.specs.Prelude.{◌≤◌, ◌<◌, ◌+◌, ◌-◌, length, take, drop};
+    ghost use Rattle.trace.specs.Bounds.{longest_line};
     ghost use Rattle.trace.specs.Feeding.{Feeding};
+    ghost use Rattle.trace.specs.Easy.{IsEasy};
 
     ghost Value = { Feeding };
 
     ghost view = { λ s. record { reading = s.reader; nesting = s.nest; coming = take (s.end - s.start) (drop s.start s.buffer); ending = s.ending } };
 
-    ghost invariant = { λ s. (s.start ≤ s.end) × (s.end ≤ length s.buffer) × (s.nest.count ≤ s.reader.count) };
+    ghost invariant = { λ s. (s.start ≤ s.end) × (s.end ≤ length s.buffer) × (s.nest.count ≤ s.reader.count)
+        × (s.start < s.easy_until → IsEasy s.reader s.ending (s.easy_until - s.start))
+        × (s.start < s.easy_until → s.easy_until + longest_line ≤ s.end) };
 }
 
 impl Intake {
@@ -60,6 +67,7 @@ impl Intake {
             buffer: [0; 4096],
             start: 0,
             end: 0,
+            easy_until: 0,
             ending: Ending::Running,
         }
     }
@@ -75,10 +83,9 @@ impl Intake {
             × (source.new ≡ source.old) }
         ensures limits { HasSameLimits self.old self.new }
     {
-        match self.ending {
-            Ending::Running => self.read_on(source),
-            Ending::Good => Ok(None),
-            Ending::Bad(fault) => Err(fault),
+        match self.next_known() {
+            Some(placed) => Ok(Some(placed)),
+            None => self.next_of_all(source),
         }
     }
 
@@ -92,9 +99,9 @@ impl Intake {
         ensures ended { self.old.ending ≢ Running → result ≡ None }
         ensures limits { HasSameLimits self.old self.new }
     {
-        let Ending::Running = self.ending else {
+        if self.start >= self.easy_until {
             return None;
-        };
+        }
         let bytes: &[u8] = &self.buffer;
         let front = self.reader.front(&bytes[self.start..self.end])?;
         match self.nest.accept(front.record) {
@@ -107,8 +114,24 @@ impl Intake {
         }
     }
 
-    // Reads on while it hasn't ended.
+    // The next placed record, easily told or not.
     #[inline(always)]
+    fn next_of_all<S: Source>(&mut self, source: &mut S) -> Result<Option<Placed>, Fault>
+        ensures fed { GivesNext self.old self.new (S.state source.old ⇝ S.state source.new) result }
+        ensures good { self.old.ending ≡ Good → (result ≡ Ok None) × (self.new ≡ self.old) × (source.new ≡ source.old) }
+        ensures bad { (f : Fault) → self.old.ending ≡ Bad f → (result ≡ Err f) × (self.new ≡ self.old)
+            × (source.new ≡ source.old) }
+        ensures limits { HasSameLimits self.old self.new }
+    {
+        match self.ending {
+            Ending::Running => self.read_on(source),
+            Ending::Good => Ok(None),
+            Ending::Bad(fault) => Err(fault),
+        }
+    }
+
+    // Reads on while it hasn't ended.
+    #[inline(never)]
     fn read_on<S: Source>(&mut self, source: &mut S) -> Result<Option<Placed>, Fault>
         requires { self.old.ending ≡ Running }
         ensures fed { GivesNext self.old self.new (S.state source.old ⇝ S.state source.new) result }
@@ -129,7 +152,6 @@ impl Intake {
     }
 
     // Gets the next bytes of the source where all that have come were used. Whether there are any.
-    #[inline(always)]
     fn fill<S: Source>(&mut self, source: &mut S) -> Result<bool, Failed>
         ensures came { (came : List ℕ) × Gave (S.state source.old ⇝ S.state source.new) came
             × (self.new ≡ record self.old { coming = self.old.coming ++ came }) }
@@ -142,13 +164,13 @@ impl Intake {
             return Ok(true);
         }
         let count = source.get(&mut self.buffer)?;
+        self.easy_until = 0;
         self.start = 0;
         self.end = count;
         Ok(count > 0)
     }
 
     // Uses bytes that have come, up to the end of the next record's line.
-    #[inline(always)]
     fn advance(&mut self) -> Result<Option<Record>, TextFault>
         ensures used { (w : List Record) (bytes : List ℕ) → HasUsed w bytes self.old →
             IfOk result (λ what. HasUsed (w ++ option_to_list what) bytes self.new) }
@@ -167,6 +189,7 @@ impl Intake {
         ensures behind { IfOk result
             (λ what. self.new.nesting.count + length (option_to_list what) ≤ self.new.reading.count) }
     {
+        self.easy_until = 0;
         let bytes: &[u8] = &self.buffer;
         let taken = self.reader.step(&bytes[self.start..self.end])?;
         self.start += taken.used;
@@ -174,7 +197,6 @@ impl Intake {
     }
 
     // Gives a record its place.
-    #[inline(always)]
     fn place(&mut self, what: Record) -> Result<Option<Placed>, Fault>
         requires room { self.old.nesting.count < most_records }
         requires behind { self.old.nesting.count < self.old.reading.count }
@@ -185,9 +207,22 @@ impl Intake {
         ensures limits { HasSameLimits self.old self.new }
     {
         match self.nest.accept(what) {
-            Ok(placed) => Ok(Some(placed)),
+            Ok(placed) => {
+                self.look_ahead();
+                Ok(Some(placed))
+            }
             Err(fault) => Err(self.fail(Fault::Nest(fault))),
         }
+    }
+
+    // Looks how far records are read with no look at the rest.
+    fn look_ahead(&mut self)
+        requires running { self.old.ending ≡ Running }
+        ensures same { self.new ≡ self.old }
+    {
+        let bytes = (self.end - self.start).saturating_sub(LONGEST);
+        let records = self.reader.room() as usize;
+        self.easy_until = self.start + bytes.min(records);
     }
 
     // At the end of the input: the reader is asked first, then the nest.
@@ -204,6 +239,7 @@ impl Intake {
         if let Err(fault) = self.nest.end() {
             return Err(self.fail(Fault::Nest(fault)));
         }
+        self.easy_until = 0;
         self.ending = Ending::Good;
         Ok(None)
     }
@@ -212,6 +248,7 @@ impl Intake {
         ensures fault { result ≡ fault }
         ensures kept { self.new ≡ record self.old { ending = Bad fault } }
     {
+        self.easy_until = 0;
         self.ending = Ending::Bad(fault);
         fault
     }

@@ -81,16 +81,18 @@ pub fn front_of(piece: &[u8]) -> Option<Front>
     requires { longest_line < length piece.now }
     ensures { IfSome result (IsFront piece.now) }
 {
-    if piece[0] == b'r' {
-        if piece[4] == b' ' {
-            read_of(piece)
-        } else {
-            return_of(piece)
-        }
-    } else if piece[0] == b'w' {
+    if word_of(piece) == u32::from_le_bytes([b'r', b'e', b'a', b'd']) {
+        read_of(piece)
+    } else if word_of(piece) == u32::from_le_bytes([b'w', b'r', b'i', b't']) {
         write_of(piece)
+    } else if word_of(piece) == u32::from_le_bytes([b's', b'p', b'a', b'w']) {
+        spawn_of(piece)
+    } else if word_of(piece) == u32::from_le_bytes([b'r', b'e', b't', b'u']) {
+        return_of(piece)
+    } else if word_of(piece) == u32::from_le_bytes([b's', b'y', b'n', b'c']) {
+        sync_of(piece)
     } else {
-        spawn_or_sync_of(piece)
+        None
     }
 }
 
@@ -103,14 +105,13 @@ fn word_of(piece: &[u8]) -> u32
     u32::from_le_bytes([piece[0], piece[1], piece[2], piece[3]])
 }
 
+// The read whose line begins with `read`.
 #[inline(always)]
 fn read_of(piece: &[u8]) -> Option<Front>
-    requires { longest_line < length piece.now }
+    requires whole { longest_line < length piece.now }
+    requires begins { from_le_bytes w32 piece.now ≡ from_le_bytes w32 (codes "read") }
     ensures { IfSome result (IsFront piece.now) }
 {
-    if word_of(piece) != u32::from_le_bytes([b'r', b'e', b'a', b'd']) {
-        return None;
-    }
     if piece[4] != b' ' {
         return None;
     }
@@ -123,14 +124,13 @@ fn read_of(piece: &[u8]) -> Option<Front>
     })
 }
 
+// The write whose line begins with `writ`.
 #[inline(always)]
 fn write_of(piece: &[u8]) -> Option<Front>
-    requires { longest_line < length piece.now }
+    requires whole { longest_line < length piece.now }
+    requires begins { from_le_bytes w32 piece.now ≡ from_le_bytes w32 (codes "writ") }
     ensures { IfSome result (IsFront piece.now) }
 {
-    if word_of(piece) != u32::from_le_bytes([b'w', b'r', b'i', b't']) {
-        return None;
-    }
     if piece[4] != b'e' || piece[5] != b' ' {
         return None;
     }
@@ -143,34 +143,50 @@ fn write_of(piece: &[u8]) -> Option<Front>
     })
 }
 
+// The spawn whose line begins with `spaw`.
 #[inline(always)]
-fn return_of(piece: &[u8]) -> Option<Front>
-    requires { longest_line < length piece.now }
+fn spawn_of(piece: &[u8]) -> Option<Front>
+    requires whole { longest_line < length piece.now }
+    requires begins { from_le_bytes w32 piece.now ≡ from_le_bytes w32 (codes "spaw") }
     ensures { IfSome result (IsFront piece.now) }
 {
-    match piece {
-        [b'r', b'e', b't', b'u', b'r', b'n', b'\n', ..] => Some(Front {
-            record: Record::Return,
-            used: 7,
-        }),
-        _ => None,
+    if piece[4] != b'n' || piece[5] != b'\n' {
+        return None;
     }
+    Some(Front {
+        record: Record::Spawn,
+        used: 6,
+    })
 }
 
+// The return whose line begins with `retu`.
 #[inline(always)]
-fn spawn_or_sync_of(piece: &[u8]) -> Option<Front>
-    requires { longest_line < length piece.now }
+fn return_of(piece: &[u8]) -> Option<Front>
+    requires whole { longest_line < length piece.now }
+    requires begins { from_le_bytes w32 piece.now ≡ from_le_bytes w32 (codes "retu") }
     ensures { IfSome result (IsFront piece.now) }
 {
-    match piece {
-        [b's', b'p', b'a', b'w', b'n', b'\n', ..] => Some(Front {
-            record: Record::Spawn,
-            used: 6,
-        }),
-        [b's', b'y', b'n', b'c', b'\n', ..] => Some(Front {
-            record: Record::Sync,
-            used: 5,
-        }),
-        _ => None,
+    if piece[4] != b'r' || piece[5] != b'n' || piece[6] != b'\n' {
+        return None;
     }
+    Some(Front {
+        record: Record::Return,
+        used: 7,
+    })
+}
+
+// The sync whose line begins with `sync`.
+#[inline(always)]
+fn sync_of(piece: &[u8]) -> Option<Front>
+    requires whole { longest_line < length piece.now }
+    requires begins { from_le_bytes w32 piece.now ≡ from_le_bytes w32 (codes "sync") }
+    ensures { IfSome result (IsFront piece.now) }
+{
+    if piece[4] != b'\n' {
+        return None;
+    }
+    Some(Front {
+        record: Record::Sync,
+        used: 5,
+    })
 }

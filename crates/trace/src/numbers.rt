@@ -59,9 +59,13 @@ pub fn number_of(bytes: &[u8]) -> Option<Number>
     ensures spelled { IfSome result (λ n. take n.digits bytes.now ≡ decimal n.value) }
     ensures ended { IfSome result (λ n. slice_index bytes.now n.digits ≡ newline) }
 {
+    // Nor does it begin with a line's end, which lies below `0`.
+    if bytes[0] <= b'0' {
+        return None;
+    }
     let values = u8x16::from_slice(bytes) - u8x16::splat(b'0');
     let digits = first_other(values)?;
-    if digits == 0 || bytes[0] == b'0' || bytes[digits] != b'\n' {
+    if bytes[digits] != b'\n' {
         return None;
     }
     Some(Number {

@@ -143,7 +143,6 @@ impl Reader {
     /// Reads on from the front of the piece, up to the end of the next record's line. Where that line
     /// doesn't end in the piece, all of the piece is used and no record is given. After a fault every
     /// call answers that fault.
-    #[inline(always)]
     pub fn step(&mut self, piece: &[u8]) -> Result<Taken, TextFault>
         ensures stepped { HasStepped self.old self.new piece.now result }
         ensures taken { (w : List Record) (bytes : List ℕ) → HasRead w bytes self.old →
@@ -151,57 +150,6 @@ impl Reader {
         // where a record is given, the bytes used end with its line
         ensures up_to_line_end { (w : List Record) (bytes : List ℕ) → HasRead w bytes self.old →
             IfOk result (λ t. IfSome t.what (λ r. bytes ++ take t.used piece.now ≡ text (w ++ r ∷ []))) }
-        ensures fault { (w : List Record) (bytes : List ℕ) → HasRead w bytes self.old →
-            IfErr result (λ f. IsBadLine self.old.limit (bytes ++ piece.now) f) }
-        ensures again { IfSome self.old.fault (λ f. (result ≡ Err f) × (self.new ≡ self.old)) }
-    {
-        if let Some(front) = self.front(piece) {
-            self.count_one();
-            return Ok(Taken {
-                used: front.used,
-                what: Some(front.record),
-            });
-        }
-        self.any_step(piece)
-    }
-
-    /// The next record, where its line stands whole at the front of the piece and is easily told; the answer `None` says
-    /// nothing. It is taken by `count_one`, and by leaving out the bytes of its line.
-    #[inline(always)]
-    pub(crate) fn front(&self, piece: &[u8]) -> Option<Front>
-        ensures used { IfSome result (λ f. f.used ≤ length piece.now) }
-        ensures taken { (w : List Record) (bytes : List ℕ) → HasRead w bytes self.now →
-            IfSome result (λ f. HasRead (w ++ f.record ∷ []) (bytes ++ take f.used piece.now)
-            (record self.now { count = self.now.count + 1 })) }
-        ensures at_line { IfSome result (λ _. IsBetweenLines self.now) }
-        ensures below { IfSome result (λ _. self.now.count < self.now.limit) }
-        ensures no_fault { IfSome result (λ _. self.now.fault ≡ None) }
-        ensures limit { self.now.limit ≤ most_records }
-        ensures short { length self.now.rest ≤ longest_line }
-    {
-        if self.begun && self.fault.is_none() && self.count < self.limit && self.held.len() == 0 {
-            if piece.len() > LONGEST {
-                return front_of(piece);
-            }
-        }
-        None
-    }
-
-    /// One record more was given.
-    #[inline(always)]
-    pub(crate) fn count_one(&mut self)
-        requires { self.old.count < self.old.limit }
-        ensures { self.new ≡ record self.old { count = self.old.count + 1 } }
-    {
-        self.count += 1;
-    }
-
-    #[cold]
-    fn any_step(&mut self, piece: &[u8]) -> Result<Taken, TextFault>
-        ensures stepped { HasStepped self.old self.new piece.now result }
-        ensures taken { (w : List Record) (bytes : List ℕ) → HasRead w bytes self.old →
-            IfOk result (λ t. HasRead (w ++ option_to_list t.what) (bytes ++ take t.used piece.now) self.new) }
-        ensures at_line { IfOk result (λ t. IfSome t.what (λ _. IsBetweenLines self.new)) }
         ensures fault { (w : List Record) (bytes : List ℕ) → HasRead w bytes self.old →
             IfErr result (λ f. IsBadLine self.old.limit (bytes ++ piece.now) f) }
         ensures again { IfSome self.old.fault (λ f. (result ≡ Err f) × (self.new ≡ self.old)) }
@@ -221,6 +169,48 @@ impl Reader {
             used: used + taken.used,
             what: taken.what,
         })
+    }
+
+    /// Up to how many more records `front` may give with no other look at the reader: none before the header has come,
+    /// within a line, or after a fault.
+    #[inline(always)]
+    pub(crate) fn room(&self) -> u64
+        ensures within { self.now.count + result ≤ self.now.limit }
+        ensures at_line { 0 < result → IsBetweenLines self.now }
+        ensures no_fault { 0 < result → self.now.fault ≡ None }
+        ensures limit { self.now.limit ≤ most_records }
+    {
+        if self.begun && self.fault.is_none() && self.held.len() == 0 {
+            self.limit - self.count
+        } else {
+            0
+        }
+    }
+
+    /// The next record, where its line is easily told; the answer `None` says nothing. It is taken by `count_one`, and
+    /// by leaving out the bytes of its line.
+    #[inline(always)]
+    pub(crate) fn front(&self, piece: &[u8]) -> Option<Front>
+        requires at_line { IsBetweenLines self.now }
+        requires no_fault { self.now.fault ≡ None }
+        requires below { self.now.count < self.now.limit }
+        requires whole { longest_line < length piece.now }
+        ensures used { IfSome result (λ f. f.used ≤ length piece.now) }
+        ensures some_used { IfSome result (λ f. 0 < f.used) }
+        ensures taken { (w : List Record) (bytes : List ℕ) → HasRead w bytes self.now →
+            IfSome result (λ f. HasRead (w ++ f.record ∷ []) (bytes ++ take f.used piece.now)
+            (record self.now { count = self.now.count + 1 })) }
+    {
+        front_of(piece)
+    }
+
+    /// One record more was given.
+    #[inline(always)]
+    pub(crate) fn count_one(&mut self)
+        requires { self.old.count < self.old.limit }
+        ensures { self.new ≡ record self.old { count = self.old.count + 1 } }
+    {
+        self.count += 1;
     }
 
     // Reads on in line 1, up to its end where that comes.
