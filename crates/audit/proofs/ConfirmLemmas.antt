@@ -17,7 +17,7 @@ use Rattle.trace.specs.declared.records.Kind.TheVariants.{Read, Write}
 use Rattle.trace.specs.declared.records.Access.{Access}
 use Rattle.trace.specs.declared.records.Placed.{Placed}
 use Rattle.trace.specs.Accesses.{RaceAt, IsRaceShape}
-use Rattle.trace.specs.Traces.{at, depth, IsPlace, IsWellNested}
+use Rattle.trace.specs.Traces.{at, depth, IsPlace}
 use Rattle.trace.specs.Dag.{IsParallel}
 use Rattle.trace.specs.Races.{access, IsAccess, IsAccessPlace}
 use Rattle.trace.proofs.Paths.{access-place}
@@ -32,7 +32,7 @@ use Rattle.audit.specs.declared.confirms.Standing.{Standing}
 use Rattle.audit.specs.declared.confirms.Standing.TheVariants.{Missing, Begun, Confirmed}
 use Rattle.audit.specs.declared.confirms.Confirming.{Confirming}
 use Rattle.trace.specs.Watching.{ComesAfter}
-use Rattle.audit.specs.Following.{WhateverFollows}
+use Rattle.audit.specs.Following.{IsNestedBySpawns, WhateverFollows}
 use Rattle.audit.specs.Meetings.{HasMet, TellsParallel, Moves}
 use Rattle.audit.specs.Confirms.{TellsRace, Confirms}
 use Rattle.audit.specs.Entries.{entry_race, races_of, entry_of, AreAscending, HasBegun, Stands, AllStand, Touches, AnswersBy, HasConfirmed}
@@ -281,7 +281,7 @@ module _ (s s' : Confirming) (races : List RaceAt) (u : List Record) (p : Placed
   longer : suc (length u) ≡ length (u ++ p.what ∷ [])
   longer = omega (arith, length-append u (p.what ∷ []))
 
-  confirming_next : ((w rest : List Record) → w ≡ (u ++ p.what ∷ []) ++ rest → (n d : ℕ) → IsWellNested w n d → AllStand w (length u) s.entries.items → AllStand w (suc (length u)) s'.entries.items) → HasConfirmed races (u ++ p.what ∷ []) s'
+  confirming_next : ((w rest : List Record) → w ≡ (u ++ p.what ∷ []) ++ rest → (n d : ℕ) → IsNestedBySpawns w n d → AllStand w (length u) s.entries.items → AllStand w (suc (length u)) s'.entries.items) → HasConfirmed races (u ++ p.what ∷ []) s'
   confirming_next next = record {
     is_report = h.is_report;
     same_races = same ∙ h.same_races;
@@ -296,7 +296,7 @@ module _ (s s' : Confirming) (races : List RaceAt) (u : List Record) (p : Placed
       at_next : a.place ≡ suc (length u)
       at_next = omega (arith, c.place_is)
 
-      next : (w rest : List Record) → w ≡ (u ++ p.what ∷ []) ++ rest → (n d : ℕ) → IsWellNested w n d → AllStand w (length u) s.entries.items → AllStand w (suc (length u)) s'.entries.items
+      next : (w rest : List Record) → w ≡ (u ++ p.what ∷ []) ++ rest → (n d : ℕ) → IsNestedBySpawns w n d → AllStand w (length u) s.entries.items → AllStand w (suc (length u)) s'.entries.items
       next w rest is n d i all = touches u h.met (subst IsReportList (sym h.same_races) h.is_report) at_next w (p.what ∷ rest) (is ∙ append_assoc u (p.what ∷ []) rest) n d i
           (ap (at w) at_next ∙ record_there w u rest p.what is ∙ ap (λ (z : Record). Some z) what) all
 
@@ -304,19 +304,21 @@ module _ (s s' : Confirming) (races : List RaceAt) (u : List Record) (p : Placed
   pub confirming_other : ((l : ℕ) (k : Kind) → p.what ≢ access k l) → s'.entries.items ≡ s.entries.items → HasConfirmed races (u ++ p.what ∷ []) s'
   confirming_other never es = confirming_next next
     where
-      next : (w rest : List Record) → w ≡ (u ++ p.what ∷ []) ++ rest → (n d : ℕ) → IsWellNested w n d → AllStand w (length u) s.entries.items → AllStand w (suc (length u)) s'.entries.items
+      next : (w rest : List Record) → w ≡ (u ++ p.what ∷ []) ++ rest → (n d : ℕ) → IsNestedBySpawns w n d → AllStand w (length u) s.entries.items → AllStand w (suc (length u)) s'.entries.items
       next w rest is n d i all k e q = stays_elsewhere w (length u) (entry_race e) e.standing (λ v a. none v a) (all k e (sym (ap (λ (z : List Entry). slice_get z k) es) ∙ q))
         where
           none : (v : Kind) → IsAccess w e.location (suc (length u)) v → ⊥
           none v a = let z : Some p.what ≡ Some (access v e.location) = sym (record_there w u rest p.what is) ∙ a in let y : p.what ≡ access v e.location = cc in never e.location v y
 
-pub not_access : (r : Record) → (r ≡ records.Spawn) ⊎ ((r ≡ records.Sync) ⊎ (r ≡ records.Return)) → (l : ℕ) (k : Kind) → r ≢ access k l
+pub not_access : (r : Record) → (r ≡ records.Spawn) ⊎ ((r ≡ records.Call) ⊎ ((r ≡ records.Sync) ⊎ (r ≡ records.Return))) → (l : ℕ) (k : Kind) → r ≢ access k l
 not_access r (inl e) l Read f = cc
 not_access r (inl e) l Write f = cc
 not_access r (inr (inl e)) l Read f = cc
 not_access r (inr (inl e)) l Write f = cc
-not_access r (inr (inr e)) l Read f = cc
-not_access r (inr (inr e)) l Write f = cc
+not_access r (inr (inr (inl e))) l Read f = cc
+not_access r (inr (inr (inl e))) l Write f = cc
+not_access r (inr (inr (inr e))) l Read f = cc
+not_access r (inr (inr (inr e))) l Write f = cc
 
 -- the same, where no growth was refused
 
@@ -366,7 +368,7 @@ answer w es (No entry) all by = record {
       subst (TellsRace w) q.2 (stands-race w (length w) (entry_race q.0) q.0.standing (by.confirmed_before k q.0 l q.1) (all k q.0 q.1)));
 }
 
-pub answer_of : (s : Confirming) (races : List RaceAt) (a : Confirm) (w : List Record) {n d : ℕ} → IsWellNested w n d → HasConfirmed races w s → AnswersBy s.entries.items a → Confirms w races a
+pub answer_of : (s : Confirming) (races : List RaceAt) (a : Confirm) (w : List Record) {n d : ℕ} → IsNestedBySpawns w n d → HasConfirmed races w s → AnswersBy s.entries.items a → Confirms w races a
 answer_of s races a w h c by = subst (λ (rs : List RaceAt). Confirms w rs a) c.same_races (answer w s.entries.items a (c.stands w [] (sym (append-nil w)) _ _ h) by)
 
 -- no entry is on a location

@@ -1,4 +1,5 @@
 pub mod ListLemmas
+pub mod Spawned
 pub mod PathLemmas
 pub mod Measured
 pub mod MeetingLemmas

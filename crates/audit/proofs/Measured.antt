@@ -5,17 +5,18 @@ use Rattle.std.proofs.lemmas.List.Sums.{sum_by-append}
 use Rattle.std.proofs.lemmas.Bool.{cases_lt, cases_eq}
 use Rattle.std.proofs.lemmas.Option.{slice_get_within}
 use Rattle.trace.specs.declared.records.Record.{Record}
-use Rattle.trace.specs.declared.records.Record.TheVariants.{Spawn, Return, Sync, Read, Write}
+use Rattle.trace.specs.declared.records.Record.TheVariants.{Spawn, Call, Return, Sync, Read, Write}
 use Rattle.trace.specs.declared.records.Placed.{Placed}
-use Rattle.trace.specs.Traces.{at, depth, IsPlace, IsWellNested}
+use Rattle.trace.specs.Traces.{at, depth, IsPlace}
 use Rattle.trace.specs.Dag.{JoinsAt, IsPath}
-use Rattle.trace.proofs.Walks.{step_by}
 use Rattle.audit.specs.declared.measures.Longest.{Longest}
 use Rattle.audit.specs.declared.measures.Measuring.{Measuring}
 use Rattle.audit.specs.Measures.{is_spawn, IsMeasure, IsSpan, IsGreatestDepth}
 use Rattle.trace.specs.Watching.{ComesAfter}
+use Rattle.audit.specs.Following.{IsNestedBySpawns}
 use Rattle.audit.specs.LongestPaths.{PathTo, IsLongestTo, LastOn, LeadsOn, at_start, own, opened, IsLongestUnjoined, AreActive, IsSpanTo, IsDepthTo, HasMeasuredTo, IsWithin, HasMeasured, through, Advances}
 use Rattle.trace.proofs.Lists.{slice_get-front, slice_get-last}
+use Rattle.audit.proofs.Spawned.{step_by}
 use Rattle.audit.proofs.ListLemmas.{slice_get-push, place_there, record_there}
 use Rattle.audit.proofs.PathLemmas.{path_to, path_list, path_place, longest_on, longest_joined, last_kept, last_here, unjoined_kept, unjoined_synced, unjoined_opened, unjoined_returned}
 
@@ -30,7 +31,7 @@ active_at w t d e xs q l o u a b = record {
   waiting_unjoined = b;
 }
 
-module _ (w : List Record) {n d : ℕ} (h : IsWellNested w n d) (t : ℕ) where
+module _ (w : List Record) {n d : ℕ} (h : IsNestedBySpawns w n d) (t : ℕ) where
   not_joined : (r : Record) → at w (suc t) ≡ Some r → (r ≡ Sync → ⊥) → (r ≡ Return → ⊥) → JoinsAt w (suc t) → ⊥
   not_joined r s a b (inl e) = let f : Some r ≡ Some Sync = sym s ∙ e in let g : r ≡ Sync = cc in a g
   not_joined r s a b (inr e) = let f : Some r ≡ Some Return = sym s ∙ e in let g : r ≡ Return = cc in b g
@@ -47,6 +48,7 @@ module _ (w : List Record) {n d : ℕ} (h : IsWellNested w n d) (t : ℕ) where
 
   pub longest_at : (r : Record) (e : Longest) (xs : List Longest) (x : ℕ) → suc t ≤ length w → at w (suc t) ≡ Some r → AreActive w t e xs → x ≡ through e r → IsLongestTo w (suc t) x
   longest_at Spawn e xs x b s a q = longest_plain Spawn e xs x b a (not_joined Spawn s (λ z. cc) (λ z. cc)) q
+  longest_at Call e xs x b s a q = absurd (h.no_call (suc t) s)
   longest_at Return e xs x b s a q = longest_waits e xs x b a (inr s) q
   longest_at Sync e xs x b s a q = longest_waits e xs x b a (inl s) q
   longest_at (Read l) e xs x b s a q = longest_plain (Read l) e xs x b a (not_joined (Read l) s (λ z. cc) (λ z. cc)) q
@@ -160,10 +162,11 @@ module _ (w : List Record) {n d : ℕ} (h : IsWellNested w n d) (t : ℕ) where
   only_root : (e : Longest) (xs : List Longest) → AreActive w t e xs → at w (suc t) ≡ Some Return → xs ≡ [] → suc (suc t) ≤ length w → ⊥
   only_root e xs a s q b =
       let z : length xs ≡ 0 = ap length q in
-      h.no_earlier (suc t) b (record { a_return = s; at_zero = omega (arith, a.level) })
+      h.well_nested.no_earlier (suc t) b (record { a_return = s; at_zero = omega (arith, a.level) })
 
   pub active_next : (r : Record) (e e' : Longest) (xs xs' : List Longest) (x : ℕ) → suc (suc t) ≤ length w → at w (suc t) ≡ Some r → AreActive w t e xs → IsLongestTo w (suc t) x → Advances x r e xs e' xs' → AreActive w (suc t) e' xs'
   active_next Spawn e e' xs xs' x b s a l (p, q) = next_spawn e e' xs xs' x b s a l p q
+  active_next Call e e' xs xs' x b s a l moved = absurd (h.no_call (suc t) s)
   active_next Return e e' xs xs' x b s a l (inl z) = absurd (only_root e xs a s z.0 b)
   active_next Return e e' xs xs' x b s a l (inr (f, q, p)) = next_return e e' xs xs' f x b s a l q p
   active_next Sync e e' xs xs' x b s a l (p, q) = next_sync e e' xs xs' x b s a l p q
@@ -218,6 +221,7 @@ spawns-same u r n = go r n (spawns-push u r)
   where
     go : (r' : Record) → (r' ≡ Spawn → ⊥) → count_by is_spawn (u ++ r' ∷ []) ≡ count_by is_spawn u + count_by is_spawn (r' ∷ []) → count_by is_spawn (u ++ r' ∷ []) ≡ count_by is_spawn u
     go Spawn m e = absurd (m refl)
+    go Call m e = omega arith
     go Return m e = omega arith
     go Sync m e = omega arith
     go (Read l) m e = omega arith
@@ -229,6 +233,7 @@ within_one n k f l i = record { own = omega (arith, i.own); unjoined = omega (ar
 
 through-within : (n : ℕ) (f : Longest) (r : Record) → IsWithin n f → through f r ≤ n + 1
 through-within n f Spawn i = omega (arith, i.own)
+through-within n f Call i = omega (arith, i.own)
 through-within n f Return i = omega (arith, i.own, i.unjoined)
 through-within n f Sync i = omega (arith, i.own, i.unjoined)
 through-within n f (Read l) i = omega (arith, i.own)
@@ -244,8 +249,9 @@ record StayWithin (n : ℕ) (e : Longest) (xs : List Longest) : Type 0 where
 all_later : (n k : ℕ) (xs ys : List Longest) → n ≤ k → ys ≡ xs → ((i : ℕ) (f : Longest) → slice_get xs i ≡ Some f → IsWithin n f) → (i : ℕ) (f : Longest) → slice_get ys i ≡ Some f → IsWithin k f
 all_later n k xs ys l e a i f s = within_one n k f l (a i f (sym (ap (λ (z : List Longest). slice_get z i) e) ∙ s))
 
-stay_within : (n x : ℕ) (r : Record) (e e' : Longest) (xs xs' : List Longest) → x ≤ n + 1 → IsWithin n e → ((k : ℕ) (f : Longest) → slice_get xs k ≡ Some f → IsWithin n f) → Advances x r e xs e' xs' → StayWithin (n + 1) e' xs'
-stay_within n x Spawn e e' xs xs' l i a (p, q) = record {
+stay_opened : (n x : ℕ) (e e' : Longest) (xs xs' : List Longest) → x ≤ n + 1 → IsWithin n e → ((k : ℕ) (f : Longest) → slice_get xs k ≡ Some f → IsWithin n f) → e' ≡ record { own = x; unjoined = 0 }
+    → xs' ≡ xs ++ record { own = x; unjoined = e.unjoined } ∷ [] → StayWithin (n + 1) e' xs'
+stay_opened n x e e' xs xs' l i a p q = record {
   executing = within_of (n + 1) x 0 e' l (omega arith) p;
   waiting = λ k f s. by_place k f (slice_get-push xs _ k f (sym (ap (λ (z : List Longest). slice_get z k) q) ∙ s));
 }
@@ -253,6 +259,10 @@ stay_within n x Spawn e e' xs xs' l i a (p, q) = record {
     by_place : (k : ℕ) (f : Longest) → (slice_get xs k ≡ Some f) ⊎ ((k ≡ length xs) × (record { own = x; unjoined = e.unjoined } ≡ f)) → IsWithin (n + 1) f
     by_place k f (inl s) = within_one n (n + 1) f (omega arith) (a k f s)
     by_place k f (inr (s, g)) = within_of (n + 1) x e.unjoined f l (omega (arith, i.unjoined)) (sym g)
+
+stay_within : (n x : ℕ) (r : Record) (e e' : Longest) (xs xs' : List Longest) → x ≤ n + 1 → IsWithin n e → ((k : ℕ) (f : Longest) → slice_get xs k ≡ Some f → IsWithin n f) → Advances x r e xs e' xs' → StayWithin (n + 1) e' xs'
+stay_within n x Spawn e e' xs xs' l i a (p, q) = stay_opened n x e e' xs xs' l i a p q
+stay_within n x Call e e' xs xs' l i a (p, q) = stay_opened n x e e' xs xs' l i a p q
 stay_within n x Return e e' xs xs' l i a (inl (p, q, g)) = record {
   executing = subst (IsWithin (n + 1)) (sym g) (within_one n (n + 1) e (omega arith) i);
   waiting = all_later n (n + 1) xs xs' (omega arith) (q ∙ sym p) a;
@@ -319,7 +329,7 @@ measured_next m m' u p x h c e a wk sp dp ss = record {
     stay : StayWithin (length u + 1) m'.executing m'.waiting.items
     stay = stay_within (length u) x p.what m.executing m'.executing m.waiting.items m'.waiting.items (omega (arith, through-within (length u) m.executing p.what h.executing)) h.executing h.waiting a
 
-    next : (w rest : List Record) → w ≡ (u ++ p.what ∷ []) ++ rest → {n d : ℕ} → IsWellNested w n d → HasMeasuredTo w (suc (length u)) m'
+    next : (w rest : List Record) → w ≡ (u ++ p.what ∷ []) ++ rest → {n d : ℕ} → IsNestedBySpawns w n d → HasMeasuredTo w (suc (length u)) m'
     next w rest is i = record {
       span = span_next w i (length u) m.span x m'.span longest before.span sp;
       depth = depth_next w i (length u) m.depth (length m.waiting.items) m'.depth here (sym active.level) before.depth dp;
@@ -375,14 +385,14 @@ depth_of w g some p = record { reached = reached p.reached; most = λ i a. p.mos
     reached (inl e) = absurd (omega (arith, e.0))
     reached (inr q) = q
 
-pub measure_of : (m : Measuring) (w : List Record) {n d : ℕ} → IsWellNested w n d → HasMeasured m w → IsMeasure w (record { work = m.work; span = m.span; spawns = m.spawns; depth = m.depth })
+pub measure_of : (m : Measuring) (w : List Record) {n d : ℕ} → IsNestedBySpawns w n d → HasMeasured m w → IsMeasure w (record { work = m.work; span = m.span; spawns = m.spawns; depth = m.depth })
 measure_of m w h a =
     let to : HasMeasuredTo w (length w) m = a.measured w [] (sym (append-nil w)) _ _ h in
-    record { work = a.work; span = span_of w m.span h.some to.span; spawns = a.spawns; depth = depth_of w m.depth h.some to.depth }
+    record { work = a.work; span = span_of w m.span h.well_nested.some to.span; spawns = a.spawns; depth = depth_of w m.depth h.well_nested.some to.depth }
 
 -- no place is deeper than the limit
-pub depth_fits : (m : Measuring) (w : List Record) {n d : ℕ} → IsWellNested w n d → HasMeasured m w → m.depth ≤ d
+pub depth_fits : (m : Measuring) (w : List Record) {n d : ℕ} → IsNestedBySpawns w n d → HasMeasured m w → m.depth ≤ d
 depth_fits m w h a =
     let to : HasMeasuredTo w (length w) m = a.measured w [] (sym (append-nil w)) _ _ h in
-    let g = (depth_of w m.depth h.some to.depth).reached in
-    omega (arith, g.2, h.not_too_deep g.0 g.1)
+    let g = (depth_of w m.depth h.well_nested.some to.depth).reached in
+    omega (arith, g.2, h.well_nested.not_too_deep g.0 g.1)

@@ -5,20 +5,21 @@ use Rattle.std.proofs.lemmas.Option.{slice_get_within, slice_get-get_or, get_or_
 use Rattle.std.specs.List.Sorted.{IsPartitionedBy, IsPartitionPoint}
 use Rattle.std.proofs.lemmas.List.Sorted.{IsPartitionedBy-ltb}
 use Rattle.trace.specs.declared.records.Record.{Record}
-use Rattle.trace.specs.declared.records.Record.TheVariants.{Spawn, Return, Sync, Read, Write}
+use Rattle.trace.specs.declared.records.Record.TheVariants.{Spawn, Call, Return, Sync, Read, Write}
 use Rattle.trace.specs.declared.records.Placed.{Placed}
-use Rattle.trace.specs.Traces.{at, depth, IsPlace, IsWellNested}
+use Rattle.trace.specs.Traces.{at, depth, IsPlace}
 use Rattle.trace.specs.Dag.{IsParallel}
 use Rattle.trace.specs.Races.{IsAccessPlace}
 use Rattle.trace.specs.Meeting.{level, Holds, IsMeeting, IsOwn, InOneBlock}
-use Rattle.trace.proofs.Walks.{step_by}
 use Rattle.trace.proofs.Paths.{access-place}
 use Rattle.trace.proofs.Meetings.{level-at, holds_from, holds-deeper, holds-shorter, Opened, opened_at, opened-holds, opened_below, opened-child, stand_of, OwnSync, own_sync-is, is_own_sync, block_same, block_less, stand-after, stand-le, before-stand, parallel-block}
 use Rattle.audit.specs.declared.meetings.Active.{Active}
 use Rattle.audit.specs.declared.meetings.Meetings.{Meetings}
 use Rattle.trace.specs.Watching.{ComesAfter}
+use Rattle.audit.specs.Following.{IsNestedBySpawns}
 use Rattle.audit.specs.Meetings.{IsActive, AreActive, HasMet, TellsParallel, Moves}
 use Rattle.trace.proofs.Lists.{slice_get-front, slice_get-last, element_at}
+use Rattle.audit.proofs.Spawned.{opened_by_spawn, step_by}
 use Rattle.audit.proofs.ListLemmas.{slice_get-push, place_there, record_there}
 
 -- the active procedure at a depth
@@ -32,7 +33,7 @@ record IsKeeper (e : Active) (xs : List Active) (place k : ℕ) (f : Active) : T
   before : f.opened < place
   deeper : (l : ℕ) (g : Active) → k < l → ActiveAt e xs l g → place ≤ g.opened
 
-module _ (w : List Record) {n d : ℕ} (h : IsWellNested w n d) (t : ℕ) (e : Active) (xs : List Active) (a : AreActive w t e xs) where
+module _ (w : List Record) {n d : ℕ} (h : IsNestedBySpawns w n d) (t : ℕ) (e : Active) (xs : List Active) (a : AreActive w t e xs) where
   is_active : (k : ℕ) (f : Active) → ActiveAt e xs k f → IsActive w t k f
   is_active k f (waits s) = a.waits k f s
   is_active k f (executes i g) = subst (λ (z : ℕ). IsActive w t z f) (sym (i ∙ a.level)) (subst (IsActive w t (depth w (suc t))) (sym g) a.executes)
@@ -98,7 +99,7 @@ module _ (w : List Record) {n d : ℕ} (h : IsWellNested w n d) (t : ℕ) (e : A
       meets = keeper-meeting i k f place.0 l q
 
       law : IsParallel w i (suc t) ↔ InOneBlock w f.opened i (suc t)
-      law = parallel-block w h i (suc t) f.opened p r (omega arith) meets
+      law = parallel-block w h.well_nested i (suc t) f.opened p r (omega arith) meets
 
       -- the last sync stands before the child that holds the place
       before_child : (s : ℕ) → Opened w (level w f.opened) i s → f.synced < i → f.synced < s
@@ -110,19 +111,20 @@ module _ (w : List Record) {n d : ℕ} (h : IsWellNested w n d) (t : ℕ) (e : A
           by_sync : s ≤ f.synced → (f.synced ≡ f.opened) ⊎ (IsOwn w f.opened f.synced × (at w f.synced ≡ Some Sync)) → f.synced < s
           by_sync z (inl y) = absurd (omega (arith, opened_below w s f.opened i o meets.first))
           by_sync z (inr y) = elim (cases_eq s f.synced) [
-            | inl j ↦ absurd (let u : at w s ≡ at w f.synced = ap (at w) j in let v : at w s ≡ Some Spawn = o.a_spawn in let g : at w f.synced ≡ Some Sync = y.1 in cc)
+            | inl j ↦ absurd (let u : at w s ≡ at w f.synced = ap (at w) j in let v : at w s ≡ Some Spawn = opened_by_spawn w h s o.opens in let g : at w f.synced ≡ Some Sync = y.1 in cc)
             | inr j ↦ absurd (omega (arith, o.inside f.synced (omega arith) (omega arith), y.0.on_level))
           ]
 
       forth : k < depth w i → f.synced < i → InOneBlock w f.opened i (suc t)
       forth b c =
-          let s = opened_at w h (level w f.opened) i place (omega (arith, x.on_level)) in
-          let v = stand_of w h i (suc t) f.opened (access-place w (suc t) r) meets in
+          let s = opened_at w h.well_nested (level w f.opened) i place (omega (arith, x.on_level)) in
+          let v = stand_of w h.well_nested i (suc t) f.opened (access-place w (suc t) r) meets in
           let early : f.synced < s.0 = before_child s.0 s.1 c in
           record {
             spawned_at = s.0;
             stand = v.0;
             child = opened-child w s.0 f.opened i s.1 meets.first;
+            a_spawn = opened_by_spawn w h s.0 s.1.opens;
             inside = opened-holds w (level w f.opened) i s.0 s.1;
             of_second = v.1;
             one_block = block_same w f.opened s.0 v.0 (stand-after w f.opened (suc t) v.0 s.0 (omega (arith, s.1.before)) s.1.on v.1)
@@ -134,7 +136,7 @@ module _ (w : List Record) {n d : ℕ} (h : IsWellNested w n d) (t : ℕ) (e : A
       back b = (deep, early)
         where
           deep : k < depth w i
-          deep = omega (arith, holds-deeper w b.spawned_at i b.child.a_spawn b.inside i b.inside.after (omega arith), b.child.own.on_level, x.on_level)
+          deep = omega (arith, holds-deeper w b.spawned_at i b.child.opens b.inside i b.inside.after (omega arith), b.child.own.on_level, x.on_level)
 
           by_sync : i ≤ f.synced → (f.synced ≡ f.opened) ⊎ (IsOwn w f.opened f.synced × (at w f.synced ≡ Some Sync)) → f.synced < i
           by_sync z (inl y) = absurd (omega (arith, q.before))
@@ -157,7 +159,7 @@ module _ (w : List Record) {n d : ℕ} (h : IsWellNested w n d) (t : ℕ) (e : A
 abbrev pub Tells : Bool → ℕ → ℕ → ℕ → Active → Type 0
 Tells b k deep place f = (b ≡ true) ↔ ((k < deep) × (f.synced < place))
 
-answered : (w : List Record) {n d : ℕ} (h : IsWellNested w n d) (t : ℕ) (e : Active) (xs : List Active) → AreActive w t e xs → (place deep k : ℕ) (f : Active) (b : Bool) → IsKeeper e xs place k f → Tells b k deep place f
+answered : (w : List Record) {n d : ℕ} (h : IsNestedBySpawns w n d) (t : ℕ) (e : Active) (xs : List Active) → AreActive w t e xs → (place deep k : ℕ) (f : Active) (b : Bool) → IsKeeper e xs place k f → Tells b k deep place f
     → IsAccessPlace w place → place ≤ t → depth w place ≡ deep → IsAccessPlace w (suc t) → (b ≡ true) ↔ IsParallel w place (suc t)
 answered w h t e xs a place deep k f b q s p l is r =
     let law = parallel-keeper w h t e xs a place k f p r l q in
@@ -218,7 +220,7 @@ told_none m u place deep n b met late count is w rest begins records depths h p 
 
 -- one record more
 
-module _ (w : List Record) {n d : ℕ} (h : IsWellNested w n d) (t : ℕ) where
+module _ (w : List Record) {n d : ℕ} (h : IsNestedBySpawns w n d) (t : ℕ) where
   stays : (k : ℕ) (f : Active) → k ≤ depth w (suc (suc t)) → (depth w (suc t) ≡ k → at w (suc t) ≡ Some Sync → ⊥) → IsActive w t k f → IsActive w (suc t) k f
   stays k f l m x = record {
     on_level = x.on_level;
@@ -257,7 +259,7 @@ module _ (w : List Record) {n d : ℕ} (h : IsWellNested w n d) (t : ℕ) where
   opened : depth w (suc (suc t)) ≡ suc (depth w (suc t)) → at w (suc t) ≡ Some Spawn → IsActive w (suc t) (suc (depth w (suc t))) (record { opened = suc t; synced = suc t })
   opened e s = record {
     on_level = refl;
-    holds = holds_from w (suc t) (suc (suc t)) s (omega arith) (λ q y z. let i : q ≡ suc (suc t) = omega arith in let j : depth w q ≡ depth w (suc (suc t)) = ap (depth w) i in omega arith);
+    holds = holds_from w (suc t) (suc (suc t)) (inl s) (omega arith) (λ q y z. let i : q ≡ suc (suc t) = omega arith in let j : depth w q ≡ depth w (suc (suc t)) = ap (depth w) i in omega arith);
     last_sync = inl refl;
     upto = omega arith;
     none_since = λ q y z i j. omega arith;
@@ -315,8 +317,9 @@ module _ (w : List Record) {n d : ℕ} (h : IsWellNested w n d) (t : ℕ) where
 
   pub active_next : (r : Record) (e e' : Active) (xs xs' : List Active) → suc (suc t) ≤ length w → at w (suc t) ≡ Some r → AreActive w t e xs → Moves (suc t) r e xs e' xs' → AreActive w (suc t) e' xs'
   active_next Spawn e e' xs xs' b s a (p, q) = next_spawn e e' xs xs' a (step_by w h t Spawn b s) s p q
+  active_next Call e e' xs xs' b s a moved = absurd (h.no_call (suc t) s)
   active_next Return e e' xs xs' b s a (inl z) =
-      absurd (let y : length xs ≡ 0 = ap length z.0 in h.no_earlier (suc t) b (record { a_return = s; at_zero = omega (arith, a.level) }))
+      absurd (let y : length xs ≡ 0 = ap length z.0 in h.well_nested.no_earlier (suc t) b (record { a_return = s; at_zero = omega (arith, a.level) }))
   active_next Return e e' xs xs' b s a (inr q) = next_return e e' xs xs' b a s q
   active_next Sync e e' xs xs' b s a (p, q) =
       next_same e e' xs xs' a (step_by w h t Sync b s) (subst (λ (f : Active). IsActive w (suc t) (depth w (suc t)) f) (sym p) (synced e (step_by w h t Sync b s) s a.executes)) q

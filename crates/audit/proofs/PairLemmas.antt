@@ -12,7 +12,7 @@ use Rattle.trace.specs.declared.records.Kind.TheVariants.{Read, Write}
 use Rattle.trace.specs.declared.records.Access.{Access}
 use Rattle.trace.specs.declared.records.Placed.{Placed}
 use Rattle.trace.specs.Accesses.{writes}
-use Rattle.trace.specs.Traces.{at, depth, IsWellNested}
+use Rattle.trace.specs.Traces.{at, depth}
 use Rattle.trace.specs.Dag.{IsParallel}
 use Rattle.trace.specs.Races.{access, IsAccess, IsWrite, IsAccessPlace, IsRace}
 use Rattle.trace.proofs.Paths.{access-place}
@@ -22,6 +22,7 @@ use Rattle.audit.specs.declared.meetings.Meetings.{Meetings}
 use Rattle.audit.specs.declared.location_races.Kept.{Kept}
 use Rattle.audit.specs.declared.location_races.Pairing.{Pairing}
 use Rattle.trace.specs.Watching.{ComesAfter}
+use Rattle.audit.specs.Following.{IsNestedBySpawns}
 use Rattle.audit.specs.Meetings.{HasMet, TellsParallel, Moves}
 use Rattle.audit.specs.Pairs.{IsPair, IsBefore, ArePairs}
 use Rattle.audit.specs.Pairing.{IsKept, IsAmong, AreKept, ArePairsTo, ArePairsWith, AddsPairs, HasPaired}
@@ -284,15 +285,15 @@ module _ (s s' : Pairing) (l : ℕ) (u : List Record) (p : Placed) (h : HasPaire
       here : (w rest : List Record) → w ≡ (u ++ p.what ∷ []) ++ rest → IsAccess w l a.place a.kind
       here w rest is = ap (at w) at_next ∙ record_there w u rest p.what is ∙ ap (λ (z : Record). Some z) (what ∙ ap (access a.kind) h.location_is)
 
-      before : (w rest : List Record) → w ≡ (u ++ p.what ∷ []) ++ rest → {n d : ℕ} → IsWellNested w n d → AreKept w l (length u) s.kept.items
+      before : (w rest : List Record) → w ≡ (u ++ p.what ∷ []) ++ rest → {n d : ℕ} → IsNestedBySpawns w n d → AreKept w l (length u) s.kept.items
       before w rest is i = h.kept w (p.what ∷ rest) (is ∙ append_assoc u (p.what ∷ []) rest) _ _ i
 
-      deep_is : (w rest : List Record) → w ≡ (u ++ p.what ∷ []) ++ rest → {n d : ℕ} → IsWellNested w n d → depth w a.place ≡ deep
+      deep_is : (w rest : List Record) → w ≡ (u ++ p.what ∷ []) ++ rest → {n d : ℕ} → IsNestedBySpawns w n d → depth w a.place ≡ deep
       deep_is w rest is i =
           ap (depth w) at_next ∙ sym (level ∙ (h.met w (p.what ∷ rest) (is ∙ append_assoc u (p.what ∷ []) rest) _ _ i (place_there w u rest p.what is)).level)
 
 -- the races of a whole trace
-pub pairs_of : (s : Pairing) (l : ℕ) (w : List Record) {n d : ℕ} → IsWellNested w n d → HasPaired l w s → ArePairs w l s.pairs.items
+pub pairs_of : (s : Pairing) (l : ℕ) (w : List Record) {n d : ℕ} → IsNestedBySpawns w n d → HasPaired l w s → ArePairs w l s.pairs.items
 pairs_of s l w h a =
     let to : ArePairsTo w l (length w) s.pairs.items = a.pairs w [] (sym (append-nil w)) _ _ h in
     record {

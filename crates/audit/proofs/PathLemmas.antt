@@ -1,12 +1,14 @@
 -- The longest paths of a well nested trace, one place after another.
-use Rattle.std.proofs.Common.{◌≡◌, ◌≢◌, ℕ, suc, ◌<◌, ◌≤◌, max, List, [], ◌∷◌, length, Option, Some, ◌⊎◌, inl, inr, refl, sym, ◌∙◌, subst, ap, arith}
+use Rattle.std.proofs.Common.{◌≡◌, ◌≢◌, ℕ, zero, suc, ◌<◌, ◌≤◌, max, List, [], ◌∷◌, length, Some, ◌⊎◌, inl, inr, refl, sym, ◌∙◌, subst, ap, arith}
 use Rattle.std.proofs.lemmas.Bool.{cases_lt, cases_eq}
 use Rattle.trace.specs.declared.records.Record.{Record}
 use Rattle.trace.specs.declared.records.Record.TheVariants.{Spawn, Return, Sync}
-use Rattle.trace.specs.Traces.{at, depth, IsPlace, IsWellNested}
-use Rattle.trace.specs.Dag.{Edge, continuation, spawn, join, IsContinuation, IsJoin, JoinsAt, IsPath, end_of}
-use Rattle.trace.proofs.World.{Step, returns, leaves, leaves_by}
-use Rattle.trace.proofs.Traced.{traced, shape_of, shape-return, step_at, edge_from, edge_to}
+use Rattle.trace.specs.Traces.{at, depth, IsPlace}
+use Rattle.trace.specs.Dag.{Edge, continuation, spawn, call, comes_back, join, IsContinuation, IsJoin, JoinsAt, IsPath, end_of}
+use Rattle.trace.proofs.World.{joined, leaves, leaves_by}
+use Rattle.trace.proofs.Traced.{traced, shape-return, returns-shape, shape-joins, joins-shape, edge_from, edge_to, trace_edge}
+use Rattle.audit.specs.Following.{IsNestedBySpawns}
+use Rattle.audit.proofs.Spawned.{return_spawned, step_by}
 use Rattle.audit.specs.LongestPaths.{PathTo, IsLongestTo, LastOn, LeadsOn, at_start, own, opened, IsUnjoined, IsLongestUnjoined}
 
 -- paths that end at a place
@@ -58,9 +60,10 @@ ends_at_place w i (j ∷ p) a = ends_at_place w j p a.1
 pub path_place : (w : List Record) (x j : ℕ) → PathTo w x j → IsPlace w j
 path_place w x j p = subst (IsPlace w) p.ends (ends_at_place w p.first p.rest p.path)
 
-module _ (w : List Record) {n d : ℕ} (h : IsWellNested w n d) where
-  stays : (t : ℕ) → 1 ≤ t → t < length w → (o : Option Record) → at w t ≡ o → Step (shape_of o) (depth w t) (depth w (suc t))
-  stays t a b o e = subst (λ (z : Option Record). Step (shape_of z) (depth w t) (depth w (suc t))) e (step_at w h t a b)
+module _ (w : List Record) {n d : ℕ} (h : IsNestedBySpawns w n d) where
+  deeper_after : (t : ℕ) → 1 ≤ t → t < length w → at w t ≡ Some Spawn → depth w (suc t) ≡ suc (depth w t)
+  deeper_after zero a b s = absurd (omega arith)
+  deeper_after (suc t) a b s = step_by w h t Spawn b s
 
   -- edges to the place after t
 
@@ -82,7 +85,7 @@ module _ (w : List Record) {n d : ℕ} (h : IsWellNested w n d) where
   into_child t x y (at_start e) a b s p = absurd (omega arith)
   into_child t x y (opened o e l) a b s p = l.most y p
   into_child t x y (own l) a b s p =
-      let r : depth w (suc t) ≡ suc (depth w t) = stays t a b (Some Spawn) s in
+      let r : depth w (suc t) ≡ suc (depth w t) = deeper_after t a b s in
       elim (cases_eq l.last t) [
         | inl e ↦ absurd (let f : depth w l.last ≡ depth w t = ap (depth w) e in omega (arith, l.level))
         | inr e ↦ absurd (omega (arith, l.deeper t (apart l.last t l.upto e) (omega arith)))
@@ -112,6 +115,8 @@ module _ (w : List Record) {n d : ℕ} (h : IsWellNested w n d) where
       by_edge y i p (spawn a b' f c) =
           let e : i ≡ t = omega (arith, c.next) in
           omega (arith, into_child t x y l (omega (arith, a.0)) b (subst (λ (z : ℕ). at w z ≡ Some Spawn) e c.a_spawn) (subst (λ (z : ℕ). PathTo w y z) e p))
+      by_edge y i p (call a b' f c) = absurd (h.no_call i c.a_call)
+      by_edge y i p (comes_back a b' f c) = absurd (h.no_call c.opener c.a_call)
       by_edge y i p (join a b' f c) = absurd (n c.joins)
 
       most : (y : ℕ) → PathTo w y (suc t) → y ≤ suc x
@@ -128,6 +133,8 @@ module _ (w : List Record) {n d : ℕ} (h : IsWellNested w n d) where
       by_edge z i p (spawn a b' f c) =
           let e : i ≡ t = omega (arith, c.next) in
           omega (arith, into_child t x z l (omega (arith, a.0)) b (subst (λ (k : ℕ). at w k ≡ Some Spawn) e c.a_spawn) (subst (λ (k : ℕ). PathTo w z k) e p))
+      by_edge z i p (call a b' f c) = absurd (h.no_call i c.a_call)
+      by_edge z i p (comes_back a b' f c) = absurd (h.no_call c.opener c.a_call)
       by_edge z i p (join a b' f c) = omega (arith, into_join t y i z u f c p)
 
       most : (z : ℕ) → PathTo w z (suc t) → z ≤ suc (max x y)
@@ -136,13 +143,17 @@ module _ (w : List Record) {n d : ℕ} (h : IsWellNested w n d) where
         | inr q ↦ let less : suc q.0 ≤ suc (max x y) = by_edge q.0 q.1 q.2 q.3 in omega (arith, q.4)
       ]
 
-      joined : (r : ℕ) → IsUnjoined w t (depth w (suc t)) r → PathTo w y r → PathTo w (suc y) (suc t)
-      joined r q p = longer p (join (path_place w y r p) (omega arith, b) (omega (arith, q.upto))
-          (record { a_return = q.a_return; above = omega (arith, q.level); joins = j; first = λ k f g e i. q.not_yet k f (omega arith) e i }))
+      by_child : (r : ℕ) → IsUnjoined w t (depth w (suc t)) r → PathTo w y r → PathTo w (suc y) (suc t)
+      by_child r q p = longer p (trace_edge w h.well_nested r (suc t) (record {
+        from = (path_place w y r p).0;
+        to = b;
+        forth = omega (arith, q.upto);
+        kind = joined (return_spawned w h r q.a_return) q.level (joins-shape _ (at w (suc t)) j) (λ k f g e i. q.not_yet k f (omega arith) e (shape-joins _ (at w k) i));
+      }))
 
       by_longer : x < y → (y ≡ 0) ⊎ ((r : ℕ) × IsUnjoined w t (depth w (suc t)) r × PathTo w y r) → PathTo w (suc (max x y)) (suc t)
       by_longer f (inl e) = absurd (omega arith)
-      by_longer f (inr (r, q, p)) = let e : suc y ≡ suc (max x y) = omega arith in subst (λ (z : ℕ). PathTo w z (suc t)) e (joined r q p)
+      by_longer f (inr (r, q, p)) = let e : suc y ≡ suc (max x y) = omega arith in subst (λ (z : ℕ). PathTo w z (suc t)) e (by_child r q p)
 
       reached : PathTo w (suc (max x y)) (suc t)
       reached = elim (cases_lt x y) [
@@ -225,9 +236,9 @@ module _ (w : List Record) {n d : ℕ} (h : IsWellNested w n d) where
     where
       left : (r : ℕ) → 1 ≤ r → r ≤ t → IsUnjoined w (suc t) (suc (depth w (suc t))) r → ⊥
       left r a c q =
-          let f : depth w r ≡ suc (depth w (suc r)) = leaves_by (traced w h) r a (omega arith) (ap (λ (z : Option Record). returns (shape_of z)) q.a_return) in
-          let z = leaves (traced w h) (depth w (suc t)) (suc r) (suc t) (omega arith) (omega arith) b (omega (arith, q.level)) (omega arith) in
-          q.not_yet z.0 (omega (arith, z.1.since)) (omega (arith, z.1.before)) z.1.level (inr (shape-return (at w z.0) z.1.a_return))
+          let f : depth w r ≡ suc (depth w (suc r)) = leaves_by (traced w h.well_nested) r a (omega arith) (returns-shape _ (at w r) q.a_return) in
+          let z = leaves (traced w h.well_nested) (depth w (suc t)) (suc r) (suc t) (omega arith) (omega arith) b (omega (arith, q.level)) (omega arith) in
+          q.not_yet z.0 (omega (arith, z.1.since)) (omega (arith, z.1.before)) z.1.level (inr (shape-return _ (at w z.0) z.1.a_return))
 
       none : (r : ℕ) → IsPlace w r → IsUnjoined w (suc t) (suc (depth w (suc t))) r → ⊥
       none r a q = elim (cases_eq r (suc t)) [

@@ -1,7 +1,7 @@
 -- Private: what measuring keeps of the first records of a trace: the longest paths in each active procedure.
 use Rattle.std.specs.Prelude.{◌≡◌, ◌≢◌, ℕ, suc, ◌+◌, ◌<◌, ◌≤◌, max, List, [], ◌∷◌, ◌++◌, length, count_by, slice_get, Some, ◌⊎◌}
 use Rattle.trace.specs.declared.records.Record.{Record}
-use Rattle.trace.specs.declared.records.Record.TheVariants.{Spawn, Return, Sync, Read, Write}
+use Rattle.trace.specs.declared.records.Record.TheVariants.{Spawn, Call, Return, Sync, Read, Write}
 use Rattle.trace.specs.Traces.{at, depth, IsPlace}
 use Rattle.trace.specs.Dag.{JoinsAt, IsPath, end_of}
 use Rattle.audit.specs.declared.measures.Longest.{Longest}
@@ -90,6 +90,7 @@ pub record HasMeasured (m : Measuring) (u : List Record) : Type 0 where
 -- the longest path to the next record of a procedure: a record that waits for children comes after their returns too
 abbrev pub through : Longest → Record → ℕ
 through f Spawn = f.own + 1
+through f Call = f.own + 1
 through f Return = max f.own f.unjoined + 1
 through f Sync = max f.own f.unjoined + 1
 through f (Read l) = f.own + 1
@@ -98,6 +99,7 @@ through f (Write l) = f.own + 1
 -- what becomes of the longest paths at a record to which the longest path has x places
 abbrev pub Advances : ℕ → Record → Longest → List Longest → Longest → List Longest → Type 0
 Advances x Spawn e waiting e' waiting' = (e' ≡ record { own = x; unjoined = 0 }) × (waiting' ≡ waiting ++ record { own = x; unjoined = e.unjoined } ∷ [])
+Advances x Call e waiting e' waiting' = (e' ≡ record { own = x; unjoined = 0 }) × (waiting' ≡ waiting ++ record { own = x; unjoined = e.unjoined } ∷ [])
 Advances x Return e waiting e' waiting' = ((waiting ≡ []) × (waiting' ≡ []) × (e' ≡ e))
     ⊎ ((f : Longest) × (waiting ≡ waiting' ++ f ∷ []) × (e' ≡ record { own = f.own; unjoined = max f.unjoined x }))
 Advances x Sync e waiting e' waiting' = (e' ≡ record { own = x; unjoined = 0 }) × (waiting' ≡ waiting)

@@ -1,7 +1,7 @@
 -- Private: what is kept of the active procedures, so that it shows where an earlier access and the next place meet.
 use Rattle.std.specs.Prelude.{◌≡◌, ℕ, suc, ◌<◌, ◌≤◌, ◌↔◌, Bool, true, List, ◌∷◌, ◌++◌, length, slice_get, Some, ◌⊎◌, []}
 use Rattle.trace.specs.declared.records.Record.{Record}
-use Rattle.trace.specs.declared.records.Record.TheVariants.{Spawn, Return, Sync, Read, Write}
+use Rattle.trace.specs.declared.records.Record.TheVariants.{Spawn, Call, Return, Sync, Read, Write}
 use Rattle.trace.specs.Traces.{at, depth}
 use Rattle.trace.specs.Dag.{IsParallel}
 use Rattle.trace.specs.Meeting.{level, Holds, IsOwn}
@@ -37,6 +37,7 @@ TellsParallel u place deep answer = WhateverFollows u (λ w. IsAccessPlace w pla
 -- what becomes of the active procedures at the record of a place
 abbrev pub Moves : ℕ → Record → Active → List Active → Active → List Active → Type 0
 Moves place Spawn e waiting e' waiting' = (e' ≡ record { opened = place; synced = place }) × (waiting' ≡ waiting ++ e ∷ [])
+Moves place Call e waiting e' waiting' = (e' ≡ record { opened = place; synced = place }) × (waiting' ≡ waiting ++ e ∷ [])
 Moves place Return e waiting e' waiting' = ((waiting ≡ []) × (waiting' ≡ []) × (e' ≡ e)) ⊎ (waiting ≡ waiting' ++ e' ∷ [])
 Moves place Sync e waiting e' waiting' = (e' ≡ record { opened = e.opened; synced = place }) × (waiting' ≡ waiting)
 Moves place (Read l) e waiting e' waiting' = (e' ≡ e) × (waiting' ≡ waiting)

@@ -93,7 +93,7 @@ impl Watch for Confirming {
                     place,
                 },
             ),
-            Record::Spawn | Record::Sync | Record::Return => {}
+            Record::Spawn | Record::Call | Record::Sync | Record::Return => {}
         }
         self.meetings.take(placed)
     }

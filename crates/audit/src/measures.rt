@@ -29,7 +29,7 @@ impl Longest {
     {
         match what {
             Record::Sync | Record::Return => self.own.max(self.unjoined) + 1,
-            Record::Spawn | Record::Read(_) | Record::Write(_) => self.own + 1,
+            Record::Spawn | Record::Call | Record::Read(_) | Record::Write(_) => self.own + 1,
         }
     }
 }
@@ -77,7 +77,8 @@ impl Measuring {
         ensures depth { self.new.depth ≡ self.old.depth }
     {
         match what {
-            Record::Spawn => {
+            // a trace that is read has no call
+            Record::Spawn | Record::Call => {
                 let parent = Longest {
                     own: length,
                     unjoined: self.executing.unjoined,

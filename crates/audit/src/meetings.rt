@@ -46,7 +46,8 @@ impl Meetings {
             self.new.executing self.new.waiting.items) }
     {
         match placed.what {
-            Record::Spawn => {
+            // a trace that is read has no call
+            Record::Spawn | Record::Call => {
                 self.waiting.push(self.executing)?;
                 self.executing = Active {
                     opened: placed.place,

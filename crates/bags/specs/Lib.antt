@@ -1,5 +1,7 @@
 pub mod Procedures
 pub mod Paths
-pub mod Ranges
+pub mod Stretches
+pub mod Stretch
+pub mod Held
 pub mod Search
 pub mod Numbers

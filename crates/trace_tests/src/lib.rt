@@ -2,6 +2,4 @@
 #![tactic(auto)]
 
 #[cfg(test)]
-mod parallel;
-#[cfg(test)]
 mod tests;
