@@ -12,3 +12,7 @@ pub record IsNestedBySpawns (w : List Record) (records depths : ℕ) : Type 0 wh
 -- of every such trace that begins with the records u
 abbrev pub WhateverFollows : List Record → (List Record → Type 0) → Type 0
 WhateverFollows u P = (w rest : List Record) → w ≡ u ++ rest → (records depths : ℕ) → IsNestedBySpawns w records depths → P w
+
+-- of every well nested trace that begins with the records u
+abbrev pub WhateverComes : List Record → (List Record → Type 0) → Type 0
+WhateverComes u P = (w rest : List Record) → w ≡ u ++ rest → (records depths : ℕ) → IsWellNested w records depths → P w
