@@ -2,7 +2,6 @@ use Rattle.std.proofs.Common.{List, refl, subst}
 use Rattle.trace.specs.Accesses.{RaceAt}
 use Rattle.trace.proofs.Endings.{ends_refused, refused_for_want}
 use Rattle.audit.specs.Entries.{HasConfirmed}
-use Rattle.audit.proofs.Spawned.{of_text}
 use Rattle.audit.proofs.ConfirmLemmas.{answer_of}
 use Rattle.audit.proofs.confirms.confirm.Goals as goal
 
@@ -16,4 +15,4 @@ pub returns : goal.returns
 returns g c =
     let i = c.in_ok-read_to_end.ensures in
     let P : List RaceAt → Type 0 = λ rs. HasConfirmed rs i.trace c.read_to_end.new.watch in
-    record { trace = i.trace; read = i.read; says = answer_of c.read_to_end.new.watch c.args.report.now _ i.trace (of_text i.trace i.read.whole.fits i.read.whole.well_nested) (subst P c.in_ok-confirming.ensures.same_races i.says) (rw c.deref.ensures.value at c.answer_of.ensures) }
+    record { trace = i.trace; read = i.read; says = answer_of c.read_to_end.new.watch c.args.report.now _ i.trace i.read.whole.well_nested (subst P c.in_ok-confirming.ensures.same_races i.says) (rw c.deref.ensures.value at c.answer_of.ensures) }

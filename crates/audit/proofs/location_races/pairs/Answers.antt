@@ -1,7 +1,6 @@
 use Rattle.std.proofs.Common.{ℕ, subst}
 use Rattle.trace.proofs.Endings.{ends_refused}
 use Rattle.audit.specs.Pairing.{HasPaired}
-use Rattle.audit.proofs.Spawned.{of_text}
 use Rattle.audit.proofs.PairLemmas.{pairs_of}
 use Rattle.audit.proofs.location_races.pairs.Goals as goal
 
@@ -12,4 +11,4 @@ pub returns : goal.returns
 returns g c =
     let i = c.in_ok-read_to_end.ensures in
     let P : ℕ → Type 0 = λ l. HasPaired l i.trace c.read_to_end.new.watch in
-    record { trace = i.trace; read = i.read; says = pairs_of c.read_to_end.new.watch c.args.location i.trace (of_text i.trace i.read.whole.fits i.read.whole.well_nested) (subst P c.new-pairing.ensures.location_is i.says) }
+    record { trace = i.trace; read = i.read; says = pairs_of c.read_to_end.new.watch c.args.location i.trace i.read.whole.well_nested (subst P c.new-pairing.ensures.location_is i.says) }
