@@ -7,10 +7,11 @@ use Rattle.std.proofs.Math.ListN.{get_or-append}
 use Rattle.std.specs.Bool.{beq}
 use Rattle.std.specs.Option.{option_to_list}
 use Rattle.std.specs.FinSet as bag
-use Rattle.bags.specs.declared.Nested.{Nested}
+use Rattle.bags.specs.Nested.{Nested}
 use Rattle.bags.specs.Procedures.{Active, Procedures, at_start, opened, entered, adopts, after_sync, after_return, in_p, event, current}
 use Rattle.trace.specs.declared.records.Record.TheVariants.{Sync, Return}
 use Rattle.bags.specs.Stretch.{Stretch}
+use Rattle.trace.specs.Bounds.{most_records}
 use Rattle.bags.specs.Search.{first_at}
 use Rattle.bags.specs.Held.{start, active_of, actives_of, procedures_of, bag_of, AreTurns, AreCut, AreHeld}
 use Rattle.bags.proofs.Segments.{Ascends, AreGrown, any_of, after, turns_ascend, start_most, contains-bag_of, opened_is, synced_is, adopted, grown_wider, grown_longer, last_kind, first_at_is, first_at-start, start-both, at_keeper, any_of-append, ascends-append}
@@ -24,13 +25,14 @@ actives-cut next low ss f fs e =
     λ i. active_of next f.is_called (back i) ∷ actives_of (start next (back i)) (front i) fs
 
 pub are-cut : (next : ℕ) (low ss : List Stretch) (f : Nested) (fs : List Nested) → f.begins ≡ length low → 0 < length ss → AreTurns false next ss → AreCut (start next ss) low fs
-    → AreCut next (low ++ ss) (f ∷ fs)
-are-cut next low ss f fs e some turns cut =
+    → f.number ≡ start next ss → AreCut next (low ++ ss) (f ∷ fs)
+are-cut next low ss f fs e some turns cut number =
     let front : take f.begins (low ++ ss) ≡ low = ap (λ n. take n (low ++ ss)) e ∙ take-append_seam low ss in
     let back : drop f.begins (low ++ ss) ≡ ss = ap (λ n. drop n (low ++ ss)) e ∙ drop-append_seam low ss in (
       omega (arith, length-append low ss),
       subst (AreTurns false next) (sym back) turns,
       subst (λ xs. AreCut (start next xs) (take f.begins (low ++ ss)) fs) (sym back) (subst (λ xs. AreCut (start next ss) xs fs) (sym front) cut),
+      subst (λ xs. f.number ≡ start next xs) (sym back) number,
     )
 
 -- the parts
@@ -42,6 +44,7 @@ pub record Parts (next : ℕ) (ss : List Stretch) (f : Nested) (fs : List Nested
   pub from : f.begins ≡ length low
   pub turns : AreTurns false next (first ∷ rest)
   pub cut : AreCut first.first low fs
+  pub number : f.number ≡ first.first
 
 pub parts : (next : ℕ) (ss : List Stretch) (f : Nested) (fs : List Nested) → AreCut next ss (f ∷ fs) → Parts next ss f fs
 parts next ss f fs h = with_rest (drop f.begins ss) refl
@@ -56,6 +59,7 @@ parts next ss f fs h = with_rest (drop f.begins ss) refl
       from = sym (length-take-le f.begins ss (omega (arith, h.0)));
       turns = subst (AreTurns false next) e h.1;
       cut = subst (λ xs. AreCut (start next xs) (take f.begins ss) fs) e h.2;
+      number = subst (λ xs. f.number ≡ start next xs) e h.3;
     }
 
 pub reverse-last : (fs : List Nested) (g : Nested) → reverse (fs ++ g ∷ []) ≡ g ∷ reverse fs
@@ -69,15 +73,15 @@ pub length-procedures_of : (count : ℕ) (ss : List Stretch) (nested : List Nest
 length-procedures_of count ss nested = sym (length-reverse nested) ∙ sym (length-actives_of count ss (reverse nested))
 
 -- a spawn and a call
-pub entered_held : (count : ℕ) (ss : List Stretch) (nested : List Nested) (s : Stretch) (f : Nested) → AreHeld count ss nested → s.first ≡ count → s.is_parallel ≡ false → f.begins ≡ length ss
-    → AreHeld (count + 1) (ss ++ s ∷ []) (nested ++ f ∷ []) × (procedures_of (count + 1) (ss ++ s ∷ []) (nested ++ f ∷ []) ≡ entered (procedures_of count ss nested) f.is_called)
-entered_held count ss nested s f held e k b =
+pub entered_held : (count : ℕ) (ss : List Stretch) (nested : List Nested) (s : Stretch) (f : Nested) → AreHeld count ss nested → count ≤ most_records → s.first ≡ count → s.is_parallel ≡ false → f.begins ≡ length ss
+    → f.number ≡ count → AreHeld (count + 1) (ss ++ s ∷ []) (nested ++ f ∷ []) × (procedures_of (count + 1) (ss ++ s ∷ []) (nested ++ f ∷ []) ≡ entered (procedures_of count ss nested) f.is_called)
+entered_held count ss nested s f held few e k b number =
     let back : reverse (nested ++ f ∷ []) ≡ f ∷ reverse nested = reverse-last nested f in
     let turns : AreTurns false (count + 1) (s ∷ []) = (k, omega arith, tt) in
-    let cut : AreCut (count + 1) (ss ++ s ∷ []) (f ∷ reverse nested) = are-cut (count + 1) ss (s ∷ []) f (reverse nested) b (omega arith) turns (subst (λ n. AreCut n ss (reverse nested)) (sym e) held.cut) in
+    let cut : AreCut (count + 1) (ss ++ s ∷ []) (f ∷ reverse nested) = are-cut (count + 1) ss (s ∷ []) f (reverse nested) b (omega arith) turns (subst (λ n. AreCut n ss (reverse nested)) (sym e) held.cut) (number ∙ sym e) in
     let is : actives_of (count + 1) (ss ++ s ∷ []) (f ∷ reverse nested) ≡ (entered (procedures_of count ss nested) f.is_called).active
     = actives-cut (count + 1) ss (s ∷ []) f (reverse nested) b ∙ (λ i. opened_is count f.is_called s e k i ∷ actives_of (e i) ss (reverse nested)) in (
-      record { some = omega arith; cut = subst (AreCut (count + 1) (ss ++ s ∷ [])) (sym back) cut },
+      record { some = omega arith; most = omega arith; cut = subst (AreCut (count + 1) (ss ++ s ∷ [])) (sym back) cut },
       λ i. record { count = count + 1; active = (ap (actives_of (count + 1) (ss ++ s ∷ [])) back ∙ is) i },
     )
 
@@ -124,14 +128,14 @@ synced_held count ss nested f held x =
     let front : take (f.begins + 1) ss ≡ p.low ++ p.first ∷ []
     = (λ i. take (p.from i + 1) (p.whole i)) ∙ take-append-add p.low (p.first ∷ p.rest) 1 in
     let turns : AreTurns false count (p.first ∷ []) = (p.turns.0, omega (arith, p.turns.1), tt) in
-    let cut : AreCut count (p.low ++ p.first ∷ []) (f ∷ x.last.others) = are-cut count p.low (p.first ∷ []) f x.last.others p.from (omega arith) turns p.cut in
+    let cut : AreCut count (p.low ++ p.first ∷ []) (f ∷ x.last.others) = are-cut count p.low (p.first ∷ []) f x.last.others p.from (omega arith) turns p.cut p.number in
     let old : actives_of count ss (f ∷ x.last.others) ≡ active_of count f.is_called (p.first ∷ p.rest) ∷ actives_of p.first.first p.low x.last.others
     = ap (λ xs. actives_of count xs (f ∷ x.last.others)) p.whole ∙ actives-cut count p.low (p.first ∷ p.rest) f x.last.others p.from in
     let new : actives_of count (p.low ++ p.first ∷ []) (f ∷ x.last.others) ≡ active_of count f.is_called (p.first ∷ []) ∷ actives_of p.first.first p.low x.last.others
     = actives-cut count p.low (p.first ∷ []) f x.last.others p.from in
     let is : actives_of count (p.low ++ p.first ∷ []) (f ∷ x.last.others) ≡ after_sync (actives_of count ss (f ∷ x.last.others))
     = new ∙ ap (λ a. a ∷ actives_of p.first.first p.low x.last.others) (synced_is count f.is_called p.first p.rest p.turns) ∙ ap after_sync (sym old) in (
-      record { some = held.some; cut = subst (λ fs. AreCut count (take (f.begins + 1) ss) fs) (sym x.last.is) (subst (λ xs. AreCut count xs (f ∷ x.last.others)) (sym front) cut) },
+      record { some = held.some; most = held.most; cut = subst (λ fs. AreCut count (take (f.begins + 1) ss) fs) (sym x.last.is) (subst (λ xs. AreCut count xs (f ∷ x.last.others)) (sym front) cut) },
       λ i. record { count = count; active = ((λ j. actives_of count (front j) (x.last.is j)) ∙ is ∙ ap (λ fs. after_sync (actives_of count ss fs)) (sym x.last.is)) i },
     )
 
@@ -168,7 +172,7 @@ returned_held count ss new ys g held some says = turned (reverse ys) refl
         = actives-cut count q.low xs f fs q.from ∙ ap (λ n. active_of count f.is_called xs ∷ actives_of n q.low fs) same in
         let adopt : active_of count f.is_called xs ≡ adopts (active_of p.first.first f.is_called (q.first ∷ q.rest)) (active_of count g.is_called (p.first ∷ p.rest))
         = adopted p.first.first count f.is_called g.is_called (q.first ∷ q.rest) xs (p.first ∷ p.rest) grown q.turns p.turns refl in
-        let cut_new : AreCut count (q.low ++ xs) (f ∷ fs) = are-cut count q.low xs f fs q.from s.some grown.turns (subst (λ n. AreCut n q.low fs) (sym same) q.cut) in (
+        let cut_new : AreCut count (q.low ++ xs) (f ∷ fs) = are-cut count q.low xs f fs q.from s.some grown.turns (subst (λ n. AreCut n q.low fs) (sym same) q.cut) (q.number ∙ sym same) in (
           subst (λ zs. AreCut count zs (f ∷ fs)) (sym is) cut_new,
           ap (λ zs. actives_of count zs (f ∷ fs)) is ∙ now ∙ ap (λ a. a ∷ actives_of q.first.first q.low fs) adopt ∙ ap after_return (sym old),
         )
@@ -178,7 +182,7 @@ returned_held count ss new ys g held some says = turned (reverse ys) refl
     turned (f ∷ fs) e =
         let back : reverse (ys ++ g ∷ []) ≡ g ∷ f ∷ fs = reverse-last ys g ∙ ap (λ xs. g ∷ xs) e in
         let both : Turned (f ∷ fs) = with_parent f fs (subst (AreCut count ss) back held.cut) in (
-          record { some = held.some; cut = subst (AreCut count new) (sym e) both.0 },
+          record { some = held.some; most = held.most; cut = subst (AreCut count new) (sym e) both.0 },
           λ i. record { count = count; active = (ap (actives_of count new) e ∙ both.1 ∙ ap (λ xs. after_return (actives_of count ss xs)) (sym back)) i },
         )
 
@@ -222,14 +226,14 @@ joined_held count ss nested ys g d held is more same =
     }))
 
 -- else what the child keeps is a stretch more
-pub moved_held : (count : ℕ) (ss : List Stretch) (nested ys : List Nested) (g : Nested) (d e x : Stretch) → AreHeld count ss nested → nested ≡ ys ++ g ∷ [] → 1 < length nested
-    → (get_or ss (g.begins - 1) d).is_parallel ≡ not (not g.is_called) → x.first ≡ (get_or ss g.begins e).first → x.is_parallel ≡ not g.is_called
+pub moved_held : (count : ℕ) (ss : List Stretch) (nested ys : List Nested) (g : Nested) (d x : Stretch) → AreHeld count ss nested → nested ≡ ys ++ g ∷ [] → 1 < length nested
+    → (get_or ss (g.begins - 1) d).is_parallel ≡ not (not g.is_called) → x.first ≡ g.number → x.is_parallel ≡ not g.is_called
     → AreHeld count (take g.begins ss ++ x ∷ []) ys × (procedures_of count (take g.begins ss ++ x ∷ []) ys ≡ event (procedures_of count ss nested) Return)
-moved_held count ss nested ys g d e x held is more other first kind =
+moved_held count ss nested ys g d x held is more other first kind =
     subst (λ xs. AreHeld count (take g.begins ss ++ x ∷ []) ys × (procedures_of count (take g.begins ss ++ x ∷ []) ys ≡ event (procedures_of count ss xs) Return)) (sym is)
     (returned_held count ss (take g.begins ss ++ x ∷ []) ys g (subst (AreHeld count ss) is held) (all_but_one nested ys g is more)
     (λ f fs p q.
-    let same : x.first ≡ p.first.first = first ∙ ap (λ (s : Stretch). s.first) ((λ i. get_or (p.whole i) (p.from i) e) ∙ get_or-append_seam p.low p.first p.rest e) in
+    let same : x.first ≡ p.first.first = first ∙ p.number in
     let follows : not g.is_called ≡ after false (q.first ∷ q.rest) = not_both (not g.is_called) (after false (q.first ∷ q.rest)) (sym other ∙ before_child count ss g f fs d p q) in
     let grown : AreGrown (not g.is_called) x.first count (q.first ∷ q.rest) ((q.first ∷ q.rest) ++ x ∷ [])
     = grown_longer (not g.is_called) count (q.first ∷ q.rest) x (subst (λ n. AreTurns false n (q.first ∷ q.rest)) (sym same) q.turns) kind follows (omega (arith, child_below count ss g (f ∷ fs) p)) in record {
@@ -320,29 +324,28 @@ stretch_some count (s ∷ ss) nested held = omega arith
 pub first_at_root : (count : ℕ) (ss : List Stretch) (nested : List Nested) → AreHeld count ss nested → first_at ss 0 ≡ 0
 first_at_root count ss nested held = first_at-start count ss (stretch_some count ss nested held) ∙ first_root count ss (reverse nested) held.cut
 
--- the executing procedure's first stretch begins with its number
-pub executes : (count : ℕ) (ss : List Stretch) (nested : List Nested) (f : Nested) (d : Stretch) (x : Executing count ss nested f)
-    → ((get_or ss f.begins d).first ≡ current (procedures_of count ss nested).active) × ((get_or ss f.begins d).first < count)
-executes count ss nested f d x =
+-- the executing procedure has its number
+pub executes : (count : ℕ) (ss : List Stretch) (nested : List Nested) (f : Nested) (x : Executing count ss nested f)
+    → (f.number ≡ current (procedures_of count ss nested).active) × (f.number < count)
+executes count ss nested f x =
     let p : Parts count ss f x.last.others = x.parts in
-    let is : (get_or ss f.begins d).first ≡ p.first.first = ap (λ (s : Stretch). s.first) ((λ i. get_or (p.whole i) (p.from i) d) ∙ get_or-append_seam p.low p.first p.rest d) in
     let own : current (procedures_of count ss nested).active ≡ p.first.first
     = ap (λ fs. current (actives_of count ss fs)) x.last.is
     ∙ ap (λ xs. current (actives_of count xs (f ∷ x.last.others))) p.whole
     ∙ ap current (actives-cut count p.low (p.first ∷ p.rest) f x.last.others p.from) in (
-      is ∙ sym own,
-      omega (arith, child_below count ss f x.last.others p),
+      p.number ∙ sym own,
+      omega (arith, child_below count ss f x.last.others p, p.number),
     )
 
 -- the root alone
-pub at_first : (ss : List Stretch) (nested : List Nested) (s : Stretch) (f : Nested) → ss ≡ s ∷ [] → nested ≡ f ∷ [] → s.first ≡ 0 → s.is_parallel ≡ false → f.begins ≡ 0 → f.is_called ≡ false
+pub at_first : (ss : List Stretch) (nested : List Nested) (s : Stretch) (f : Nested) → ss ≡ s ∷ [] → nested ≡ f ∷ [] → s.first ≡ 0 → s.is_parallel ≡ false → f.begins ≡ 0 → f.number ≡ 0 → f.is_called ≡ false
     → AreHeld 1 ss nested × (procedures_of 1 ss nested ≡ at_start)
-at_first ss nested s f is ns first kind begins is_called =
+at_first ss nested s f is ns first kind begins number is_called =
     let root : AreCut 0 [] [] = (refl, refl) in
     let turns : AreTurns false 1 (s ∷ []) = (kind, omega arith, tt) in
-    let cut : AreCut 1 (s ∷ []) (f ∷ []) = are-cut 1 [] (s ∷ []) f [] begins (omega arith) turns (subst (λ n. AreCut n [] []) (sym first) root) in
+    let cut : AreCut 1 (s ∷ []) (f ∷ []) = are-cut 1 [] (s ∷ []) f [] begins (omega arith) turns (subst (λ n. AreCut n [] []) (sym first) root) (number ∙ sym first) in
     let active : actives_of 1 (s ∷ []) (f ∷ []) ≡ at_start.active
     = actives-cut 1 [] (s ∷ []) f [] begins ∙ ap (λ a. a ∷ []) (opened_is 0 f.is_called s first kind ∙ ap (λ b. opened b 0) is_called) in (
-      record { some = omega arith; cut = subst (λ fs. AreCut 1 ss (reverse fs)) (sym ns) (subst (λ xs. AreCut 1 xs (f ∷ [])) (sym is) cut) },
+      record { some = omega arith; most = omega arith; cut = subst (λ fs. AreCut 1 ss (reverse fs)) (sym ns) (subst (λ xs. AreCut 1 xs (f ∷ [])) (sym is) cut) },
       λ i. record { count = 1; active = ((λ j. actives_of 1 (is j) (reverse (ns j))) ∙ active) i },
     )

@@ -5,10 +5,11 @@ use Rattle.std.proofs.lemmas.Bool.{cases_lt, both_ways}
 use Rattle.std.proofs.lemmas.List.{length-take-le, length-drop, length-append, length-reverse, get_or-take, get_or-drop}
 use Rattle.std.proofs.Math.Seq.{get_or-append_seam}
 use Rattle.std.proofs.Math.ListN.{get_or-append}
-use Rattle.bags.specs.declared.Nested.{Nested}
+use Rattle.bags.specs.Nested.{Nested}
 use Rattle.bags.specs.Procedures.{Active, Procedures, after_sync, after_return, current, event, in_p}
 use Rattle.trace.specs.declared.records.Record.TheVariants.{Sync, Return}
 use Rattle.bags.specs.Stretch.{Stretch}
+use Rattle.trace.specs.Bounds.{most_records}
 use Rattle.bags.specs.Search.{first_at, IsAscending, IsKeeper}
 use Rattle.bags.specs.Held.{start, active_of, actives_of, procedures_of, AreCut, AreHeld, AreKept}
 use Rattle.bags.proofs.Segments.{first_at_is, first_at-start, first_at-drop, first_at-take, ascending, start-append, start_most, Ascends}
@@ -21,18 +22,18 @@ same_at (x ∷ xs) zero a b low = refl
 same_at (x ∷ xs) (suc i) a b low = same_at xs i a b (omega arith)
 
 -- the executing procedure's first stretch, which is of its S-bag
-pub record Own (executing : ℕ) (ss : List Stretch) (f : Nested) : Type 0 where
+pub record Own (ss : List Stretch) (f : Nested) : Type 0 where
   pub within : f.begins < length ss
-  pub first : first_at ss f.begins ≡ executing
+  pub first : first_at ss f.begins ≡ f.number
   pub serial : (d : Stretch) → (get_or ss f.begins d).is_parallel ≡ false
 
-pub own_is : (count e settled : ℕ) (ss : List Stretch) (nested : List Nested) (f : Nested) (n : ℕ) → AreKept count e settled ss nested → n ≡ length nested → f ≡ get_or nested (n - 1) f → Own e ss f
-own_is count e settled ss nested f n kept len at =
+pub own_is : (count settled : ℕ) (ss : List Stretch) (nested : List Nested) (f : Nested) (n : ℕ) → AreKept count settled ss nested → n ≡ length nested → f ≡ get_or nested (n - 1) f → Own ss f
+own_is count settled ss nested f n kept len at =
     let x : Executing count ss nested f = executing count ss nested f n kept.held len at in
     let within : f.begins < length ss = begins_within count ss nested f x in
     let p : Parts count ss f x.last.others = x.parts in record {
       within = within;
-      first = sym (first_at_is ss f.begins p.first within) ∙ (executes count ss nested f p.first x).0 ∙ sym kept.executes;
+      first = sym (first_at_is ss f.begins p.first within) ∙ ap (λ (s : Stretch). s.first) ((λ i. get_or (p.whole i) (p.from i) p.first) ∙ get_or-append_seam p.low p.first p.rest p.first) ∙ sym p.number;
       serial = λ d. ap (λ (s : Stretch). s.is_parallel) ((λ i. get_or (p.whole i) (p.from i) d) ∙ get_or-append_seam p.low p.first p.rest d) ∙ p.turns.0;
     }
 
@@ -49,25 +50,26 @@ root_serial next ss (f ∷ fs) d h some =
     by_low (s ∷ low) first rest lower is = lower (omega arith)
 
 -- what is settled stands in no P-bag
-pub settled_serial : (count e settled : ℕ) (ss : List Stretch) (nested : List Nested) (p : ℕ) → AreKept count e settled ss nested → p < count → p < settled → in_p (procedures_of count ss nested).active p ≡ false
-settled_serial count e settled [] nested p kept known below = absurd (omega (arith, stretch_some count [] nested kept.held))
-settled_serial count e settled (s ∷ ss) nested p kept known below =
+pub settled_serial : (count settled : ℕ) (ss : List Stretch) (nested : List Nested) (p : ℕ) → AreKept count settled ss nested → p < count → p < settled → in_p (procedures_of count ss nested).active p ≡ false
+settled_serial count settled [] nested p kept known below = absurd (omega (arith, stretch_some count [] nested kept.held))
+settled_serial count settled (s ∷ ss) nested p kept known below =
     let next : 0 + 1 < length (s ∷ ss) → p < first_at (s ∷ ss) (0 + 1) = λ more. omega (arith, kept.in_series, first_at-start count ss (omega arith)) in
     sym (in_p-keeper count (s ∷ ss) nested 0 p s kept.held (omega arith) known (omega (arith, first_at_root count (s ∷ ss) nested kept.held)) next)
     ∙ root_serial count (s ∷ ss) (reverse nested) s kept.held.cut (omega arith)
 
 -- what is known where a procedure from above what is settled is looked up
-pub record Asked (count e settled : ℕ) (ss : List Stretch) (nested : List Nested) (now : Procedures) (f : Nested) (p : ℕ) : Type 0 where
-  pub kept : AreKept count e settled ss nested
+pub record Asked (count settled : ℕ) (ss : List Stretch) (nested : List Nested) (now : Procedures) (f : Nested) (p : ℕ) : Type 0 where
+  pub kept : AreKept count settled ss nested
   pub view : procedures_of count ss nested ≡ now
-  pub own : Own e ss f
+  pub own : Own ss f
   pub known : p < count
+  pub few : p ≤ most_records
 
-pub asked : (count e settled : ℕ) (ss : List Stretch) (nested : List Nested) (now : Procedures) (f : Nested) (n p : ℕ) → AreKept count e settled ss nested → procedures_of count ss nested ≡ now
-    → n ≡ length nested → f ≡ get_or nested (n - 1) f → p < now.count → Asked count e settled ss nested now f p
-asked count e settled ss nested now f n p kept view len at known =
+pub asked : (count settled : ℕ) (ss : List Stretch) (nested : List Nested) (now : Procedures) (f : Nested) (n p : ℕ) → AreKept count settled ss nested → procedures_of count ss nested ≡ now
+    → n ≡ length nested → f ≡ get_or nested (n - 1) f → p < now.count → Asked count settled ss nested now f p
+asked count settled ss nested now f n p kept view len at known =
     let same : count ≡ now.count = ap (λ (q : Procedures). q.count) view in
-    record { kept = kept; view = view; own = own_is count e settled ss nested f n kept len at; known = omega arith }
+    record { kept = kept; view = view; own = own_is count settled ss nested f n kept len at; known = omega arith; few = omega (arith, kept.held.most) }
 
 pub told : (count : ℕ) (ss : List Stretch) (nested : List Nested) (now : Procedures) (p : ℕ) (b : Bool) → procedures_of count ss nested ≡ now → b ≡ in_p (procedures_of count ss nested).active p → b ≡ in_p now.active p
 told count ss nested now p b view is = is ∙ ap (λ (q : Procedures). in_p q.active p) view
@@ -86,9 +88,9 @@ newer_ascending n ss up i j to low =
     omega (arith, first_at-drop n i ss, first_at-drop n j ss, up (n + i) (n + j) (omega arith) (omega (arith, length-drop n ss)))
 
 -- a look-up of a procedure from before the executing one
-pub older_kept : (count e settled : ℕ) (ss : List Stretch) (nested : List Nested) (f : Nested) (p : ℕ) (s : Stretch) → AreKept count e settled ss nested → Own e ss f → p < count → p < e
+pub older_kept : (count settled : ℕ) (ss : List Stretch) (nested : List Nested) (f : Nested) (p : ℕ) (s : Stretch) → AreKept count settled ss nested → Own ss f → p < count → p < f.number
     → IsKeeper (take f.begins ss) p s → s.is_parallel ≡ in_p (procedures_of count ss nested).active p
-older_kept count e settled ss nested f p s kept own known below k =
+older_kept count settled ss nested f p s kept own known below k =
     let len : length (take f.begins ss) ≡ f.begins = length-take-le f.begins ss (omega (arith, own.within)) in
     let low : k.index < f.begins = omega (arith, k.within) in
     let next : k.index + 1 < length ss → p < first_at ss (k.index + 1) = λ more. by_end (k.index + 1) (omega arith) k.next_above in
@@ -102,9 +104,9 @@ older_kept count e settled ss nested f p s kept own known below k =
     ]
 
 -- and one of a procedure from the executing one on
-pub newer_kept : (count e settled : ℕ) (ss : List Stretch) (nested : List Nested) (f : Nested) (p : ℕ) (s : Stretch) → AreKept count e settled ss nested → Own e ss f → p < count
+pub newer_kept : (count settled : ℕ) (ss : List Stretch) (nested : List Nested) (f : Nested) (p : ℕ) (s : Stretch) → AreKept count settled ss nested → Own ss f → p < count
     → IsKeeper (drop f.begins ss) p s → s.is_parallel ≡ in_p (procedures_of count ss nested).active p
-newer_kept count e settled ss nested f p s kept own known k =
+newer_kept count settled ss nested f p s kept own known k =
     let len : length (drop f.begins ss) ≡ length ss - f.begins = length-drop f.begins ss in
     let one_on : f.begins + (k.index + 1) ≡ f.begins + k.index + 1 = omega arith in
     let next : f.begins + k.index + 1 < length ss → p < first_at ss (f.begins + k.index + 1)
@@ -113,9 +115,9 @@ newer_kept count e settled ss nested f p s kept own known k =
     ∙ in_p-keeper count ss nested (f.begins + k.index) p s kept.held (omega (arith, k.within)) known (omega (arith, k.not_above, first_at-drop f.begins k.index ss)) next
 
 -- the executing procedure's first stretch is the keeper
-first_kept : (count e settled : ℕ) (ss : List Stretch) (nested : List Nested) (f : Nested) (p : ℕ) (d : Stretch) → AreKept count e settled ss nested → Own e ss f → p < count → e ≤ p
+first_kept : (count settled : ℕ) (ss : List Stretch) (nested : List Nested) (f : Nested) (p : ℕ) (d : Stretch) → AreKept count settled ss nested → Own ss f → p < count → f.number ≤ p
     → (1 < length (drop f.begins ss) → p < first_at (drop f.begins ss) 1) → false ≡ in_p (procedures_of count ss nested).active p
-first_kept count e settled ss nested f p d kept own known from above =
+first_kept count settled ss nested f p d kept own known from above =
     let none : f.begins + 0 ≡ f.begins = omega arith in
     let t : Stretch = get_or (drop f.begins ss) 0 d in
     let is : t ≡ get_or ss f.begins d = get_or-drop f.begins ss 0 d ∙ ap (λ n. get_or ss n d) none in
@@ -127,14 +129,14 @@ first_kept count e settled ss nested f p d kept own known from above =
       not_above = omega (arith, first_at-drop f.begins 0 ss, ap (first_at ss) none, own.first);
       next_above = above;
     } in
-    sym (ap (λ (u : Stretch). u.is_parallel) is ∙ own.serial d) ∙ newer_kept count e settled ss nested f p t kept own known keeper
+    sym (ap (λ (u : Stretch). u.is_parallel) is ∙ own.serial d) ∙ newer_kept count settled ss nested f p t kept own known keeper
 
 -- and so is its newest one, from its first number on
-last_kept : (count e settled : ℕ) (ss : List Stretch) (nested : List Nested) (f : Nested) (p : ℕ) (s : Stretch) → AreKept count e settled ss nested → Own e ss f → p < count
+last_kept : (count settled : ℕ) (ss : List Stretch) (nested : List Nested) (f : Nested) (p : ℕ) (s : Stretch) → AreKept count settled ss nested → Own ss f → p < count
     → s ≡ get_or (drop f.begins ss) (length (drop f.begins ss) - 1) s → s.first ≤ p → s.is_parallel ≡ in_p (procedures_of count ss nested).active p
-last_kept count e settled ss nested f p s kept own known at from =
+last_kept count settled ss nested f p s kept own known at from =
     let some : 0 < length (drop f.begins ss) = omega (arith, length-drop f.begins ss, own.within) in
-    newer_kept count e settled ss nested f p s kept own known (record {
+    newer_kept count settled ss nested f p s kept own known (record {
       index = length (drop f.begins ss) - 1;
       within = omega (arith, some);
       is = at;
@@ -152,70 +154,26 @@ newest_above ss n p s two at above more =
     let last : length (drop n ss) - 1 ≡ 1 = omega arith in
     omega (arith, ap (λ (t : Stretch). t.first) at, first_at_is (drop n ss) (length (drop n ss) - 1) s (omega arith), ap (first_at (drop n ss)) last)
 
-pub newest_kept : (count e settled : ℕ) (ss : List Stretch) (nested : List Nested) (f : Nested) (p : ℕ) (s : Stretch) (by : Bool) → AreKept count e settled ss nested → Own e ss f → p < count → e ≤ p
+pub newest_kept : (count settled : ℕ) (ss : List Stretch) (nested : List Nested) (f : Nested) (p : ℕ) (s : Stretch) (by : Bool) → AreKept count settled ss nested → Own ss f → p < count → f.number ≤ p
     → length (drop f.begins ss) ≤ 2 → s ≡ get_or (drop f.begins ss) (length (drop f.begins ss) - 1) s → (IsTrue by ↔ (s.first ≤ p)) → s.is_parallel ≡ true
     → by ≡ in_p (procedures_of count ss nested).active p
-newest_kept count e settled ss nested f p s true kept own known from two at says parallel =
-    sym parallel ∙ last_kept count e settled ss nested f p s kept own known at (says.0 refl)
-newest_kept count e settled ss nested f p s false kept own known from two at says parallel =
-    first_kept count e settled ss nested f p s kept own known from
+newest_kept count settled ss nested f p s true kept own known from two at says parallel =
+    sym parallel ∙ last_kept count settled ss nested f p s kept own known at (says.0 refl)
+newest_kept count settled ss nested f p s false kept own known from two at says parallel =
+    first_kept count settled ss nested f p s kept own known from
     (newest_above ss f.begins p s two at (lt_of_not-le (λ q. both_ways false refl (says.1 q))))
 
-pub newest_serial : (count e settled : ℕ) (ss : List Stretch) (nested : List Nested) (f : Nested) (p : ℕ) (s : Stretch) → AreKept count e settled ss nested → Own e ss f → p < count → e ≤ p
+pub newest_serial : (count settled : ℕ) (ss : List Stretch) (nested : List Nested) (f : Nested) (p : ℕ) (s : Stretch) → AreKept count settled ss nested → Own ss f → p < count → f.number ≤ p
     → length (drop f.begins ss) ≤ 2 → s ≡ get_or (drop f.begins ss) (length (drop f.begins ss) - 1) s → s.is_parallel ≡ false
     → false ≡ in_p (procedures_of count ss nested).active p
-newest_serial count e settled ss nested f p s kept own known from two at serial = elim (cases_lt p s.first) [
-  | inl above ↦ first_kept count e settled ss nested f p s kept own known from (newest_above ss f.begins p s two at above)
-  | inr by ↦ sym serial ∙ last_kept count e settled ss nested f p s kept own known at by
+newest_serial count settled ss nested f p s kept own known from two at serial = elim (cases_lt p s.first) [
+  | inl above ↦ first_kept count settled ss nested f p s kept own known from (newest_above ss f.begins p s two at above)
+  | inr by ↦ sym serial ∙ last_kept count settled ss nested f p s kept own known at by
 ]
 
--- the executing procedure's number is one of those so far
-pub executing_known : (count e settled : ℕ) (ss : List Stretch) (nested : List Nested) → AreKept count e settled ss nested → e < count
-executing_known count e settled ss [] kept = let none : count ≡ 0 = kept.held.cut.0 in absurd (omega (arith, kept.held.some))
-executing_known count e settled ss (g ∷ fs) kept =
-    let f : Nested = get_or (g ∷ fs) (length (g ∷ fs) - 1) g in
-    let at : f ≡ get_or (g ∷ fs) (length (g ∷ fs) - 1) f = same_at (g ∷ fs) (length (g ∷ fs) - 1) g f (omega arith) in
-    let x : Executing count ss (g ∷ fs) f = executing count ss (g ∷ fs) f (length (g ∷ fs)) kept.held refl at in
-    let told = executes count ss (g ∷ fs) f x.parts.first x in
-    omega (arith, kept.executes, told.0, told.1)
-
--- the executing procedure after a sync, and after a return
-current_synced : (fs : List Active) → current (after_sync fs) ≡ current fs
-current_synced [] = refl
-current_synced (f ∷ fs) = refl
-
-pub synced_executes : (count e : ℕ) (ss new : List Stretch) (nested : List Nested) → e ≡ current (procedures_of count ss nested).active
-    → procedures_of count new nested ≡ event (procedures_of count ss nested) Sync → e ≡ current (procedures_of count new nested).active
-synced_executes count e ss new nested executes is =
-    executes ∙ sym (current_synced (procedures_of count ss nested).active) ∙ sym (ap (λ (p : Procedures). current p.active) is)
-
-pub parent_executes : (count : ℕ) (ss : List Stretch) (nested ys : List Nested) (g f : Nested) (d : Stretch) (n : ℕ) → AreHeld count ss nested → nested ≡ ys ++ g ∷ [] → 0 < length ys → n ≡ length ys
-    → f ≡ get_or ys (n - 1) f → (f.begins < length ss) × ((get_or ss f.begins d).first ≡ current (event (procedures_of count ss nested) Return).active)
-parent_executes count ss nested ys g f d n held is some len at =
-    let last : IsLast ys f = last_is ys f n some len at in
-    let back : reverse nested ≡ g ∷ f ∷ last.others = ap reverse is ∙ reverse-last ys g ∙ ap (λ xs. g ∷ xs) last.is in
-    let p : Parts count ss g (f ∷ last.others) = parts count ss g (f ∷ last.others) (subst (AreCut count ss) back held.cut) in
-    let q : Parts p.first.first p.low f last.others = parts p.first.first p.low f last.others p.cut in
-    let low : length p.low ≡ length q.low + length (q.first ∷ q.rest) = ap length q.whole ∙ length-append q.low (q.first ∷ q.rest) in
-    let all : length ss ≡ length p.low + length (p.first ∷ p.rest) = ap length p.whole ∙ length-append p.low (p.first ∷ p.rest) in
-    let first : (get_or ss f.begins d).first ≡ q.first.first
-    = ap (λ (s : Stretch). s.first)
-    (ap (λ xs. get_or xs f.begins d) p.whole
-    ∙ get_or-append p.low (p.first ∷ p.rest) d f.begins (omega (arith, q.from))
-    ∙ (λ i. get_or (q.whole i) (q.from i) d)
-    ∙ get_or-append_seam q.low q.first q.rest d) in
-    let actives : actives_of count ss (g ∷ f ∷ last.others)
-        ≡ active_of count g.is_called (p.first ∷ p.rest) ∷ active_of p.first.first f.is_called (q.first ∷ q.rest) ∷ actives_of q.first.first q.low last.others
-    = ap (λ zs. actives_of count zs (g ∷ f ∷ last.others)) p.whole
-    ∙ actives-cut count p.low (p.first ∷ p.rest) g (f ∷ last.others) p.from
-    ∙ ap (λ a. active_of count g.is_called (p.first ∷ p.rest) ∷ a)
-    (ap (λ zs. actives_of p.first.first zs (f ∷ last.others)) q.whole ∙ actives-cut p.first.first q.low (q.first ∷ q.rest) f last.others q.from) in (
-      omega (arith, q.from),
-      first ∙ sym (ap (λ xs. current (after_return (actives_of count ss xs))) back ∙ ap (λ xs. current (after_return xs)) actives),
-    )
-
-pub settled_most : (count e settled : ℕ) (ss : List Stretch) (nested : List Nested) → AreKept count e settled ss nested → settled ≤ count
-settled_most count e settled ss nested kept = omega (arith, kept.in_series, most ss (all_ascend count ss (reverse nested) kept.held.cut))
+-- up to where all is settled: what a step of the bags does
+pub settled_most : (count settled : ℕ) (ss : List Stretch) (nested : List Nested) → AreKept count settled ss nested → settled ≤ count
+settled_most count settled ss nested kept = omega (arith, kept.in_series, most ss (all_ascend count ss (reverse nested) kept.held.cut))
   where
     most : (xs : List Stretch) → Ascends count xs → start count (drop 1 xs) ≤ count
     most [] up = omega arith
@@ -237,7 +195,6 @@ root_settled count ss nested f n held len at one =
     none [] = omega arith
     none (x ∷ xs) = omega arith
 
--- up to where all is settled: what a step of the bags does
 pub entered_settled : (count settled : ℕ) (ss : List Stretch) (s : Stretch) → 0 < length ss → s.first ≡ count → settled ≤ start count (drop 1 ss) → settled ≤ start (count + 1) (drop 1 (ss ++ s ∷ []))
 entered_settled count settled [] s some is kept = absurd (omega arith)
 entered_settled count settled (x ∷ ss) s some is kept = omega (arith, start-append (count + 1) ss s, ap (λ n. start n ss) is)
@@ -249,10 +206,10 @@ cut_settled count settled (suc zero) (x ∷ ss) most kept = most
 cut_settled count settled (suc (suc n)) (x ∷ []) most kept = kept
 cut_settled count settled (suc (suc n)) (x ∷ y ∷ ss) most kept = kept
 
-pub moved_settled : (count settled n : ℕ) (ss : List Stretch) (s d : Stretch) → 1 ≤ n → n < length ss → s.first ≡ (get_or ss n d).first → settled ≤ start count (drop 1 ss)
+pub moved_settled : (count settled n : ℕ) (ss : List Stretch) (s : Stretch) → 1 ≤ n → n < length ss → s.first ≡ first_at ss n → settled ≤ start count (drop 1 ss)
     → settled ≤ start count (drop 1 (take n ss ++ s ∷ []))
-moved_settled count settled zero ss s d one low is kept = absurd (omega arith)
-moved_settled count settled (suc n) [] s d one low is kept = absurd (omega arith)
-moved_settled count settled (suc n) (x ∷ []) s d one low is kept = absurd (omega arith)
-moved_settled count settled (suc zero) (x ∷ y ∷ ss) s d one low is kept = omega (arith, is)
-moved_settled count settled (suc (suc n)) (x ∷ y ∷ ss) s d one low is kept = kept
+moved_settled count settled zero ss s one low is kept = absurd (omega arith)
+moved_settled count settled (suc n) [] s one low is kept = absurd (omega arith)
+moved_settled count settled (suc n) (x ∷ []) s one low is kept = absurd (omega arith)
+moved_settled count settled (suc zero) (x ∷ y ∷ ss) s one low is kept = omega (arith, is)
+moved_settled count settled (suc (suc n)) (x ∷ y ∷ ss) s one low is kept = kept

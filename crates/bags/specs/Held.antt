@@ -1,10 +1,11 @@
 -- Private: the bags as they are held: a list of stretches, and for each active procedure where its own begin.
-use Rattle.std.specs.Prelude.{◌≡◌, ℕ, ◌-◌, ◌<◌, ◌≤◌, Bool, true, false, not, if◌then◌else◌, List, [], ◌∷◌, length, take, drop, reverse, ⊤}
+use Rattle.std.specs.Prelude.{◌≡◌, ℕ, ◌+◌, ◌-◌, ◌<◌, ◌≤◌, Bool, true, false, not, if◌then◌else◌, List, [], ◌∷◌, length, take, drop, reverse, ⊤}
 use Rattle.std.specs.List.{range_with_len}
 use Rattle.std.specs.FinSet as set
-use Rattle.bags.specs.declared.Nested.{Nested}
-use Rattle.bags.specs.Procedures.{Bag, Active, Procedures, current}
+use Rattle.bags.specs.Nested.{Nested}
+use Rattle.bags.specs.Procedures.{Bag, Active, Procedures}
 use Rattle.bags.specs.Stretch.{Stretch}
+use Rattle.trace.specs.Bounds.{most_records}
 
 -- the procedures from one number up to another, which is not among them
 abbrev pub run : ℕ → ℕ → Bag
@@ -48,18 +49,18 @@ abbrev pub AreTurns : Bool → ℕ → List Stretch → Type 0
 AreTurns parallel next [] = ⊤
 AreTurns parallel next (s ∷ ss) = (s.is_parallel ≡ parallel) × (s.first < start next ss) × AreTurns (not parallel) next ss
 
--- each procedure has a stretch, its first one is of its S-bag, and the root has the number 0
+-- each procedure has a stretch, its first one begins with it and is of its S-bag, and the root has the number 0
 abbrev pub AreCut : ℕ → List Stretch → List Nested → Type 0
 AreCut next ss [] = (next ≡ 0) × (ss ≡ [])
 AreCut next ss (f ∷ fs) = (f.begins < length ss) × AreTurns false next (drop f.begins ss)
-    × AreCut (start next (drop f.begins ss)) (take f.begins ss) fs
+    × AreCut (start next (drop f.begins ss)) (take f.begins ss) fs × (f.number ≡ start next (drop f.begins ss))
 
 pub record AreHeld (count : ℕ) (ss : List Stretch) (nested : List Nested) : Type 0 where
   pub some : 1 ≤ count
+  pub most : count ≤ most_records + 1
   pub cut : AreCut count ss (reverse nested)
 
--- the executing procedure's number, and a number up to which all procedures are in the root's first stretch
-pub record AreKept (count executing settled : ℕ) (ss : List Stretch) (nested : List Nested) : Type 0 where
+-- and a number up to which all procedures are in the root's first stretch
+pub record AreKept (count settled : ℕ) (ss : List Stretch) (nested : List Nested) : Type 0 where
   pub held : AreHeld count ss nested
-  pub executes : executing ≡ current (procedures_of count ss nested).active
   pub in_series : settled ≤ start count (drop 1 ss)

@@ -12,19 +12,13 @@ ghost use Rattle.bags.specs.Numbers.{digits};
 
 use std::alloc::Global;
 use std::marker::Model;
+use nested::Nested;
 use stretch::Stretch;
 use trace::NoMemory;
 
 pub mod laws;
+mod nested;
 mod stretch;
-
-/// An active procedure.
-#[derive(Clone, Copy)]
-struct Nested {
-    /// Where its stretches begin. The first of them begins with the procedure itself, in its S-bag.
-    begins: usize,
-    is_called: bool,
-}
 
 /// The bags of the active procedures of a serial run, which begins in its root.
 ///
@@ -36,8 +30,6 @@ pub struct Bags {
     /// Their stretches: the root's first, then those of the next active procedure, and so on.
     stretches: Vec<Stretch>,
     count: u64,
-    /// The number of the procedure that executes.
-    executing: u64,
     /// How many procedures there were when the root last synced; at first the root alone. All of them are in series with
     /// what executes next.
     settled: u64,
@@ -54,7 +46,7 @@ impl Model for Bags {
 
     ghost view = { λ b. procedures_of b.count b.stretches.items b.nested.items };
 
-    ghost invariant = { λ b. AreKept b.count b.executing b.settled b.stretches.items b.nested.items };
+    ghost invariant = { λ b. AreKept b.count b.settled b.stretches.items b.nested.items };
 }
 
 impl Bags {
@@ -67,17 +59,13 @@ impl Bags {
         ensures { IfOk result (λ bags. bags ≡ at_start) }
     {
         let mut nested = Vec::new(alloc);
-        nested.push(Nested {
-            begins: 0,
-            is_called: false,
-        })?;
+        nested.push(Nested::new(0, 0, false))?;
         let mut stretches = Vec::new(alloc);
         stretches.push(Stretch::new(0, false))?;
         Ok(Bags {
             nested,
             stretches,
             count: 1,
-            executing: 0,
             settled: 1,
         })
     }
@@ -109,13 +97,10 @@ impl Bags {
     {
         self.nested.reserve(1)?;
         self.stretches.reserve(1)?;
-        self.nested.push_reserved(Nested {
-            begins: self.stretches.len(),
-            is_called,
-        });
+        self.nested
+            .push_reserved(Nested::new(self.stretches.len(), self.count, is_called));
         self.stretches
             .push_reserved(Stretch::new(self.count, false));
-        self.executing = self.count;
         self.count += 1;
         Ok(())
     }
@@ -125,7 +110,7 @@ impl Bags {
         ensures { self.new ≡ event self.old Sync }
     {
         let executing = self.nested[self.nested.len() - 1];
-        self.stretches.truncate(executing.begins + 1);
+        self.stretches.truncate(executing.begins() + 1);
         if self.nested.len() == 1 {
             self.settled = self.count;
         }
@@ -138,15 +123,13 @@ impl Bags {
     {
         let executing = self.nested[self.nested.len() - 1];
         let _ = self.nested.pop();
-        let parent = self.nested[self.nested.len() - 1];
-        self.executing = self.stretches[parent.begins].first();
-        let own = self.stretches[executing.begins];
-        let last = self.stretches[executing.begins - 1];
-        self.stretches.truncate(executing.begins);
+        let last = self.stretches[executing.begins() - 1];
+        self.stretches.truncate(executing.begins());
         // What it kept goes to one bag of its parent, and joins the parent's last stretch where that is of the same bag.
-        let is_parallel = !executing.is_called;
+        let is_parallel = !executing.is_called();
         if last.is_parallel() != is_parallel {
-            self.stretches.push_reserved(own.moved(is_parallel));
+            self.stretches
+                .push_reserved(Stretch::new(executing.number(), is_parallel));
         }
     }
 
@@ -155,7 +138,7 @@ impl Bags {
         ensures executes { result ≡ current self.now.active }
         ensures known { result < self.now.count }
     {
-        self.executing
+        self.nested[self.nested.len() - 1].number()
     }
 
     /// How many procedures there are so far, completed ones among them.
@@ -217,11 +200,11 @@ impl Bags {
         if procedure < self.settled {
             return false;
         }
-        let begins = self.nested[self.nested.len() - 1].begins;
-        if procedure < self.executing {
-            return keeper_of(&self.stretches[..begins], procedure, probes).is_parallel();
+        let executing = self.nested[self.nested.len() - 1];
+        if !executing.is_before(procedure) {
+            return keeper_of(&self.stretches[..executing.begins()], procedure, probes).is_parallel();
         }
-        let own = &self.stretches[begins..];
+        let own = &self.stretches[executing.begins()..];
         if own.len() > 2 {
             return keeper_of(own, procedure, probes).is_parallel();
         }
@@ -239,6 +222,7 @@ fn keeper_of(stretches: &[Stretch], procedure: u64, probes: &mut u32) -> Stretch
     requires ascending { IsAscending stretches.now }
     requires first { first_at stretches.now 0 ≤ procedure }
     requires uncounted { probes.old ≡ 0 }
+    requires known { procedure ≤ most_records }
     ensures keeper { IsKeeper stretches.now procedure result }
     ensures probes { probes.new ≤ digits (length stretches.now) }
 {

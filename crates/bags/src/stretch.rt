@@ -14,13 +14,14 @@ pub struct Stretch {
 }
 
 impl Model for Stretch {
-    ghost use Rattle.bags.specs.Stretch.{Stretch, stretch_of, word_of, word_back};
+    ghost use Rattle.bags.specs.Stretch.{Stretch, stretch_of};
+    ghost use Rattle.bags.specs.Words.{word_with, word_back};
 
     ghost Value = { Stretch };
 
     ghost view = { λ s. stretch_of s.word };
 
-    ghost inverse = { λ s. record { word = word_of s } };
+    ghost inverse = { λ s. record { word = word_with s.first s.is_parallel } };
 
     ghost inverse_ok = { λ s h i. record { word = word_back s.word i } };
 }
@@ -38,14 +39,6 @@ impl Stretch {
         }
     }
 
-    /// The procedure that it begins with.
-    #[inline(always)]
-    pub fn first(self) -> u64
-        ensures { result ≡ self.first }
-    {
-        self.word / 2
-    }
-
     /// Whether its bag is a P-bag.
     #[inline(always)]
     pub fn is_parallel(self) -> bool
@@ -54,25 +47,15 @@ impl Stretch {
         self.word % 2 == 1
     }
 
-    /// The stretch that begins with the same procedure, in a bag of the given kind.
-    #[inline(always)]
-    pub fn moved(self, is_parallel: bool) -> Stretch
-        ensures first { result.first ≡ self.first }
-        ensures bag { result.is_parallel ≡ is_parallel }
-    {
-        Stretch {
-            word: self.word / 2 * 2 + is_parallel as u64,
-        }
-    }
-
     /// Whether it begins with a procedure or before it: a probe, which is counted.
     #[inline(always)]
     pub fn begins_by(self, procedure: u64, probes: &mut u32) -> bool
-        requires { probes.old + 1 < 2 ^ 32 }
+        requires counts { probes.old + 1 < 2 ^ 32 }
+        requires known { procedure ≤ most_records }
         ensures by { IsTrue result ↔ (self.first ≤ procedure) }
         ensures counted { probes.new ≡ probes.old + 1 }
     {
         *probes += 1;
-        self.word / 2 <= procedure
+        self.word <= 2 * procedure + 1
     }
 }

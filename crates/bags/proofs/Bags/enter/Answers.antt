@@ -1,5 +1,5 @@
 use Rattle.std.proofs.Common.{ap, ◌∙◌, ◌≡◌, ◌+◌, ◌++◌, ◌∷◌, [], ◌≤◌, drop, length, subst, sym, List}
-use Rattle.bags.specs.declared.Nested.{Nested}
+use Rattle.bags.specs.Nested.{Nested}
 use Rattle.bags.specs.Stretch.{Stretch}
 use Rattle.bags.specs.Held.{start, procedures_of, AreHeld, AreKept}
 use Rattle.bags.specs.Procedures.{Procedures, current, entered}
@@ -12,7 +12,7 @@ held : (c : goal.After-self-2-1)
     × (procedures_of (c.self.inside.count + 1) c.push_reserved-2.new.self.items c.push_reserved.new.self.items
     ≡ entered (procedures_of c.self.inside.count c.self.inside.stretches.items c.self.inside.nested.items) c.args.is_called)
 held c =
-    let f : Nested = record { begins = c.len.result; is_called = c.args.is_called } in
+    let f : Nested = c.new.result in
     let ss : c.push_reserved-2.new.self.items ≡ c.self.inside.stretches.items ++ c.new.result ∷ []
     = c.push_reserved-2.ensures.items ∙ ap (λ (xs : List Stretch). xs ++ c.new.result ∷ []) c.reserve-2.ensures.items in
     let fs : c.push_reserved.new.self.items ≡ c.self.inside.nested.items ++ f ∷ []
@@ -32,12 +32,12 @@ returns-clause-ok c = (held c).1 ∙ ap (λ (p : Procedures). entered p c.args.i
 -- what a refused growth leaves
 pub invariant_of-self : goal.invariant_of-self
 invariant_of-self c =
-    subst (λ (xs : List Nested). AreKept c.self.inside.count c.self.inside.executing c.self.inside.settled c.self.inside.stretches.items xs) (sym c.reserve.ensures.items) c.self.invariant
+    subst (λ (xs : List Nested). AreKept c.self.inside.count c.self.inside.settled c.self.inside.stretches.items xs) (sym c.reserve.ensures.items) c.self.invariant
 
 pub invariant_of-self-in_err-reserve-2 : goal.invariant_of-self-in_err-reserve-2
 invariant_of-self-in_err-reserve-2 c =
-    subst (λ (ss : List Stretch). AreKept c.self.inside.count c.self.inside.executing c.self.inside.settled ss c.reserve.new.self.items) (sym c.reserve-2.ensures.items)
-    (subst (λ (xs : List Nested). AreKept c.self.inside.count c.self.inside.executing c.self.inside.settled c.self.inside.stretches.items xs) (sym c.reserve.ensures.items) c.self.invariant)
+    subst (λ (ss : List Stretch). AreKept c.self.inside.count c.self.inside.settled ss c.reserve.new.self.items) (sym c.reserve-2.ensures.items)
+    (subst (λ (xs : List Nested). AreKept c.self.inside.count c.self.inside.settled c.self.inside.stretches.items xs) (sym c.reserve.ensures.items) c.self.invariant)
 
 pub invariant_of-self-2 : goal.invariant_of-self-2
 invariant_of-self-2 c =
@@ -45,7 +45,6 @@ invariant_of-self-2 c =
     = c.push_reserved-2.ensures.items ∙ ap (λ (xs : List Stretch). xs ++ c.new.result ∷ []) c.reserve-2.ensures.items in
     record {
       held = (held c).0;
-      executes = sym (ap (λ (p : Procedures). current p.active) (held c).1);
       in_series = subst (λ (xs : List Stretch). c.self.inside.settled ≤ start (c.self.inside.count + 1) (drop 1 xs)) (sym ss)
           (entered_settled c.self.inside.count c.self.inside.settled c.self.inside.stretches.items c.new.result
           (stretch_some c.self.inside.count c.self.inside.stretches.items c.self.inside.nested.items c.self.invariant.held) c.new.ensures.first c.self.invariant.in_series);

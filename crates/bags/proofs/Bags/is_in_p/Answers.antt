@@ -1,7 +1,7 @@
 use Rattle.std.proofs.Common.{◌≡◌, ◌∙◌, ◌<◌, ◌≤◌, ◌+◌, ◌-◌, ◌^◌, false, ap, length, take, drop, get_or, sym, subst, arith, ℕ, zero, suc, List}
 use Rattle.std.proofs.Math.Nat.{pow-zero}
 use Rattle.std.proofs.lemmas.List.{take_all, length-drop, length-take-le}
-use Rattle.bags.specs.declared.Nested.{Nested}
+use Rattle.bags.specs.Nested.{Nested}
 use Rattle.bags.specs.Stretch.{Stretch}
 use Rattle.bags.specs.Search.{first_at, IsAscending, IsKeeper}
 use Rattle.bags.specs.Procedures.{Procedures}
@@ -30,7 +30,7 @@ pub returns-then-procedure-self-clause-bags : goal.returns-then-procedure-self-c
 returns-then-procedure-self-clause-bags c =
     let same : c.self.inside.count ≡ c.args.self.now.count = ap (λ (q : Procedures). q.count) c.self.view_is in
     told c.self.inside.count c.self.inside.stretches.items c.self.inside.nested.items c.args.self.now c.args.procedure false c.self.view_is
-    (sym (settled_serial c.self.inside.count c.self.inside.executing c.self.inside.settled c.self.inside.stretches.items c.self.inside.nested.items c.args.procedure c.self.invariant
+    (sym (settled_serial c.self.inside.count c.self.inside.settled c.self.inside.stretches.items c.self.inside.nested.items c.args.procedure c.self.invariant
     (omega (arith, c.requires.known)) c.if-procedure-self.true))
 
 pub keeper_of-requires-clause-some : goal.keeper_of-requires-clause-some
@@ -39,7 +39,7 @@ keeper_of-requires-clause-some c =
     let ss : List Stretch = c.self.inside.stretches.items in
     let nested : List Nested = c.self.inside.nested.items in
     let f : Nested = c.index.result.now in
-    let a = asked count c.self.inside.executing c.self.inside.settled ss nested c.args.self.now f c.len.result c.args.procedure c.self.invariant c.self.view_is
+    let a = asked count c.self.inside.settled ss nested c.args.self.now f c.len.result c.args.procedure c.self.invariant c.self.view_is
     (c.len.ensures ∙ c.self.inside.nested.ok.0) c.index.ensures c.requires.known in
     let older : take f.begins c.deref.result.now ≡ take f.begins ss = ap (λ (xs : List Stretch). take f.begins xs) c.deref.ensures.value in
     let most : length (take f.begins ss) ≡ f.begins = length-take-le f.begins ss (omega (arith, a.own.within)) in
@@ -57,7 +57,7 @@ keeper_of-requires-clause-ascending c =
     let ss : List Stretch = c.self.inside.stretches.items in
     let nested : List Nested = c.self.inside.nested.items in
     let f : Nested = c.index.result.now in
-    let a = asked count c.self.inside.executing c.self.inside.settled ss nested c.args.self.now f c.len.result c.args.procedure c.self.invariant c.self.view_is
+    let a = asked count c.self.inside.settled ss nested c.args.self.now f c.len.result c.args.procedure c.self.invariant c.self.view_is
     (c.len.ensures ∙ c.self.inside.nested.ok.0) c.index.ensures c.requires.known in
     let older : take f.begins c.deref.result.now ≡ take f.begins ss = ap (λ (xs : List Stretch). take f.begins xs) c.deref.ensures.value in
     subst IsAscending (sym older) (older_ascending f.begins ss (omega (arith, a.own.within)) (all_ascending count ss nested a.kept.held))
@@ -68,7 +68,7 @@ keeper_of-requires-clause-first c =
     let ss : List Stretch = c.self.inside.stretches.items in
     let nested : List Nested = c.self.inside.nested.items in
     let f : Nested = c.index.result.now in
-    let a = asked count c.self.inside.executing c.self.inside.settled ss nested c.args.self.now f c.len.result c.args.procedure c.self.invariant c.self.view_is
+    let a = asked count c.self.inside.settled ss nested c.args.self.now f c.len.result c.args.procedure c.self.invariant c.self.view_is
     (c.len.ensures ∙ c.self.inside.nested.ok.0) c.index.ensures c.requires.known in
     let older : take f.begins c.deref.result.now ≡ take f.begins ss = ap (λ (xs : List Stretch). take f.begins xs) c.deref.ensures.value in
     let some : 0 < f.begins = omega (arith, keeper_of-requires-clause-some c, ap length older, length-take-le f.begins ss (omega (arith, a.own.within))) in
@@ -80,12 +80,12 @@ returns-then-procedure-self-2-clause-bags c =
     let ss : List Stretch = c.self.inside.stretches.items in
     let nested : List Nested = c.self.inside.nested.items in
     let f : Nested = c.index.result.now in
-    let a = asked count c.self.inside.executing c.self.inside.settled ss nested c.args.self.now f c.len.result c.args.procedure c.self.invariant c.self.view_is
+    let a = asked count c.self.inside.settled ss nested c.args.self.now f c.len.result c.args.procedure c.self.invariant c.self.view_is
     (c.len.ensures ∙ c.self.inside.nested.ok.0) c.index.ensures c.requires.known in
     let older : take f.begins c.deref.result.now ≡ take f.begins ss = ap (λ (xs : List Stretch). take f.begins xs) c.deref.ensures.value in
     let keeper : IsKeeper (take f.begins ss) c.args.procedure c.keeper_of.result = subst (λ (xs : List Stretch). IsKeeper xs c.args.procedure c.keeper_of.result) older c.keeper_of.ensures.keeper in
     told count ss nested c.args.self.now c.args.procedure _ c.self.view_is
-    (c.is_parallel.ensures ∙ older_kept count c.self.inside.executing c.self.inside.settled ss nested f c.args.procedure c.keeper_of.result a.kept a.own a.known c.if-procedure-self-2.true keeper)
+    (c.is_parallel.ensures ∙ older_kept count c.self.inside.settled ss nested f c.args.procedure c.keeper_of.result a.kept a.own a.known c.if-procedure-self-2.true keeper)
 
 pub returns-then-procedure-self-2-clause-probes : goal.returns-then-procedure-self-2-clause-probes
 returns-then-procedure-self-2-clause-probes c =
@@ -93,7 +93,7 @@ returns-then-procedure-self-2-clause-probes c =
     let ss : List Stretch = c.self.inside.stretches.items in
     let nested : List Nested = c.self.inside.nested.items in
     let f : Nested = c.index.result.now in
-    let a = asked count c.self.inside.executing c.self.inside.settled ss nested c.args.self.now f c.len.result c.args.procedure c.self.invariant c.self.view_is
+    let a = asked count c.self.inside.settled ss nested c.args.self.now f c.len.result c.args.procedure c.self.invariant c.self.view_is
     (c.len.ensures ∙ c.self.inside.nested.ok.0) c.index.ensures c.requires.known in
     let older : take f.begins c.deref.result.now ≡ take f.begins ss = ap (λ (xs : List Stretch). take f.begins xs) c.deref.ensures.value in
     fewer count ss (take f.begins ss) nested c.args.self.now c.keeper_of.new.probes a.kept.held c.self.view_is (omega (arith, length-take-le f.begins ss (omega (arith, a.own.within)), a.own.within))
@@ -105,7 +105,7 @@ keeper_of-requires-then-own-gt2-clause-ascending c =
     let ss : List Stretch = c.self.inside.stretches.items in
     let nested : List Nested = c.self.inside.nested.items in
     let f : Nested = c.index.result.now in
-    let a = asked count c.self.inside.executing c.self.inside.settled ss nested c.args.self.now f c.len.result c.args.procedure c.self.invariant c.self.view_is
+    let a = asked count c.self.inside.settled ss nested c.args.self.now f c.len.result c.args.procedure c.self.invariant c.self.view_is
     (c.len.ensures ∙ c.self.inside.nested.ok.0) c.index.ensures c.requires.known in
     let own : take (length c.deref-2.result.now - f.begins) (drop f.begins c.deref-2.result.now) ≡ drop f.begins ss
     = rest c.deref-2.result.now f.begins ∙ ap (λ (xs : List Stretch). drop f.begins xs) c.deref-2.ensures.value in
@@ -117,7 +117,7 @@ keeper_of-requires-then-own-gt2-clause-first c =
     let ss : List Stretch = c.self.inside.stretches.items in
     let nested : List Nested = c.self.inside.nested.items in
     let f : Nested = c.index.result.now in
-    let a = asked count c.self.inside.executing c.self.inside.settled ss nested c.args.self.now f c.len.result c.args.procedure c.self.invariant c.self.view_is
+    let a = asked count c.self.inside.settled ss nested c.args.self.now f c.len.result c.args.procedure c.self.invariant c.self.view_is
     (c.len.ensures ∙ c.self.inside.nested.ok.0) c.index.ensures c.requires.known in
     let own : take (length c.deref-2.result.now - f.begins) (drop f.begins c.deref-2.result.now) ≡ drop f.begins ss
     = rest c.deref-2.result.now f.begins ∙ ap (λ (xs : List Stretch). drop f.begins xs) c.deref-2.ensures.value in
@@ -130,14 +130,14 @@ returns-then-own-gt2-clause-bags c =
     let ss : List Stretch = c.self.inside.stretches.items in
     let nested : List Nested = c.self.inside.nested.items in
     let f : Nested = c.index.result.now in
-    let a = asked count c.self.inside.executing c.self.inside.settled ss nested c.args.self.now f c.len.result c.args.procedure c.self.invariant c.self.view_is
+    let a = asked count c.self.inside.settled ss nested c.args.self.now f c.len.result c.args.procedure c.self.invariant c.self.view_is
     (c.len.ensures ∙ c.self.inside.nested.ok.0) c.index.ensures c.requires.known in
     let own : take (length c.deref-2.result.now - f.begins) (drop f.begins c.deref-2.result.now) ≡ drop f.begins ss
     = rest c.deref-2.result.now f.begins ∙ ap (λ (xs : List Stretch). drop f.begins xs) c.deref-2.ensures.value in
     let keeper : IsKeeper (drop f.begins ss) c.args.procedure c.keeper_of-then-own-gt2.result
     = subst (λ (xs : List Stretch). IsKeeper xs c.args.procedure c.keeper_of-then-own-gt2.result) own c.keeper_of-then-own-gt2.ensures.keeper in
     told count ss nested c.args.self.now c.args.procedure _ c.self.view_is
-    (c.is_parallel-then-own-gt2.ensures ∙ newer_kept count c.self.inside.executing c.self.inside.settled ss nested f c.args.procedure c.keeper_of-then-own-gt2.result a.kept a.own a.known keeper)
+    (c.is_parallel-then-own-gt2.ensures ∙ newer_kept count c.self.inside.settled ss nested f c.args.procedure c.keeper_of-then-own-gt2.result a.kept a.own a.known keeper)
 
 pub returns-then-own-gt2-clause-probes : goal.returns-then-own-gt2-clause-probes
 returns-then-own-gt2-clause-probes c =
@@ -145,7 +145,7 @@ returns-then-own-gt2-clause-probes c =
     let ss : List Stretch = c.self.inside.stretches.items in
     let nested : List Nested = c.self.inside.nested.items in
     let f : Nested = c.index.result.now in
-    let a = asked count c.self.inside.executing c.self.inside.settled ss nested c.args.self.now f c.len.result c.args.procedure c.self.invariant c.self.view_is
+    let a = asked count c.self.inside.settled ss nested c.args.self.now f c.len.result c.args.procedure c.self.invariant c.self.view_is
     (c.len.ensures ∙ c.self.inside.nested.ok.0) c.index.ensures c.requires.known in
     let own : take (length c.deref-2.result.now - f.begins) (drop f.begins c.deref-2.result.now) ≡ drop f.begins ss
     = rest c.deref-2.result.now f.begins ∙ ap (λ (xs : List Stretch). drop f.begins xs) c.deref-2.ensures.value in
@@ -158,7 +158,7 @@ overflow_sub-newest c =
     let ss : List Stretch = c.self.inside.stretches.items in
     let nested : List Nested = c.self.inside.nested.items in
     let f : Nested = c.index.result.now in
-    let a = asked count c.self.inside.executing c.self.inside.settled ss nested c.args.self.now f c.len.result c.args.procedure c.self.invariant c.self.view_is
+    let a = asked count c.self.inside.settled ss nested c.args.self.now f c.len.result c.args.procedure c.self.invariant c.self.view_is
     (c.len.ensures ∙ c.self.inside.nested.ok.0) c.index.ensures c.requires.known in
     let own : take (length c.deref-2.result.now - f.begins) (drop f.begins c.deref-2.result.now) ≡ drop f.begins ss
     = rest c.deref-2.result.now f.begins ∙ ap (λ (xs : List Stretch). drop f.begins xs) c.deref-2.ensures.value in
@@ -170,7 +170,7 @@ bounds-own-own c =
     let ss : List Stretch = c.self.inside.stretches.items in
     let nested : List Nested = c.self.inside.nested.items in
     let f : Nested = c.index.result.now in
-    let a = asked count c.self.inside.executing c.self.inside.settled ss nested c.args.self.now f c.len.result c.args.procedure c.self.invariant c.self.view_is
+    let a = asked count c.self.inside.settled ss nested c.args.self.now f c.len.result c.args.procedure c.self.invariant c.self.view_is
     (c.len.ensures ∙ c.self.inside.nested.ok.0) c.index.ensures c.requires.known in
     let own : take (length c.deref-2.result.now - f.begins) (drop f.begins c.deref-2.result.now) ≡ drop f.begins ss
     = rest c.deref-2.result.now f.begins ∙ ap (λ (xs : List Stretch). drop f.begins xs) c.deref-2.ensures.value in
@@ -182,7 +182,7 @@ returns-then-is_parallel-clause-bags c =
     let ss : List Stretch = c.self.inside.stretches.items in
     let nested : List Nested = c.self.inside.nested.items in
     let f : Nested = c.index.result.now in
-    let a = asked count c.self.inside.executing c.self.inside.settled ss nested c.args.self.now f c.len.result c.args.procedure c.self.invariant c.self.view_is
+    let a = asked count c.self.inside.settled ss nested c.args.self.now f c.len.result c.args.procedure c.self.invariant c.self.view_is
     (c.len.ensures ∙ c.self.inside.nested.ok.0) c.index.ensures c.requires.known in
     let own : take (length c.deref-2.result.now - f.begins) (drop f.begins c.deref-2.result.now) ≡ drop f.begins ss
     = rest c.deref-2.result.now f.begins ∙ ap (λ (xs : List Stretch). drop f.begins xs) c.deref-2.ensures.value in
@@ -190,7 +190,7 @@ returns-then-is_parallel-clause-bags c =
     let newest : Stretch = c.index-own-own.result in
     let at : newest ≡ get_or (drop f.begins ss) (length (drop f.begins ss) - 1) newest = subst (λ (xs : List Stretch). newest ≡ get_or xs (length xs - 1) newest) own c.index-own-own.is in
     told count ss nested c.args.self.now c.args.procedure _ c.self.view_is
-    (newest_kept count c.self.inside.executing c.self.inside.settled ss nested f c.args.procedure newest c.begins_by.result a.kept a.own a.known (omega (arith, c.if-procedure-self-2.false)) two at c.begins_by.ensures.by
+    (newest_kept count c.self.inside.settled ss nested f c.args.procedure newest c.begins_by.result a.kept a.own a.known (omega (arith, c.if-procedure-self-2.false)) two at c.begins_by.ensures.by
     (sym c.is_parallel-2.ensures ∙ c.if-is_parallel.true))
 
 pub returns-then-is_parallel-clause-probes : goal.returns-then-is_parallel-clause-probes
@@ -206,7 +206,7 @@ returns-else-is_parallel-clause-bags c =
     let ss : List Stretch = c.self.inside.stretches.items in
     let nested : List Nested = c.self.inside.nested.items in
     let f : Nested = c.index.result.now in
-    let a = asked count c.self.inside.executing c.self.inside.settled ss nested c.args.self.now f c.len.result c.args.procedure c.self.invariant c.self.view_is
+    let a = asked count c.self.inside.settled ss nested c.args.self.now f c.len.result c.args.procedure c.self.invariant c.self.view_is
     (c.len.ensures ∙ c.self.inside.nested.ok.0) c.index.ensures c.requires.known in
     let own : take (length c.deref-2.result.now - f.begins) (drop f.begins c.deref-2.result.now) ≡ drop f.begins ss
     = rest c.deref-2.result.now f.begins ∙ ap (λ (xs : List Stretch). drop f.begins xs) c.deref-2.ensures.value in
@@ -215,5 +215,5 @@ returns-else-is_parallel-clause-bags c =
     let at : newest ≡ get_or (drop f.begins ss) (length (drop f.begins ss) - 1) newest = subst (λ (xs : List Stretch). newest ≡ get_or xs (length xs - 1) newest) own c.index-own-own.is in
     let serial : c.is_parallel-2.result ≡ false = c.if-is_parallel.false in
     told count ss nested c.args.self.now c.args.procedure _ c.self.view_is
-    (serial ∙ newest_serial count c.self.inside.executing c.self.inside.settled ss nested f c.args.procedure newest a.kept a.own a.known (omega (arith, c.if-procedure-self-2.false)) two at
+    (serial ∙ newest_serial count c.self.inside.settled ss nested f c.args.procedure newest a.kept a.own a.known (omega (arith, c.if-procedure-self-2.false)) two at
     (sym c.is_parallel-2.ensures ∙ serial))

@@ -1,5 +1,5 @@
 use Rattle.std.proofs.Common.{ap, ◌∙◌, ◌≡◌, ◌++◌, ◌∷◌, [], false, List, refl}
-use Rattle.bags.specs.declared.Nested.{Nested}
+use Rattle.bags.specs.Nested.{Nested}
 use Rattle.bags.specs.Stretch.{Stretch}
 use Rattle.bags.specs.Held.{procedures_of, AreHeld}
 use Rattle.bags.specs.Procedures.{Procedures, at_start}

@@ -1,6 +1,6 @@
 use Rattle.std.proofs.Common.{ap, ◌∙◌, ◌≡◌, ◌+◌, ◌-◌, ◌<◌, ◌≤◌, ◌++◌, ◌∷◌, [], ℕ, not, length, take, drop, set, get_or, subst, sym, List, Option, Some, false, arith}
 use Rattle.trace.specs.declared.records.Record.TheVariants.{Return}
-use Rattle.bags.specs.declared.Nested.{Nested}
+use Rattle.bags.specs.Nested.{Nested}
 use Rattle.bags.specs.Stretch.{Stretch}
 use Rattle.bags.specs.Held.{start, procedures_of, AreHeld, AreKept}
 use Rattle.bags.specs.Procedures.{Procedures, current, event}

@@ -1,11 +1,11 @@
 use Rattle.std.proofs.Common.{ap, ◌∙◌, ◌≡◌, ◌<◌, ◌≤◌, ◌+◌, ◌-◌, ℕ, length, take, drop, get_or, subst, sym, List, refl, arith}
 use Rattle.trace.specs.declared.records.Record.TheVariants.{Sync}
-use Rattle.bags.specs.declared.Nested.{Nested}
+use Rattle.bags.specs.Nested.{Nested}
 use Rattle.bags.specs.Stretch.{Stretch}
 use Rattle.bags.specs.Held.{start, procedures_of, AreHeld, AreKept}
 use Rattle.bags.specs.Procedures.{Procedures, event}
 use Rattle.bags.proofs.Cuts.{executing, begins_within, synced_held}
-use Rattle.bags.proofs.Kept.{synced_executes, cut_settled, settled_most, root_settled}
+use Rattle.bags.proofs.Kept.{cut_settled, settled_most, root_settled}
 use Rattle.bags.proofs.Bags.sync.Goals as goal
 
 -- the bags that are synced
@@ -30,7 +30,6 @@ invariant_of-self c =
     let s = synced count ss c.truncate.new.self.items nested f c.len.result c.self.invariant.held len c.index-executing.ensures c.truncate.ensures.items in
     record {
       held = s.held;
-      executes = synced_executes count c.self.inside.executing ss c.truncate.new.self.items nested c.self.invariant.executes s.is;
       in_series = subst (λ (xs : List Stretch). count ≤ start count (drop 1 xs)) (sym c.truncate.ensures.items)
           (root_settled count ss nested f c.len.result c.self.invariant.held len c.index-executing.ensures (omega (arith, len, c.len-2.ensures, c.self.inside.nested.ok.0, c.if-len-eq1.true)));
     }
@@ -45,9 +44,8 @@ invariant_of-self-else-len-eq1 c =
     let s = synced count ss c.truncate.new.self.items nested f c.len.result c.self.invariant.held len c.index-executing.ensures c.truncate.ensures.items in
     record {
       held = s.held;
-      executes = synced_executes count c.self.inside.executing ss c.truncate.new.self.items nested c.self.invariant.executes s.is;
       in_series = subst (λ (xs : List Stretch). c.self.inside.settled ≤ start count (drop 1 xs)) (sym c.truncate.ensures.items)
-          (cut_settled count c.self.inside.settled (f.begins + 1) ss (settled_most count c.self.inside.executing c.self.inside.settled ss nested c.self.invariant) c.self.invariant.in_series);
+          (cut_settled count c.self.inside.settled (f.begins + 1) ss (settled_most count c.self.inside.settled ss nested c.self.invariant) c.self.invariant.in_series);
     }
 
 pub returns-then-len-eq1 : goal.returns-then-len-eq1
