@@ -1,5 +1,4 @@
 pub mod ListLemmas
-pub mod Spawned
 pub mod PathLemmas
 pub mod Measured
 pub mod MeetingLemmas

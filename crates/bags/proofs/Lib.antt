@@ -1,7 +1,4 @@
 pub mod Stack
 pub mod BagPaths
-pub mod Segments
+pub mod RangeLemmas
 pub mod Halving
-pub mod Cuts
-pub mod Counting
-mod Kept

@@ -1,9 +1,5 @@
 pub mod Procedures
 pub mod Paths
-pub mod Stretches
-pub mod Words
-pub mod Stretch
-pub mod Nested
-pub mod Held
+pub mod Ranges
 pub mod Search
 pub mod Numbers

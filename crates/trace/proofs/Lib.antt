@@ -12,6 +12,7 @@ pub mod Traced
 pub mod Paths
 pub mod Standing
 pub mod Meetings
+pub mod Walks
 pub mod Readers
 pub mod Once
 pub mod Parts

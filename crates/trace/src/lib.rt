@@ -9,6 +9,7 @@ pub mod laws;
 mod lines;
 pub mod nesting;
 mod numbers;
+pub mod parallel;
 pub mod reading;
 pub mod records;
 pub mod watching;
@@ -19,7 +20,8 @@ pub use faults::{Fault, NestFault, NestKind, NoMemory, TextFault, TextKind, Writ
 pub use feeding::{Feed, Intake};
 pub use nesting::Nest;
 pub use numbers::decimal_of;
+pub use parallel::is_parallel;
 pub use reading::{Reader, Taken};
-pub use records::{Access, Kind, Limits, Placed, Race, Record, Version};
+pub use records::{Access, Kind, Limits, Placed, Race, Record};
 pub use watching::{Watch, read_to_end};
 pub use writers::{put_all, write_header, write_record};

@@ -2,4 +2,6 @@
 #![tactic(auto)]
 
 #[cfg(test)]
+mod parallel;
+#[cfg(test)]
 mod tests;
