@@ -7,7 +7,7 @@
 mod judge;
 mod making;
 
-use judge::{Answer, Dag, Ending, Question, Record};
+use judge::{Answer, Dag, Ending, Question, Record, Version};
 use making::Random;
 use std::collections::BTreeMap;
 use std::env;
@@ -63,15 +63,17 @@ impl Case {
             "confirm" => 1000,
             _ => 4000,
         };
-        let records = making::records(random, most);
+        let version = random.pick(&[Version::One, Version::Two]);
+        let records = making::records(random, version, most);
         let (options, deepest) = options(random, command, &records);
-        let mut trace = making::text_of(&records);
+        let mut trace = making::text_of(version, &records);
+        let kind = if records.contains(&Record::Call) { "a trace with calls" } else { "a trace" };
         let dag = Dag::new(records);
         let mut report = Vec::new();
         let (question, mut about) = match command {
-            "check" => (Question::Check, "a trace"),
-            "pairs" => (Question::Pairs(location(random, &dag)), "a trace"),
-            "measure" => (Question::Measure, "a trace"),
+            "check" => (Question::Check, kind),
+            "pairs" => (Question::Pairs(location(random, &dag)), kind),
+            "measure" => (Question::Measure, kind),
             _ => {
                 report = judge::report_text(&dag.report()).into_bytes();
                 (Question::Confirm, confirmed(random, &dag, &mut report))
@@ -149,8 +151,8 @@ fn options(random: &mut Random, command: &str, records: &[Record]) -> (Vec<Strin
     if !random.once_in(4) {
         return (options, USUAL_DEPTH);
     }
-    let spawns = records.iter().filter(|record| **record == Record::Spawn).count();
-    let deepest = random.pick(&[0, 1, 2, 3, 9, spawns, spawns.saturating_sub(1), 1_000_000]);
+    let opened = records.iter().filter(|record| matches!(record, Record::Spawn | Record::Call)).count();
+    let deepest = random.pick(&[0, 1, 2, 3, 9, opened, opened.saturating_sub(1), 1_000_000]);
     options.extend(["--depth".to_string(), deepest.to_string()]);
     (options, deepest)
 }
@@ -303,7 +305,7 @@ impl Shrinking<'_> {
         Ok(())
     }
 
-    // Drops a procedure with all that it does, or else its spawn and its return alone.
+    // Drops a procedure with all that it does, or else the record that opens it and its return alone.
     fn drop_procedures(&mut self, lines_of: impl Fn(&[u8]) -> Vec<Vec<u8>>) -> io::Result<()> {
         let mut at = 0;
         loop {
@@ -326,12 +328,12 @@ impl Shrinking<'_> {
     }
 }
 
-// The return of the child whose spawn stands on this line.
+// The return of the child that is opened on this line.
 fn end_of_procedure(lines: &[Vec<u8>], at: usize) -> Option<usize> {
     let mut active = 0;
     for (number, line) in lines.iter().enumerate().skip(at) {
         match &line[..] {
-            b"spawn\n" => active += 1,
+            b"spawn\n" | b"call\n" => active += 1,
             b"return\n" => active -= 1,
             _ if number == at => return None,
             _ => (),

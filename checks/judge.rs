@@ -11,9 +11,17 @@ pub enum Kind {
 #[derive(Clone, Copy, PartialEq, Eq)]
 pub enum Record {
     Spawn,
+    Call,
     Return,
     Sync,
     Access(Kind, u64),
+}
+
+/// The version of the text of a trace. Calls stand in version 2 alone.
+#[derive(Clone, Copy, PartialEq, Eq)]
+pub enum Version {
+    One,
+    Two,
 }
 
 /// A location, and two accesses of it: their kinds and places.
@@ -51,6 +59,15 @@ impl Kind {
         match self {
             Kind::Read => "read",
             Kind::Write => "write",
+        }
+    }
+}
+
+impl Version {
+    pub fn header(self) -> &'static str {
+        match self {
+            Version::One => "trace 1",
+            Version::Two => "trace 2",
         }
     }
 }
@@ -112,6 +129,7 @@ const LONGEST: usize = 26;
 /// The records of the text of a trace, or what is said of its first fault.
 pub fn records_of(text: &[u8], deepest: usize) -> Result<Vec<Record>, String> {
     let (mut records, mut rest, mut line) = (Vec::new(), text, 1u64);
+    let mut version = Version::One;
     // How many procedures are active.
     let mut active = 1;
     loop {
@@ -128,16 +146,14 @@ pub fn records_of(text: &[u8], deepest: usize) -> Result<Vec<Record>, String> {
         let body = &rest[..end];
         rest = &rest[end + 1..];
         if line == 1 {
-            if body != b"trace 1" {
-                return Err(bad_line(1));
-            }
+            version = version_of(body).ok_or_else(|| bad_line(1))?;
         } else {
-            let record = record_of(body).ok_or_else(|| bad_line(line))?;
+            let record = record_of(version, body).ok_or_else(|| bad_line(line))?;
             let place = line - 1;
             match record {
                 _ if active == 0 => return Err(format!("place {place}: after end")),
-                Record::Spawn if active > deepest => return Err(format!("place {place}: too deep")),
-                Record::Spawn => active += 1,
+                Record::Spawn | Record::Call if active > deepest => return Err(format!("place {place}: too deep")),
+                Record::Spawn | Record::Call => active += 1,
                 Record::Return => active -= 1,
                 _ => (),
             }
@@ -155,10 +171,15 @@ fn bad_line(line: u64) -> String {
     format!("line {line}: {}", if line == 1 { "header" } else { "bad line" })
 }
 
-fn record_of(body: &[u8]) -> Option<Record> {
+fn version_of(body: &[u8]) -> Option<Version> {
+    [Version::One, Version::Two].into_iter().find(|version| version.header().as_bytes() == body)
+}
+
+fn record_of(version: Version, body: &[u8]) -> Option<Record> {
     let words: Vec<&[u8]> = body.split(|byte| *byte == b' ').collect();
     match words[..] {
         [b"spawn"] => Some(Record::Spawn),
+        [b"call"] if version == Version::Two => Some(Record::Call),
         [b"return"] => Some(Record::Return),
         [b"sync"] => Some(Record::Sync),
         [kind, location] => Some(Record::Access(kind_of(kind)?, decimal_of(location)?)),
@@ -251,7 +272,7 @@ impl Dag {
         for record in &records {
             depths.push(depth);
             match record {
-                Record::Spawn => depth += 1,
+                Record::Spawn | Record::Call => depth += 1,
                 Record::Return if depth > 0 => depth -= 1,
                 _ => (),
             }
@@ -274,18 +295,33 @@ impl Dag {
         matches!(self.at(place), Record::Sync | Record::Return)
     }
 
+    // What opened the procedure that executes a place: the record at the last earlier place that is one less deep.
+    fn opener(&self, place: usize) -> Option<Record> {
+        (1..place).rev().find(|k| self.depth(*k) + 1 == self.depth(place)).map(|k| self.at(k))
+    }
+
     fn edges_from(&self, i: usize) -> Vec<usize> {
         let (record, depth, last) = (self.at(i), self.depth(i), self.records.len());
         let mut edges = Vec::new();
-        if record == Record::Return {
-            // The join: the first later place of the parent that is a sync or a return.
-            edges.extend((i + 1..=last).find(|k| self.depth(*k) + 1 == depth && self.joins_at(*k)));
-        } else {
+        if record != Record::Return {
             // The continuation: the same depth, and every place between is deeper.
             edges.extend((i + 1..=last).find(|k| self.depth(*k) <= depth).filter(|k| self.depth(*k) == depth));
         }
-        if record == Record::Spawn {
-            edges.push(i + 1);
+        match record {
+            // To the child's first place.
+            Record::Spawn | Record::Call => edges.push(i + 1),
+            Record::Return => match self.opener(i) {
+                // A called procedure's return leads to the next place.
+                Some(Record::Call) => edges.push(i + 1),
+                // The join of a spawned one: the first later place of the parent that is a sync or a return.
+                Some(Record::Spawn) => {
+                    edges.extend((i + 1..=last).find(|k| self.depth(*k) + 1 == depth && self.joins_at(*k)));
+                }
+                // The root's.
+                None => (),
+                Some(_) => unreachable!("a spawn or a call opens a procedure"),
+            },
+            _ => (),
         }
         edges
     }

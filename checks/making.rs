@@ -1,5 +1,5 @@
 //! Makes traces, reports and damaged texts at random.
-use crate::judge::{report_text, Dag, Kind, Race, Record};
+use crate::judge::{report_text, Dag, Kind, Race, Record, Version};
 
 /// Numbers at random: those of one seed are the same everywhere.
 pub struct Random(u64);
@@ -53,7 +53,7 @@ impl Random {
 
 const KINDS: [Kind; 2] = [Kind::Read, Kind::Write];
 
-/// How often a spawn, a return, a sync, a read and a write come.
+/// How often a spawn or a call, a return, a sync, a read and a write come.
 const HABITS: [[usize; 5]; 8] = [
     [4, 4, 2, 4, 4],
     [6, 5, 1, 3, 2],
@@ -65,12 +65,14 @@ const HABITS: [[usize; 5]; 8] = [
     [10, 10, 0, 0, 0],
 ];
 
-/// The records of a well nested trace, with about so many records at most.
-pub fn records(random: &mut Random, most: usize) -> Vec<Record> {
+/// The records of a well nested trace, with about so many records at most. Those of version 2 have calls among them.
+pub fn records(random: &mut Random, version: Version, most: usize) -> Vec<Record> {
     let bound = random.pick(&[4, 8, 16, 16, 32, 32, 64, 64, 200, 200, 600, 2000, most]).min(most);
     let length = random.below(bound + 1);
     let deepest = random.pick(&[0, 1, 1, 2, 2, 3, 4, 6, 10, 40, 3000]);
     let locations = locations(random);
+    // Of four procedures so many are called, about.
+    let called = if version == Version::One { 0 } else { random.pick(&[1, 2, 2, 3, 4]) };
     let mut habit = random.pick(&HABITS);
     let (mut records, mut depth) = (Vec::new(), 0);
     while records.len() < length {
@@ -80,7 +82,7 @@ pub fn records(random: &mut Random, most: usize) -> Vec<Record> {
         match random.by_weight(&habit) {
             0 if depth < deepest => {
                 depth += 1;
-                records.push(Record::Spawn);
+                records.push(if random.below(4) < called { Record::Call } else { Record::Spawn });
             }
             1 if depth > 0 => {
                 depth -= 1;
@@ -121,11 +123,12 @@ fn locations(random: &mut Random) -> Vec<u64> {
     }
 }
 
-pub fn text_of(records: &[Record]) -> Vec<u8> {
-    let mut text = "trace 1\n".to_string();
+pub fn text_of(version: Version, records: &[Record]) -> Vec<u8> {
+    let mut text = format!("{}\n", version.header());
     for record in records {
         match record {
             Record::Spawn => text += "spawn\n",
+            Record::Call => text += "call\n",
             Record::Return => text += "return\n",
             Record::Sync => text += "sync\n",
             Record::Access(kind, location) => text += &format!("{} {location}\n", kind.word()),
@@ -185,9 +188,11 @@ fn change_entry(random: &mut Random, dag: &Dag, entry: &mut Race) {
 }
 
 /// Numbers at their limits, and what is nearly a number.
-const NUMBERS: [&str; 22] = [
+const NUMBERS: [&str; 24] = [
     "0",
     "1",
+    "2",
+    "3",
     "9",
     "00",
     "01",
@@ -211,10 +216,16 @@ const NUMBERS: [&str; 22] = [
 ];
 
 /// Lines that are none, or nearly.
-const LINES: [&str; 24] = [
+const LINES: [&str; 30] = [
     "",
     " ",
     "call",
+    "call",
+    "call ",
+    "call 1",
+    "calls",
+    "cal",
+    "call\r",
     "retur",
     "returns",
     "Return",
@@ -241,12 +252,23 @@ const LINES: [&str; 24] = [
 /// Damages a text in one to three ways.
 pub fn damage(random: &mut Random, text: &mut Vec<u8>) {
     for _ in 0..random.pick(&[1, 1, 1, 2, 3]) {
-        match random.below(3) {
-            0 => damage_bytes(random, text),
-            1 => damage_lines(random, text),
-            _ => damage_words(random, text),
+        match random.below(10) {
+            0..=2 => damage_bytes(random, text),
+            3..=5 => damage_lines(random, text),
+            6..=8 => damage_words(random, text),
+            _ => damage_header(random, text),
         }
     }
+}
+
+// Headers of both versions, and what is nearly one.
+const HEADERS: [&str; 9] =
+    ["trace 1", "trace 1", "trace 2", "trace 2", "trace 3", "trace 02", "trace 12", "trace 2 ", "trace  2"];
+
+// Puts another header in the place of the first line: then a text with calls may be one of version 1.
+fn damage_header(random: &mut Random, text: &mut Vec<u8>) {
+    let end = text.iter().position(|byte| *byte == b'\n').unwrap_or(text.len());
+    text.splice(..end, random.pick(&HEADERS).bytes());
 }
 
 fn damage_bytes(random: &mut Random, text: &mut Vec<u8>) {
@@ -275,7 +297,7 @@ fn damage_lines(random: &mut Random, text: &mut Vec<u8>) {
     let line = format!("{}\n", random.pick(&LINES)).into_bytes();
     match random.below(7) {
         0 => lines.insert(at, line),
-        1 => lines.insert(at, random.pick(&["spawn\n", "return\n", "sync\n"]).into()),
+        1 => lines.insert(at, random.pick(&["spawn\n", "call\n", "return\n", "sync\n"]).into()),
         _ if at == lines.len() => lines.push(line),
         2 => lines[at] = line,
         3 => lines.insert(at, lines[at].clone()),

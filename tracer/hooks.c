@@ -26,7 +26,7 @@
 #endif
 
 /* The version of the trace's text where SPBAGS_VERSION doesn't say. */
-enum { DEFAULT_VERSION = 1 };
+enum { DEFAULT_VERSION = 2 };
 /* The unit of accesses in bytes where SPBAGS_UNIT doesn't say. */
 enum { DEFAULT_UNIT = 4 };
 /* No checker reads a trace that nests deeper. */

@@ -32,7 +32,7 @@ use Rattle.audit.specs.declared.confirms.Standing.{Standing}
 use Rattle.audit.specs.declared.confirms.Standing.TheVariants.{Missing, Begun, Confirmed}
 use Rattle.audit.specs.declared.confirms.Confirming.{Confirming}
 use Rattle.trace.specs.Watching.{ComesAfter}
-use Rattle.audit.specs.Following.{WhateverFollows}
+use Rattle.audit.specs.Following.{WhateverComes}
 use Rattle.audit.specs.Meetings.{HasMet, TellsParallel, Moves}
 use Rattle.audit.specs.Confirms.{TellsRace, Confirms}
 use Rattle.audit.specs.Entries.{entry_race, races_of, entry_of, AreAscending, HasBegun, Stands, AllStand, Touches, AnswersBy, HasConfirmed}
@@ -156,11 +156,11 @@ begun_stays w t r s deep a e is p n h = stays_other w t r s a is p (λ f. absurd
 
 -- its first access is there
 pub begins : (m : Meetings) (u : List Record) (e : RaceAt) (a : Access) (deep : ℕ) → HasMet m u → IsRaceShape e.first e.second → a ≡ e.first → deep ≡ length m.waiting.items → a.place ≡ suc (length u)
-    → WhateverFollows u (λ w. IsAccess w e.location a.place a.kind → HasBegun w (suc (length u)) e deep)
+    → WhateverComes u (λ w. IsAccess w e.location a.place a.kind → HasBegun w (suc (length u)) e deep)
 begins m u e a deep met shape same level is w rest begins-with n d h p = record {
   first = subst (λ (z : Access). IsAccess w e.location z.place z.kind) same p;
   upto = omega (arith, place);
-  at_depth = ap (depth w) place ∙ sym (level ∙ (met w rest begins-with n d h there.1).level);
+  at_depth = ap (depth w) place ∙ sym (level ∙ (met w rest begins-with n d h there.1).active.level);
   not_yet = λ l r. omega (arith, r.race.in_order, place);
 }
   where
@@ -181,7 +181,7 @@ module _ (m : Meetings) (u : List Record) (e : RaceAt) (a : Access) (deep : ℕ)
   next_place w p = subst (IsAccessPlace w) is (IsAccessPlace-at w e.location a.place a.kind p)
 
   -- its second access is there, and parallel
-  pub confirmed : TellsParallel u e.first.place deep true → WhateverFollows u (λ w. IsAccess w e.location a.place a.kind → HasBegun w (length u) e deep → TellsRace w e)
+  pub confirmed : TellsParallel u e.first.place deep true → WhateverComes u (λ w. IsAccess w e.location a.place a.kind → HasBegun w (length u) e deep → TellsRace w e)
   confirmed tells w rest begins-with n d h p b = record {
     race = race_by w e.location e.first.place e.second.place e.first.kind e.second.kind shape.in_order b.first (second w p) shape.one_writes
         (subst (λ (z : ℕ). IsParallel w e.first.place z) (sym second_place)
@@ -191,7 +191,7 @@ module _ (m : Meetings) (u : List Record) (e : RaceAt) (a : Access) (deep : ℕ)
   }
 
   -- its second access is there, but a path leads
-  pub not_confirmed : TellsParallel u e.first.place deep false → WhateverFollows u (λ w. IsAccess w e.location a.place a.kind → HasBegun w (length u) e deep → HasBegun w (suc (length u)) e deep)
+  pub not_confirmed : TellsParallel u e.first.place deep false → WhateverComes u (λ w. IsAccess w e.location a.place a.kind → HasBegun w (length u) e deep → HasBegun w (suc (length u)) e deep)
   not_confirmed tells w rest begins-with n d h p b = record {
     first = b.first;
     upto = omega (arith, b.upto);
@@ -222,7 +222,7 @@ races_of-set (z ∷ es) (suc i) e x s q = ap (λ (rs : List RaceAt). entry_race 
 -- what a look at one entry says of it
 abbrev pub NextStanding : Meetings → Entry → Access → Standing → Type 0
 NextStanding m e a next = (u : List Record) → HasMet m u → IsRaceShape e.first e.second → a.place ≡ suc (length u)
-    → WhateverFollows u (λ w. IsAccess w e.location a.place a.kind → Stands w (length u) (entry_race e) e.standing → Stands w (suc (length u)) (entry_race e) next)
+    → WhateverComes u (λ w. IsAccess w e.location a.place a.kind → Stands w (length u) (entry_race e) e.standing → Stands w (suc (length u)) (entry_race e) next)
 
 one_location : (w : List Record) (l i p : ℕ) (k q : Kind) → IsAccess w l i k → IsAccess w p i q → l ≡ p
 one_location w l i p Read Read a b = let e : Some (records.Read l) ≡ Some (records.Read p) = sym a ∙ b in cc
@@ -277,7 +277,7 @@ confirming_none races s report is met = record {
     none_there w e l a = omega (arith, (access-place w e.first.place (IsAccessPlace-at w e.location e.first.place e.first.kind a)).0)
 
 module _ (s s' : Confirming) (races : List RaceAt) (u : List Record) (p : Placed) (h : HasConfirmed races u s) (c : ComesAfter u p) (same : races_of s'.entries.items ≡ races_of s.entries.items)
-    (moves : Moves p.place p.what s.meetings.executing s.meetings.waiting.items s'.meetings.executing s'.meetings.waiting.items) where
+    (moves : Moves p.place p.what s.meetings s'.meetings) where
   longer : suc (length u) ≡ length (u ++ p.what ∷ [])
   longer = omega (arith, length-append u (p.what ∷ []))
 
@@ -310,24 +310,26 @@ module _ (s s' : Confirming) (races : List RaceAt) (u : List Record) (p : Placed
           none : (v : Kind) → IsAccess w e.location (suc (length u)) v → ⊥
           none v a = let z : Some p.what ≡ Some (access v e.location) = sym (record_there w u rest p.what is) ∙ a in let y : p.what ≡ access v e.location = cc in never e.location v y
 
-pub not_access : (r : Record) → (r ≡ records.Spawn) ⊎ ((r ≡ records.Sync) ⊎ (r ≡ records.Return)) → (l : ℕ) (k : Kind) → r ≢ access k l
+pub not_access : (r : Record) → (r ≡ records.Spawn) ⊎ ((r ≡ records.Call) ⊎ ((r ≡ records.Sync) ⊎ (r ≡ records.Return))) → (l : ℕ) (k : Kind) → r ≢ access k l
 not_access r (inl e) l Read f = cc
 not_access r (inl e) l Write f = cc
 not_access r (inr (inl e)) l Read f = cc
 not_access r (inr (inl e)) l Write f = cc
-not_access r (inr (inr e)) l Read f = cc
-not_access r (inr (inr e)) l Write f = cc
+not_access r (inr (inr (inl e))) l Read f = cc
+not_access r (inr (inr (inl e))) l Write f = cc
+not_access r (inr (inr (inr e))) l Read f = cc
+not_access r (inr (inr (inr e))) l Write f = cc
 
 -- the same, where no growth was refused
 
 pub confirming_access_if : {T E : Type 0} (s s' : Confirming) (p : Placed) (l : ℕ) (a : Access) (o : Result T E) → p.what ≡ access a.kind l → a.place ≡ p.place → races_of s'.entries.items ≡ races_of s.entries.items → Touches s.meetings l a s.entries.items s'.entries.items
-    → OnOk o (Moves p.place p.what s.meetings.executing s.meetings.waiting.items s'.meetings.executing s'.meetings.waiting.items)
+    → OnOk o (Moves p.place p.what s.meetings s'.meetings)
     → OnOk o ((first : Confirming) (u : List Record) → HasConfirmed (races_of first.entries.items) u s → ComesAfter u p → HasConfirmed (races_of first.entries.items) (u ++ p.what ∷ []) s')
 confirming_access_if s s' p l a (Ok t) what place same touches moves = λ first u h c. confirming_access s s' (races_of first.entries.items) u p h c same moves l a what place touches
 confirming_access_if s s' p l a (Err t) what place same touches moves = tt
 
 pub confirming_other_if : {T E : Type 0} (s s' : Confirming) (p : Placed) (o : Result T E) → ((l : ℕ) (k : Kind) → p.what ≢ access k l) → s'.entries.items ≡ s.entries.items
-    → OnOk o (Moves p.place p.what s.meetings.executing s.meetings.waiting.items s'.meetings.executing s'.meetings.waiting.items)
+    → OnOk o (Moves p.place p.what s.meetings s'.meetings)
     → OnOk o ((first : Confirming) (u : List Record) → HasConfirmed (races_of first.entries.items) u s → ComesAfter u p → HasConfirmed (races_of first.entries.items) (u ++ p.what ∷ []) s')
 confirming_other_if s s' p (Ok t) never es moves = λ first u h c. confirming_other s s' (races_of first.entries.items) u p h c (ap races_of es) moves never es
 confirming_other_if s s' p (Err t) never es moves = tt

@@ -243,7 +243,7 @@ kept_push w l t ks b is here deep h = record {
 -- what is seen of the next record
 
 module _ (s s' : Pairing) (l : ℕ) (u : List Record) (p : Placed) (h : HasPaired l u s) (c : ComesAfter u p) (same : s'.location ≡ s.location)
-    (moves : Moves p.place p.what s.meetings.executing s.meetings.waiting.items s'.meetings.executing s'.meetings.waiting.items) where
+    (moves : Moves p.place p.what s.meetings s'.meetings) where
   longer : suc (length u) ≡ length (u ++ p.what ∷ [])
   longer = omega (arith, length-append u (p.what ∷ []))
 
@@ -289,7 +289,7 @@ module _ (s s' : Pairing) (l : ℕ) (u : List Record) (p : Placed) (h : HasPaire
 
       deep_is : (w rest : List Record) → w ≡ (u ++ p.what ∷ []) ++ rest → {n d : ℕ} → IsWellNested w n d → depth w a.place ≡ deep
       deep_is w rest is i =
-          ap (depth w) at_next ∙ sym (level ∙ (h.met w (p.what ∷ rest) (is ∙ append_assoc u (p.what ∷ []) rest) _ _ i (place_there w u rest p.what is)).level)
+          ap (depth w) at_next ∙ sym (level ∙ (h.met w (p.what ∷ rest) (is ∙ append_assoc u (p.what ∷ []) rest) _ _ i (place_there w u rest p.what is)).active.level)
 
 -- the races of a whole trace
 pub pairs_of : (s : Pairing) (l : ℕ) (w : List Record) {n d : ℕ} → IsWellNested w n d → HasPaired l w s → ArePairs w l s.pairs.items
@@ -303,14 +303,14 @@ pairs_of s l w h a =
 -- the same, where no growth was refused
 
 pub paired_other_if : {T E : Type 0} (s s' : Pairing) (p : Placed) (o : Result T E) → s'.location ≡ s.location → ((k : Kind) → p.what ≢ access k s.location) → s'.kept.items ≡ s.kept.items → s'.pairs.items ≡ s.pairs.items
-    → OnOk o (Moves p.place p.what s.meetings.executing s.meetings.waiting.items s'.meetings.executing s'.meetings.waiting.items)
+    → OnOk o (Moves p.place p.what s.meetings s'.meetings)
     → OnOk o ((first : Pairing) (u : List Record) → HasPaired first.location u s → ComesAfter u p → HasPaired first.location (u ++ p.what ∷ []) s')
 paired_other_if s s' p (Ok t) same never ks ps moves = λ first u h c. paired_other s s' first.location u p h c same moves never ks ps
 paired_other_if s s' p (Err t) same never ks ps moves = tt
 
 pub paired_access_if : {T E : Type 0} (s s' : Pairing) (p : Placed) (a : Access) (deep : ℕ) (ps : List (Access × Access)) (o : Result T E) → s'.location ≡ s.location → a.place ≡ p.place → p.what ≡ access a.kind s.location → deep ≡ length s.meetings.waiting.items
     → AddsPairs s.meetings s.kept.items a (length s.kept.items) s.pairs.items ps → s'.kept.items ≡ s.kept.items ++ record { access = a; depth = deep } ∷ [] → s'.pairs.items ≡ ps
-    → OnOk o (Moves p.place p.what s.meetings.executing s.meetings.waiting.items s'.meetings.executing s'.meetings.waiting.items)
+    → OnOk o (Moves p.place p.what s.meetings s'.meetings)
     → OnOk o ((first : Pairing) (u : List Record) → HasPaired first.location u s → ComesAfter u p → HasPaired first.location (u ++ p.what ∷ []) s')
 paired_access_if s s' p a deep ps (Ok t) same place what level adds ks qs moves = λ first u h c. paired_access s s' first.location u p h c same moves a deep ps place what level adds ks qs
 paired_access_if s s' p a deep ps (Err t) same place what level adds ks qs moves = tt

@@ -13,7 +13,7 @@ use Rattle.audit.specs.declared.confirms.Entry.{Entry}
 use Rattle.audit.specs.declared.confirms.Standing.{Standing}
 use Rattle.audit.specs.declared.confirms.Standing.TheVariants.{Missing, Begun, Confirmed}
 use Rattle.audit.specs.declared.confirms.Confirming.{Confirming}
-use Rattle.audit.specs.Following.{WhateverFollows}
+use Rattle.audit.specs.Following.{WhateverComes}
 use Rattle.audit.specs.Meetings.{HasMet}
 use Rattle.audit.specs.Confirms.{TellsRace}
 
@@ -51,7 +51,7 @@ AllStand w t entries = (k : ℕ) (e : Entry) → slice_get entries k ≡ Some e 
 -- the entries of a report after an access of a location, which comes after the records u
 abbrev pub Touches : Meetings → ℕ → Access → List Entry → List Entry → Type 0
 Touches m l a old new = (u : List Record) → HasMet m u → IsReportList (races_of old) → a.place ≡ suc (length u)
-    → WhateverFollows u (λ w. IsAccess w l a.place a.kind → AllStand w (length u) old → AllStand w (suc (length u)) new)
+    → WhateverComes u (λ w. IsAccess w l a.place a.kind → AllStand w (length u) old → AllStand w (suc (length u)) new)
 
 -- what the entries answer
 pub record IsFirstOpen (entries : List Entry) (entry : ℕ) : Type 0 where
@@ -71,4 +71,4 @@ pub record HasConfirmed (races : List RaceAt) (u : List Record) (s : Confirming)
   pub is_report : IsReportList races
   pub same_races : races_of s.entries.items ≡ races
   pub met : HasMet s.meetings u
-  pub stands : WhateverFollows u (λ w. AllStand w (length u) s.entries.items)
+  pub stands : WhateverComes u (λ w. AllStand w (length u) s.entries.items)

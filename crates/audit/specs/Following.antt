@@ -4,5 +4,5 @@ use Rattle.trace.specs.declared.records.Record.{Record}
 use Rattle.trace.specs.Traces.{IsWellNested}
 
 -- of every well nested trace that begins with the records u
-abbrev pub WhateverFollows : List Record → (List Record → Type 0) → Type 0
-WhateverFollows u P = (w rest : List Record) → w ≡ u ++ rest → (records depths : ℕ) → IsWellNested w records depths → P w
+abbrev pub WhateverComes : List Record → (List Record → Type 0) → Type 0
+WhateverComes u P = (w rest : List Record) → w ≡ u ++ rest → (records depths : ℕ) → IsWellNested w records depths → P w

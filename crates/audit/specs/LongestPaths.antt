@@ -1,13 +1,15 @@
 -- Private: what measuring keeps of the first records of a trace: the longest paths in each active procedure.
-use Rattle.std.specs.Prelude.{◌≡◌, ◌≢◌, ℕ, suc, ◌+◌, ◌<◌, ◌≤◌, max, List, [], ◌∷◌, ◌++◌, length, count_by, slice_get, Some, ◌⊎◌}
+use Rattle.std.specs.Prelude.{◌≡◌, ◌≢◌, ℕ, suc, ◌+◌, ◌<◌, ◌≤◌, max, Bool, true, false, List, [], ◌∷◌, ◌++◌, length, count_by, slice_get, Some, ◌⊎◌}
 use Rattle.trace.specs.declared.records.Record.{Record}
-use Rattle.trace.specs.declared.records.Record.TheVariants.{Spawn, Return, Sync, Read, Write}
+use Rattle.trace.specs.declared.records.Record.TheVariants.{Spawn, Call, Return, Sync, Read, Write}
 use Rattle.trace.specs.Traces.{at, depth, IsPlace}
-use Rattle.trace.specs.Dag.{JoinsAt, IsPath, end_of}
+use Rattle.trace.specs.Dag.{IsOpenerOf, JoinsAt, IsPath, end_of}
+use Rattle.trace.specs.Meeting.{Opens}
 use Rattle.audit.specs.declared.measures.Longest.{Longest}
+use Rattle.audit.specs.declared.measures.Waiting.{Waiting}
 use Rattle.audit.specs.declared.measures.Measuring.{Measuring}
 use Rattle.audit.specs.Measures.{is_spawn}
-use Rattle.audit.specs.Following.{WhateverFollows}
+use Rattle.audit.specs.Following.{WhateverComes}
 
 -- a path of so many places ends at a place
 pub record PathTo (w : List Record) (x j : ℕ) : Type 0 where
@@ -32,16 +34,25 @@ pub record LastOn (w : List Record) (t d x : ℕ) : Type 0 where
   pub deeper : (k : ℕ) → last < k → k ≤ t → d < depth w k
   pub longest : IsLongestTo w last x
 
--- the longest path to the place from which an edge leads on at depth d; 0 at the start, where there is none
+-- at r a procedure returns that was opened by such a record
+pub record IsReturnOf (w : List Record) (what : Record) (r : ℕ) : Type 0 where
+  pub a_return : at w r ≡ Some Return
+  pub opener : ℕ
+  pub opened : IsOpenerOf w opener r
+  pub record_is : at w opener ≡ Some what
+
+-- the longest path to the place from which an edge leads on at depth d: the procedure's own last place, the record that
+-- opened it, or the return of a child that it called; 0 at the start, where there is none
 pub data LeadsOn (w : List Record) (t d : ℕ) : ℕ → Type 0 where
   at_start : t ≡ 0 → LeadsOn w t d 0
-  own : {x : ℕ} → LastOn w t d x → LeadsOn w t d x
-  opened : {x : ℕ} → at w t ≡ Some Spawn → suc (depth w t) ≡ d → IsLongestTo w t x → LeadsOn w t d x
+  own : {x : ℕ} → LastOn w t d x → (IsReturnOf w Call t → ⊥) → LeadsOn w t d x
+  opened : {x : ℕ} → Opens (at w t) → suc (depth w t) ≡ d → IsLongestTo w t x → LeadsOn w t d x
+  came_back : {x : ℕ} → IsReturnOf w Call t → depth w t ≡ suc d → IsLongestTo w t x → LeadsOn w t d x
 
--- at r a child of a procedure at depth d returned, and up to place t the procedure hasn't waited for it
+-- at r a child returned that a procedure at depth d spawned, and up to place t the procedure hasn't waited for it
 pub record IsUnjoined (w : List Record) (t d r : ℕ) : Type 0 where
   pub upto : r ≤ t
-  pub a_return : at w r ≡ Some Return
+  pub returned : IsReturnOf w Spawn r
   pub level : depth w r ≡ suc d
   pub not_yet : (k : ℕ) → r < k → k ≤ t → depth w k ≡ d → JoinsAt w k → ⊥
 
@@ -50,13 +61,23 @@ pub record IsLongestUnjoined (w : List Record) (t d x : ℕ) : Type 0 where
   pub most : (r y : ℕ) → IsUnjoined w t d r → PathTo w y r → y ≤ x
   pub reached : (x ≡ 0) ⊎ ((r : ℕ) × IsUnjoined w t d r × PathTo w x r)
 
+-- the record that opened the child, by whether it was called
+abbrev pub opened_by : Bool → Record
+opened_by true = Call
+opened_by false = Spawn
+
+-- after t records f waits at depth d: its last own place is the record that opened the child
+pub record IsWaiting (w : List Record) (t d : ℕ) (f : Waiting) : Type 0 where
+  pub own : LastOn w t d f.longest.own
+  pub opener : at w own.last ≡ Some (opened_by f.calls)
+  pub unjoined : IsLongestUnjoined w t d f.longest.unjoined
+
 -- the active procedures before place t + 1, with their longest paths; those that wait stand by their depths
-pub record AreActive (w : List Record) (t : ℕ) (executing : Longest) (waiting : List Longest) : Type 0 where
+pub record AreActive (w : List Record) (t : ℕ) (executing : Longest) (waiting : List Waiting) : Type 0 where
   pub level : length waiting ≡ depth w (suc t)
   pub own : LeadsOn w t (depth w (suc t)) executing.own
   pub unjoined : IsLongestUnjoined w t (depth w (suc t)) executing.unjoined
-  pub waiting_own : (k : ℕ) (f : Longest) → slice_get waiting k ≡ Some f → LastOn w t k f.own
-  pub waiting_unjoined : (k : ℕ) (f : Longest) → slice_get waiting k ≡ Some f → IsLongestUnjoined w t k f.unjoined
+  pub waits : (k : ℕ) (f : Waiting) → slice_get waiting k ≡ Some f → IsWaiting w t k f
 
 -- no path to the first t places is longer
 pub record IsSpanTo (w : List Record) (t span : ℕ) : Type 0 where
@@ -84,22 +105,30 @@ pub record HasMeasured (m : Measuring) (u : List Record) : Type 0 where
   pub work : m.work ≡ length u
   pub spawns : m.spawns ≡ count_by is_spawn u
   pub executing : IsWithin (length u) m.executing
-  pub waiting : (k : ℕ) (f : Longest) → slice_get m.waiting.items k ≡ Some f → IsWithin (length u) f
-  pub measured : WhateverFollows u (λ w. HasMeasuredTo w (length u) m)
+  pub waiting : (k : ℕ) (f : Waiting) → slice_get m.waiting.items k ≡ Some f → IsWithin (length u) f.longest
+  pub measured : WhateverComes u (λ w. HasMeasuredTo w (length u) m)
 
 -- the longest path to the next record of a procedure: a record that waits for children comes after their returns too
 abbrev pub through : Longest → Record → ℕ
 through f Spawn = f.own + 1
+through f Call = f.own + 1
 through f Return = max f.own f.unjoined + 1
 through f Sync = max f.own f.unjoined + 1
 through f (Read l) = f.own + 1
 through f (Write l) = f.own + 1
 
+-- the longest paths of a procedure whose child returns, by a return to which the longest path has x places: it goes on
+-- from the return of a child that it called, and has yet to wait for one that it spawned
+abbrev pub after_child : ℕ → Bool → Longest → Longest
+after_child x true f = record { own = x; unjoined = f.unjoined }
+after_child x false f = record { own = f.own; unjoined = max f.unjoined x }
+
 -- what becomes of the longest paths at a record to which the longest path has x places
-abbrev pub Advances : ℕ → Record → Longest → List Longest → Longest → List Longest → Type 0
-Advances x Spawn e waiting e' waiting' = (e' ≡ record { own = x; unjoined = 0 }) × (waiting' ≡ waiting ++ record { own = x; unjoined = e.unjoined } ∷ [])
+abbrev pub Advances : ℕ → Record → Longest → List Waiting → Longest → List Waiting → Type 0
+Advances x Spawn e waiting e' waiting' = (e' ≡ record { own = x; unjoined = 0 }) × (waiting' ≡ waiting ++ record { longest = record { own = x; unjoined = e.unjoined }; calls = false } ∷ [])
+Advances x Call e waiting e' waiting' = (e' ≡ record { own = x; unjoined = 0 }) × (waiting' ≡ waiting ++ record { longest = record { own = x; unjoined = e.unjoined }; calls = true } ∷ [])
 Advances x Return e waiting e' waiting' = ((waiting ≡ []) × (waiting' ≡ []) × (e' ≡ e))
-    ⊎ ((f : Longest) × (waiting ≡ waiting' ++ f ∷ []) × (e' ≡ record { own = f.own; unjoined = max f.unjoined x }))
+    ⊎ ((f : Waiting) × (waiting ≡ waiting' ++ f ∷ []) × (e' ≡ after_child x f.calls f.longest))
 Advances x Sync e waiting e' waiting' = (e' ≡ record { own = x; unjoined = 0 }) × (waiting' ≡ waiting)
 Advances x (Read l) e waiting e' waiting' = (e' ≡ record { own = x; unjoined = e.unjoined }) × (waiting' ≡ waiting)
 Advances x (Write l) e waiting e' waiting' = (e' ≡ record { own = x; unjoined = e.unjoined }) × (waiting' ≡ waiting)

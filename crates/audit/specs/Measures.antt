@@ -1,7 +1,7 @@
 -- Promised: the measures of a trace.
 use Rattle.std.specs.Prelude.{◌≡◌, ℕ, ◌≤◌, Bool, true, false, List, length, count_by}
 use Rattle.trace.specs.declared.records.Record.{Record}
-use Rattle.trace.specs.declared.records.Record.TheVariants.{Spawn, Return, Sync, Read, Write}
+use Rattle.trace.specs.declared.records.Record.TheVariants.{Spawn, Call, Return, Sync, Read, Write}
 use Rattle.trace.specs.Traces.{depth, IsPlace}
 use Rattle.trace.specs.Dag.{IsPath}
 use Rattle.audit.specs.declared.answers.Measure.{Measure}
@@ -18,6 +18,7 @@ pub record IsGreatestDepth (w : List Record) (greatest : ℕ) : Type 0 where
 
 abbrev pub is_spawn : Record → Bool
 is_spawn Spawn = true
+is_spawn Call = false
 is_spawn Return = false
 is_spawn Sync = false
 is_spawn (Read l) = false

@@ -8,7 +8,7 @@ use Rattle.trace.specs.declared.records.Kind.{Kind}
 use Rattle.audit.specs.declared.meetings.Meetings.{Meetings}
 use Rattle.audit.specs.declared.location_races.Kept.{Kept}
 use Rattle.audit.specs.declared.location_races.Pairing.{Pairing}
-use Rattle.audit.specs.Following.{WhateverFollows}
+use Rattle.audit.specs.Following.{WhateverComes}
 use Rattle.audit.specs.Meetings.{HasMet}
 use Rattle.audit.specs.Pairs.{IsPair, IsBefore}
 
@@ -41,11 +41,11 @@ pub record ArePairsWith (w : List Record) (l t n : ℕ) (kept : List Kept) (pair
 -- the races of an access with the first n that are kept were added
 abbrev pub AddsPairs : Meetings → List Kept → Access → ℕ → List (Access × Access) → List (Access × Access) → Type 0
 AddsPairs m kept second n old new = (l : ℕ) (u : List Record) → HasMet m u → second.place ≡ suc (length u)
-    → WhateverFollows u (λ w. AreKept w l (length u) kept → IsAccess w l second.place second.kind → ArePairsTo w l (length u) old → ArePairsWith w l (length u) n kept new)
+    → WhateverComes u (λ w. AreKept w l (length u) kept → IsAccess w l second.place second.kind → ArePairsTo w l (length u) old → ArePairsWith w l (length u) n kept new)
 
 -- the records u were seen, whatever well nested trace begins with them
 pub record HasPaired (location : ℕ) (u : List Record) (s : Pairing) : Type 0 where
   pub location_is : s.location ≡ location
   pub met : HasMet s.meetings u
-  pub kept : WhateverFollows u (λ w. AreKept w location (length u) s.kept.items)
-  pub pairs : WhateverFollows u (λ w. ArePairsTo w location (length u) s.pairs.items)
+  pub kept : WhateverComes u (λ w. AreKept w location (length u) s.kept.items)
+  pub pairs : WhateverComes u (λ w. ArePairsTo w location (length u) s.pairs.items)

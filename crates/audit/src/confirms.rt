@@ -3,7 +3,7 @@ ghost use Rattle.std.specs.Prelude.{◌≡◌, ◌≢◌, ◌<◌, ℕ, suc, Lis
 ghost use Rattle.trace.specs.declared.records.Record.{Record};
 ghost use Rattle.trace.specs.Accesses.{IsRaceShape};
 ghost use Rattle.trace.specs.Races.{IsAccess};
-ghost use Rattle.audit.specs.Following.{WhateverFollows};
+ghost use Rattle.audit.specs.Following.{WhateverComes};
 ghost use Rattle.audit.specs.Meetings.{HasMet};
 ghost use Rattle.audit.specs.Entries.{AreAscending, Stands, AnswersBy, entry_of, entry_race};
 ghost use Rattle.trace.specs.Devices.{◌⇝◌};
@@ -93,7 +93,7 @@ impl Watch for Confirming {
                     place,
                 },
             ),
-            Record::Spawn | Record::Sync | Record::Return => {}
+            Record::Spawn | Record::Call | Record::Sync | Record::Return => {}
         }
         self.meetings.take(placed)
     }
@@ -131,7 +131,7 @@ fn find_entry(entries: &[Entry], location: u64) -> Option<usize>
 fn next_standing(meetings: &Meetings, entry: Entry, access: Access) -> Standing
     ensures { (u : List Record) → HasMet meetings.now u → IsRaceShape entry.first entry.second
         → access.place ≡ suc (length u)
-        → WhateverFollows u (λ w. IsAccess w entry.location access.place access.kind → Stands w (length u)
+        → WhateverComes u (λ w. IsAccess w entry.location access.place access.kind → Stands w (length u)
         (entry_race entry) entry.standing → Stands w (suc (length u)) (entry_race entry) result) }
 {
     match entry.standing {
@@ -165,9 +165,10 @@ pub(crate) fn answer_of(entries: &[Entry]) -> Confirm
 /// location as told, and are parallel. It doesn't ask whether entries are missing, or whether another pair of the
 /// location comes earlier.
 ///
-/// A fault is the whole answer. It keeps two numbers for each active procedure, and a few for each entry. An access
-/// costs a search among the entries, and that of an entry's second place one among the active procedures; any other
-/// record costs the same wherever it stands.
+/// A fault is the whole answer. It keeps three numbers for each active procedure, two for each turn that they took from
+/// spawned children to called ones or back, and a few for each entry. An access costs a search among the entries, and
+/// that of an entry's second place one among the active procedures and one among the turns; any other record costs the
+/// same wherever it stands.
 pub fn confirm<R: Source>(
     alloc: Global,
     limits: Limits,

@@ -111,9 +111,10 @@ fn one_writes(first: Kind, second: Kind) -> bool
 /// Reads a trace to its end and lists all races of a location: by their second places, and those of one second place
 /// by their first places.
 ///
-/// A fault is the whole answer. It keeps two numbers for each active procedure, and the accesses of the location with
-/// their depths. Each access of the location is compared with all earlier ones of it, by a search among the active
-/// procedures; any other record costs the same wherever it stands.
+/// A fault is the whole answer. It keeps three numbers for each active procedure, two for each turn that they took from
+/// spawned children to called ones or back, and the accesses of the location with their depths. Each access of the
+/// location is compared with all earlier ones of it, by a search among the active procedures and one among the turns;
+/// any other record costs the same wherever it stands.
 pub fn pairs<R: Source>(
     alloc: Global,
     limits: Limits,

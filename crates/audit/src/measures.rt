@@ -9,9 +9,9 @@ use crate::answers::Measure;
 use std::alloc::Global;
 use trace::{Fault, Limits, NoMemory, Placed, Record, Source, Watch, read_to_end};
 
-/// The longest paths in an active procedure, by their numbers of records: the one to the last record that it executed
-/// itself, or to the spawn that opened it, and the one to a return of a child that it hasn't waited for. A number is
-/// 0 where there is no such record.
+/// The longest paths in an active procedure, by their numbers of records: the one to the record from which it goes on,
+/// which is the last one that it executed itself, the one that opened it or the return of a child that it called; and the
+/// one to a return of a child that it spawned and hasn't waited for. A number is 0 where there is no such record.
 #[derive(Clone, Copy)]
 pub(crate) struct Longest {
     pub(crate) own: u64,
@@ -29,7 +29,35 @@ impl Longest {
     {
         match what {
             Record::Sync | Record::Return => self.own.max(self.unjoined) + 1,
-            Record::Spawn | Record::Read(_) | Record::Write(_) => self.own + 1,
+            Record::Spawn | Record::Call | Record::Read(_) | Record::Write(_) => self.own + 1,
+        }
+    }
+}
+
+/// A procedure that waits for a child to return: its longest paths, and whether it called the child.
+#[derive(Clone, Copy)]
+pub(crate) struct Waiting {
+    pub(crate) longest: Longest,
+    pub(crate) calls: bool,
+}
+
+impl Waiting {
+    ghost use Rattle.audit.specs.LongestPaths.{after_child};
+
+    /// The longest paths once the child has returned, by a return to which the longest path has so many records.
+    fn after_child(self, length: u64) -> Longest
+        ensures { result ≡ after_child length self.calls self.longest }
+    {
+        if self.calls {
+            Longest {
+                own: length,
+                unjoined: self.longest.unjoined,
+            }
+        } else {
+            Longest {
+                own: self.longest.own,
+                unjoined: self.longest.unjoined.max(length),
+            }
         }
     }
 }
@@ -40,7 +68,7 @@ pub(crate) struct Measuring {
     /// Of the procedure that executes.
     pub(crate) executing: Longest,
     /// Of the procedures above it, from the root on.
-    pub(crate) waiting: Vec<Longest>,
+    pub(crate) waiting: Vec<Waiting>,
     pub(crate) work: u64,
     pub(crate) span: u64,
     pub(crate) spawns: u64,
@@ -77,10 +105,13 @@ impl Measuring {
         ensures depth { self.new.depth ≡ self.old.depth }
     {
         match what {
-            Record::Spawn => {
-                let parent = Longest {
-                    own: length,
-                    unjoined: self.executing.unjoined,
+            Record::Spawn | Record::Call => {
+                let parent = Waiting {
+                    longest: Longest {
+                        own: length,
+                        unjoined: self.executing.unjoined,
+                    },
+                    calls: matches!(what, Record::Call),
                 };
                 self.waiting.push(parent)?;
                 self.executing = Longest {
@@ -90,10 +121,7 @@ impl Measuring {
             }
             Record::Return => {
                 if let Some(parent) = self.waiting.pop() {
-                    self.executing = Longest {
-                        own: parent.own,
-                        unjoined: parent.unjoined.max(length),
-                    };
+                    self.executing = parent.after_child(length);
                 }
             }
             Record::Sync => {
@@ -127,8 +155,8 @@ impl Watch for Measuring {
 
 /// Reads a trace to its end and measures it.
 ///
-/// A fault is the whole answer. It keeps two numbers for each active procedure, so its memory grows with the depth
-/// alone, and a record costs the same wherever it stands.
+/// A fault is the whole answer. It keeps two numbers for each active procedure, and whether it waits for a call, so its
+/// memory grows with the depth alone, and a record costs the same wherever it stands.
 pub fn measure<R: Source>(alloc: Global, limits: Limits, source: &mut R) -> Result<Measure, Fault>
     // All bytes of the source are the text of a trace that is well nested within the limits, and these are its numbers.
     // Otherwise no memory was left, or the fault is the first; and where the source holds such a trace and doesn't fail,

@@ -1,30 +1,43 @@
-//! Where two places meet: the active procedures, each by the places at which it was opened and has last synced.
-ghost use Rattle.std.specs.Prelude.{◌≡◌, ◌≤◌, List, [], length, OnOk};
+//! Where two places meet: the active procedures, each by the places at which it was opened and has last synced, and
+//! which of their children were spawned.
+ghost use Rattle.std.specs.Prelude.{◌≡◌, ◌≤◌, List, [], length, true, OnOk};
 ghost use Rattle.trace.specs.declared.records.Record.{Record};
+ghost use Rattle.audit.specs.Meetings.{EndsIn, TakesTurn};
 
 use std::alloc::Global;
 use trace::{NoMemory, Placed, Record};
 
 /// An active procedure: the place of the record that opened it, 0 for the root, and the place of its last own sync,
-/// or again the former where it hasn't synced.
+/// or again the former where it hasn't synced; and how many turns had begun when it was opened.
 #[derive(Clone, Copy)]
 pub(crate) struct Active {
     pub(crate) opened: u64,
     pub(crate) synced: u64,
+    pub(crate) turns: usize,
 }
 
-/// The active procedures of the records so far.
+/// A turn: from a place on the active procedures have opened children of this kind alone, spawned or called, up to the
+/// next turn.
+#[derive(Clone, Copy)]
+pub(crate) struct Turn {
+    pub(crate) opened: u64,
+    pub(crate) is_spawned: bool,
+}
+
+/// The active procedures of the records so far, and their turns.
 #[derive(Drop)]
 pub(crate) struct Meetings {
     pub(crate) executing: Active,
     /// The procedures above it, from the root on.
     pub(crate) waiting: Vec<Active>,
+    /// In the order of their places. What a procedure began is forgotten when it syncs or returns.
+    pub(crate) turns: Vec<Turn>,
 }
 
 impl Meetings {
     ghost use Rattle.std.specs.List.Sorted.{IsPartitionedBy, IsPartitionPoint};
-    ghost use Rattle.std.specs.Prelude.{nat_lt, true, false};
-    ghost use Rattle.audit.specs.Meetings.{HasMet, Moves, TellsParallel};
+    ghost use Rattle.std.specs.Prelude.{nat_lt, false};
+    ghost use Rattle.audit.specs.Meetings.{HasMet, Moves, OpensChild, TellsParallel, TellsTurn, TellsUnjoinedAfter};
 
     /// No record was seen.
     pub(crate) fn new(alloc: Global) -> Meetings
@@ -34,33 +47,47 @@ impl Meetings {
             executing: Active {
                 opened: 0,
                 synced: 0,
+                turns: 0,
             },
             waiting: Vec::new(alloc),
+            turns: Vec::new(alloc),
         }
     }
 
     /// Takes the next record.
     pub(crate) fn take(&mut self, placed: Placed) -> Result<(), NoMemory>
-        ensures { OnOk result
-            (Moves placed.place placed.what self.old.executing self.old.waiting.items
-            self.new.executing self.new.waiting.items) }
+        ensures { OnOk result (Moves placed.place placed.what self.old self.new) }
     {
         match placed.what {
-            Record::Spawn => {
-                self.waiting.push(self.executing)?;
-                self.executing = Active {
-                    opened: placed.place,
-                    synced: placed.place,
-                };
-            }
+            Record::Spawn => self.open(placed.place, true)?,
+            Record::Call => self.open(placed.place, false)?,
             Record::Return => {
+                self.turns.truncate(self.executing.turns);
                 if let Some(parent) = self.waiting.pop() {
                     self.executing = parent;
                 }
             }
-            Record::Sync => self.executing.synced = placed.place,
+            Record::Sync => {
+                self.turns.truncate(self.executing.turns);
+                self.executing.synced = placed.place;
+            }
             Record::Read(_) | Record::Write(_) => {}
         }
+        Ok(())
+    }
+
+    // A child is opened, which executes from here on. Both lists grow before anything changes.
+    fn open(&mut self, place: u64, is_spawned: bool) -> Result<(), NoMemory>
+        ensures { OnOk result (OpensChild place is_spawned self.old self.new) }
+    {
+        self.waiting.reserve(1)?;
+        take_turn(&mut self.turns, place, is_spawned)?;
+        self.waiting.push_reserved(self.executing);
+        self.executing = Active {
+            opened: place,
+            synced: place,
+            turns: self.turns.len(),
+        };
         Ok(())
     }
 
@@ -72,10 +99,17 @@ impl Meetings {
     }
 
     /// Whether an earlier access, at a place and a depth, is parallel to an access that comes next. They meet in the
-    /// last active procedure that was opened before the earlier one: there they are parallel where that lies deeper, so
-    /// in a child, and the procedure hasn't synced since.
+    /// last active procedure that was opened before the earlier one: there they are parallel where that lies in a child
+    /// that it spawned, and the procedure hasn't synced since.
     pub(crate) fn is_parallel(&self, place: u64, depth: usize) -> bool
         ensures { (u : List Record) → HasMet self.now u → TellsParallel u place depth result }
+    {
+        self.is_unjoined(place, depth) && self.is_in_spawned_turn(place)
+    }
+
+    // Whether it lies deeper than the procedure in which they meet, so in a child, and that one hasn't synced since.
+    fn is_unjoined(&self, place: u64, depth: usize) -> bool
+        ensures { (u : List Record) → HasMet self.now u → TellsUnjoinedAfter self.now u place depth result }
     {
         if self.executing.opened < place {
             return self.waiting.len() < depth && self.executing.synced < place;
@@ -94,5 +128,40 @@ impl Meetings {
             (λ f. nat_lt f.opened place ≡ false) self.now.waiting.items result }
     {
         self.waiting.partition_point(|f| f.opened < place)
+    }
+
+    // Whether the last turn that began before a place is one of spawned children, where they stand in this order. It is
+    // that of the child which holds the place, if its parent hasn't synced since.
+    fn is_in_spawned_turn(&self, place: u64) -> bool
+        ensures { TellsTurn self.now.turns.items place result }
+    {
+        let begun = self.turns.partition_point(|turn| turn.opened < place);
+        match begun.checked_sub(1) {
+            Some(last) => self.turns[last].is_spawned,
+            None => false,
+        }
+    }
+}
+
+// A child of this kind is opened at a place: the last turn goes on, or a turn begins.
+fn take_turn(turns: &mut Vec<Turn>, place: u64, is_spawned: bool) -> Result<(), NoMemory>
+    ensures { OnOk result (TakesTurn place is_spawned turns.old.items turns.new.items) }
+{
+    if !ends_in(turns, is_spawned) {
+        turns.push(Turn {
+            opened: place,
+            is_spawned,
+        })?;
+    }
+    Ok(())
+}
+
+// Whether the last turn is one of such children.
+fn ends_in(turns: &[Turn], is_spawned: bool) -> bool
+    ensures { result ≡ true → EndsIn turns.now is_spawned }
+{
+    match turns.last() {
+        Some(turn) => turn.is_spawned == is_spawned,
+        None => false,
     }
 }

@@ -1,20 +1,20 @@
 -- A procedure stands in a P-bag exactly where its places are parallel to the next place.
-use Rattle.std.proofs.Common.{◌≡◌, ℕ, zero, suc, ◌≤◌, ◌↔◌, Bool, true, false, ◌||◌, List, [], ◌∷◌, length, take, slice_get, Some, inl, inr, refl, sym, ◌∙◌, subst, ap, arith}
+use Rattle.std.proofs.Common.{◌≡◌, ℕ, zero, suc, ◌≤◌, ◌↔◌, Bool, true, false, ◌||◌, List, [], ◌∷◌, length, take, slice_get, Option, Some, None, inl, inr, refl, sym, ◌∙◌, subst, ap, arith}
 use Rattle.std.proofs.lemmas.Bool.{cases_Bool, both_ways, or_cases}
 use Rattle.std.specs.FinSet as set
 use Rattle.trace.specs.declared.records.Record.{Record}
-use Rattle.trace.specs.declared.records.Record.TheVariants.{Spawn, Return, Sync, Read, Write}
-use Rattle.trace.specs.Traces.{placed, placed_from, depth, IsPlace, IsWellNested}
+use Rattle.trace.specs.declared.records.Record.TheVariants.{Spawn, Call, Return, Sync, Read, Write}
+use Rattle.trace.specs.Traces.{at, placed, placed_from, depth, IsPlace, IsWellNested}
 use Rattle.trace.specs.Dag.{JoinsAt, Leads, IsParallel}
 use Rattle.trace.specs.Races.{IsAccessPlace}
-use Rattle.trace.proofs.World.{World, Shape, Step, joins}
+use Rattle.trace.proofs.World.{World, Shape, Step, spawn, call, joins}
 use Rattle.trace.proofs.Lists.{element_at}
-use Rattle.trace.proofs.Traced.{traced, shape_of, shape_at, step_at, not_joined}
+use Rattle.trace.proofs.Traced.{traced, is_call, opener_of, opener-is, shape_of, shape_at, called_shape, spawned_shape, step_at, not_joined}
 use Rattle.trace.proofs.Paths.{pending-parallel, parallel-pending, access-place, access-not_joins, IsPlace-at, leads_or_parallel}
 use Rattle.bags.specs.Procedures.{Active, Procedures, event, bags_from, bags_after, in_p, current, procedure_at}
 use Rattle.bags.specs.Paths.{TellsPaths, IsCompletedAt}
 use Rattle.trace.proofs.Standing.{Kept, Serial, kept-pending, serial-not_pending}
-use Rattle.bags.proofs.Stack.{AllStand, one_more, somewhere, Invariant, at_start, at_access, at_sync, at_return, at_spawn}
+use Rattle.bags.proofs.Stack.{AllStand, one_more, somewhere, Invariant, IsEnding, opening, closing, at_start, at_access, at_sync, at_return, at_enter}
 
 -- the bags after one record more
 bags_from-more : (s : Procedures) (i : ℕ) (w : List Record) (t : ℕ) (r : Record) → slice_get w t ≡ Some r
@@ -29,24 +29,59 @@ bags_after-more w t r e = bags_from-more _ 1 w t r e
 abbrev Stand : (w : List Record) {n d : ℕ} → IsWellNested w n d → ℕ → Procedures → Type 0
 Stand w h t s = Invariant (traced w h) (procedure_at w) t s.count s.active
 
+-- what a shape tells of the record
+shape-call : (z : Bool) (o : Option Record) → shape_of z o ≡ call → o ≡ Some Call
+shape-call z None e = absurd (cc)
+shape-call z (Some Spawn) e = absurd (cc)
+shape-call z (Some Call) e = refl
+shape-call true (Some Return) e = absurd (cc)
+shape-call false (Some Return) e = absurd (cc)
+shape-call z (Some Sync) e = absurd (cc)
+shape-call z (Some (Read l)) e = absurd (cc)
+shape-call z (Some (Write l)) e = absurd (cc)
+
+shape-spawn : (z : Bool) (o : Option Record) → shape_of z o ≡ spawn → o ≡ Some Spawn
+shape-spawn z None e = absurd (cc)
+shape-spawn z (Some Spawn) e = refl
+shape-spawn z (Some Call) e = absurd (cc)
+shape-spawn true (Some Return) e = absurd (cc)
+shape-spawn false (Some Return) e = absurd (cc)
+shape-spawn z (Some Sync) e = absurd (cc)
+shape-spawn z (Some (Read l)) e = absurd (cc)
+shape-spawn z (Some (Write l)) e = absurd (cc)
+
+-- a return ends its procedure as it was opened
+ending : (w : List Record) {n d : ℕ} (h : IsWellNested w n d) (r : ℕ) → at w r ≡ Some Return → IsEnding (traced w h) r
+ending w h r e o is_called a b up above shape = by_kind is_called shape
+  where
+    opener : opener_of w r ≡ o
+    opener = opener-is w o r (record { before = b; above = omega arith; last = λ k x y q. omega (arith, above k x (omega arith)) })
+
+    by_kind : (c : Bool) → shape_at w o ≡ opening c → shape_at w r ≡ closing c
+    by_kind true f = called_shape w r e (ap (at w) opener ∙ shape-call _ (at w o) f)
+    by_kind false f = spawned_shape w r e (ap (at w) opener ∙ shape-spawn _ (at w o) f)
+
 -- one record
-at_record : (w : List Record) {n d : ℕ} (h : IsWellNested w n d) (t : ℕ) (s : Procedures) (r : Record) → suc (suc t) ≤ length w → shape_at w (suc t) ≡ shape_of (Some r)
-    → Step (shape_of (Some r)) (depth w (suc t)) (depth w (suc (suc t))) → procedure_at w (suc (suc t)) ≡ current (event s r).active
+at_record : (w : List Record) {n d : ℕ} (h : IsWellNested w n d) (t : ℕ) (s : Procedures) (r : Record) → suc (suc t) ≤ length w → at w (suc t) ≡ Some r
+    → (z : Bool) → shape_at w (suc t) ≡ shape_of z (Some r) → Step (shape_of z (Some r)) (depth w (suc t)) (depth w (suc (suc t))) → procedure_at w (suc (suc t)) ≡ current (event s r).active
     → Stand w h t s → Stand w h (suc t) (event s r)
-at_record w h t s Spawn b e d p i = at_spawn (traced w h) (procedure_at w) t s.count s.active b (ap joins e) d p i
-at_record w h t s Return b e d p i = at_return (traced w h) (procedure_at w) t s.count s.active b e d p i
-at_record w h t s Sync b e d p i = at_sync (traced w h) (procedure_at w) t s.count s.active b (ap joins e) d p i
-at_record w h t s (Read l) b e d p i = at_access (traced w h) (procedure_at w) t s.count s.active b (ap joins e) d p i
-at_record w h t s (Write l) b e d p i = at_access (traced w h) (procedure_at w) t s.count s.active b (ap joins e) d p i
+at_record w h t s Spawn b a z e d p i = at_enter (traced w h) (procedure_at w) t s.count s.active false b e d p i
+at_record w h t s Call b a z e d p i = at_enter (traced w h) (procedure_at w) t s.count s.active true b e d p i
+at_record w h t s Return b a true e d p i = at_return (traced w h) (procedure_at w) t s.count s.active refl b (ending w h (suc t) a) d p i
+at_record w h t s Return b a false e d p i = at_return (traced w h) (procedure_at w) t s.count s.active refl b (ending w h (suc t) a) d p i
+at_record w h t s Sync b a z e d p i = at_sync (traced w h) (procedure_at w) t s.count s.active b (ap joins e) d p i
+at_record w h t s (Read l) b a z e d p i = at_access (traced w h) (procedure_at w) t s.count s.active b (ap joins e) d p i
+at_record w h t s (Write l) b a z e d p i = at_access (traced w h) (procedure_at w) t s.count s.active b (ap joins e) d p i
 
 one_record : (w : List Record) {n d : ℕ} (h : IsWellNested w n d) (t : ℕ) (r : Record) → suc (suc t) ≤ length w → slice_get w t ≡ Some r
     → Stand w h t (bags_after (take t (placed w))) → Stand w h (suc t) (bags_after (take (suc t) (placed w)))
 one_record w h t r b e i =
     let f : bags_after (take (suc t) (placed w)) ≡ event (bags_after (take t (placed w))) r = bags_after-more w t r e in
-    let g : shape_at w (suc t) ≡ shape_of (Some r) = ap shape_of e in
+    let z : Bool = is_call (at w (opener_of w (suc t))) in
+    let g : shape_at w (suc t) ≡ shape_of z (Some r) = ap (shape_of z) e in
     let d : Step (shape_at w (suc t)) (depth w (suc t)) (depth w (suc (suc t))) = step_at w h (suc t) (omega arith) b in
     subst (λ (s : Procedures). Stand w h (suc t) s) (sym f)
-    (at_record w h t (bags_after (take t (placed w))) r b g
+    (at_record w h t (bags_after (take t (placed w))) r b e z g
     (subst (λ (x : Shape). Step x (depth w (suc t)) (depth w (suc (suc t)))) g d)
     (ap (λ (s : Procedures). current s.active) f) i)
 

@@ -1,4 +1,7 @@
 pub mod Stack
 pub mod BagPaths
-pub mod RangeLemmas
+pub mod Segments
 pub mod Halving
+pub mod Cuts
+pub mod Counting
+mod Kept

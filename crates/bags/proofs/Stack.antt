@@ -1,14 +1,21 @@
 -- The bags after t records: at each level of the active procedures, the places of the procedures in the
 -- S-bag are serial, and those in the P-bag are kept parallel.
-use Rattle.std.proofs.Common.{◌≡◌, ℕ, suc, ◌+◌, ◌<◌, ◌≤◌, Bool, true, false, ◌||◌, List, [], ◌∷◌, length, ◌⊎◌, inl, inr, refl, sym, ◌∙◌, subst, ap, arith, eqb}
+use Rattle.std.proofs.Common.{◌≡◌, ℕ, zero, suc, ◌+◌, ◌-◌, ◌<◌, ◌≤◌, Bool, true, false, ◌||◌, List, [], ◌∷◌, length, ◌⊎◌, inl, inr, refl, sym, ◌∙◌, subst, ap, arith, eqb, if◌then◌else◌}
 use Rattle.std.proofs.lemmas.Bool.{cases_eq, both_ways, or_cases, eqb-true, eq-eqb}
 use Rattle.std.specs.List.{list_any}
 use Rattle.std.specs.Cmp.{nat_cmp_total}
 use Rattle.std.specs.Ordering.{nat_cmp}
 use Rattle.std.specs.FinSet as set
-use Rattle.trace.proofs.World.{World, spawned_return, joins, all_more}
+use Rattle.trace.proofs.World.{World, Shape, Step, spawn, call, spawned_return, called_return, joins, all_more}
 use Rattle.bags.specs.Procedures.{Bag, Active, opened, synced, adopts, after_sync, after_return, current}
-use Rattle.trace.proofs.Standing.{Kept, Serial, kept_stays, serial_stays, kept-above, kept_synced, returned, serial_now, own-serial, own-kept}
+use Rattle.trace.proofs.Standing.{Kept, Serial, kept_stays, serial_stays, kept-above, kept_synced, returned, returned_call, serial_now, own-serial, own-kept}
+
+-- the record that opens a procedure, and the one that ends it
+abbrev pub opening : Bool → Shape
+opening is_called = if is_called then call else spawn
+
+abbrev pub closing : Bool → Shape
+closing is_called = if is_called then called_return else spawned_return
 
 -- an active procedure at level d, for the places up to m; places are executed by the procedures `proc`
 pub record Stands (v : World) (proc : ℕ → ℕ) (m t count d : ℕ) (f : Active) : Type 0 where
@@ -22,6 +29,7 @@ pub record Stands (v : World) (proc : ℕ → ℕ) (m t count d : ℕ) (f : Acti
   pub home_own : proc home ≡ f.own
   pub home_level : v.depth home ≡ d
   pub home_above : (k : ℕ) → home ≤ k → k ≤ suc t → d ≤ v.depth k
+  pub opened : 1 < home → v.shape (home - 1) ≡ opening f.is_called
 
 pub data AllStand (v : World) (proc : ℕ → ℕ) (m t count : ℕ) : List Active → Type 0 where
   none : AllStand v proc m t count []
@@ -80,6 +88,7 @@ more_stand v proc m t count d f a b h = record {
   home_own = h.home_own;
   home_level = h.home_level;
   home_above = h.home_above;
+  opened = h.opened;
 }
 
 -- the next place is executed by a procedure whose own place is known: it stands at that place's level
@@ -118,6 +127,7 @@ more_of_new v proc t old count d f n s l = more_stand v proc t t count d f
       home_own = s.home_own;
       home_level = s.home_level;
       home_above = s.home_above;
+      opened = s.opened;
     })
 
 more_of_new_all : (v : World) (proc : ℕ → ℕ) (t old count : ℕ) (fs : List Active) → old ≤ proc (suc t)
@@ -141,6 +151,7 @@ stays v proc m t count d f l n s = record {
   home_own = s.home_own;
   home_level = s.home_level;
   home_above = all_more v.depth d s.home (suc t) s.home_above l;
+  opened = s.opened;
 }
 
 stay : (v : World) (proc : ℕ → ℕ) (m t count : ℕ) (fs : List Active) → length fs ≤ suc (v.depth (suc (suc t))) → (joins (v.shape (suc t)) ≡ true → length fs ≤ v.depth (suc t))
@@ -168,12 +179,25 @@ syncs v proc m t count d f b j e l s = record {
   home_own = s.home_own;
   home_level = s.home_level;
   home_above = all_more v.depth d s.home (suc t) s.home_above l;
+  opened = s.opened;
 }
 
 -- a return
 
+-- what the parent f keeps where its child g was spawned
+abbrev taken : Active → Active → Active
+taken f g = record { own = f.own; is_called = f.is_called; serial = f.serial; parallel = set.union f.parallel (set.union g.serial g.parallel) }
+
+adopts_spawned : (f g : Active) → g.is_called ≡ false → adopts f g ≡ taken f g
+adopts_spawned f g e i = record {
+  own = f.own;
+  is_called = f.is_called;
+  serial = if e i then set.union f.serial (set.union g.serial g.parallel) else f.serial;
+  parallel = if e i then f.parallel else set.union f.parallel (set.union g.serial g.parallel);
+}
+
 closes : (v : World) (proc : ℕ → ℕ) (t count d : ℕ) (f g : Active) → suc (suc t) ≤ v.size → v.shape (suc t) ≡ spawned_return → v.depth (suc t) ≡ suc d → v.depth (suc (suc t)) ≡ d
-    → Stands v proc (suc t) t count (suc d) g → Stands v proc (suc t) t count d f → Stands v proc (suc t) (suc t) count d (adopts f g)
+    → Stands v proc (suc t) t count (suc d) g → Stands v proc (suc t) t count d f → Stands v proc (suc t) (suc t) count d (taken f g)
 closes v proc t count d f g b e a l u s = record {
   serial = λ i x y c. serial_stays v t d i (omega arith) (s.serial i x y c);
   parallel = λ i x y c. elim (in_union f.parallel (set.union g.serial g.parallel) (proc i) c) [
@@ -194,6 +218,44 @@ closes v proc t count d f g b e a l u s = record {
   home_own = s.home_own;
   home_level = s.home_level;
   home_above = all_more v.depth d s.home (suc t) s.home_above (omega arith);
+  opened = s.opened;
+}
+
+-- what the parent f keeps where its child g was called
+abbrev taken_back : Active → Active → Active
+taken_back f g = record { own = f.own; is_called = f.is_called; serial = set.union f.serial (set.union g.serial g.parallel); parallel = f.parallel }
+
+adopts_called : (f g : Active) → g.is_called ≡ true → adopts f g ≡ taken_back f g
+adopts_called f g e i = record {
+  own = f.own;
+  is_called = f.is_called;
+  serial = if e i then set.union f.serial (set.union g.serial g.parallel) else f.serial;
+  parallel = if e i then f.parallel else set.union f.parallel (set.union g.serial g.parallel);
+}
+
+comes_back : (v : World) (proc : ℕ → ℕ) (t count d : ℕ) (f g : Active) → suc (suc t) ≤ v.size → v.shape (suc t) ≡ called_return → v.depth (suc t) ≡ suc d → v.depth (suc (suc t)) ≡ d
+    → Stands v proc (suc t) t count (suc d) g → Stands v proc (suc t) t count d f → Stands v proc (suc t) (suc t) count d (taken_back f g)
+comes_back v proc t count d f g b e a l u s = record {
+  serial = λ i x y c. elim (in_union f.serial (set.union g.serial g.parallel) (proc i) c) [
+    | inl q ↦ serial_stays v t d i (omega arith) (s.serial i x y q)
+    | inr q ↦ elim (in_union g.serial g.parallel (proc i) q) [
+      | inl w ↦ returned_call v t d i x y b e a l (u.serial i x y w).above
+      | inr w ↦ returned_call v t d i x y b e a l (kept-above v t (suc d) i (u.parallel i x y w))
+    ]
+  ];
+  parallel = λ i x y c. kept_stays v t d i (omega arith) (λ z w. omega arith) (s.parallel i x y c);
+  serial_below = λ p c. elim (in_union f.serial (set.union g.serial g.parallel) p c) [
+    | inl q ↦ s.serial_below p q
+    | inr q ↦ elim (in_union g.serial g.parallel p q) [ inl w ↦ u.serial_below p w | inr w ↦ u.parallel_below p w ]
+  ];
+  parallel_below = s.parallel_below;
+  home = s.home;
+  home_from = s.home_from;
+  home_upto = omega (arith, s.home_upto);
+  home_own = s.home_own;
+  home_level = s.home_level;
+  home_above = all_more v.depth d s.home (suc t) s.home_above (omega arith);
+  opened = s.opened;
 }
 
 -- no procedure is lost
@@ -209,11 +271,20 @@ somewhere-synced f fs p =
     (λ i. (set.contains-union nat_cmp_total f.serial f.parallel p i || set.contains-empty nat_cmp p i) || somewhere fs p)
     ∙ regroup_sync (set.contains f.serial p) (set.contains f.parallel p) (somewhere fs p)
 
-somewhere-takes_in : (f g : Active) (fs : List Active) (p : ℕ) → somewhere (adopts f g ∷ fs) p ≡ somewhere (g ∷ f ∷ fs) p
+somewhere-takes_in : (f g : Active) (fs : List Active) (p : ℕ) → somewhere (taken f g ∷ fs) p ≡ somewhere (g ∷ f ∷ fs) p
 somewhere-takes_in f g fs p =
     (λ i. (set.contains f.serial p || set.contains-union nat_cmp_total f.parallel (set.union g.serial g.parallel) p i) || somewhere fs p)
     ∙ (λ i. (set.contains f.serial p || (set.contains f.parallel p || set.contains-union nat_cmp_total g.serial g.parallel p i)) || somewhere fs p)
     ∙ regroup_return (set.contains g.serial p) (set.contains g.parallel p) (set.contains f.serial p) (set.contains f.parallel p) (somewhere fs p)
+
+regroup_back : (a b c d e : Bool) → (((c || (a || b)) || d) || e) ≡ ((a || b) || ((c || d) || e))
+regroup_back a b c d e = grind arith
+
+somewhere-takes_back : (f g : Active) (fs : List Active) (p : ℕ) → somewhere (taken_back f g ∷ fs) p ≡ somewhere (g ∷ f ∷ fs) p
+somewhere-takes_back f g fs p =
+    (λ i. (set.contains-union nat_cmp_total f.serial (set.union g.serial g.parallel) p i || set.contains f.parallel p) || somewhere fs p)
+    ∙ (λ i. ((set.contains f.serial p || set.contains-union nat_cmp_total g.serial g.parallel p i) || set.contains f.parallel p) || somewhere fs p)
+    ∙ regroup_back (set.contains g.serial p) (set.contains g.parallel p) (set.contains f.serial p) (set.contains f.parallel p) (somewhere fs p)
 
 somewhere_below : (v : World) (proc : ℕ → ℕ) (m t count : ℕ) (fs : List Active) (p : ℕ) → AllStand v proc m t count fs → somewhere fs p ≡ true → p < count
 somewhere_below v proc m t count [] p s h = absurd (cc)
@@ -259,24 +330,64 @@ at_sync v proc t count (f ∷ fs) b n d p h = from_top h.each
         (stay v proc (suc t) t count fs (omega (arith, h.deep)) (λ j. omega (arith, h.deep)) r))
         (λ i x y. somewhere-synced f fs (proc i) ∙ h.stand i x y)
 
-pub at_return : (v : World) (proc : ℕ → ℕ) (t count : ℕ) (fs : List Active) → suc (suc t) ≤ v.size → v.shape (suc t) ≡ spawned_return → v.depth (suc t) ≡ suc (v.depth (suc (suc t)))
-    → proc (suc (suc t)) ≡ current (after_return fs) → Invariant v proc t count fs → Invariant v proc (suc t) count (after_return fs)
-at_return v proc t count [] b n d p h = absurd (omega (arith, h.deep))
-at_return v proc t count (g ∷ []) b n d p h = absurd (omega (arith, h.deep))
-at_return v proc t count (g ∷ f ∷ fs) b n d p h = from_top h.each
+-- a return ends its procedure as it was opened
+abbrev pub IsEnding : World → ℕ → Type 0
+IsEnding v r = (o : ℕ) (is_called : Bool) → 1 ≤ o → o < r → v.depth r ≡ suc (v.depth o) → ((k : ℕ) → o < k → k ≤ r → v.depth r ≤ v.depth k) → v.shape o ≡ opening is_called → v.shape r ≡ closing is_called
+
+opening_step : (v : World) (o : ℕ) (is_called : Bool) → 1 ≤ o → o < v.size → v.shape o ≡ opening is_called → v.depth (suc o) ≡ suc (v.depth o)
+opening_step v o is_called a b e = by_kind is_called (subst (λ (x : Shape). Step x (v.depth o) (v.depth (suc o))) e (v.step o a b))
   where
-    from_next : Stands v proc (suc t) t count (suc (length fs)) g → AllStand v proc (suc t) t count (f ∷ fs) → Invariant v proc (suc t) count (adopts f g ∷ fs)
-    from_next u (one_more s r) = finish v proc t count s.home (adopts f g) fs b s.home_from s.home_upto s.home_own s.home_level s.home_above (omega (arith, h.deep)) p
+    by_kind : (c : Bool) → Step (opening c) (v.depth o) (v.depth (suc o)) → v.depth (suc o) ≡ suc (v.depth o)
+    by_kind true s = s
+    by_kind false s = s
+
+-- the executing procedure is ended as it was opened
+ended : (v : World) (proc : ℕ → ℕ) (t count d : ℕ) (g : Active) → v.depth 1 ≡ 0 → suc (suc t) ≤ v.size → v.depth (suc t) ≡ suc d → IsEnding v (suc t)
+    → Stands v proc (suc t) t count (suc d) g → v.shape (suc t) ≡ closing g.is_called
+ended v proc t count d g root b a ends u = from_home u.home refl
+  where
+    from_home : (h : ℕ) → u.home ≡ h → v.shape (suc t) ≡ closing g.is_called
+    from_home zero e = absurd (omega (arith, u.home_from))
+    from_home (suc zero) e = let level : v.depth u.home ≡ v.depth 1 = ap v.depth e in absurd (omega (arith, u.home_level))
+    from_home (suc (suc o)) e =
+        let before : u.home - 1 ≡ suc o = omega arith in
+        let shape : v.shape (suc o) ≡ opening g.is_called = ap v.shape (sym before) ∙ u.opened (omega arith) in
+        let up : v.depth (suc (suc o)) ≡ suc (v.depth (suc o)) = opening_step v (suc o) g.is_called (omega arith) (omega (arith, u.home_upto)) shape in
+        let level : v.depth u.home ≡ v.depth (suc (suc o)) = ap v.depth e in
+        ends (suc o) g.is_called (omega arith) (omega (arith, u.home_upto)) (omega (arith, u.home_level))
+        (λ k x y. let above : suc d ≤ v.depth k = u.home_above k (omega arith) y in omega arith) shape
+
+pub at_return : (v : World) (proc : ℕ → ℕ) (t count : ℕ) (fs : List Active) → v.depth 1 ≡ 0 → suc (suc t) ≤ v.size → IsEnding v (suc t) → v.depth (suc t) ≡ suc (v.depth (suc (suc t)))
+    → proc (suc (suc t)) ≡ current (after_return fs) → Invariant v proc t count fs → Invariant v proc (suc t) count (after_return fs)
+at_return v proc t count [] root b n d p h = absurd (omega (arith, h.deep))
+at_return v proc t count (g ∷ []) root b n d p h = absurd (omega (arith, h.deep))
+at_return v proc t count (g ∷ f ∷ fs) root b n d p h = from_top h.each
+  where
+    by_kind : (c : Bool) → g.is_called ≡ c → v.shape (suc t) ≡ closing c → Stands v proc (suc t) t count (suc (length fs)) g → Stands v proc (suc t) t count (length fs) f
+        → AllStand v proc (suc t) t count fs → Invariant v proc (suc t) count (adopts f g ∷ fs)
+    by_kind false e n u s r =
+        subst (λ (a : Active). Invariant v proc (suc t) count (a ∷ fs)) (sym (adopts_spawned f g e))
+        (finish v proc t count s.home (taken f g) fs b s.home_from s.home_upto s.home_own s.home_level s.home_above (omega (arith, h.deep)) p
         (one_more (closes v proc t count (length fs) f g b n (omega (arith, h.deep)) (omega (arith, h.deep)) u s)
         (stay v proc (suc t) t count fs (omega (arith, h.deep)) (λ j. omega (arith, h.deep)) r))
-        (λ i x y. somewhere-takes_in f g fs (proc i) ∙ h.stand i x y)
+        (λ i x y. somewhere-takes_in f g fs (proc i) ∙ h.stand i x y))
+    by_kind true e n u s r =
+        subst (λ (a : Active). Invariant v proc (suc t) count (a ∷ fs)) (sym (adopts_called f g e))
+        (finish v proc t count s.home (taken_back f g) fs b s.home_from s.home_upto s.home_own s.home_level s.home_above (omega (arith, h.deep)) p
+        (one_more (comes_back v proc t count (length fs) f g b n (omega (arith, h.deep)) (omega (arith, h.deep)) u s)
+        (stay v proc (suc t) t count fs (omega (arith, h.deep)) (λ j. omega (arith, h.deep)) r))
+        (λ i x y. somewhere-takes_back f g fs (proc i) ∙ h.stand i x y))
+
+    from_next : Stands v proc (suc t) t count (suc (length fs)) g → AllStand v proc (suc t) t count (f ∷ fs) → Invariant v proc (suc t) count (adopts f g ∷ fs)
+    from_next u (one_more s r) =
+        by_kind g.is_called refl (ended v proc t count (length fs) g root b (omega (arith, h.deep)) n u) u s r
 
     from_top : AllStand v proc (suc t) t count (g ∷ f ∷ fs) → Invariant v proc (suc t) count (adopts f g ∷ fs)
     from_top (one_more u r) = from_next u r
 
-pub at_spawn : (v : World) (proc : ℕ → ℕ) (t count : ℕ) (fs : List Active) → suc (suc t) ≤ v.size → joins (v.shape (suc t)) ≡ false → v.depth (suc (suc t)) ≡ suc (v.depth (suc t))
-    → proc (suc (suc t)) ≡ count → Invariant v proc t count fs → Invariant v proc (suc t) (count + 1) (opened count ∷ fs)
-at_spawn v proc t count fs b n d p h = record {
+pub at_enter : (v : World) (proc : ℕ → ℕ) (t count : ℕ) (fs : List Active) (is_called : Bool) → suc (suc t) ≤ v.size → v.shape (suc t) ≡ opening is_called → v.depth (suc (suc t)) ≡ suc (v.depth (suc t))
+    → proc (suc (suc t)) ≡ count → Invariant v proc t count fs → Invariant v proc (suc t) (count + 1) (opened is_called count ∷ fs)
+at_enter v proc t count fs is_called b n d p h = record {
   deep = omega (arith, h.deep);
   each = one_more (record {
     serial = λ i x y c. elim (cases_eq i (suc (suc t))) [
@@ -293,31 +404,39 @@ at_spawn v proc t count fs b n d p h = record {
     home_own = p;
     home_level = omega (arith, h.deep);
     home_above = λ k x y. (let e : v.depth k ≡ v.depth (suc (suc t)) = ap v.depth (only k t x y) in omega (arith, h.deep));
+    opened = λ more. ap v.shape one_back ∙ n;
   }) (more_of_new_all v proc (suc t) count (count + 1) fs (omega arith)
-      (stay v proc (suc t) t count fs (omega (arith, h.deep)) (λ j. absurd (both_ways _ n j)) h.each) (omega arith));
+      (stay v proc (suc t) t count fs (omega (arith, h.deep)) (λ j. absurd (both_ways _ (ap joins n ∙ joins_not is_called) j)) h.each) (omega arith));
   stand = λ i x y. elim (cases_eq i (suc (suc t))) [
     | inl z ↦ new_stands (proc i) (ap proc z ∙ p)
     | inr z ↦ old_stands (proc i) (h.stand i x (omega arith))
   ];
 }
   where
+    joins_not : (c : Bool) → joins (opening c) ≡ false
+    joins_not true = refl
+    joins_not false = refl
+
+    one_back : suc (suc t) - 1 ≡ suc t
+    one_back = omega arith
+
     level : v.depth (suc (suc t)) ≡ length fs
     level = omega (arith, h.deep)
 
     only : (k t : ℕ) → suc (suc t) ≤ k → k ≤ suc (suc t) → k ≡ suc (suc t)
     only k t x y = omega arith
 
-    new_stands : (q : ℕ) → q ≡ count → somewhere (opened count ∷ fs) q ≡ true
-    new_stands q e = ap (λ (j : ℕ). somewhere (opened count ∷ fs) j) e
+    new_stands : (q : ℕ) → q ≡ count → somewhere (opened is_called count ∷ fs) q ≡ true
+    new_stands q e = ap (λ (j : ℕ). somewhere (opened is_called count ∷ fs) j) e
         ∙ ap (λ (c : Bool). (c || set.contains (set.empty {R = nat_cmp}) count) || somewhere fs count) (one_in count)
 
     or_more : (c d : Bool) → d ≡ true → (c || d) ≡ true
     or_more c d e = grind arith
 
-    old_stands : (q : ℕ) → somewhere fs q ≡ true → somewhere (opened count ∷ fs) q ≡ true
-    old_stands q e = or_more (set.contains (opened count).serial q || set.contains (opened count).parallel q) (somewhere fs q) e
+    old_stands : (q : ℕ) → somewhere fs q ≡ true → somewhere (opened is_called count ∷ fs) q ≡ true
+    old_stands q e = or_more (set.contains (opened is_called count).serial q || set.contains (opened is_called count).parallel q) (somewhere fs q) e
 
-pub at_start : (v : World) (proc : ℕ → ℕ) → v.depth 1 ≡ 0 → proc 1 ≡ 0 → Invariant v proc 0 1 (opened 0 ∷ [])
+pub at_start : (v : World) (proc : ℕ → ℕ) → v.depth 1 ≡ 0 → proc 1 ≡ 0 → Invariant v proc 0 1 (opened false 0 ∷ [])
 at_start v proc d p = record {
   deep = omega arith;
   each = one_more (record {
@@ -331,9 +450,10 @@ at_start v proc d p = record {
     home_own = p;
     home_level = d;
     home_above = λ k x y. omega arith;
+    opened = λ more. absurd (omega arith);
   }) none;
-  stand = λ i x y. ap (λ (j : ℕ). somewhere (opened 0 ∷ []) (proc j)) (sym (only i x y))
-      ∙ ap (λ (j : ℕ). somewhere (opened 0 ∷ []) j) p
+  stand = λ i x y. ap (λ (j : ℕ). somewhere (opened false 0 ∷ []) (proc j)) (sym (only i x y))
+      ∙ ap (λ (j : ℕ). somewhere (opened false 0 ∷ []) j) p
       ∙ ap (λ (c : Bool). (c || set.contains (set.empty {R = nat_cmp}) 0) || false) (one_in 0);
 }
   where

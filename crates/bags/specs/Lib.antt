@@ -1,5 +1,9 @@
 pub mod Procedures
 pub mod Paths
-pub mod Ranges
+pub mod Stretches
+pub mod Words
+pub mod Stretch
+pub mod Nested
+pub mod Held
 pub mod Search
 pub mod Numbers

@@ -1,21 +1,23 @@
 -- Promised: the S-bag and the P-bag of each active procedure, by the rules of SP-bags.
-use Rattle.std.specs.Prelude.{ℕ, zero, suc, ◌+◌, Bool, List, [], ◌∷◌, take, refl}
+use Rattle.std.specs.Prelude.{ℕ, zero, suc, ◌+◌, Bool, true, false, if◌then◌else◌, List, [], ◌∷◌, take, refl}
 use Rattle.std.specs.List.{list_any}
 use Rattle.std.specs.Ordering.{nat_cmp}
 use Rattle.std.specs.FinSet as set
-use Rattle.std.specs.Coded.{Coded, code_by, coded×, coded_ℕ, coded_list}
+use Rattle.std.specs.Coded.{Coded, code_by, coded×, coded_ℕ, coded_bool, coded_list}
 use Rattle.trace.specs.declared.records.Record.{Record}
-use Rattle.trace.specs.declared.records.Record.TheVariants.{Spawn, Return, Sync, Read, Write}
+use Rattle.trace.specs.declared.records.Record.TheVariants.{Spawn, Call, Return, Sync, Read, Write}
 use Rattle.trace.specs.declared.records.Placed.{Placed}
 use Rattle.trace.specs.Traces.{placed}
 
--- a set of procedures; procedures are numbered by their spawns, and the root is 0
+-- a set of procedures; procedures are numbered by their spawns and calls, and the root is 0
 abbrev pub Bag : Type 0
 Bag = set.FinSet nat_cmp
 
--- an active procedure: its number, and the completed descendants that it keeps, itself among the serial ones
+-- an active procedure: its number, whether it was called and not spawned, and the completed descendants that it keeps,
+-- itself among the serial ones
 pub record Active : Type 0 where
   pub own : ℕ
+  pub is_called : Bool
   pub serial : Bag
   pub parallel : Bag
 
@@ -25,17 +27,23 @@ pub record Procedures : Type 0 where
   pub count : ℕ
   pub active : List Active
 
--- a spawn makes its procedure's bags: S = {F}, P = {}
-abbrev pub opened : ℕ → Active
-opened f = record { own = f; serial = set.insert set.empty f; parallel = set.empty }
+-- a spawn or a call makes its procedure's bags: S = {F}, P = {}
+abbrev pub opened : Bool → ℕ → Active
+opened is_called f = record { own = f; is_called = is_called; serial = set.insert set.empty f; parallel = set.empty }
 
 -- a sync: S = S + P, P = {}
 abbrev pub synced : Active → Active
-synced f = record { own = f.own; serial = set.union f.serial f.parallel; parallel = set.empty }
+synced f = record { own = f.own; is_called = f.is_called; serial = set.union f.serial f.parallel; parallel = set.empty }
 
--- the parent f takes in its child g, which returns: g syncs, and P of f = P of f + S of g
+-- the parent f takes in its child g, which returns: g syncs, and then P of f = P of f + S of g where g was spawned, and
+-- S of f = S of f + S of g where it was called
 abbrev pub adopts : Active → Active → Active
-adopts f g = record { own = f.own; serial = f.serial; parallel = set.union f.parallel (synced g).serial }
+adopts f g = record {
+  own = f.own;
+  is_called = f.is_called;
+  serial = if g.is_called then set.union f.serial (synced g).serial else f.serial;
+  parallel = if g.is_called then f.parallel else set.union f.parallel (synced g).serial;
+}
 
 -- what a sync of the executing procedure leaves of the active ones
 abbrev pub after_sync : List Active → List Active
@@ -48,9 +56,14 @@ after_return [] = []
 after_return (f ∷ []) = f ∷ []
 after_return (g ∷ f ∷ fs) = adopts f g ∷ fs
 
+-- the executing procedure spawns or calls a child, which executes from here on
+abbrev pub entered : Procedures → Bool → Procedures
+entered s is_called = record { count = s.count + 1; active = opened is_called s.count ∷ s.active }
+
 -- the rule of each record
 abbrev pub event : Procedures → Record → Procedures
-event s Spawn = record { count = s.count + 1; active = opened s.count ∷ s.active }
+event s Spawn = entered s false
+event s Call = entered s true
 event s Return = record { count = s.count; active = after_return s.active }
 event s Sync = record { count = s.count; active = after_sync s.active }
 event s (Read l) = s
@@ -58,7 +71,7 @@ event s (Write l) = s
 
 -- at the start the root alone is active
 abbrev pub at_start : Procedures
-at_start = record { count = 1; active = opened 0 ∷ [] }
+at_start = record { count = 1; active = opened false 0 ∷ [] }
 
 -- the bags after records, from given ones on
 abbrev pub bags_from : Procedures → List Placed → Procedures
@@ -84,8 +97,8 @@ procedure_at w zero = 0
 procedure_at w (suc t) = current (bags_after (take t (placed w))).active
 
 abbrev pub coded_active : Coded Active
-coded_active = code_by (ℕ × (Bag × Bag)) (coded× coded_ℕ (coded× (set.code coded_ℕ) (set.code coded_ℕ)))
-    (λ f. (f.own, (f.serial, f.parallel))) (λ c. record { own = c.0; serial = c.1.0; parallel = c.1.1 }) (λ _. refl)
+coded_active = code_by (ℕ × (Bool × (Bag × Bag))) (coded× coded_ℕ (coded× coded_bool (coded× (set.code coded_ℕ) (set.code coded_ℕ))))
+    (λ f. (f.own, (f.is_called, (f.serial, f.parallel)))) (λ c. record { own = c.0; is_called = c.1.0; serial = c.1.1.0; parallel = c.1.1.1 }) (λ _. refl)
 
 abbrev pub coded_procedures : Coded Procedures
 coded_procedures = code_by (ℕ × List Active) (coded× coded_ℕ (coded_list coded_active))

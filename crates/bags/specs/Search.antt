@@ -1,9 +1,21 @@
--- Private: the numbers of the active procedures, the root's first.
-use Rattle.std.specs.Prelude.{ℕ, zero, suc, List, [], ◌∷◌}
-use Rattle.bags.specs.declared.Ranges.{Ranges}
+-- Private: the first numbers of stretches.
+use Rattle.std.specs.Prelude.{◌≡◌, ℕ, zero, suc, ◌+◌, ◌<◌, ◌≤◌, List, [], ◌∷◌, length, get_or}
+use Rattle.bags.specs.Stretch.{Stretch}
 
--- the own number at an index, or 0 past the end
-abbrev pub own_at : List Ranges → ℕ → ℕ
-own_at [] i = 0
-own_at (f ∷ fs) zero = f.own
-own_at (f ∷ fs) (suc i) = own_at fs i
+-- the first number at an index, or 0 past the end
+abbrev pub first_at : List Stretch → ℕ → ℕ
+first_at [] i = 0
+first_at (s ∷ ss) zero = s.first
+first_at (s ∷ ss) (suc i) = first_at ss i
+
+-- no stretch begins before one that stands before it
+abbrev pub IsAscending : List Stretch → Type 0
+IsAscending stretches = (i j : ℕ) → i ≤ j → j < length stretches → first_at stretches i ≤ first_at stretches j
+
+-- the last stretch whose first number is not above a procedure's
+pub record IsKeeper (stretches : List Stretch) (procedure : ℕ) (keeper : Stretch) : Type 0 where
+  pub index : ℕ
+  pub within : index < length stretches
+  pub is : keeper ≡ get_or stretches index keeper
+  pub not_above : first_at stretches index ≤ procedure
+  pub next_above : index + 1 < length stretches → procedure < first_at stretches (index + 1)

@@ -1,28 +1,24 @@
 //! S-bags and P-bags: which completed procedures are parallel to the one that executes.
 //!
-//! Procedures are numbered by their spawns. So a bag holds consecutive numbers, and two numbers for each
-//! active procedure say what all the bags hold.
+//! Procedures are numbered by their spawns and calls. A stretch is a longest run of consecutive procedures that stand
+//! in one bag of one active procedure; so the list of stretches says what all the bags hold.
 #![tactic(auto)]
 
-ghost use Rattle.std.specs.Prelude.{◌≡◌, ◌+◌, ◌*◌, ◌<◌, ◌≤◌, ◌^◌, length, IfOk, OnOk, OnErr};
+ghost use Rattle.std.specs.Prelude.{◌≡◌, ◌+◌, ◌*◌, ◌<◌, ◌≤◌, ◌^◌, true, false, length, IfOk, OnOk, OnErr};
 ghost use Rattle.trace.specs.Bounds.{most_records};
-ghost use Rattle.bags.specs.Search.{own_at};
+ghost use Rattle.bags.specs.Search.{first_at, IsAscending, IsKeeper};
+ghost use Rattle.bags.specs.Stretches.{stretches};
 ghost use Rattle.bags.specs.Numbers.{digits};
 
+use nested::Nested;
 use std::alloc::Global;
 use std::marker::Model;
+use stretch::Stretch;
 use trace::NoMemory;
 
-mod first;
 pub mod laws;
-
-/// The numbers of an active procedure. Its S-bag holds the procedures from its own number on, and its
-/// P-bag those from `parallel_from` on, up to the number of the next active procedure.
-#[derive(Clone, Copy)]
-struct Ranges {
-    own: first::First,
-    parallel_from: u64,
-}
+mod nested;
+mod stretch;
 
 /// The bags of the active procedures of a serial run, which begins in its root.
 ///
@@ -30,8 +26,13 @@ struct Ranges {
 #[derive(Drop)]
 pub struct Bags {
     /// The active procedures; the last one executes.
-    nested: Vec<Ranges>,
+    nested: Vec<Nested>,
+    /// Their stretches: the root's first, then those of the next active procedure, and so on.
+    stretches: Vec<Stretch>,
     count: u64,
+    /// How many procedures there were when the root last synced; at first the root alone. All of them are in series
+    /// with what executes next.
+    settled: u64,
 }
 
 impl Model for Bags {
@@ -41,42 +42,65 @@ impl Model for Bags {
 
     ghost coded = { coded_procedures };
 
-    ghost use Rattle.bags.specs.Ranges.{procedures_of, AreHeld};
+    ghost use Rattle.bags.specs.Held.{procedures_of, AreKept};
 
-    ghost view = { λ b. procedures_of b.count b.nested.items };
+    ghost view = { λ b. procedures_of b.count b.stretches.items b.nested.items };
 
-    ghost invariant = { λ b. AreHeld b.count b.nested.items };
+    ghost invariant = { λ b. AreKept b.count b.settled b.stretches.items b.nested.items };
 }
 
 impl Bags {
     ghost use Rattle.bags.specs.Paths.{TellsPaths};
-    ghost use Rattle.bags.specs.Procedures.{at_start, event, in_p};
-    ghost use Rattle.trace.specs.declared.records.Record.TheVariants.{Spawn, Sync, Return};
+    ghost use Rattle.bags.specs.Procedures.{at_start, current, entered, event, in_p};
+    ghost use Rattle.trace.specs.declared.records.Record.TheVariants.{Sync, Return};
 
     /// The bags at the start: the root alone is active.
     pub fn new(alloc: Global) -> Result<Bags, NoMemory>
         ensures { IfOk result (λ bags. bags ≡ at_start) }
     {
         let mut nested = Vec::new(alloc);
-        let root = Ranges {
-            own: first::First::new(0),
-            parallel_from: 1,
-        };
-        nested.push(root)?;
-        Ok(Bags { nested, count: 1 })
+        nested.push(Nested::new(0, 0, false))?;
+        let mut stretches = Vec::new(alloc);
+        stretches.push(Stretch::new(0, false))?;
+        Ok(Bags {
+            nested,
+            stretches,
+            count: 1,
+            settled: 1,
+        })
     }
 
     /// The executing procedure spawns a child, which executes from here on.
     pub fn spawn(&mut self) -> Result<(), NoMemory>
         requires { self.old.count ≤ most_records }
-        ensures ok { OnOk result (self.new ≡ event self.old Spawn) }
+        ensures ok { OnOk result (self.new ≡ entered self.old false) }
         ensures err { OnErr result (self.new ≡ self.old) }
     {
-        let child = Ranges {
-            own: first::First::new(self.count),
-            parallel_from: self.count + 1,
-        };
-        self.nested.push(child)?;
+        self.enter(false)
+    }
+
+    /// The executing procedure calls a child, which executes from here on.
+    pub fn call(&mut self) -> Result<(), NoMemory>
+        requires { self.old.count ≤ most_records }
+        ensures ok { OnOk result (self.new ≡ entered self.old true) }
+        ensures err { OnErr result (self.new ≡ self.old) }
+    {
+        self.enter(true)
+    }
+
+    // Both lists grow before anything changes.
+    #[inline(always)]
+    fn enter(&mut self, is_called: bool) -> Result<(), NoMemory>
+        requires { self.old.count ≤ most_records }
+        ensures ok { OnOk result (self.new ≡ entered self.old is_called) }
+        ensures err { OnErr result (self.new ≡ self.old) }
+    {
+        self.nested.reserve(1)?;
+        self.stretches.reserve(1)?;
+        self.nested
+            .push_reserved(Nested::new(self.stretches.len(), self.count, is_called));
+        self.stretches
+            .push_reserved(Stretch::new(self.count, false));
         self.count += 1;
         Ok(())
     }
@@ -85,8 +109,11 @@ impl Bags {
     pub fn sync(&mut self)
         ensures { self.new ≡ event self.old Sync }
     {
-        let executing = self.nested.len() - 1;
-        self.nested[executing].parallel_from = self.count;
+        let executing = self.nested[self.nested.len() - 1];
+        self.stretches.truncate(executing.begins() + 1);
+        if self.nested.len() == 1 {
+            self.settled = self.count;
+        }
     }
 
     /// The executing procedure returns to its parent, which executes from here on.
@@ -94,7 +121,24 @@ impl Bags {
         requires { 1 < length self.old.active }
         ensures { self.new ≡ event self.old Return }
     {
+        let executing = self.nested[self.nested.len() - 1];
         let _ = self.nested.pop();
+        let last = self.stretches[executing.begins() - 1];
+        self.stretches.truncate(executing.begins());
+        // What it kept goes to one bag of its parent, and joins the parent's last stretch where that is of that bag.
+        let is_parallel = !executing.is_called();
+        if last.is_parallel() != is_parallel {
+            self.stretches
+                .push_reserved(Stretch::new(executing.number(), is_parallel));
+        }
+    }
+
+    /// The number of the executing procedure.
+    pub fn current(&self) -> u64
+        ensures executes { result ≡ current self.now.active }
+        ensures known { result < self.now.count }
+    {
+        self.nested[self.nested.len() - 1].number()
     }
 
     /// How many procedures there are so far, completed ones among them.
@@ -113,11 +157,11 @@ impl Bags {
         self.nested.len() as u64
     }
 
-    /// How many numbers are held in all.
+    /// How many numbers are held in all: one for each active procedure, and one for each stretch.
     pub fn held(&self) -> u64
-        ensures { result ≡ 2 * length self.now.active }
+        ensures { result ≡ length self.now.active + stretches self.now }
     {
-        2 * self.nested.len() as u64
+        (self.nested.len() + self.stretches.len()) as u64
     }
 
     /// Whether a procedure stands in a P-bag: whether it is parallel to what executes next.
@@ -133,69 +177,79 @@ impl Bags {
     }
 
     /// The answer of `in_p`, and the probes that it took: how often the procedure's number was compared with
-    /// the first number of an active one.
+    /// the first number of a stretch.
     #[inline(always)]
     pub fn in_p_counted(&self, procedure: u64) -> (bool, u32)
         requires { procedure < self.now.count }
         ensures bags { result.0 ≡ in_p self.now.active procedure }
         ensures paths { TellsPaths self.now procedure result.0 }
-        ensures probes { result.1 ≤ digits (length self.now.active) }
+        ensures probes { result.1 ≤ digits (stretches self.now) }
     {
         let mut probes = 0;
+        (self.is_in_p(procedure, &mut probes), probes)
+    }
+
+    // The procedures up to the root's last sync are told at once, and those that the executing one keeps by its newest
+    // stretch, where it has two at most.
+    #[inline(always)]
+    fn is_in_p(&self, procedure: u64, probes: &mut u32) -> bool
+        requires known { procedure < self.now.count }
+        requires uncounted { probes.old ≡ 0 }
+        ensures bags { result ≡ in_p self.now.active procedure }
+        ensures probes { probes.new ≤ digits (stretches self.now) }
+    {
+        if procedure < self.settled {
+            return false;
+        }
         let executing = self.nested[self.nested.len() - 1];
-        if executing.parallel_from <= procedure {
-            return (true, 0);
+        if !executing.is_before(procedure) {
+            let older = &self.stretches[..executing.begins()];
+            return keeper_of(older, procedure, probes).is_parallel();
         }
-        if procedure < self.nested[0].parallel_from {
-            return (false, 0);
+        let own = &self.stretches[executing.begins()..];
+        if own.len() > 2 {
+            return keeper_of(own, procedure, probes).is_parallel();
         }
-        // So the root doesn't execute. Between where two P-bags begin lie the first one and the next S-bag; which two they
-        // are is told at once where they are the newest or the oldest.
-        let parent = self.nested[self.nested.len() - 2];
-        if parent.parallel_from <= procedure {
-            return (!executing.own.is_at_most(procedure, &mut probes), probes);
-        }
-        let second = self.nested[1];
-        if procedure < second.parallel_from {
-            return (!second.own.is_at_most(procedure, &mut probes), probes);
-        }
-        let grandparent = self.nested[self.nested.len() - 3];
-        if grandparent.parallel_from <= procedure {
-            return (!parent.own.is_at_most(procedure, &mut probes), probes);
-        }
-        let third = self.nested[2];
-        if procedure < third.parallel_from {
-            return (!third.own.is_at_most(procedure, &mut probes), probes);
-        }
-        let older = &self.nested[..self.nested.len() - 2];
-        let keeper = keeper_of(older, procedure, &mut probes);
-        (self.nested[keeper].parallel_from <= procedure, probes)
+        let newest = own[own.len() - 1];
+        newest.is_parallel() && newest.begins_by(procedure, probes)
     }
 }
 
-/// The index of the active procedure that keeps a procedure: the last one whose number is not above it. It is
-/// searched by halves.
-#[tactic(auto, using(crate::proofs::RangeLemmas::own_at_is))]
+/// The stretch that a procedure lies in: the last one whose first number is not above it. It is searched by steps that
+/// are powers of two, each half as long as the one before.
+#[tactic(auto, using(crate::proofs::Segments::first_at_is))]
 #[inline(always)]
-fn keeper_of(ranges: &[Ranges], procedure: u64, probes: &mut u32) -> usize
-    requires some { 0 < length ranges.now }
-    requires root { own_at ranges.now 0 ≤ procedure }
+fn keeper_of(stretches: &[Stretch], procedure: u64, probes: &mut u32) -> Stretch
+    requires some { 0 < length stretches.now }
+    requires ascending { IsAscending stretches.now }
+    requires first { first_at stretches.now 0 ≤ procedure }
     requires uncounted { probes.old ≡ 0 }
-    ensures within { result < length ranges.now }
-    ensures not_above { own_at ranges.now result ≤ procedure }
-    ensures next_above { result + 1 < length ranges.now → procedure < own_at ranges.now (result + 1) }
-    ensures probes { probes.new ≤ digits (length ranges.now) }
+    requires known { procedure ≤ most_records }
+    ensures keeper { IsKeeper stretches.now procedure result }
+    ensures probes { probes.new ≤ digits (length stretches.now) }
 {
-    let mut keeper = 0;
-    let mut span = ranges.len();
-    while span > 1 {
-        let half = span / 2;
-        if ranges[keeper + half].own.is_at_most(procedure, probes) {
-            keeper += half;
-            span -= half;
-        } else {
-            span = half;
+    let mut step = longest_step(stretches.len());
+    let newer = &stretches[stretches.len() - step..];
+    let mut part = if newer[0].begins_by(procedure, probes) {
+        newer
+    } else {
+        stretches
+    };
+    step /= 2;
+    while step > 0 {
+        if part[step].begins_by(procedure, probes) {
+            part = &part[step..];
         }
+        step /= 2;
     }
-    keeper
+    part[0]
+}
+
+/// The greatest power of two that is not above a length.
+#[inline(always)]
+fn longest_step(len: usize) -> usize
+    requires { 0 < len }
+    ensures { 2 * result ≡ 2 ^ digits len }
+{
+    1 << len.ilog2()
 }

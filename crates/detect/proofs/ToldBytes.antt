@@ -3,6 +3,7 @@
 use Rattle.std.proofs.Common.{◌≡◌, ℕ, List, ◌++◌, Option, Some, None, ◌⊎◌, inl, inr, sym, ◌∙◌, ap, subst, arith, Result, Ok, Err, IfErr, MatchResult}
 use Rattle.std.proofs.lemmas.List.{append-nil}
 use Rattle.std.specs.Io.KnownBytes.{Consumes, IsAtEnd}
+use Rattle.trace.specs.declared.records.Version.{Version}
 use Rattle.trace.specs.declared.records.Record.{Record}
 use Rattle.trace.specs.declared.faults.Fault.{Fault}
 use Rattle.trace.specs.declared.faults.Fault.TheVariants.{Text, Nest, Read, NoMemory, NoThread}
@@ -24,14 +25,15 @@ never_failed : (bytes left : List ℕ) → HasFailed (holding bytes ⇝ holding 
 never_failed bytes left e = absurd (omega (arith, e))
 
 -- the trace that was read whole is the one whose text the bytes are
-pub same_trace : (records depths : ℕ) (c : Change) (u w : List Record) → c.old.bytes ≡ Some (text w) → AllFit w → ReadsWhole records depths c u → u ≡ w
-same_trace records depths c u w is fit read = let P : Option (List ℕ) → Type 0 = λ o. Consumes o c.new.bytes read.came in go c.new.bytes read.whole.used_up (subst P is read.gave)
+pub same_trace : (records depths : ℕ) (c : Change) (u : List Record) (v : Version) (w : List Record) → c.old.bytes ≡ Some (text v w) → AllFit v w
+    → ReadsWhole records depths c u → u ≡ w
+same_trace records depths c u v w is fit read = let P : Option (List ℕ) → Type 0 = λ o. Consumes o c.new.bytes read.came in go c.new.bytes read.whole.used_up (subst P is read.gave)
   where
-    go : (after : Option (List ℕ)) → IsAtEnd after → Consumes (Some (text w)) after read.came → u ≡ w
+    go : (after : Option (List ℕ)) → IsAtEnd after → Consumes (Some (text v w)) after read.came → u ≡ w
     go None end consumed = absurd consumed
     go (Some left) end consumed =
-        let all : text w ≡ read.came = consumed ∙ ap (λ l. read.came ++ l) end ∙ append-nil read.came in
-        text_injective u w read.whole.fits fit (sym read.whole.bytes_are ∙ sym all)
+        let all : text v w ≡ read.came = consumed ∙ ap (λ l. read.came ++ l) end ∙ append-nil read.came in
+        text_injective read.whole.version v u w read.whole.fits fit (sym read.whole.bytes_are ∙ sym all)
 
 module _ (records depths : ℕ) (bytes left : List ℕ) where
   fault_then : (came : List ℕ) (f : Fault) → bytes ≡ came ++ left → IsFaultThen records depths came (holding bytes ⇝ holding left) f → IsFaultOfAll records depths bytes f
@@ -60,9 +62,9 @@ module _ (records depths : ℕ) (bytes left : List ℕ) where
   module _ {T : Type 0} (IsWant : Fault → Type 0) (Says : T → List Record → Type 0) where
     -- what a reading says of the trace that the bytes are the text of, and what is wanting where it says nothing
     pub told_answer : (r : Result T Fault) → EndsReading IsWant records depths (holding bytes ⇝ holding left) Says r
-        → (w : List Record) → bytes ≡ text w → AllFit w → IsWellNested w records depths → MatchResult r (λ answer. Says answer w) IsWant
-    told_answer (Ok answer) ends w is fit nested = subst (Says answer) (same_trace records depths (holding bytes ⇝ holding left) ends.trace w (ap Some is) fit ends.read) ends.says
-    told_answer (Err f) ends w is fit nested = ends.honest w (record { is_text = ap Some is; fits = fit; well_nested = nested; never_failed = never_failed bytes left })
+        → (v : Version) (w : List Record) → bytes ≡ text v w → AllFit v w → IsWellNested w records depths → MatchResult r (λ answer. Says answer w) IsWant
+    told_answer (Ok answer) ends v w is fit nested = subst (Says answer) (same_trace records depths (holding bytes ⇝ holding left) ends.trace v w (ap Some is) fit ends.read) ends.says
+    told_answer (Err f) ends v w is fit nested = ends.honest w (record { version = v; is_text = ap Some is; fits = fit; well_nested = nested; never_failed = never_failed bytes left })
 
     pub told_refusal : (r : Result T Fault) → EndsReading IsWant records depths (holding bytes ⇝ holding left) Says r → IfErr r (λ f. IsWant f ⊎ IsFaultOfAll records depths bytes f)
     told_refusal (Ok answer) ends = tt

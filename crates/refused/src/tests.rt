@@ -1,3 +1,5 @@
+mod answering;
+mod asking;
 mod collecting;
 mod detecting;
 mod lanes;

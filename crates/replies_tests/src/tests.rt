@@ -109,7 +109,16 @@ pub fn words_of(alloc: Global, line: &str) -> Result<Vec<String>, AllocError> {
 
 /// The text of a trace whose records stand between commas.
 pub fn trace_of(alloc: Global, records: &str) -> Result<Vec<u8>, AllocError> {
-    let mut text = Vec::from_slice(alloc, b"trace 1\n")?;
+    text_of(alloc, b"trace 1\n", records)
+}
+
+/// The text of a trace in version 2.
+pub fn version_2_of(alloc: Global, records: &str) -> Result<Vec<u8>, AllocError> {
+    text_of(alloc, b"trace 2\n", records)
+}
+
+fn text_of(alloc: Global, header: &[u8], records: &str) -> Result<Vec<u8>, AllocError> {
+    let mut text = Vec::from_slice(alloc, header)?;
     for record in records.split(", ") {
         text.extend_from_slice(record.as_bytes())?;
         text.push(b'\n')?;

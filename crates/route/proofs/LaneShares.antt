@@ -7,7 +7,7 @@ use Rattle.lane.specs.declared.item.Item.{Item}
 use Rattle.lane.specs.declared.item.Item.TheVariants.{One, Finish}
 use Rattle.lane.specs.Items.{has_mark, records, IsBeginning}
 use Rattle.trace.specs.declared.records.Record.{Record}
-use Rattle.trace.specs.declared.records.Record.TheVariants.{Spawn, Return, Sync, Read, Write}
+use Rattle.trace.specs.declared.records.Record.TheVariants.{Spawn, Call, Return, Sync, Read, Write}
 use Rattle.trace.specs.declared.records.Placed.{Placed}
 use Rattle.trace.specs.Shares.{goes, goes_placed, share}
 use Rattle.trace.proofs.Lists.{Contains-nil}
@@ -133,7 +133,9 @@ only_turn k turn j h = grind (arith, nat_tests)
 -- where the turn is at a lane that the record goes to: no lane before it gets the record, or all lanes do
 early : (n turn : ℕ) (r : Record) → goes turn n r ≡ true → ((k : ℕ) → (nat_lt k turn && goes k n r) ≡ false) ⊎ (((k : ℕ) → goes k n r ≡ true) × (0 < turn))
 early n zero Spawn h = inl (λ k. and_left (nat_lt k 0) true (le-ltb k 0 (omega arith)))
+early n zero Call h = inl (λ k. and_left (nat_lt k 0) true (le-ltb k 0 (omega arith)))
 early n (suc t) Spawn h = inr (λ k. refl, omega arith)
+early n (suc t) Call h = inr (λ k. refl, omega arith)
 early n zero Return h = inl (λ k. and_left (nat_lt k 0) true (le-ltb k 0 (omega arith)))
 early n (suc t) Return h = inr (λ k. refl, omega arith)
 early n zero Sync h = inl (λ k. and_left (nat_lt k 0) true (le-ltb k 0 (omega arith)))

@@ -9,7 +9,7 @@ use Rattle.lane.specs.declared.item.Item.{Item}
 use Rattle.lane.specs.declared.item.Item.TheVariants.{One, Finish}
 use Rattle.lane.specs.Items.{records, IsBeginning}
 use Rattle.trace.specs.declared.records.Record.{Record}
-use Rattle.trace.specs.declared.records.Record.TheVariants.{Spawn, Return, Sync, Read, Write}
+use Rattle.trace.specs.declared.records.Record.TheVariants.{Spawn, Call, Return, Sync, Read, Write}
 use Rattle.trace.specs.declared.records.Placed.{Placed}
 use Rattle.trace.specs.Shares.{goes_placed, share}
 use Rattle.trace.proofs.Lists.{Contains-nil}
@@ -54,6 +54,7 @@ lane_there xs l n h = let below : l % n < n = omega arith in grind (arith, nat_t
 
 one_batch : (n place : ℕ) (r : Record) → 0 < n → batch_sending n (record { place = place; what = r } ∷ []) ≡ sending_of n (record { place = place; what = r })
 one_batch n place Spawn some = flat_map_single (λ k. (k, One (record { place = place; what = Spawn }))) (range_with_len 0 n)
+one_batch n place Call some = flat_map_single (λ k. (k, One (record { place = place; what = Call }))) (range_with_len 0 n)
 one_batch n place Return some = flat_map_single (λ k. (k, One (record { place = place; what = Return }))) (range_with_len 0 n)
 one_batch n place Sync some = flat_map_single (λ k. (k, One (record { place = place; what = Sync }))) (range_with_len 0 n)
 one_batch n place (Read l) some =

@@ -8,7 +8,7 @@ use Rattle.std.proofs.lemmas.List.FromFn.{take-map-range_with_len, length-map-ra
 use Rattle.lane.specs.declared.item.Item.{Item}
 use Rattle.lane.specs.declared.item.Item.TheVariants.{One, Finish}
 use Rattle.trace.specs.declared.records.Record.{Record}
-use Rattle.trace.specs.declared.records.Record.TheVariants.{Spawn, Return, Sync, Read, Write}
+use Rattle.trace.specs.declared.records.Record.TheVariants.{Spawn, Call, Return, Sync, Read, Write}
 use Rattle.trace.specs.declared.records.Placed.{Placed}
 use Rattle.trace.specs.Shares.{goes, goes_placed, share}
 use Rattle.route.specs.Sending.{portion, mark_of, AllSent}
@@ -56,6 +56,7 @@ on_cut x k n s e l = ap (of_lane k) (e ∙ take-map-range_with_len (λ j. (j, x)
 -- a whole record on a lane
 of_sending : (n k : ℕ) (place : ℕ) (r : Record) → k < n → of_lane k (sending_of n (record { place = place; what = r })) ≡ cond (goes k n r) (One (record { place = place; what = r }) ∷ []) []
 of_sending n k place Spawn l = on_first (One (record { place = place; what = Spawn })) k n ∙ cond-true (nat_lt k n) (One (record { place = place; what = Spawn }) ∷ []) [] (lt-ltb k n l)
+of_sending n k place Call l = on_first (One (record { place = place; what = Call })) k n ∙ cond-true (nat_lt k n) (One (record { place = place; what = Call }) ∷ []) [] (lt-ltb k n l)
 of_sending n k place Return l = on_first (One (record { place = place; what = Return })) k n ∙ cond-true (nat_lt k n) (One (record { place = place; what = Return }) ∷ []) [] (lt-ltb k n l)
 of_sending n k place Sync l = on_first (One (record { place = place; what = Sync })) k n ∙ cond-true (nat_lt k n) (One (record { place = place; what = Sync }) ∷ []) [] (lt-ltb k n l)
 of_sending n k place (Read j) l = refl
@@ -101,6 +102,7 @@ of_none n j p s within is e l =
 
 portion_sent : (n place : ℕ) (r : Record) (s : Sends) → 0 < n → s ≡ take (length s) (sending_of n (record { place = place; what = r })) → length s < length (sending_of n (record { place = place; what = r })) → PortionSent n (record { place = place; what = r }) s
 portion_sent n place Spawn s some e l = of_all n (record { place = place; what = Spawn }) s (λ k. refl) e l
+portion_sent n place Call s some e l = of_all n (record { place = place; what = Call }) s (λ k. refl) e l
 portion_sent n place Return s some e l = of_all n (record { place = place; what = Return }) s (λ k. refl) e l
 portion_sent n place Sync s some e l = of_all n (record { place = place; what = Sync }) s (λ k. refl) e l
 portion_sent n place (Read j) s some e l = of_none n (j % n) (record { place = place; what = Read j }) s (omega arith) (λ k. refl) e l

@@ -2,7 +2,7 @@
 use Rattle.std.proofs.Common.{◌≡◌, ℕ, ◌<◌, ◌%◌, ◌==◌, Bool, true, false, cond, List, [], ◌∷◌, ◌++◌, Some, None, ⊎_elim, refl, sym, ap, subst, ◌∙◌, append-nil}
 use Rattle.std.proofs.lemmas.Bool.{cases_eq, eq-eqb, ne_eqb}
 use Rattle.trace.specs.declared.records.Record.{Record}
-use Rattle.trace.specs.declared.records.Record.TheVariants.{Spawn, Return, Sync, Read, Write}
+use Rattle.trace.specs.declared.records.Record.TheVariants.{Spawn, Call, Return, Sync, Read, Write}
 use Rattle.trace.specs.declared.records.Placed.{Placed}
 use Rattle.trace.specs.Shares.{goes, goes_placed, share}
 use Rattle.trace.proofs.ShareLemmas.{share-push}
@@ -11,6 +11,7 @@ use Rattle.route.specs.Sending.{location_of}
 -- an access goes to the lane of its location alone, and all else to each lane
 pub goes_by_location : (k n l : ℕ) (r : Record) → location_of r ≡ Some l → goes k n r ≡ (l % n == k)
 goes_by_location k n l Spawn e = absurd cc
+goes_by_location k n l Call e = absurd cc
 goes_by_location k n l Return e = absurd cc
 goes_by_location k n l Sync e = absurd cc
 goes_by_location k n l (Read m) e = let same : m ≡ l = cc in ap (λ (x : ℕ). x % n == k) same
@@ -18,6 +19,7 @@ goes_by_location k n l (Write m) e = let same : m ≡ l = cc in ap (λ (x : ℕ)
 
 pub goes_everywhere : (k n : ℕ) (r : Record) → location_of r ≡ None → goes k n r ≡ true
 goes_everywhere k n Spawn e = refl
+goes_everywhere k n Call e = refl
 goes_everywhere k n Return e = refl
 goes_everywhere k n Sync e = refl
 goes_everywhere k n (Read m) e = absurd cc

@@ -5,7 +5,7 @@ use Rattle.lane.specs.declared.item.Item.{Item}
 use Rattle.lane.specs.declared.item.Item.TheVariants.{One, Finish}
 use Rattle.lane.specs.Items.{has_mark, IsBeginning}
 use Rattle.trace.specs.declared.records.Record.{Record}
-use Rattle.trace.specs.declared.records.Record.TheVariants.{Spawn, Return, Sync, Read, Write}
+use Rattle.trace.specs.declared.records.Record.TheVariants.{Spawn, Call, Return, Sync, Read, Write}
 use Rattle.trace.specs.declared.records.Placed.{Placed}
 use Rattle.route.specs.Routed.{IsRising}
 
@@ -52,6 +52,7 @@ IsAllowed es (take k x) = (rest : List (Item Placed)) × (held es k ≡ x ∷ re
 -- the lanes that a record is sent to, in their order
 abbrev pub lanes_for : ℕ → Record → List ℕ
 lanes_for n Spawn = range_with_len 0 n
+lanes_for n Call = range_with_len 0 n
 lanes_for n Return = range_with_len 0 n
 lanes_for n Sync = range_with_len 0 n
 lanes_for n (Read l) = l % n ∷ []

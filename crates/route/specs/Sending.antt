@@ -4,7 +4,7 @@ use Rattle.lane.specs.declared.item.Item.{Item}
 use Rattle.lane.specs.declared.item.Item.TheVariants.{One, Finish}
 use Rattle.lane.specs.Items.{has_mark}
 use Rattle.trace.specs.declared.records.Record.{Record}
-use Rattle.trace.specs.declared.records.Record.TheVariants.{Spawn, Return, Sync, Read, Write}
+use Rattle.trace.specs.declared.records.Record.TheVariants.{Spawn, Call, Return, Sync, Read, Write}
 use Rattle.trace.specs.declared.records.Placed.{Placed}
 use Rattle.trace.specs.Shares.{goes_placed, share}
 
@@ -23,6 +23,7 @@ with_put puts k x = with_puts puts k (x ∷ [])
 -- the location of an access
 abbrev pub location_of : Record → Option ℕ
 location_of Spawn = None
+location_of Call = None
 location_of Return = None
 location_of Sync = None
 location_of (Read l) = Some l
@@ -31,6 +32,7 @@ location_of (Write l) = Some l
 -- the first lane of n that a record goes to
 abbrev pub first_lane : ℕ → Record → ℕ
 first_lane n Spawn = 0
+first_lane n Call = 0
 first_lane n Return = 0
 first_lane n Sync = 0
 first_lane n (Read l) = l % n

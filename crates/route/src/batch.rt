@@ -11,8 +11,8 @@ use lane::BLOCK;
 use std::alloc::Global;
 use trace::{NoMemory, Placed};
 
-/// Consecutive records of a trace, staged for the lanes: a spawn, a return or a sync for each, an access for its own. They
-/// are sent lane after lane.
+/// Consecutive records of a trace, staged for the lanes: an access for its own, any other for each. They are sent lane
+/// after lane.
 #[derive(Drop)]
 pub struct Batch {
     portions: Vec<Portion>,

@@ -15,7 +15,7 @@ pub fn first_lane(what: Record, count: usize) -> usize
     ensures first { (k : ℕ) → k < result → goes k count what ≡ false }
 {
     match what {
-        Record::Spawn | Record::Return | Record::Sync => 0,
+        Record::Spawn | Record::Call | Record::Return | Record::Sync => 0,
         Record::Read(location) | Record::Write(location) => lane_of(location, count),
     }
 }
@@ -53,7 +53,9 @@ pub fn lane_after(what: Record, lane: usize, count: usize) -> Option<usize>
     ensures none { IfNone result ((k : ℕ) → lane < k → k < count → goes k count what ≡ false) }
 {
     match what {
-        Record::Spawn | Record::Return | Record::Sync if lane + 1 < count => Some(lane + 1),
+        Record::Spawn | Record::Call | Record::Return | Record::Sync if lane + 1 < count => Some(
+            lane + 1,
+        ),
         _ => None,
     }
 }
@@ -65,6 +67,6 @@ pub fn location_of(what: Record) -> Option<u64>
 {
     match what {
         Record::Read(location) | Record::Write(location) => Some(location),
-        Record::Spawn | Record::Return | Record::Sync => None,
+        Record::Spawn | Record::Call | Record::Return | Record::Sync => None,
     }
 }

@@ -38,6 +38,10 @@ not_spawn : (l : ℕ) (k : Kind) → records.Spawn ≡ access k l → ⊥
 not_spawn l Read e = cc
 not_spawn l Write e = cc
 
+not_call : (l : ℕ) (k : Kind) → records.Call ≡ access k l → ⊥
+not_call l Read e = cc
+not_call l Write e = cc
+
 not_return : (l : ℕ) (k : Kind) → records.Return ≡ access k l → ⊥
 not_return l Read e = cc
 not_return l Write e = cc
@@ -63,6 +67,7 @@ cells_access w v t m q s z a l = ⊎_elim
 
 cells_step : (w : List Record) {n d : ℕ} → IsWellNested w n d → (t : ℕ) (r : Record) (s : State) → IsState w t s → at w (suc t) ≡ Some r → (l : ℕ) → IsCell w l (suc t) ((after_record s (suc t) r).kept l)
 cells_step w v t records.Spawn s z a l = cell_stays w l t (s.kept l) (not_structure w l (suc t) _ a (not_spawn l)) (z.cells l)
+cells_step w v t records.Call s z a l = cell_stays w l t (s.kept l) (not_structure w l (suc t) _ a (not_call l)) (z.cells l)
 cells_step w v t records.Return s z a l = cell_stays w l t (s.kept l) (not_structure w l (suc t) _ a (not_return l)) (z.cells l)
 cells_step w v t records.Sync s z a l = cell_stays w l t (s.kept l) (not_structure w l (suc t) _ a (not_sync l)) (z.cells l)
 cells_step w v t (records.Read m) s z a l = cells_access w v t m Read s z a l
@@ -129,6 +134,7 @@ no_race_here w t x f = ((λ e. absurd (cc)), (λ a. absurd (f x.second.kind (sub
 -- the rules tell at a place just the race that ends there
 race_here : (w : List Record) {n d : ℕ} → IsWellNested w n d → (t : ℕ) (r : Record) (s : State) → IsState w t s → at w (suc t) ≡ Some r → (x : RaceAt) → (race_of s (suc t) r ≡ Some x) ↔ EndsAt w (suc t) x
 race_here w v t records.Spawn s z a x = no_race_here w t x (not_structure w x.location (suc t) _ a (not_spawn x.location))
+race_here w v t records.Call s z a x = no_race_here w t x (not_structure w x.location (suc t) _ a (not_call x.location))
 race_here w v t records.Return s z a x = no_race_here w t x (not_structure w x.location (suc t) _ a (not_return x.location))
 race_here w v t records.Sync s z a x = no_race_here w t x (not_structure w x.location (suc t) _ a (not_sync x.location))
 race_here w v t (records.Read m) s z a x = race_access w v t m Read s z a x

@@ -36,6 +36,7 @@ found-push u p = found_from-append start u (p ∷ []) ∙ ap (λ (z : List RaceA
 
 bags-after_record : (s : State) (place : ℕ) (r : Record) → (after_record s place r).bags ≡ event s.bags r
 bags-after_record s place records.Spawn = refl
+bags-after_record s place records.Call = refl
 bags-after_record s place records.Return = refl
 bags-after_record s place records.Sync = refl
 bags-after_record s place (records.Read l) = refl
@@ -78,6 +79,7 @@ race_with-is l k place false (Some f) x e = let q = same_Some _ x e in (sym (ap 
 -- an access's race is of its location and place, and was not told before
 pub race_of-is : (s : State) (place : ℕ) (r : Record) (x : RaceAt) → race_of s place r ≡ Some x → (x.second.place ≡ place) × ((s.kept x.location).told ≡ false)
 race_of-is s place records.Spawn x e = absurd (cc)
+race_of-is s place records.Call x e = absurd (cc)
 race_of-is s place records.Return x e = absurd (cc)
 race_of-is s place records.Sync x e = absurd (cc)
 race_of-is s place (records.Read l) x e = let q = race_with-is l Read place _ _ x e in (q.1, subst (λ (m : ℕ). (s.kept m).told ≡ false) (sym q.0) q.2)
@@ -137,6 +139,7 @@ told-after_access s m k place l e = cond_both (l == m) (touched s.bags.active k 
 
 told-after_record : (s : State) (place : ℕ) (r : Record) (l : ℕ) → (s.kept l).told ≡ true → ((after_record s place r).kept l).told ≡ true
 told-after_record s place records.Spawn l e = e
+told-after_record s place records.Call l e = e
 told-after_record s place records.Return l e = e
 told-after_record s place records.Sync l e = e
 told-after_record s place (records.Read m) l e = told-after_access s m Read place l e
@@ -166,6 +169,7 @@ told_access s l k place x e =
 -- a location that is told counts as told from then on
 pub told_then : (s : State) (place : ℕ) (r : Record) (x : RaceAt) → race_of s place r ≡ Some x → ((after_record s place r).kept x.location).told ≡ true
 told_then s place records.Spawn x e = absurd (cc)
+told_then s place records.Call x e = absurd (cc)
 told_then s place records.Return x e = absurd (cc)
 told_then s place records.Sync x e = absurd (cc)
 told_then s place (records.Read l) x e = told_access s l Read place x e

@@ -87,6 +87,7 @@ access_out k n l q place u ih s z a h = ih (after_access s l q place) z (agree_o
 share_step : (k n place : ℕ) (r : Record) (u : List Placed) → Shared k n u → (s z : State) → Agree k n s z
     → found_from z (cond (goes k n r) (record { place = place; what = r } ∷ share k n u) (share k n u)) ≡ filter (of_shard k n) (option_to_list (race_of s place r) ++ found_from (after_record s place r) u)
 share_step k n place records.Spawn u ih s z a = ih _ _ (agree_event k n s z records.Spawn a)
+share_step k n place records.Call u ih s z a = ih _ _ (agree_event k n s z records.Call a)
 share_step k n place records.Return u ih s z a = ih _ _ (agree_event k n s z records.Return a)
 share_step k n place records.Sync u ih s z a = ih _ _ (agree_event k n s z records.Sync a)
 share_step k n place (records.Read l) u ih s z a = ⊎_elim

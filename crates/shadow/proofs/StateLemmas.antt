@@ -29,6 +29,11 @@ seen_spawn u p bags m is seen =
     seen_by u p _ m (ap (λ b. event b records.Spawn) seen.bags_are ∙ ap (λ r. (after_record (state_after u) p.place r).bags) (sym is))
     (λ l. seen.kept_are l ∙ ap (λ r. (after_record (state_after u) p.place r).kept l) (sym is))
 
+pub seen_call : (u : List Placed) (p : Placed) (bags : Procedures) (m : Memory) → p.what ≡ records.Call → HaveSeen u bags m → HaveSeen (u ++ p ∷ []) (event bags records.Call) m
+seen_call u p bags m is seen =
+    seen_by u p _ m (ap (λ b. event b records.Call) seen.bags_are ∙ ap (λ r. (after_record (state_after u) p.place r).bags) (sym is))
+    (λ l. seen.kept_are l ∙ ap (λ r. (after_record (state_after u) p.place r).kept l) (sym is))
+
 pub seen_sync : (u : List Placed) (p : Placed) (bags : Procedures) (m : Memory) → p.what ≡ records.Sync → HaveSeen u bags m → HaveSeen (u ++ p ∷ []) (event bags records.Sync) m
 seen_sync u p bags m is seen =
     seen_by u p _ m (ap (λ b. event b records.Sync) seen.bags_are ∙ ap (λ r. (after_record (state_after u) p.place r).bags) (sym is))

@@ -31,6 +31,7 @@ abbrev pub after_record : State → ℕ → Record → State
 after_record s place (records.Read l) = after_access s l Read place
 after_record s place (records.Write l) = after_access s l Write place
 after_record s place records.Spawn = record { bags = event s.bags records.Spawn; kept = s.kept }
+after_record s place records.Call = record { bags = event s.bags records.Call; kept = s.kept }
 after_record s place records.Return = record { bags = event s.bags records.Return; kept = s.kept }
 after_record s place records.Sync = record { bags = event s.bags records.Sync; kept = s.kept }
 
@@ -39,6 +40,7 @@ abbrev pub race_of : State → ℕ → Record → Option RaceAt
 race_of s place (records.Read l) = race_at s.bags.active l Read place (s.kept l)
 race_of s place (records.Write l) = race_at s.bags.active l Write place (s.kept l)
 race_of s place records.Spawn = None
+race_of s place records.Call = None
 race_of s place records.Return = None
 race_of s place records.Sync = None
 

@@ -1,7 +1,7 @@
 -- Promised: shadow memory: what is kept of each location, and how far the run has come.
 use Rattle.std.specs.Prelude.{◌≡◌, ℕ, ◌+◌, ◌<◌, ◌≤◌, List}
 use Rattle.trace.specs.declared.records.Record.{Record}
-use Rattle.trace.specs.declared.records.Record.TheVariants.{Spawn, Return, Sync, Read, Write}
+use Rattle.trace.specs.declared.records.Record.TheVariants.{Spawn, Call, Return, Sync, Read, Write}
 use Rattle.trace.specs.declared.records.Placed.{Placed}
 use Rattle.bags.specs.Procedures.{Procedures}
 use Rattle.shadow.specs.Cells.{Cell, untouched}
@@ -36,9 +36,10 @@ pub record IsSameMemory (old new : Memory) : Type 0 where
 abbrev pub IsMemoryBefore : Memory → Type 0
 IsMemoryBefore m = (l : ℕ) → IsCellBefore (m.last_place + 1) m.least_count (kept_of m l)
 
--- a record at which memory may be wanted: a spawn, or the first access of a location
+-- a record at which memory may be wanted: a spawn, a call, or the first access of a location
 abbrev pub MayGrow : Memory → Record → Type 0
 MayGrow m Spawn = Unit {0}
+MayGrow m Call = Unit {0}
 MayGrow m Return = ⊥
 MayGrow m Sync = ⊥
 MayGrow m (Read l) = kept_of m l ≡ untouched

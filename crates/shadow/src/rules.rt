@@ -31,13 +31,15 @@ pub fn apply<S: BuildHasher>(
         → found (u ++ placed ∷ []) ≡ found u ++ option_to_list race) }
     ensures ready { (next : ℕ) → placed.place < next → AreReadyFor bags.new shadow.new next }
 
-    // A refusal changes nothing, and comes only at a spawn or at the first access of a location.
+    // A refusal changes nothing, and comes only at a spawn, at a call or at the first access of a
+    // location.
     ensures same_bags { OnErr result (bags.new ≡ bags.old) }
     ensures same_memory { OnErr result (IsSameMemory shadow.old shadow.new) }
     ensures refused { OnErr result (MayGrow shadow.old placed.what) }
 {
     match placed.what {
         Record::Spawn => bags.spawn()?,
+        Record::Call => bags.call()?,
         Record::Sync => bags.sync(),
         Record::Return => {
             if bags.active() > 1 {

@@ -6,7 +6,7 @@ use Rattle.std.proofs.lemmas.List.{length-map}
 use Rattle.std.proofs.lemmas.List.Sums.{sum_by-cons}
 use Rattle.std.proofs.lemmas.Option.{same_Some}
 use Rattle.trace.specs.declared.records.Record.{Record}
-use Rattle.trace.specs.declared.records.Record.TheVariants.{Spawn, Return, Sync, Read, Write}
+use Rattle.trace.specs.declared.records.Record.TheVariants.{Spawn, Call, Return, Sync, Read, Write}
 use Rattle.trace.specs.declared.records.Placed.{Placed}
 use Rattle.trace.specs.Traces.{opens, closes, depth, IsRootReturn}
 use Rattle.shard.specs.Working.{whats, RiseFrom, Follow, AreInOrder}
@@ -47,6 +47,7 @@ none_left (p ∷ u) e = absurd (omega arith)
 
 return_or_not : (r : Record) → (r ≡ Return) ⊎ (closes r ≡ 0)
 return_or_not Spawn = inr refl
+return_or_not Call = inr refl
 return_or_not Return = inl refl
 return_or_not Sync = inr refl
 return_or_not (Read l) = inr refl
@@ -54,6 +55,7 @@ return_or_not (Write l) = inr refl
 
 closes_one : (r : Record) → closes r ≤ 1
 closes_one Spawn = omega arith
+closes_one Call = omega arith
 closes_one Return = omega arith
 closes_one Sync = omega arith
 closes_one (Read l) = omega arith

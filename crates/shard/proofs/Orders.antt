@@ -2,7 +2,7 @@
 use Rattle.std.proofs.Common.{◌≡◌, ℕ, ◌+◌, ◌-◌, ◌≤◌, ◌^◌, true, false, List, [], ◌∷◌, ◌++◌, length, ◌==◌, ◌↔◌, ⊎_elim, refl, sym, ap, subst, ◌∙◌, arith, append_assoc}
 use Rattle.std.proofs.lemmas.Bool.{cases_Bool, eq-eqb, eqb-true}
 use Rattle.trace.specs.declared.records.Record.{Record}
-use Rattle.trace.specs.declared.records.Record.TheVariants.{Spawn, Return, Sync, Read, Write}
+use Rattle.trace.specs.declared.records.Record.TheVariants.{Spawn, Call, Return, Sync, Read, Write}
 use Rattle.trace.specs.declared.records.Placed.{Placed}
 use Rattle.trace.specs.Traces.{opens, closes}
 use Rattle.bags.specs.Procedures.{Procedures, Active, event, after_sync, after_return, bags_from}
@@ -44,6 +44,7 @@ length-in_order u h = let few = length-follow 0 1 u (omega arith) ((following u)
 root_is : (b : Procedures) (r : Record) → is_root_return b r ≡ true → (r ≡ Return) × (length b.active ≡ 1)
 root_is b Return e = (refl, eqb-true (length b.active) 1 e)
 root_is b Spawn e = absurd (cc)
+root_is b Call e = absurd (cc)
 root_is b Sync e = absurd (cc)
 root_is b (Read l) e = absurd (cc)
 root_is b (Write l) e = absurd (cc)
@@ -51,6 +52,7 @@ root_is b (Write l) e = absurd (cc)
 root_by : (b : Procedures) (r : Record) → r ≡ Return → length b.active ≡ 1 → is_root_return b r ≡ true
 root_by b Return is one = eq-eqb (length b.active) 1 one
 root_by b Spawn is one = absurd (cc)
+root_by b Call is one = absurd (cc)
 root_by b Sync is one = absurd (cc)
 root_by b (Read l) is one = absurd (cc)
 root_by b (Write l) is one = absurd (cc)
@@ -67,6 +69,7 @@ length-return (g ∷ f ∷ fs) e = omega arith
 -- how many procedures are active after a record
 length-event : (b : Procedures) (r : Record) → is_root_return b r ≡ false → length (event b r).active ≡ (length b.active + opens r) - closes r
 length-event b Spawn e = omega arith
+length-event b Call e = omega arith
 length-event b Return e = length-return b.active e
 length-event b Sync e = length-sync b.active ∙ omega arith
 length-event b (Read l) e = omega arith

@@ -2,7 +2,7 @@
 use Rattle.std.proofs.Common.{◌≡◌, ℕ, suc, ◌+◌, ◌-◌, ◌≤◌, ◌^◌, false, List, [], ◌∷◌, length, ⊎_elim, refl, sym, ap, subst, arith}
 use Rattle.std.proofs.lemmas.Bool.{cases_Bool, cond-true, cond-false}
 use Rattle.trace.specs.declared.records.Record.{Record}
-use Rattle.trace.specs.declared.records.Record.TheVariants.{Spawn, Return, Sync, Read, Write}
+use Rattle.trace.specs.declared.records.Record.TheVariants.{Spawn, Call, Return, Sync, Read, Write}
 use Rattle.trace.specs.declared.records.Placed.{Placed}
 use Rattle.trace.specs.Traces.{opens, closes, placed, placed_from, IsWellNested}
 use Rattle.trace.specs.Shares.{goes, share}
@@ -27,6 +27,7 @@ follow-placed w le h =
 -- what a share leaves out neither opens nor closes a procedure
 left_out : (k n : ℕ) (r : Record) → goes k n r ≡ false → (opens r ≡ 0) × (closes r ≡ 0)
 left_out k n Spawn e = absurd (cc)
+left_out k n Call e = absurd (cc)
 left_out k n Return e = absurd (cc)
 left_out k n Sync e = absurd (cc)
 left_out k n (Read l) e = (refl, refl)

@@ -2,7 +2,7 @@
 use Rattle.std.specs.Prelude.{◌≡◌, ℕ, ◌-◌, ◌<◌, ◌≤◌, ◌^◌, Bool, false, [], length, min, ◌==◌}
 use Rattle.trace.specs.Bounds.{most_records}
 use Rattle.trace.specs.declared.records.Record.{Record}
-use Rattle.trace.specs.declared.records.Record.TheVariants.{Spawn, Return, Sync, Read, Write}
+use Rattle.trace.specs.declared.records.Record.TheVariants.{Spawn, Call, Return, Sync, Read, Write}
 use Rattle.bags.specs.Procedures.{Procedures}
 use Rattle.shadow.specs.Memory.{Memory, HaveSeen, IsSameMemory}
 
@@ -33,6 +33,7 @@ pub record IsFresh (s : ShardState) : Type 0 where
 abbrev pub is_root_return : Procedures → Record → Bool
 is_root_return s Return = length s.active == 1
 is_root_return s Spawn = false
+is_root_return s Call = false
 is_root_return s Sync = false
 is_root_return s (Read l) = false
 is_root_return s (Write l) = false

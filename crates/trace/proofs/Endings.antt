@@ -3,6 +3,7 @@
 use Rattle.std.proofs.Common.{◌≡◌, ℕ, ◌+◌, ◌-◌, ◌^◌, ◌⊎◌, min, List, [], ◌∷◌, ◌++◌, length, Option, Some, None, inl, inr, refl, sym, ◌∙◌, ap, subst, Result, Ok, Err, IsErrAnd}
 use Rattle.std.proofs.lemmas.List.{append-nil}
 use Rattle.std.specs.Io.KnownBytes.{Consumes, IsAtEnd}
+use Rattle.trace.specs.declared.records.Version.{Version}
 use Rattle.trace.specs.declared.records.Record.{Record}
 use Rattle.trace.specs.declared.records.Placed.{Placed}
 use Rattle.trace.specs.declared.faults.Fault.{Fault}
@@ -12,7 +13,7 @@ use Rattle.trace.specs.Text.{text, AllFit}
 use Rattle.trace.specs.Devices.{Device, Change, ◌⇝◌, IsSteady, HasFailed, Gave}
 use Rattle.trace.specs.Faults.{IsFaultOfAll}
 use Rattle.trace.specs.Feeding.{Feeding, HasFed, IsWhole, IsFed, IsFaultThen, IsFaultFed}
-use Rattle.trace.specs.Endings.{HoldsTrace, IsRefused, OfTrace, EndsReading}
+use Rattle.trace.specs.Endings.{HoldsTrace, IsRefused, EndsReading}
 use Rattle.trace.proofs.Feedings.{consumes_more}
 use Rattle.trace.proofs.Readability.{no_fault_in_front, no_fault_of_text}
 
@@ -29,24 +30,24 @@ fault_since records depths bytes before middle after NoMemory steady fault = abs
 fault_since records depths bytes before middle after NoThread steady fault = absurd fault
 
 -- a source that holds a trace meets no fault of the text or the nesting
-no_fault_then : (records depths : ℕ) (w : List Record) (came : List ℕ) (c : Change) (after : Option (List ℕ)) (f : Fault) → AllFit w → IsWellNested w records depths → c.new.bytes ≡ after → Consumes (Some (text w)) after came → IsFaultThen records depths came c f → ⊥
-no_fault_then records depths w came c None f fit h is consumed fault = consumed
-no_fault_then records depths w came c (Some rest) f fit h is consumed (inl first) = no_fault_in_front records depths w came rest f fit h consumed first
-no_fault_then records depths w came c (Some rest) f fit h is consumed (inr (used_up, fault)) =
+no_fault_then : (records depths : ℕ) (v : Version) (w : List Record) (came : List ℕ) (c : Change) (after : Option (List ℕ)) (f : Fault) → AllFit v w → IsWellNested w records depths → c.new.bytes ≡ after → Consumes (Some (text v w)) after came → IsFaultThen records depths came c f → ⊥
+no_fault_then records depths v w came c None f fit h is consumed fault = consumed
+no_fault_then records depths v w came c (Some rest) f fit h is consumed (inl first) = no_fault_in_front records depths v w came rest f fit h consumed first
+no_fault_then records depths v w came c (Some rest) f fit h is consumed (inr (used_up, fault)) =
     let P : List ℕ → Type 0 = λ x. IsFaultOfAll records depths x f in
     let nothing : rest ≡ [] = subst IsAtEnd is used_up in
-    no_fault_of_text records depths w f fit h (subst P (sym (consumed ∙ ap (λ x. came ++ x) nothing ∙ append-nil came)) fault)
+    no_fault_of_text records depths v w f fit h (subst P (sym (consumed ∙ ap (λ x. came ++ x) nothing ∙ append-nil came)) fault)
 
 -- a source that holds a trace and doesn't fail meets no fault at all
 pub no_fault_held : (records depths : ℕ) (w : List Record) (came : List ℕ) (c : Change) (f : Fault) → HoldsTrace records depths c w → Gave c came → IsFaultFed records depths came c f → ⊥
 no_fault_held records depths w came c f h gave = go f
   where
-    gave' : Consumes (Some (text w)) c.new.bytes came
+    gave' : Consumes (Some (text h.version w)) c.new.bytes came
     gave' = let P : Option (List ℕ) → Type 0 = λ o. Consumes o c.new.bytes came in subst P h.is_text gave
 
     go : (f' : Fault) → IsFaultFed records depths came c f' → ⊥
-    go (Text t) x = no_fault_then records depths w came c c.new.bytes (Text t) h.fits h.well_nested refl gave' x.0
-    go (Nest n) x = no_fault_then records depths w came c c.new.bytes (Nest n) h.fits h.well_nested refl gave' x.0
+    go (Text t) x = no_fault_then records depths h.version w came c c.new.bytes (Text t) h.fits h.well_nested refl gave' x.0
+    go (Nest n) x = no_fault_then records depths h.version w came c c.new.bytes (Nest n) h.fits h.well_nested refl gave' x.0
     go Read x = h.never_failed x.1
     go NoMemory x = x
     go NoThread x = x

@@ -1,7 +1,8 @@
 -- What each step of a feed leaves of `HasFed`, and that the fault that it meets is the first.
-use Rattle.std.proofs.Common.{◌≡◌, ℕ, ◌+◌, ◌-◌, ◌≤◌, Bool, true, false, List, [], ◌∷◌, ◌++◌, length, take, drop, Option, Some, None, arith, refl, sym, ◌∙◌, ap, subst, append_assoc, length-append}
+use Rattle.std.proofs.Common.{◌≡◌, ℕ, ◌+◌, ◌-◌, ◌≤◌, List, [], ◌∷◌, ◌++◌, length, take, drop, Option, Some, None, arith, refl, sym, ◌∙◌, ap, subst, append_assoc, length-append}
 use Rattle.std.specs.Io.KnownBytes.{Consumes}
 use Rattle.std.proofs.lemmas.List.{append-nil, take-append-drop, drop-take, drop-drop}
+use Rattle.trace.specs.declared.records.Version.{Version}
 use Rattle.trace.specs.declared.records.Record.{Record}
 use Rattle.trace.specs.declared.faults.TextFault.{TextFault}
 use Rattle.trace.specs.declared.faults.NestFault.{NestFault}
@@ -12,7 +13,7 @@ use Rattle.trace.specs.declared.faults.Fault.TheVariants.{Text, Nest}
 use Rattle.trace.specs.Text.{Fits, line, text}
 use Rattle.trace.specs.Faults.{HasEnded, IsMisplaced, AreNested, IsBadLine, IsBadPlace, bad_place, IsTruncated, IsFirstFault, IsFaultOfAll, truncated, unfinished}
 use Rattle.trace.specs.Faults as faults
-use Rattle.trace.specs.Reading.{Reading, AreBytes, HasRead}
+use Rattle.trace.specs.Reading.{Reading, AreBytes, AllFitIn, AreText, HasRead}
 use Rattle.trace.specs.Nesting.{Nesting, HasNested}
 use Rattle.trace.specs.Devices.{Device, ◌⇝◌, Gave}
 use Rattle.trace.specs.Feeding.{Feeding, before_all, HasUsed, HasFed}
@@ -37,30 +38,30 @@ fed_more w bytes came s h =
 
 -- bytes that a reader has used without a fault, whose records are not misplaced, hold no first fault
 pub no_fault_yet : (w : List Record) (bytes : List ℕ) (s : Reading) (n : Nesting) → HasRead w bytes s → HasNested w n → (g : Fault) → IsFirstFault s.limit n.max_depth bytes g → ⊥
-no_fault_yet w bytes s n h k g fault = go s.begun h.bytes_are
+no_fault_yet w bytes s n h k g fault = go s.version h.bytes_are h.fits
   where
-    go : (b : Bool) → AreBytes b w s.rest bytes → ⊥
-    go true e = let P : List ℕ → Type 0 = λ x. IsFirstFault s.limit n.max_depth x g in no_first_fault s.limit n.max_depth w s.rest g h.fits h.within k.nested h.unfinished (subst P e fault)
-    go false e = let P : List ℕ → Type 0 = λ x. IsFirstFault s.limit n.max_depth x g in no_first_fault_first s.limit n.max_depth s.rest g h.unfinished (subst P e.1 fault)
+    go : (o : Option Version) → AreBytes o w s.rest bytes → AllFitIn o w → ⊥
+    go (Some v) e fit = let P : List ℕ → Type 0 = λ x. IsFirstFault s.limit n.max_depth x g in no_first_fault s.limit n.max_depth v w s.rest g fit h.within k.nested h.unfinished (subst P e fault)
+    go None e fit = let P : List ℕ → Type 0 = λ x. IsFirstFault s.limit n.max_depth x g in no_first_fault_first s.limit n.max_depth s.rest g h.unfinished (subst P e.1 fault)
 
 place_from_one : (depths : ℕ) (bytes : List ℕ) (n : NestFault) → IsBadPlace depths bytes n → 1 ≤ n.place
-place_from_one depths bytes n (bad_place u r more k a b c d e) = omega arith
+place_from_one depths bytes n (bad_place v u r more k a b c d e) = omega arith
 
 -- a bad line that is the next of the reader's is the first fault
 pub first_line_fault : (w : List Record) (bytes : List ℕ) (s : Feeding) → HasUsed w bytes s → HasNested w s.nesting → (f : TextFault) → IsBadLine s.reading.limit bytes f → f.line ≤ length w + 2 → IsFirstFault s.reading.limit s.nesting.max_depth bytes (Text f)
-first_line_fault w bytes s u k f bad le = faults.bad_line f bad (λ n p. after n p s.reading.begun u.has_read.bytes_are)
+first_line_fault w bytes s u k f bad le = faults.bad_line f bad (λ n p. after n p s.reading.version u.has_read.bytes_are u.has_read.fits)
   where
-    after : (n : NestFault) → IsBadPlace s.nesting.max_depth bytes n → (b : Bool) → AreBytes b w s.reading.rest u.used → f.line ≤ n.place + 1
-    after n p true e =
+    after : (n : NestFault) → IsBadPlace s.nesting.max_depth bytes n → (o : Option Version) → AreBytes o w s.reading.rest u.used → AllFitIn o w → f.line ≤ n.place + 1
+    after n p (Some v) e fit =
         let P : List ℕ → Type 0 = λ x. IsBadPlace s.nesting.max_depth x n in
-        let is : bytes ≡ text w ++ (s.reading.rest ++ s.coming) = u.bytes_are ∙ ap (λ x. x ++ s.coming) e ∙ append_assoc (text w) _ _ in
-        omega (arith, le, bad_place_after s.nesting.max_depth w (s.reading.rest ++ s.coming) n u.has_read.fits k.nested (subst P is p))
-    after n p false e = let none : length w ≡ 0 = ap length e.0 in omega (arith, le, place_from_one _ _ n p)
+        let is : bytes ≡ text v w ++ (s.reading.rest ++ s.coming) = u.bytes_are ∙ ap (λ x. x ++ s.coming) e ∙ append_assoc (text v w) _ _ in
+        omega (arith, le, bad_place_after s.nesting.max_depth v w (s.reading.rest ++ s.coming) n fit k.nested (subst P is p))
+    after n p None e fit = let none : length w ≡ 0 = ap length e.0 in omega (arith, le, place_from_one _ _ n p)
 
 -- a record that is misplaced behind the records before it is the first fault
 pub first_place_fault : (w : List Record) (r : Record) (bytes : List ℕ) (s : Feeding) → HasUsed (w ++ r ∷ []) bytes s → HasNested w s.nesting → (k : NestKind) → IsMisplaced s.nesting.max_depth w r k
     → IsFirstFault s.reading.limit s.nesting.max_depth bytes (Nest (record { place = length w + 1; kind = k }))
-first_place_fault w r bytes s u nested k misplaced = go s.reading.begun u.has_read.bytes_are
+first_place_fault w r bytes s u nested k misplaced = go s.reading.version u.has_read.bytes_are u.has_read.fits
   where
     fault : NestFault
     fault = record { place = length w + 1; kind = k }
@@ -68,23 +69,27 @@ first_place_fault w r bytes s u nested k misplaced = go s.reading.begun u.has_re
     rest : List ℕ
     rest = s.reading.rest ++ s.coming
 
-    go : (b : Bool) → AreBytes b (w ++ r ∷ []) s.reading.rest u.used → IsFirstFault s.reading.limit s.nesting.max_depth bytes (Nest (record { place = length w + 1; kind = k }))
-    go false e = absurd (let n : length (w ++ r ∷ []) ≡ 0 = ap length e.0 in omega (arith, length-append w (r ∷ [])))
-    go true e =
-        let whole : bytes ≡ text (w ++ r ∷ []) ++ (s.reading.rest ++ s.coming) = u.bytes_are ∙ ap (λ x. x ++ s.coming) e ∙ append_assoc (text (w ++ r ∷ [])) _ _ in
-        let split : bytes ≡ text w ++ (line r ++ (s.reading.rest ++ s.coming)) = whole ∙ ap (λ x. x ++ (s.reading.rest ++ s.coming)) (text-push w r) ∙ append_assoc (text w) (line r) _ in
+    go : (o : Option Version) → AreBytes o (w ++ r ∷ []) s.reading.rest u.used → AllFitIn o (w ++ r ∷ []) → IsFirstFault s.reading.limit s.nesting.max_depth bytes (Nest (record { place = length w + 1; kind = k }))
+    go None e fit = absurd (let n : length (w ++ r ∷ []) ≡ 0 = ap length e.0 in omega (arith, length-append w (r ∷ [])))
+    go (Some v) e fit =
+        let whole : bytes ≡ text v (w ++ r ∷ []) ++ (s.reading.rest ++ s.coming) = u.bytes_are ∙ ap (λ x. x ++ s.coming) e ∙ append_assoc (text v (w ++ r ∷ [])) _ _ in
+        let split : bytes ≡ text v w ++ (line r ++ (s.reading.rest ++ s.coming)) = whole ∙ ap (λ x. x ++ (s.reading.rest ++ s.coming)) (text-push v w r) ∙ append_assoc (text v w) (line r) _ in
         let P : TextFault → List ℕ → Type 0 = λ f x. IsBadLine s.reading.limit x f in
-        faults.bad_place (record { place = length w + 1; kind = k }) (bad_place w r _ k (all-front Fits w (r ∷ []) u.has_read.fits) (all-last Fits w r u.has_read.fits) split nested.nested misplaced)
-        (λ f bad. omega (arith, length-append w (r ∷ []), bad_line_after s.reading.limit (w ++ r ∷ []) (s.reading.rest ++ s.coming) f u.has_read.fits u.has_read.within (subst (P f) whole bad)))
+        faults.bad_place (record { place = length w + 1; kind = k }) (bad_place v w r _ k (all-front (Fits v) w (r ∷ []) fit) (all-last (Fits v) w r fit) split nested.nested misplaced)
+        (λ f bad. omega (arith, length-append w (r ∷ []), bad_line_after s.reading.limit v (w ++ r ∷ []) (s.reading.rest ++ s.coming) f fit u.has_read.within (subst (P f) whole bad)))
 
 -- at the end of the bytes
 pub fault_of_rest : (w : List Record) (bytes : List ℕ) (s : Reading) (n : Nesting) → HasRead w bytes s → HasNested w n → (f : TextFault) → IsTruncated s.limit bytes f → IsFaultOfAll s.limit n.max_depth bytes (Text f)
 fault_of_rest w bytes s n h k f t = truncated f t (no_fault_yet w bytes s n h k)
 
-pub fault_of_end : (w : List Record) (bytes : List ℕ) (s : Reading) (n : Nesting) → HasRead w bytes s → HasNested w n → bytes ≡ text w → (HasEnded w → ⊥) → IsFaultOfAll s.limit n.max_depth bytes (Nest (record { place = n.count + 1; kind = Unfinished }))
+pub fault_of_end : (w : List Record) (bytes : List ℕ) (s : Reading) (n : Nesting) → HasRead w bytes s → HasNested w n → AreText s.version w bytes → (HasEnded w → ⊥) → IsFaultOfAll s.limit n.max_depth bytes (Nest (record { place = n.count + 1; kind = Unfinished }))
 fault_of_end w bytes s n h k e running =
     let P : ℕ → Type 0 = λ c. IsFaultOfAll s.limit n.max_depth bytes (Nest (record { place = c + 1; kind = Unfinished })) in
-    subst P (sym k.count_is) (unfinished w h.fits h.within e k.nested running)
+    subst P (sym k.count_is) (go s.version e h.fits)
+  where
+    go : (o : Option Version) → AreText o w bytes → AllFitIn o w → IsFaultOfAll s.limit n.max_depth bytes (Nest (record { place = length w + 1; kind = Unfinished }))
+    go (Some v) is fit = unfinished v w fit h.within is k.nested running
+    go None is fit = absurd is
 
 -- nothing comes
 pub consumes_none : (o : Option (List ℕ)) → Consumes o o []
@@ -151,7 +156,7 @@ fed_none records depths =
       has_used = record {
         used = [];
         bytes_are = refl;
-        has_read = record { bytes_are = (refl, refl); fits = tt; unfinished = open_nil; count_is = refl; within = omega arith; no_fault = refl };
+        has_read = record { bytes_are = (refl, refl); fits = refl; unfinished = open_nil; count_is = refl; within = omega arith; no_fault = refl };
       };
       has_nested = nested_none depths;
       running = refl;

@@ -9,6 +9,7 @@ pub mod Feedings
 pub mod Readability
 pub mod World
 pub mod Traced
+pub mod Openers
 pub mod Paths
 pub mod Standing
 pub mod Meetings

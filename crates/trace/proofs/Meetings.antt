@@ -1,15 +1,15 @@
 -- Two accesses are parallel exactly where their meeting procedure has them in one block: the first in a
 -- child that it spawned, and no sync of its own from there to the second one's stand.
-use Rattle.std.proofs.Common.{◌≡◌, ℕ, zero, suc, ◌+◌, ◌<◌, ◌≤◌, ◌↔◌, Bool, true, false, ◌&&◌, ltb, eqb, List, Option, Some, None, ◌⊎◌, inl, inr, refl, sym, subst, ap, arith}
-use Rattle.std.proofs.lemmas.Bool.{cases_lt, cases_eq, cases_order, and_parts, lt-ltb, eq-eqb, eqb-true}
+use Rattle.std.proofs.Common.{◌≡◌, ℕ, zero, suc, ◌+◌, ◌<◌, ◌≤◌, ◌↔◌, Bool, true, false, ◌&&◌, ltb, eqb, List, Option, Some, None, ◌⊎◌, inl, inr, refl, sym, ◌∙◌, subst, ap, arith}
+use Rattle.std.proofs.lemmas.Bool.{cases_lt, cases_eq, cases_order, and_parts, lt-ltb, eq-eqb, eqb-true, both_ways}
 use Rattle.trace.specs.declared.records.Record.{Record}
-use Rattle.trace.specs.declared.records.Record.TheVariants.{Spawn, Return, Sync, Read, Write}
+use Rattle.trace.specs.declared.records.Record.TheVariants.{Spawn, Call, Return, Sync, Read, Write}
 use Rattle.trace.specs.Traces.{at, depth, IsPlace, IsWellNested}
 use Rattle.trace.specs.Dag.{JoinsAt, IsParallel}
 use Rattle.trace.specs.Races.{IsAccessPlace}
-use Rattle.trace.specs.Meeting.{level, Holds, IsMeeting, IsChild, IsStand, itself, in_child, is_sync, one_if, block, InOneBlock, ExactlyOne}
-use Rattle.trace.proofs.World.{joins, returns, Pending, last_below, LastBelow, up, rises_opens, falls, leaves_by, spawned-returns}
-use Rattle.trace.proofs.Traced.{traced, shape_of, shape_at, shape-spawn, shape-return, shape-joins}
+use Rattle.trace.specs.Meeting.{level, Opens, Holds, IsMeeting, IsChild, IsStand, itself, in_child, is_sync, one_if, block, InOneBlock, ExactlyOne}
+use Rattle.trace.proofs.World.{returns, Pending, last_below, LastBelow, up, rises_opens, falls, leaves_by, spawned-returns}
+use Rattle.trace.proofs.Traced.{traced, shape_at, opener_of, opener-is, call-is_call, shape-opens, shape-return, shape-joins, shape-spawned, returns-shape, joins-shape, spawned_shape}
 use Rattle.trace.proofs.Paths.{pending-parallel, parallel-pending, access-place, access-not_joins}
 
 -- procedures
@@ -18,13 +18,22 @@ pub level-at : (w : List Record) (f : ℕ) → 1 ≤ f → level w f ≡ suc (de
 level-at w zero a = absurd (omega arith)
 level-at w (suc f) a = refl
 
-pub holds_from : (w : List Record) (f i : ℕ) → at w f ≡ Some Spawn → f < i → ((k : ℕ) → f < k → k ≤ i → suc (depth w f) ≤ depth w k) → Holds w f i
-holds_from w zero i s a h = absurd (cc)
+no_opener : (w : List Record) → Opens (at w 0) → ⊥
+no_opener w (inl e) = cc
+no_opener w (inr e) = cc
+
+-- no sync opens a procedure
+pub opens-no_sync : (o : Option Record) → Opens o → o ≡ Some Sync → ⊥
+opens-no_sync o (inl e) s = cc
+opens-no_sync o (inr e) s = cc
+
+pub holds_from : (w : List Record) (f i : ℕ) → Opens (at w f) → f < i → ((k : ℕ) → f < k → k ≤ i → suc (depth w f) ≤ depth w k) → Holds w f i
+holds_from w zero i s a h = absurd (no_opener w s)
 holds_from w (suc f) i s a h = record { opener = s; after = a; inside = h }
 
--- at a spawn, the places of the child are deeper
-pub holds-deeper : (w : List Record) (f i : ℕ) → at w f ≡ Some Spawn → Holds w f i → (k : ℕ) → f < k → k ≤ i → suc (depth w f) ≤ depth w k
-holds-deeper w zero i s h k x y = absurd (cc)
+-- where a procedure is opened, its places are deeper
+pub holds-deeper : (w : List Record) (f i : ℕ) → Opens (at w f) → Holds w f i → (k : ℕ) → f < k → k ≤ i → suc (depth w f) ≤ depth w k
+holds-deeper w zero i s h k x y = absurd (no_opener w s)
 holds-deeper w (suc f) i s h k x y = h.inside k x y
 
 pub holds-shorter : (w : List Record) (f i j : ℕ) → f < i → i ≤ j → Holds w f j → Holds w f i
@@ -34,7 +43,7 @@ holds-shorter w f i j a b h = record { opener = h.opener; after = a; inside = λ
 pub record Opened (w : List Record) (d i o : ℕ) : Type 0 where
   pub from : 1 ≤ o
   pub before : o < i
-  pub a_spawn : at w o ≡ Some Spawn
+  pub opens : Opens (at w o)
   pub on : depth w o ≡ d
   pub inside : (k : ℕ) → o < k → k ≤ i → suc d ≤ depth w k
 
@@ -47,7 +56,7 @@ opened_by w h d i o p l b =
     record {
       from = b.since;
       before = x;
-      a_spawn = shape-spawn (at w o) (rises_opens (traced w h) o b.since (omega (arith, p.1)) (omega arith));
+      opens = shape-opens _ (at w o) (rises_opens (traced w h) o b.since (omega (arith, p.1)) (omega arith));
       on = omega arith;
       inside = b.after;
     }
@@ -65,7 +74,7 @@ opened_at w h d i p l = elim (last_below (traced w h) (suc d) 1 i p.0) [
     not_first e = omega arith
 
 pub opened-holds : (w : List Record) (d i o : ℕ) → Opened w d i o → Holds w o i
-opened-holds w d i o b = holds_from w o i b.a_spawn b.before (λ k x y. omega (arith, b.inside k x y, b.on))
+opened-holds w d i o b = holds_from w o i b.opens b.before (λ k x y. omega (arith, b.inside k x y, b.on))
 
 -- what is opened on m's own level lies in m
 pub opened_below : (w : List Record) (o m i : ℕ) → Opened w (level w m) i o → Holds w m i → m < o
@@ -81,7 +90,7 @@ opened_below w o (suc m) i b a = elim (cases_lt (suc m) o) [
 pub opened-child : (w : List Record) (o m i : ℕ) → Opened w (level w m) i o → Holds w m i → IsChild w m o
 opened-child w o m i b a = record {
   own = record { held = holds-shorter w m o i (opened_below w o m i b a) (omega (arith, b.before)) a; on_level = b.on };
-  a_spawn = b.a_spawn;
+  opens = b.opens;
 }
 
 -- a place stands in each procedure that holds it
@@ -143,7 +152,7 @@ least_of f i (suc j) a = elim (cases_eq i (suc j)) [
 
 -- over places that are no less deep
 opened_over : (w : List Record) (d i j o : ℕ) → Opened w d i o → i ≤ j → ((x : ℕ) → i ≤ x → x ≤ j → suc d ≤ depth w x) → Holds w o j
-opened_over w d i j o b l h = holds_from w o j b.a_spawn (omega (arith, b.before)) (λ x y z. elim (cases_lt i x) [
+opened_over w d i j o b l h = holds_from w o j b.opens (omega (arith, b.before)) (λ x y z. elim (cases_lt i x) [
   | inl t ↦ omega (arith, h x (omega arith) z, b.on)
   | inr t ↦ omega (arith, b.inside x y t, b.on)
 ])
@@ -186,6 +195,7 @@ own_sync w m k = ltb m k && (eqb (depth w k) (level w m) && is_sync (at w k))
 pub sync-is : (o : Option Record) → is_sync o ≡ true → o ≡ Some Sync
 sync-is None e = absurd (cc)
 sync-is (Some Spawn) e = absurd (cc)
+sync-is (Some Call) e = absurd (cc)
 sync-is (Some Return) e = absurd (cc)
 sync-is (Some Sync) e = refl
 sync-is (Some (Read l)) e = absurd (cc)
@@ -280,9 +290,9 @@ pending_level w h i j r m d p b x y a = between (upper d y) (lower d x)
 no_sync_between : (w : List Record) {n c : ℕ} (h : IsWellNested w n c) (i j r m s k : ℕ) → Pending (traced w h) i j r → depth w r ≡ suc (level w m) → Opened w (level w m) i s
     → s ≤ k → k ≤ j → OwnSync w m k → ⊥
 no_sync_between w h i j r m s k b x o y z q = elim (cases_eq s k) [
-  | inl e ↦ (let f : at w s ≡ at w k = ap (at w) e in let g : at w s ≡ Some Spawn = o.a_spawn in let u : at w k ≡ Some Sync = q.a_sync in cc)
+  | inl e ↦ opens-no_sync (at w s) o.opens (ap (at w) e ∙ q.a_sync)
   | inr n ↦ elim (cases_lt r k) [
-    | inl l ↦ b.unjoined k l z (omega (arith, q.on_level)) (ap (λ (t : Option Record). joins (shape_of t)) q.a_sync)
+    | inl l ↦ b.unjoined k l z (omega (arith, q.on_level)) (joins-shape _ (at w k) (inl q.a_sync))
     | inr l ↦ elim (cases_lt i k) [
       | inl t ↦ omega (arith, b.inside k (omega arith) l, q.on_level)
       | inr t ↦ omega (arith, o.inside k (omega arith) t, q.on_level)
@@ -293,7 +303,7 @@ no_sync_between w h i j r m s k b x o y z q = elim (cases_eq s k) [
 pub stand-after : (w : List Record) (m j e x : ℕ) → x ≤ j → depth w x ≡ level w m → IsStand w m j e → x ≤ e
 stand-after w m j e x a b (itself o) = a
 stand-after w m j e x a b (in_child c t) = elim (cases_lt e x) [
-  | inl l ↦ absurd (let f : suc (depth w e) ≤ depth w x = holds-deeper w e j c.a_spawn t x l a in omega (arith, c.own.on_level))
+  | inl l ↦ absurd (let f : suc (depth w e) ≤ depth w x = holds-deeper w e j c.opens t x l a in omega (arith, c.own.on_level))
   | inr l ↦ l
 ]
 
@@ -301,12 +311,31 @@ pub stand-le : (w : List Record) (m j e : ℕ) → IsStand w m j e → e ≤ j
 stand-le w m j e (itself o) = omega arith
 stand-le w m j e (in_child c t) = omega (arith, t.after)
 
+-- the child that holds i and is closed at r is opened where r's procedure is
+opened-is : (w : List Record) (m i r s : ℕ) → i ≤ r → depth w r ≡ suc (level w m) → ((k : ℕ) → i ≤ k → k ≤ r → depth w r ≤ depth w k) → Opened w (level w m) i s → opener_of w r ≡ s
+opened-is w m i r s l x inside o =
+    opener-is w s r (record {
+      before = omega (arith, o.before);
+      above = omega (arith, o.on);
+      last = λ k u v e. elim (cases_lt i k) [
+        | inl t ↦ omega (arith, inside k (omega arith) (omega arith), o.on)
+        | inr t ↦ omega (arith, o.inside k u t, o.on)
+      ];
+    })
+
+spawned_opener : (w : List Record) {n c : ℕ} (h : IsWellNested w n c) (i j r m s : ℕ) → Pending (traced w h) i j r → depth w r ≡ suc (level w m) → Opened w (level w m) i s → at w s ≡ Some Spawn
+spawned_opener w h i j r m s b x o = elim o.opens [
+  | inl e ↦ e
+  | inr e ↦ absurd (both_ways _ (shape-spawned _ (at w r) b.a_return) (call-is_call (at w (opener_of w r)) (ap (at w) (opened-is w m i r s b.since x b.inside o) ∙ e)))
+]
+
 pending_block : (w : List Record) {n c : ℕ} (h : IsWellNested w n c) (i j r m s e : ℕ) → Pending (traced w h) i j r → depth w r ≡ suc (level w m) → depth w (suc r) ≡ level w m
     → IsMeeting w i j m → Opened w (level w m) i s → IsStand w m j e → InOneBlock w m i j
 pending_block w h i j r m s e b x y a o t = record {
   spawned_at = s;
   stand = e;
   child = opened-child w s m i o a.first;
+  a_spawn = spawned_opener w h i j r m s b x o;
   inside = opened-holds w (level w m) i s o;
   of_second = t;
   one_block = block_same w m s e (omega (arith, stand-after w m j e (suc r) b.before y t, o.before, b.since))
@@ -369,10 +398,10 @@ first_below f m i (suc j) a = elim (cases_eq i (suc j)) [
 pub before-stand : (w : List Record) (m j e k : ℕ) → k < j → OwnSync w m k → IsStand w m j e → k < e
 before-stand w m j e k a o (itself q) = a
 before-stand w m j e k a o (in_child c t) = elim (cases_order k e) [
-  | inl q ↦ absurd (let f : at w k ≡ at w e = ap (at w) q in let g : at w e ≡ Some Spawn = c.a_spawn in let u : at w k ≡ Some Sync = o.a_sync in cc)
+  | inl q ↦ absurd (opens-no_sync (at w e) c.opens (sym (ap (at w) q) ∙ o.a_sync))
   | inr q ↦ elim q [
     | inl l ↦ l
-    | inr l ↦ absurd (let f : suc (depth w e) ≤ depth w k = holds-deeper w e j c.a_spawn t k l (omega arith) in omega (arith, c.own.on_level, o.on_level))
+    | inr l ↦ absurd (let f : suc (depth w e) ≤ depth w k = holds-deeper w e j c.opens t k l (omega arith) in omega (arith, c.own.on_level, o.on_level))
   ]
 ]
 
@@ -390,22 +419,30 @@ not_joined w h i j m k p n a b x y e t = elim (cases_eq k j) [
         block_less w m b.spawned_at k b.stand (omega (arith, b.inside.after)) (before-stand w m j b.stand k l o b.of_second)
         (is_own_sync w m k (omega (arith, a.first.after)) e s) b.one_block
     before l (inr s) =
-        let f : depth w k ≡ suc (depth w (suc k)) = leaves_by (traced w h) k (omega arith) (omega (arith, p.1)) (ap (λ (z : Option Record). returns (shape_of z)) s) in
+        let f : depth w k ≡ suc (depth w (suc k)) = leaves_by (traced w h) k (omega arith) (omega (arith, p.1)) (returns-shape _ (at w k) s) in
         omega (arith, a.second.inside (suc k) (omega (arith, a.first.after)) l)
 
 left_at : (w : List Record) {n c : ℕ} (h : IsWellNested w n c) (i j m r : ℕ) → IsPlace w i → IsPlace w j → (JoinsAt w j → ⊥) → IsMeeting w i j m → (b : InOneBlock w m i j)
     → i ≤ r → suc r ≤ j → depth w (suc r) < suc (level w m) → ((k : ℕ) → i ≤ k → k ≤ r → suc (level w m) ≤ depth w k) → Pending (traced w h) i j r
 left_at w h i j m r p q n a b x y l deep =
     let u : suc (level w m) ≤ depth w r = deep r x (omega arith) in
+    let o : Opened w (level w m) i b.spawned_at = record {
+      from = omega (arith, b.child.own.held.after);
+      before = b.inside.after;
+      opens = b.child.opens;
+      on = b.child.own.on_level;
+      inside = λ k c d. omega (arith, holds-deeper w b.spawned_at i b.child.opens b.inside k c d, b.child.own.on_level);
+    } in
     let s : returns (shape_at w r) ≡ true = falls (traced w h) r (omega (arith, p.0)) (omega (arith, q.1)) (omega arith) in
     let f : depth w r ≡ suc (depth w (suc r)) = leaves_by (traced w h) r (omega (arith, p.0)) (omega (arith, q.1)) s in
     record {
       since = x;
       before = y;
-      a_return = ap shape_of (shape-return (at w r) s);
+      a_return = spawned_shape w r (shape-return _ (at w r) s)
+          (ap (at w) (opened-is w m i r b.spawned_at x (omega (arith, a.second.inside (suc r) (omega (arith, a.first.after)) y)) (λ k c d. omega (arith, deep k c d, f, l)) o) ∙ b.a_spawn);
       inside = λ k c d. omega (arith, deep k c d);
       held = λ k c d. omega (arith, a.second.inside k (omega (arith, a.first.after)) d);
-      unjoined = λ k c d e t. not_joined w h i j m k q n a b (omega arith) d (omega arith) (shape-joins (at w k) t);
+      unjoined = λ k c d e t. not_joined w h i j m k q n a b (omega arith) d (omega arith) (shape-joins _ (at w k) t);
     }
 
 block_parallel : (w : List Record) {n c : ℕ} → IsWellNested w n c → (i j m : ℕ) → IsPlace w i → IsPlace w j → (JoinsAt w j → ⊥) → i < j → IsMeeting w i j m → InOneBlock w m i j → IsParallel w i j
@@ -415,11 +452,11 @@ block_parallel w h i j m p q n l a b = elim (first_below (depth w) (suc (level w
 ]
   where
     inner : (k : ℕ) → b.spawned_at < k → k ≤ i → suc (level w m) ≤ depth w k
-    inner k x y = omega (arith, holds-deeper w b.spawned_at i b.child.a_spawn b.inside k x y, b.child.own.on_level)
+    inner k x y = omega (arith, holds-deeper w b.spawned_at i b.child.opens b.inside k x y, b.child.own.on_level)
 
     too_deep : ((k : ℕ) → i ≤ k → k ≤ j → suc (level w m) ≤ depth w k) → ⊥
     too_deep all =
-        let over : Holds w b.spawned_at j = holds_from w b.spawned_at j b.child.a_spawn (omega (arith, b.inside.after)) (λ k x y. elim (cases_lt i k) [
+        let over : Holds w b.spawned_at j = holds_from w b.spawned_at j b.child.opens (omega (arith, b.inside.after)) (λ k x y. elim (cases_lt i k) [
           | inl t ↦ omega (arith, all k (omega arith) y, b.child.own.on_level)
           | inr t ↦ omega (arith, inner k x t, b.child.own.on_level)
         ]) in

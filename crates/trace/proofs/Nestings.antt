@@ -1,11 +1,11 @@
 -- What each step of a nest leaves of `HasNested`, and what its end tells.
-use Rattle.std.proofs.Common.{◌≡◌, ◌≢◌, ℕ, zero, suc, ◌+◌, ◌-◌, ◌<◌, ◌≤◌, Bool, true, false, IsTrue, List, [], ◌∷◌, ◌++◌, length, ◌⊎◌, inl, inr, ⊎_elim, arith, refl, sym, ◌∙◌, subst, length-append, ◌↔◌}
+use Rattle.std.proofs.Common.{◌≡◌, ◌≢◌, ℕ, zero, suc, ◌+◌, ◌-◌, ◌<◌, ◌≤◌, Bool, true, false, IsTrue, List, [], ◌∷◌, ◌++◌, length, ◌⊎◌, inl, inr, ⊎_elim, arith, refl, sym, ap, ◌∙◌, subst, length-append, ◌↔◌}
 use native.Mathlib.Decide.{dec_le}
 use Rattle.std.specs.List.{sum_by}
 use Rattle.std.proofs.lemmas.Bool.{false≢true}
 use Rattle.std.proofs.lemmas.List.Sums.{sum_by-append}
 use Rattle.trace.specs.declared.records.Record.{Record}
-use Rattle.trace.specs.declared.records.Record.TheVariants.{Spawn, Return, Sync, Read, Write}
+use Rattle.trace.specs.declared.records.Record.TheVariants.{Spawn, Call, Return, Sync, Read, Write}
 use Rattle.trace.specs.declared.faults.NestKind.{NestKind}
 use Rattle.trace.specs.declared.faults.NestKind.TheVariants.{AfterEnd, TooDeep, Unfinished}
 use Rattle.trace.specs.Traces.{depth, opens, closes, IsPlace, IsRootReturn, IsWellNested}
@@ -22,6 +22,7 @@ balanced d (next {u} {r} before placed) running =
   where
     go : (r' : Record) → sum_by closes u ≤ sum_by opens u → (HasEnded (u ++ r' ∷ []) → ⊥) → sum_by closes (u ++ r' ∷ []) ≤ sum_by opens (u ++ r' ∷ [])
     go Spawn le run = omega (arith, sum_by-append closes u (Spawn ∷ []), sum_by-append opens u (Spawn ∷ []))
+    go Call le run = omega (arith, sum_by-append closes u (Call ∷ []), sum_by-append opens u (Call ∷ []))
     go Sync le run = omega (arith, sum_by-append closes u (Sync ∷ []), sum_by-append opens u (Sync ∷ []))
     go (Read l) le run = omega (arith, sum_by-append closes u (Read l ∷ []), sum_by-append opens u (Read l ∷ []))
     go (Write l) le run = omega (arith, sum_by-append closes u (Write l ∷ []), sum_by-append opens u (Write l ∷ []))
@@ -46,6 +47,11 @@ depth_after d {u} nested Spawn fine below = go (dec_le d (depth u (suc (length u
     go : Dec (d ≤ depth u (suc (length u))) → depth (u ++ Spawn ∷ []) (suc (length (u ++ Spawn ∷ []))) ≤ d
     go (yes full) = absurd (fine TooDeep (too_deep (running_before d u Spawn fine) refl full))
     go (no room) = omega (arith, depth-pushed u Spawn, depth-next u, balanced d nested (running_before d u Spawn fine))
+depth_after d {u} nested Call fine below = go (dec_le d (depth u (suc (length u))))
+  where
+    go : Dec (d ≤ depth u (suc (length u))) → depth (u ++ Call ∷ []) (suc (length (u ++ Call ∷ []))) ≤ d
+    go (yes full) = absurd (fine TooDeep (too_deep (running_before d u Call fine) refl full))
+    go (no room) = omega (arith, depth-pushed u Call, depth-next u, balanced d nested (running_before d u Call fine))
 depth_after d {u} nested Return fine below = omega (arith, depth-pushed u Return, depth-next u)
 depth_after d {u} nested Sync fine below = omega (arith, depth-pushed u Sync, depth-next u)
 depth_after d {u} nested (Read l) fine below = omega (arith, depth-pushed u (Read l), depth-next u)
@@ -72,6 +78,18 @@ from_one u (suc j) e = omega arith
 pub nested_none : (d : ℕ) → HasNested [] (record { max_depth = d; count = 0; depth = 0; ended = false })
 nested_none d = record { nested = none; count_is = refl; depth_is = refl; ended_is = (λ e. absurd (false≢true e), λ e. absurd (omega (arith, e.1))) }
 
+opens_one : (r : Record) → (r ≡ Spawn) ⊎ (r ≡ Call) → opens r ≡ 1
+opens_one r (inl e) = ap opens e
+opens_one r (inr e) = ap opens e
+
+closes_zero : (r : Record) → (r ≡ Spawn) ⊎ (r ≡ Call) → closes r ≡ 0
+closes_zero r (inl e) = ap closes e
+closes_zero r (inr e) = ap closes e
+
+no_return : (r : Record) → (r ≡ Spawn) ⊎ (r ≡ Call) → r ≡ Return → ⊥
+no_return r (inl e) f = cc
+no_return r (inr e) f = cc
+
 module _ (u : List Record) (n : Nesting) (h : HasNested u n) where
   pub misplaced_after_end : n.ended ≡ true → (r : Record) → IsMisplaced n.max_depth u r AfterEnd
   misplaced_after_end ended r = after_end (h.ended_is.0 ended)
@@ -79,8 +97,8 @@ module _ (u : List Record) (n : Nesting) (h : HasNested u n) where
   running : n.ended ≡ false → HasEnded u → ⊥
   running open_yet e = false≢true (sym open_yet ∙ h.ended_is.1 e)
 
-  pub misplaced_deep : n.ended ≡ false → n.max_depth ≤ n.depth → IsMisplaced n.max_depth u Spawn TooDeep
-  misplaced_deep open_yet full = too_deep (running open_yet) refl (omega (arith, h.depth_is))
+  pub misplaced_deep : n.ended ≡ false → n.max_depth ≤ n.depth → (r : Record) → (r ≡ Spawn) ⊎ (r ≡ Call) → IsMisplaced n.max_depth u r TooDeep
+  misplaced_deep open_yet full r kind = too_deep (running open_yet) (opens_one r kind) (omega (arith, h.depth_is))
 
   -- one more record, which isn't misplaced
   accepted : n.ended ≡ false → (r : Record) → ((k : NestKind) → IsMisplaced n.max_depth u r k → ⊥) → (deep : ℕ) (ended : Bool) → deep ≡ (n.depth + opens r) - closes r → (IsTrue ended ↔ ((r ≡ Return) × (n.depth ≡ 0)))
@@ -104,10 +122,14 @@ module _ (u : List Record) (n : Nesting) (h : HasNested u n) where
   not_deep r flat open_yet TooDeep (too_deep run opening full) = absurd (omega arith)
   not_deep r flat open_yet Unfinished none_such = elim none_such [ ]
 
-  pub accepted_spawn : n.ended ≡ false → n.depth < n.max_depth → HasNested (u ++ Spawn ∷ []) (record { max_depth = n.max_depth; count = n.count + 1; depth = n.depth + 1; ended = false })
-  accepted_spawn open_yet room = accepted open_yet Spawn fine (n.depth + 1) false (omega arith) (λ t. absurd (false≢true t), λ e. absurd (let z : Spawn ≡ Return = e.0 in cc))
+  -- a spawn or a call
+  pub accepted_opener : n.ended ≡ false → n.depth < n.max_depth → (r : Record) → (r ≡ Spawn) ⊎ (r ≡ Call) → HasNested (u ++ r ∷ []) (record { max_depth = n.max_depth; count = n.count + 1; depth = n.depth + 1; ended = false })
+  accepted_opener open_yet room r kind =
+      let one : opens r ≡ 1 = opens_one r kind in
+      let none : closes r ≡ 0 = closes_zero r kind in
+      accepted open_yet r fine (n.depth + 1) false (omega arith) (λ t. absurd (false≢true t), λ e. absurd (no_return r kind e.0))
     where
-      fine : (k : NestKind) → IsMisplaced n.max_depth u Spawn k → ⊥
+      fine : (k : NestKind) → IsMisplaced n.max_depth u r k → ⊥
       fine AfterEnd (after_end e) = running open_yet e
       fine TooDeep (too_deep run opening full) = absurd (omega (arith, h.depth_is))
       fine Unfinished none_such = elim none_such [ ]
@@ -132,6 +154,9 @@ module _ (u : List Record) (n : Nesting) (h : HasNested u n) where
       go Spawn (inl e) = absurd (cc)
       go Spawn (inr (inl (l, e))) = absurd (cc)
       go Spawn (inr (inr (l, e))) = absurd (cc)
+      go Call (inl e) = absurd (cc)
+      go Call (inr (inl (l, e))) = absurd (cc)
+      go Call (inr (inr (l, e))) = absurd (cc)
       go Return (inl e) = absurd (cc)
       go Return (inr (inl (l, e))) = absurd (cc)
       go Return (inr (inr (l, e))) = absurd (cc)

@@ -1,14 +1,14 @@
 -- Paths of a well nested trace: where one leads and where two places are parallel, that parallel
 -- accesses are so through others, and the one way out of a procedure.
-use Rattle.std.proofs.Common.{◌≡◌, ℕ, zero, suc, ◌<◌, ◌≤◌, List, Option, Some, ◌⊎◌, inl, inr, ap, sym, arith}
+use Rattle.std.proofs.Common.{◌≡◌, ℕ, zero, suc, ◌<◌, ◌≤◌, List, Some, ◌⊎◌, inl, inr, sym, arith}
 use Rattle.trace.specs.declared.records.Record.{Record}
 use Rattle.trace.specs.Traces.{at, IsPlace, IsWellNested}
 use Rattle.trace.specs.Dag.{JoinsAt, Leads, IsParallel, IsInPart, OneWayOut}
 use Rattle.trace.specs.Races.{IsAccessPlace, access}
 use Rattle.trace.specs.declared.records.Kind.TheVariants.{Read, Write}
 use Rattle.std.proofs.lemmas.Option.{slice_get_within}
-use Rattle.trace.proofs.World.{Pending, Within, returns, decided, sound, not-reach, pending_through, pending_after, way_out, way_from}
-use Rattle.trace.proofs.Traced.{traced, shape_of, leads-reach, reach-leads, leads-le}
+use Rattle.trace.proofs.World.{Pending, Within, decided, sound, not-reach, pending_through, pending_after, way_out, way_from}
+use Rattle.trace.proofs.Traced.{traced, returns-shape, leads-reach, reach-leads, leads-le}
 
 -- a pending return makes two places parallel
 pub pending-parallel : (w : List Record) {n d : ℕ} (h : IsWellNested w n d) (i j r : ℕ) → IsPlace w i → IsPlace w j → i < j → Pending (traced w h) i j r → IsParallel w i j
@@ -72,7 +72,7 @@ parallel_after w h i j k l m a b c p q = parallel_places_after w h i j k l m (ac
 -- the one way out
 
 pub in_part-within : (w : List Record) {n d : ℕ} (h : IsWellNested w n d) (i r : ℕ) → IsInPart w i r → Within (traced w h) i r
-in_part-within w h i r p = record { upto = p.upto; a_return = ap (λ (x : Option Record). returns (shape_of x)) p.a_return; inside = p.inside }
+in_part-within w h i r p = record { upto = p.upto; a_return = returns-shape _ (at w r) p.a_return; inside = p.inside }
 
 pub one_way_out : (w : List Record) {n d : ℕ} → IsWellNested w n d → OneWayOut w
 one_way_out w h i r j a b p l = (

@@ -22,6 +22,7 @@ read_or_write w l i Write a = inr a
 same_record : (l : ℕ) (o : Option Record) → (o ≡ Some (records.Read l)) ⊎ (o ≡ Some (records.Read l) → ⊥)
 same_record l None = inr (λ e. cc)
 same_record l (Some records.Spawn) = inr (λ e. cc)
+same_record l (Some records.Call) = inr (λ e. cc)
 same_record l (Some records.Return) = inr (λ e. cc)
 same_record l (Some records.Sync) = inr (λ e. cc)
 same_record l (Some (records.Write m)) = inr (λ e. cc)

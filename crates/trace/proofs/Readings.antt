@@ -1,44 +1,69 @@
 -- The fault that a step of a reader finds.
-use Rattle.std.proofs.Common.{◌≡◌, ◌≢◌, ℕ, ◌+◌, ◌-◌, ◌<◌, ◌≤◌, Bool, true, false, List, [], ◌∷◌, ◌++◌, length, take, drop, get_or, Option, Some, None, IfSome, arith, sym, ◌∙◌, ap, subst, append_assoc, length-append}
+use Rattle.std.proofs.Common.{◌≡◌, ◌≢◌, ℕ, ◌+◌, ◌-◌, ◌<◌, ◌≤◌, List, [], ◌∷◌, ◌++◌, length, take, drop, get_or, Option, Some, None, IfSome, Bool, true, false, not, is_some, IsTrue, arith, refl, sym, ◌∙◌, ap, subst, append_assoc, length-append}
 use Rattle.std.specs.Option.{option_to_list}
 use Rattle.std.proofs.lemmas.List.{append-nil, take-append-drop, length-take}
+use Rattle.trace.specs.declared.records.Version.{Version}
 use Rattle.trace.specs.declared.records.Record.{Record}
 use Rattle.trace.specs.declared.faults.TextKind.TheVariants.{Header, Line, TooMany, Truncated}
-use Rattle.trace.specs.Text.{newline, header, spell, Fits, ended, line, text, IsUnended, IsOpen}
-use Rattle.trace.specs.Faults.{IsJudged, at_end, at_length, IsNoRecord, IsBadLine, bad_header, bad_line, too_many, IsTruncated, no_header, no_line_end}
-use Rattle.trace.specs.Reading.{Reading, AreBytes, HasRead, IsBetweenLines}
-use Rattle.trace.proofs.Texts.{length-spell, unended-append, split-ended}
+use Rattle.trace.specs.Text.{newline, header, spell, Fits, AllFit, ended, line, text, IsUnended, IsOpen}
+use Rattle.trace.specs.Faults.{IsJudged, at_end, at_length, IsNoHeader, IsNoRecord, IsBadLine, bad_header, bad_line, too_many, IsTruncated, no_header, no_line_end}
+use Rattle.trace.specs.Reading.{Reading, AreBytes, AllFitIn, AreText, HasRead, IsBetweenLines}
+use Rattle.trace.proofs.Texts.{length-spell, length-header, unended-append, split-ended}
 
-bytes_begun : (b : Bool) (w : List Record) (rest bytes : List ℕ) → b ≡ true → AreBytes b w rest bytes → bytes ≡ text w ++ rest
-bytes_begun true w rest bytes e h = h
-bytes_begun false w rest bytes e h = absurd (cc)
+bytes_begun : (o : Option Version) (v : Version) (w : List Record) (rest bytes : List ℕ) → o ≡ Some v → AreBytes o w rest bytes → bytes ≡ text v w ++ rest
+bytes_begun o v w rest bytes e h = let P : Option Version → Type 0 = λ x. AreBytes x w rest bytes in subst P e h
 
-bytes_first : (b : Bool) (w : List Record) (rest bytes : List ℕ) → b ≡ false → AreBytes b w rest bytes → (w ≡ []) × (bytes ≡ rest)
-bytes_first true w rest bytes e h = absurd (cc)
-bytes_first false w rest bytes e h = h
+fits_begun : (o : Option Version) (v : Version) (w : List Record) → o ≡ Some v → AllFitIn o w → AllFit v w
+fits_begun o v w e h = let P : Option Version → Type 0 = λ x. AllFitIn x w in subst P e h
+
+bytes_first : (o : Option Version) (w : List Record) (rest bytes : List ℕ) → o ≡ None → AreBytes o w rest bytes → (w ≡ []) × (bytes ≡ rest)
+bytes_first o w rest bytes e h = let P : Option Version → Type 0 = λ x. AreBytes x w rest bytes in subst P e h
+
+-- the version of a reader that has one
+pub some_version : (o : Option Version) → IsTrue (is_some o) → (v : Version) × (o ≡ Some v)
+some_version (Some v) e = (v, refl)
+some_version None e = absurd (cc)
+
+pub none_of : (o : Option Version) (b : Bool) → is_some o ≡ not b → b ≡ true → o ≡ None
+none_of None b e h = refl
+none_of (Some v) b e h = absurd (cc)
+
+pub some_of : (o : Option Version) (b : Bool) → is_some o ≡ not b → b ≡ false → IsTrue (is_some o)
+some_of o b e h = e ∙ ap not h
+
+pub ends_line : (o : Option Version) (w : List Record) (rest bytes : List ℕ) → IsTrue (is_some o) → rest ≡ [] → AreBytes o w rest bytes → AreText o w bytes
+ends_line (Some v) w rest bytes e nothing h = h ∙ ap (λ x. text v w ++ x) nothing ∙ append-nil _
+ends_line None w rest bytes e nothing h = absurd (cc)
 
 -- between two lines the bytes are the text of the records, that of the last one among them
-pub up_to_line_end : (w : List Record) (o : Option Record) (bytes : List ℕ) (s : Reading) → HasRead (w ++ option_to_list o) bytes s → IfSome o (λ _. IsBetweenLines s) → IfSome o (λ r. bytes ≡ text (w ++ r ∷ []))
+pub up_to_line_end : (w : List Record) (o : Option Record) (bytes : List ℕ) (s : Reading) → HasRead (w ++ option_to_list o) bytes s → IfSome o (λ _. IsBetweenLines s) → IfSome o (λ r. AreText s.version (w ++ r ∷ []) bytes)
 up_to_line_end w None bytes s h between = tt
 up_to_line_end w (Some r) bytes s h between =
-    bytes_begun s.begun (w ++ r ∷ []) s.rest bytes between.begun h.bytes_are ∙ ap (λ x. text (w ++ r ∷ []) ++ x) between.nothing_held ∙ append-nil _
+    ends_line s.version (w ++ r ∷ []) s.rest bytes between.begun between.nothing_held h.bytes_are
 
 pub open_nil : IsOpen []
 open_nil = record { unended = λ k d h. absurd (omega arith); short = omega arith }
 
 -- what a long line is: not the spelling of a record
-pub long_is_no_record : (body : List ℕ) → length body ≡ 27 → IsNoRecord body
-long_is_no_record body long r fits e = let n : length body ≡ length (spell r) = ap length e in absurd (omega (arith, length-spell r fits))
+pub long_is_no_record : (v : Version) (body : List ℕ) → length body ≡ 27 → IsNoRecord v body
+long_is_no_record v body long r fits e = let n : length body ≡ length (spell r) = ap length e in absurd (omega (arith, length-spell v r fits))
+
+-- and no header
+long_is_no_header : (body : List ℕ) → length body ≡ 27 → IsNoHeader body
+long_is_no_header body long v e = let n : length body ≡ length (header v) = ap length e in absurd (omega (arith, length-header v))
 
 module _ (w : List Record) (bytes : List ℕ) (s : Reading) (h : HasRead w bytes s) where
-  so_far : s.begun ≡ true → bytes ≡ text w ++ s.rest
-  so_far begun = bytes_begun s.begun w s.rest bytes begun h.bytes_are
+  pub so_far : (v : Version) → s.version ≡ Some v → bytes ≡ text v w ++ s.rest
+  so_far v begun = bytes_begun s.version v w s.rest bytes begun h.bytes_are
 
-  first_so_far : s.begun ≡ false → (w ≡ []) × (bytes ≡ s.rest)
-  first_so_far begun = bytes_first s.begun w s.rest bytes begun h.bytes_are
+  pub all_fit : (v : Version) → s.version ≡ Some v → AllFit v w
+  all_fit v begun = fits_begun s.version v w begun h.fits
 
-  with_piece : s.begun ≡ true → (piece : List ℕ) → bytes ++ piece ≡ text w ++ (s.rest ++ piece)
-  with_piece begun piece = ap (λ x. x ++ piece) (so_far begun) ∙ append_assoc (text w) s.rest piece
+  pub first_so_far : s.version ≡ None → (w ≡ []) × (bytes ≡ s.rest)
+  first_so_far first = bytes_first s.version w s.rest bytes first h.bytes_are
+
+  with_piece : (v : Version) → s.version ≡ Some v → (piece : List ℕ) → bytes ++ piece ≡ text v w ++ (s.rest ++ piece)
+  with_piece v begun piece = ap (λ x. x ++ piece) (so_far v begun) ∙ append_assoc (text v w) s.rest piece
 
   judged_end : (piece : List ℕ) (k : ℕ) → k < length piece → get_or piece k 0 ≡ newline → IsUnended (take k piece) → IsJudged (s.rest ++ piece) (s.rest ++ take k piece)
   judged_end piece k lt nl unended =
@@ -58,45 +83,44 @@ module _ (w : List Record) (bytes : List ℕ) (s : Reading) (h : HasRead w bytes
       subst P e (at_length _ _ (unended-append s.rest _ h.unfinished.unended unended) (long_length piece long))
 
   -- the line after those of w is bad
-  bad : s.begun ≡ true → (piece body : List ℕ) → IsJudged (s.rest ++ piece) body → IsNoRecord body → IsBadLine s.limit (bytes ++ piece) (record { line = s.count + 2; kind = Line })
-  bad begun piece body judged none =
+  bad : (v : Version) → s.version ≡ Some v → (piece body : List ℕ) → IsJudged (s.rest ++ piece) body → IsNoRecord v body → IsBadLine s.limit (bytes ++ piece) (record { line = s.count + 2; kind = Line })
+  bad v begun piece body judged none =
       let P : ℕ → Type 0 = λ n. IsBadLine s.limit (bytes ++ piece) (record { line = n + 2; kind = Line }) in
-      subst P (sym h.count_is) (bad_line w (s.rest ++ piece) body h.fits h.within (with_piece begun piece) judged none)
+      subst P (sym h.count_is) (bad_line v w (s.rest ++ piece) body (all_fit v begun) h.within (with_piece v begun piece) judged none)
 
-  pub bad_at_end : s.begun ≡ true → (piece : List ℕ) (k : ℕ) → k < length piece → get_or piece k 0 ≡ newline → IsUnended (take k piece) → IsNoRecord (s.rest ++ take k piece)
+  pub bad_at_end : (v : Version) → s.version ≡ Some v → (piece : List ℕ) (k : ℕ) → k < length piece → get_or piece k 0 ≡ newline → IsUnended (take k piece) → IsNoRecord v (s.rest ++ take k piece)
       → IsBadLine s.limit (bytes ++ piece) (record { line = s.count + 2; kind = Line })
-  bad_at_end begun piece k lt nl unended none = bad begun piece _ (judged_end piece k lt nl unended) none
+  bad_at_end v begun piece k lt nl unended none = bad v begun piece _ (judged_end piece k lt nl unended) none
 
-  pub bad_long : s.begun ≡ true → (piece : List ℕ) → 27 ≤ length s.rest + length piece → IsUnended (take (27 - length s.rest) piece)
+  pub bad_long : (v : Version) → s.version ≡ Some v → (piece : List ℕ) → 27 ≤ length s.rest + length piece → IsUnended (take (27 - length s.rest) piece)
       → IsBadLine s.limit (bytes ++ piece) (record { line = s.count + 2; kind = Line })
-  bad_long begun piece long unended = bad begun piece _ (judged_long piece long unended) (long_is_no_record _ (long_length piece long))
+  bad_long v begun piece long unended = bad v begun piece _ (judged_long piece long unended) (long_is_no_record v _ (long_length piece long))
 
   -- a good line past the limit
-  pub past_limit : s.begun ≡ true → (piece : List ℕ) (k : ℕ) (r : Record) → k < length piece → get_or piece k 0 ≡ newline → s.rest ++ take k piece ≡ spell r → Fits r → s.count ≡ s.limit
+  pub past_limit : (v : Version) → s.version ≡ Some v → (piece : List ℕ) (k : ℕ) (r : Record) → k < length piece → get_or piece k 0 ≡ newline → s.rest ++ take k piece ≡ spell r → Fits v r → s.count ≡ s.limit
       → IsBadLine s.limit (bytes ++ piece) (record { line = s.count + 2; kind = TooMany })
-  past_limit begun piece k r lt nl spelled fits full =
+  past_limit v begun piece k r lt nl spelled fits full =
       let P : ℕ → Type 0 = λ n. IsBadLine s.limit (bytes ++ piece) (record { line = n + 2; kind = TooMany }) in
       let e : s.rest ++ piece ≡ line r ++ drop (k + 1) piece =
       ap (λ x. s.rest ++ x) (split-ended piece k lt nl) ∙ sym (append_assoc s.rest (ended (take k piece)) _) ∙ ap (λ x. x ++ drop (k + 1) piece) (sym (append_assoc s.rest (take k piece) (newline ∷ [])) ∙ ap ended spelled) in
-      subst P (sym h.count_is) (too_many w r (drop (k + 1) piece) h.fits (omega (arith, h.count_is)) fits (with_piece begun piece ∙ ap (λ x. text w ++ x) e))
+      subst P (sym h.count_is) (too_many v w r (drop (k + 1) piece) (all_fit v begun) (omega (arith, h.count_is)) fits (with_piece v begun piece ∙ ap (λ x. text v w ++ x) e))
 
-  pub header_at_end : s.begun ≡ false → (piece : List ℕ) (k : ℕ) → k < length piece → get_or piece k 0 ≡ newline → IsUnended (take k piece) → s.rest ++ take k piece ≢ header
+  pub header_at_end : s.version ≡ None → (piece : List ℕ) (k : ℕ) → k < length piece → get_or piece k 0 ≡ newline → IsUnended (take k piece) → IsNoHeader (s.rest ++ take k piece)
       → IsBadLine s.limit (bytes ++ piece) (record { line = 1; kind = Header })
-  header_at_end begun piece k lt nl unended other =
+  header_at_end first piece k lt nl unended other =
       let P : List ℕ → Type 0 = λ x. IsBadLine s.limit (x ++ piece) (record { line = 1; kind = Header }) in
-      subst P (sym ((first_so_far begun).1)) (bad_header _ (judged_end piece k lt nl unended) other)
+      subst P (sym ((first_so_far first).1)) (bad_header _ (judged_end piece k lt nl unended) other)
 
-  pub header_long : s.begun ≡ false → (piece : List ℕ) → 27 ≤ length s.rest + length piece → IsUnended (take (27 - length s.rest) piece)
+  pub header_long : s.version ≡ None → (piece : List ℕ) → 27 ≤ length s.rest + length piece → IsUnended (take (27 - length s.rest) piece)
       → IsBadLine s.limit (bytes ++ piece) (record { line = 1; kind = Header })
-  header_long begun piece long unended =
+  header_long first piece long unended =
       let P : List ℕ → Type 0 = λ x. IsBadLine s.limit (x ++ piece) (record { line = 1; kind = Header }) in
-      let other : s.rest ++ take (27 - length s.rest) piece ≢ header = λ e. let n : length (s.rest ++ take (27 - length s.rest) piece) ≡ 7 = ap length e in absurd (omega (arith, long_length piece long)) in
-      subst P (sym ((first_so_far begun).1)) (bad_header _ (judged_long piece long unended) other)
+      subst P (sym ((first_so_far first).1)) (bad_header _ (judged_long piece long unended) (long_is_no_header _ (long_length piece long)))
 
-  pub truncated_header : s.begun ≡ false → IsTruncated s.limit bytes (record { line = 1; kind = Truncated })
-  truncated_header begun = no_header (subst IsOpen (sym ((first_so_far begun).1)) h.unfinished)
+  pub truncated_header : s.version ≡ None → IsTruncated s.limit bytes (record { line = 1; kind = Truncated })
+  truncated_header first = no_header (subst IsOpen (sym ((first_so_far first).1)) h.unfinished)
 
-  pub truncated_line : s.begun ≡ true → s.rest ≢ [] → IsTruncated s.limit bytes (record { line = s.count + 2; kind = Truncated })
-  truncated_line begun some =
+  pub truncated_line : (v : Version) → s.version ≡ Some v → s.rest ≢ [] → IsTruncated s.limit bytes (record { line = s.count + 2; kind = Truncated })
+  truncated_line v begun some =
       let P : ℕ → Type 0 = λ n. IsTruncated s.limit bytes (record { line = n + 2; kind = Truncated }) in
-      subst P (sym h.count_is) (no_line_end w s.rest h.fits h.within (so_far begun) h.unfinished some)
+      subst P (sym h.count_is) (no_line_end v w s.rest (all_fit v begun) h.within (so_far v begun) h.unfinished some)

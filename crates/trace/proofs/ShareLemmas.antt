@@ -3,7 +3,7 @@ use Rattle.std.proofs.Common.{◌≡◌, ℕ, ◌<◌, ◌%◌, true, cond, List
 use Rattle.std.proofs.lemmas.Bool.{eq-eqb, eqb-true}
 use Rattle.std.proofs.lemmas.List.Elements.{filter-append}
 use Rattle.trace.specs.declared.records.Record.{Record}
-use Rattle.trace.specs.declared.records.Record.TheVariants.{Spawn, Return, Sync, Read, Write}
+use Rattle.trace.specs.declared.records.Record.TheVariants.{Spawn, Call, Return, Sync, Read, Write}
 use Rattle.trace.specs.declared.records.Kind.{Kind}
 use Rattle.trace.specs.declared.records.Kind.TheVariants as kinds
 use Rattle.trace.specs.declared.records.Placed.{Placed}
@@ -20,6 +20,7 @@ share-push k n u p = share-append k n u (p ∷ [])
 -- each record goes to some shard
 pub goes_somewhere : (n : ℕ) (r : Record) → 0 < n → (k : ℕ) × (k < n) × (goes k n r ≡ true)
 goes_somewhere n Spawn h = (0, h, refl)
+goes_somewhere n Call h = (0, h, refl)
 goes_somewhere n Return h = (0, h, refl)
 goes_somewhere n Sync h = (0, h, refl)
 goes_somewhere n (Read l) h = (l % n, omega arith, eq-eqb (l % n) (l % n) refl)

@@ -1,8 +1,8 @@
 -- Where a place stands once t records are done, at the level d of an active procedure: kept parallel by
 -- a child that returned and wasn't waited for, or serial to a place of that level.
-use Rattle.std.proofs.Common.{◌≡◌, ℕ, suc, ◌<◌, ◌≤◌, true, false, inl, inr, sym, subst, ap, arith}
+use Rattle.std.proofs.Common.{◌≡◌, ℕ, suc, ◌<◌, ◌≤◌, true, false, inl, inr, refl, sym, subst, ap, arith}
 use Rattle.std.proofs.lemmas.Bool.{cases_lt, cases_eq}
-use Rattle.trace.proofs.World.{World, spawned_return, joins, Pending, leaves_by, spawned-returns, spawned-joins, pending-shorter, all_more}
+use Rattle.trace.proofs.World.{World, spawned_return, called_return, joins, returns, next, comes_back, sound, reach-return, Pending, leaves_by, spawned-returns, spawned-joins, pending-shorter, all_more}
 
 pub record Kept (v : World) (t d i : ℕ) : Type 0 where
   pub closer : ℕ
@@ -98,6 +98,23 @@ returned v t d i a s e f h = record {
   where
     between : (k t : ℕ) → suc t < k → k ≤ suc (suc t) → k ≡ suc (suc t)
     between k t x y = omega arith
+
+-- a called return to the level, from which a path leads on
+
+pub returned_call : (v : World) (t d i : ℕ) → 1 ≤ i → i ≤ suc t → suc (suc t) ≤ v.size → v.shape (suc t) ≡ called_return → v.depth (suc t) ≡ suc d → v.depth (suc (suc t)) ≡ d
+    → ((k : ℕ) → i ≤ k → k ≤ suc t → suc d ≤ v.depth k) → Serial v (suc t) d i
+returned_call v t d i a b c s e f h = record {
+  spot = suc (suc t);
+  since = omega arith;
+  upto = omega arith;
+  level = f;
+  above = all_more v.depth d i (suc t) (λ k x y. omega (arith, h k x y)) (omega arith);
+  clear = λ r p. sound v i (suc (suc t)) r (next (reach-return v i (suc t) a (omega arith) (record {
+    upto = b;
+    a_return = ap returns s;
+    inside = λ k x y. omega (arith, h k x y);
+  })) (record { from = omega arith; to = c; forth = omega arith; kind = comes_back s refl })) p;
+}
 
 -- the place that comes next
 

@@ -1,25 +1,32 @@
 -- Texts of traces: one more record, how long a line is, and bytes that end no line.
-use Rattle.std.proofs.Common.{◌≡◌, ◌≢◌, ℕ, ◌+◌, ◌-◌, ◌<◌, ◌≤◌, List, [], ◌∷◌, ◌++◌, length, take, drop, get_or, arith, sym, ◌∙◌, ap, decimal, append_assoc, length-append, codes}
+use Rattle.std.proofs.Common.{◌≡◌, ◌≢◌, ℕ, ◌+◌, ◌-◌, ◌<◌, ◌≤◌, List, [], ◌∷◌, ◌++◌, length, take, drop, get_or, arith, refl, sym, ◌∙◌, ap, decimal, append_assoc, length-append, codes}
 use Rattle.std.specs.List.{flat_map}
 use Rattle.std.proofs.lemmas.Grind.{flat_map-append}
 use Rattle.std.proofs.lemmas.List.{append-nil, take-append-drop, take_more, length-drop}
 use Rattle.std.proofs.Math.Seq.{take-add, take-length}
 use Rattle.std.proofs.lemmas.List.Elements.{All-append}
 use Rattle.std.proofs.lemmas.Fmt.{length-decimal-le}
+use Rattle.trace.specs.declared.records.Version.{Version}
+use Rattle.trace.specs.declared.records.Version.TheVariants.{One, Two}
 use Rattle.trace.specs.declared.records.Record.{Record}
-use Rattle.trace.specs.declared.records.Record.TheVariants.{Spawn, Return, Sync, Read, Write}
+use Rattle.trace.specs.declared.records.Record.TheVariants.{Spawn, Call, Return, Sync, Read, Write}
 use Rattle.trace.specs.Text.{newline, header, spell, Fits, ended, line, text, IsUnended}
 
-pub text-push : (w : List Record) (r : Record) → text (w ++ r ∷ []) ≡ text w ++ line r
-text-push w r = ap (λ x. ended header ++ x) (flat_map-append line w (r ∷ []) ∙ ap (λ x. flat_map line w ++ x) (append-nil (line r))) ∙ sym (append_assoc (ended header) (flat_map line w) (line r))
+pub text-push : (v : Version) (w : List Record) (r : Record) → text v (w ++ r ∷ []) ≡ text v w ++ line r
+text-push v w r = ap (λ x. ended (header v) ++ x) (flat_map-append line w (r ∷ []) ∙ ap (λ x. flat_map line w ++ x) (append-nil (line r))) ∙ sym (append_assoc (ended (header v)) (flat_map line w) (line r))
 
 -- no line has more than 26 bytes
-pub length-spell : (r : Record) → Fits r → length (spell r) ≤ 26
-length-spell Spawn fits = omega arith
-length-spell Return fits = omega arith
-length-spell Sync fits = omega arith
-length-spell (Read l) fits = omega (arith, length-append (codes "read ") (decimal l), length-decimal-le 20 l (omega arith) (omega arith) fits)
-length-spell (Write l) fits = omega (arith, length-append (codes "write ") (decimal l), length-decimal-le 20 l (omega arith) (omega arith) fits)
+pub length-spell : (v : Version) (r : Record) → Fits v r → length (spell r) ≤ 26
+length-spell v Spawn fits = omega arith
+length-spell v Call fits = omega arith
+length-spell v Return fits = omega arith
+length-spell v Sync fits = omega arith
+length-spell v (Read l) fits = omega (arith, length-append (codes "read ") (decimal l), length-decimal-le 20 l (omega arith) (omega arith) fits)
+length-spell v (Write l) fits = omega (arith, length-append (codes "write ") (decimal l), length-decimal-le 20 l (omega arith) (omega arith) fits)
+
+pub length-header : (v : Version) → length (header v) ≡ 7
+length-header One = refl
+length-header Two = refl
 
 pub unended-append : (xs ys : List ℕ) → IsUnended xs → IsUnended ys → IsUnended (xs ++ ys)
 unended-append xs ys = All-append (λ b. b ≢ newline) xs ys

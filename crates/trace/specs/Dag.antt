@@ -1,7 +1,7 @@
 -- Promised: the dag of a trace: its edges and paths, and which places are parallel.
 use Rattle.std.specs.Prelude.{◌≡◌, ◌≢◌, ℕ, ◌+◌, ◌<◌, ◌≤◌, ◌↔◌, List, [], ◌∷◌, Some, ◌⊎◌}
 use Rattle.trace.specs.declared.records.Record.{Record}
-use Rattle.trace.specs.declared.records.Record.TheVariants.{Spawn, Return, Sync}
+use Rattle.trace.specs.declared.records.Record.TheVariants.{Spawn, Call, Return, Sync}
 use Rattle.trace.specs.Traces.{at, depth, IsPlace}
 
 -- a procedure goes on from place i to its next place j: its children's places between are deeper
@@ -15,13 +15,35 @@ pub record IsSpawn (w : List Record) (i j : ℕ) : Type 0 where
   pub a_spawn : at w i ≡ Some Spawn
   pub next : j ≡ i + 1
 
+-- from a call to the called procedure's first place
+pub record IsCall (w : List Record) (i j : ℕ) : Type 0 where
+  pub a_call : at w i ≡ Some Call
+  pub next : j ≡ i + 1
+
+-- the record at o opened the procedure that returns at r: it is the last earlier one that is one less deep
+pub record IsOpenerOf (w : List Record) (o r : ℕ) : Type 0 where
+  pub before : o < r
+  pub above : depth w r ≡ depth w o + 1
+  pub last : (k : ℕ) → o < k → k < r → depth w k ≢ depth w o
+
+-- from a called procedure's return to the next place
+pub record IsComeback (w : List Record) (i j : ℕ) : Type 0 where
+  pub a_return : at w i ≡ Some Return
+  pub opener : ℕ
+  pub opened : IsOpenerOf w opener i
+  pub a_call : at w opener ≡ Some Call
+  pub next : j ≡ i + 1
+
 -- a place that waits for the procedure's children; a return does, since it implies a sync
 abbrev pub JoinsAt : List Record → ℕ → Type 0
 JoinsAt w j = (at w j ≡ Some Sync) ⊎ (at w j ≡ Some Return)
 
--- from a child's return to the first later place of its parent that waits for it
+-- from a spawned child's return to the first later place of its parent that waits for it
 pub record IsJoin (w : List Record) (i j : ℕ) : Type 0 where
   pub a_return : at w i ≡ Some Return
+  pub opener : ℕ
+  pub opened : IsOpenerOf w opener i
+  pub a_spawn : at w opener ≡ Some Spawn
   pub above : depth w i ≡ depth w j + 1
   pub joins : JoinsAt w j
   pub first : (k : ℕ) → i < k → k < j → depth w k ≡ depth w j → JoinsAt w k → ⊥
@@ -29,6 +51,8 @@ pub record IsJoin (w : List Record) (i j : ℕ) : Type 0 where
 pub data Edge (w : List Record) (i j : ℕ) : Type 0 where
   continuation : IsPlace w i → IsPlace w j → i < j → IsContinuation w i j → Edge w i j
   spawn : IsPlace w i → IsPlace w j → i < j → IsSpawn w i j → Edge w i j
+  call : IsPlace w i → IsPlace w j → i < j → IsCall w i j → Edge w i j
+  comes_back : IsPlace w i → IsPlace w j → i < j → IsComeback w i j → Edge w i j
   join : IsPlace w i → IsPlace w j → i < j → IsJoin w i j → Edge w i j
 
 -- places of which each next one is reached by an edge; one place alone is a path

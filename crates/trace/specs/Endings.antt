@@ -1,5 +1,6 @@
 -- Promised: how the reading of a trace ends: with the trace that was read, or with a fault.
 use Rattle.std.specs.Prelude.{◌≡◌, ℕ, List, Some, ◌⊎◌, Result, MatchResult}
+use Rattle.trace.specs.declared.records.Version.{Version}
 use Rattle.trace.specs.declared.records.Record.{Record}
 use Rattle.trace.specs.declared.faults.Fault.{Fault}
 use Rattle.trace.specs.declared.faults.Fault.TheVariants.{NoMemory, NoThread}
@@ -8,8 +9,8 @@ use Rattle.trace.specs.Text.{text, AllFit}
 use Rattle.trace.specs.Devices.{Change, Gave, HasFailed}
 use Rattle.trace.specs.Feeding.{IsWhole, IsFaultFed}
 
--- the bytes that came are the text of w, which is well nested within the limits, and they are all that the
--- source had
+-- the bytes that came are the text of w in a version, where w is well nested within the limits, and they are
+-- all that the source had
 pub record ReadsWhole (records depths : ℕ) (c : Change) (w : List Record) : Type 0 where
   pub came : List ℕ
   pub gave : Gave c came
@@ -21,10 +22,12 @@ pub record OfTrace (records depths : ℕ) (c : Change) (Says : List Record → T
   pub read : ReadsWhole records depths c trace
   pub says : Says trace
 
--- a source that tells its bytes and doesn't fail: they are the text of w, which is well nested within the limits
+-- a source that tells its bytes and doesn't fail: they are the text of w in a version, and w is well nested within
+-- the limits
 pub record HoldsTrace (records depths : ℕ) (c : Change) (w : List Record) : Type 0 where
-  pub is_text : c.old.bytes ≡ Some (text w)
-  pub fits : AllFit w
+  pub version : Version
+  pub is_text : c.old.bytes ≡ Some (text version w)
+  pub fits : AllFit version w
   pub well_nested : IsWellNested w records depths
   pub never_failed : HasFailed c → ⊥
 

@@ -1,5 +1,6 @@
 -- Promised: the first fault of bytes that should be the text of a trace, within limits.
 use Rattle.std.specs.Prelude.{◌≡◌, ◌≢◌, ℕ, suc, ◌+◌, ◌<◌, ◌≤◌, List, [], ◌∷◌, ◌++◌, length}
+use Rattle.trace.specs.declared.records.Version.{Version}
 use Rattle.trace.specs.declared.records.Record.{Record}
 use Rattle.trace.specs.declared.faults.TextFault.{TextFault}
 use Rattle.trace.specs.declared.faults.TextKind.TheVariants.{Header, Line, TooMany, Truncated}
@@ -17,23 +18,28 @@ pub data IsJudged : List ℕ → List ℕ → Type 0 where
   at_end : (body more : List ℕ) → IsUnended body → IsJudged (ended body ++ more) body
   at_length : (body more : List ℕ) → IsUnended body → length body ≡ 27 → IsJudged (body ++ more) body
 
-abbrev pub IsNoRecord : List ℕ → Type 0
-IsNoRecord body = (r : Record) → Fits r → body ≢ spell r
+-- it is the header of no version
+abbrev pub IsNoHeader : List ℕ → Type 0
+IsNoHeader body = (v : Version) → body ≢ header v
 
--- The first faulty line among those that are judged. The lines before it are the header and w, at most
--- as many records as the limit. A line that is both bad and past the limit is bad.
+-- it spells no record of this version
+abbrev pub IsNoRecord : Version → List ℕ → Type 0
+IsNoRecord v body = (r : Record) → Fits v r → body ≢ spell r
+
+-- The first faulty line among those that are judged. The lines before it are the header of a version v and w,
+-- at most as many records as the limit. A line that is both bad and past the limit is bad.
 pub data IsBadLine (records : ℕ) (bytes : List ℕ) : TextFault → Type 0 where
-  bad_header : (body : List ℕ) → IsJudged bytes body → body ≢ header → IsBadLine records bytes (record { line = 1; kind = Header })
-  bad_line : (w : List Record) (rest body : List ℕ) → AllFit w → length w ≤ records → bytes ≡ text w ++ rest
-      → IsJudged rest body → IsNoRecord body
+  bad_header : (body : List ℕ) → IsJudged bytes body → IsNoHeader body → IsBadLine records bytes (record { line = 1; kind = Header })
+  bad_line : (v : Version) (w : List Record) (rest body : List ℕ) → AllFit v w → length w ≤ records → bytes ≡ text v w ++ rest
+      → IsJudged rest body → IsNoRecord v body
       → IsBadLine records bytes (record { line = length w + 2; kind = Line })
-  too_many : (w : List Record) (r : Record) (more : List ℕ) → AllFit w → length w ≡ records → Fits r → bytes ≡ text w ++ (line r ++ more)
+  too_many : (v : Version) (w : List Record) (r : Record) (more : List ℕ) → AllFit v w → length w ≡ records → Fits v r → bytes ≡ text v w ++ (line r ++ more)
       → IsBadLine records bytes (record { line = length w + 2; kind = TooMany })
 
 -- at the end of the bytes: a rest without a line end, or no header line
 pub data IsTruncated (records : ℕ) (bytes : List ℕ) : TextFault → Type 0 where
   no_header : IsOpen bytes → IsTruncated records bytes (record { line = 1; kind = Truncated })
-  no_line_end : (w : List Record) (rest : List ℕ) → AllFit w → length w ≤ records → bytes ≡ text w ++ rest → IsOpen rest → rest ≢ []
+  no_line_end : (v : Version) (w : List Record) (rest : List ℕ) → AllFit v w → length w ≤ records → bytes ≡ text v w ++ rest → IsOpen rest → rest ≢ []
       → IsTruncated records bytes (record { line = length w + 2; kind = Truncated })
 
 -- the root has returned
@@ -54,8 +60,8 @@ pub data AreNested (depths : ℕ) : List Record → Type 0 where
 
 -- the first faulty place: the record there is misplaced, and none before it is
 pub data IsBadPlace (depths : ℕ) (bytes : List ℕ) : NestFault → Type 0 where
-  bad_place : (u : List Record) (r : Record) (more : List ℕ) (k : NestKind) → AllFit u → Fits r
-      → bytes ≡ text u ++ (line r ++ more) → AreNested depths u → IsMisplaced depths u r k
+  bad_place : (v : Version) (u : List Record) (r : Record) (more : List ℕ) (k : NestKind) → AllFit v u → Fits v r
+      → bytes ≡ text v u ++ (line r ++ more) → AreNested depths u → IsMisplaced depths u r k
       → IsBadPlace depths bytes (record { place = length u + 1; kind = k })
 
 -- The first fault of bytes after which others may come: of the first faulty line and the first faulty
@@ -74,5 +80,5 @@ pub data IsFaultOfAll (records depths : ℕ) (bytes : List ℕ) : Fault → Type
   before_end : (f : Fault) → IsFirstFault records depths bytes f → IsFaultOfAll records depths bytes f
   truncated : (f : TextFault) → IsTruncated records bytes f → ((g : Fault) → IsFirstFault records depths bytes g → ⊥)
       → IsFaultOfAll records depths bytes (Text f)
-  unfinished : (w : List Record) → AllFit w → length w ≤ records → bytes ≡ text w → AreNested depths w → (HasEnded w → ⊥)
+  unfinished : (v : Version) (w : List Record) → AllFit v w → length w ≤ records → bytes ≡ text v w → AreNested depths w → (HasEnded w → ⊥)
       → IsFaultOfAll records depths bytes (Nest (record { place = length w + 1; kind = Unfinished }))

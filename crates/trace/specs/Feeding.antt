@@ -1,5 +1,6 @@
 -- Promised: what a feed has read of its source, and what its answers say.
 use Rattle.std.specs.Prelude.{◌≡◌, ℕ, ◌+◌, List, [], ◌∷◌, ◌++◌, length, Option, Some, None, Result, Ok, Err, ◌⊎◌}
+use Rattle.trace.specs.declared.records.Version.{Version}
 use Rattle.trace.specs.declared.records.Record.{Record}
 use Rattle.trace.specs.declared.records.Placed.{Placed}
 use Rattle.trace.specs.declared.faults.Fault.{Fault}
@@ -49,11 +50,12 @@ IsFaultFed records depths bytes c faults.Read = ((g : Fault) → IsFirstFault re
 IsFaultFed records depths bytes c faults.NoMemory = ⊥
 IsFaultFed records depths bytes c faults.NoThread = ⊥
 
--- the end of the input: the bytes are the text of w, and w is well nested within the limits
+-- the end of the input: the bytes are the text of w in a version, and w is well nested within the limits
 pub record IsWhole (records depths : ℕ) (w : List Record) (bytes : List ℕ) (source : Device) : Type 0 where
   pub used_up : IsUsedUp source
-  pub bytes_are : bytes ≡ text w
-  pub fits : AllFit w
+  pub version : Version
+  pub bytes_are : bytes ≡ text version w
+  pub fits : AllFit version w
   pub well_nested : IsWellNested w records depths
 
 -- What a feed's answer says that had given the records w: the next record in its place, the end, or a fault.

@@ -1,8 +1,8 @@
 -- Promised: the procedure in which two places meet, and where its spawns and syncs leave them parallel.
 -- A procedure is named by the place of the record that opened it, and the root by 0.
-use Rattle.std.specs.Prelude.{◌≡◌, ℕ, zero, suc, ◌+◌, ◌<◌, ◌≤◌, Bool, true, false, ◌&&◌, nat_lt, nat_eq, List, Option, Some, None}
+use Rattle.std.specs.Prelude.{◌≡◌, ℕ, zero, suc, ◌+◌, ◌<◌, ◌≤◌, Bool, true, false, ◌⊎◌, ◌&&◌, nat_lt, nat_eq, List, Option, Some, None}
 use Rattle.trace.specs.declared.records.Record.{Record}
-use Rattle.trace.specs.declared.records.Record.TheVariants.{Spawn, Return, Sync, Read, Write}
+use Rattle.trace.specs.declared.records.Record.TheVariants.{Spawn, Call, Return, Sync, Read, Write}
 use Rattle.trace.specs.Traces.{at, depth}
 
 -- the depth of the places that a procedure executes itself
@@ -10,10 +10,14 @@ abbrev pub level : List Record → ℕ → ℕ
 level w zero = 0
 level w (suc f) = suc (depth w (suc f))
 
+-- a record that opens a procedure: a spawn or a call
+abbrev pub Opens : Option Record → Type 0
+Opens r = (r ≡ Some Spawn) ⊎ (r ≡ Some Call)
+
 -- a procedure is opened at f
 abbrev pub IsOpener : List Record → ℕ → Type 0
 IsOpener w zero = Unit {0}
-IsOpener w (suc f) = at w (suc f) ≡ Some Spawn
+IsOpener w (suc f) = Opens (at w (suc f))
 
 -- place i is in the part of the procedure that is opened at f
 pub record Holds (w : List Record) (f i : ℕ) : Type 0 where
@@ -32,10 +36,10 @@ pub record IsOwn (w : List Record) (m e : ℕ) : Type 0 where
   pub held : Holds w m e
   pub on_level : depth w e ≡ level w m
 
--- procedure m spawns a child at s
+-- procedure m opens a child at s
 pub record IsChild (w : List Record) (m s : ℕ) : Type 0 where
   pub own : IsOwn w m s
-  pub a_spawn : at w s ≡ Some Spawn
+  pub opens : Opens (at w s)
 
 -- what place j is in procedure m: itself, or the record that opened the child that holds it
 pub data IsStand (w : List Record) (m j : ℕ) : ℕ → Type 0 where
@@ -45,6 +49,7 @@ pub data IsStand (w : List Record) (m j : ℕ) : ℕ → Type 0 where
 abbrev pub is_sync : Option Record → Bool
 is_sync None = false
 is_sync (Some Spawn) = false
+is_sync (Some Call) = false
 is_sync (Some Return) = false
 is_sync (Some Sync) = true
 is_sync (Some (Read l)) = false
@@ -64,6 +69,7 @@ pub record InOneBlock (w : List Record) (m i j : ℕ) : Type 0 where
   pub spawned_at : ℕ
   pub stand : ℕ
   pub child : IsChild w m spawned_at
+  pub a_spawn : at w spawned_at ≡ Some Spawn
   pub inside : Holds w spawned_at i
   pub of_second : IsStand w m j stand
   pub one_block : block w m spawned_at ≡ block w m stand

@@ -1,33 +1,44 @@
 -- Promised: what a reader of a trace's text has read: whole records, and an unfinished line.
-use Rattle.std.specs.Prelude.{◌≡◌, ℕ, ◌+◌, ◌≤◌, Bool, true, false, List, [], ◌++◌, length, take, Option, None, Some, Result, IfOk, IfErr}
+use Rattle.std.specs.Prelude.{◌≡◌, ℕ, ◌+◌, ◌≤◌, List, [], ◌++◌, length, Option, None, Some, is_some, IsTrue, Result, IfOk, IfErr}
 use Rattle.std.specs.Option.{option_to_list}
+use Rattle.trace.specs.declared.records.Version.{Version}
 use Rattle.trace.specs.declared.records.Record.{Record}
 use Rattle.trace.specs.declared.faults.TextFault.{TextFault}
 use Rattle.trace.specs.declared.reading.Taken.{Taken}
 use Rattle.trace.specs.Bounds.{most_records, longest_line}
 use Rattle.trace.specs.Text.{header, ended, text, AllFit, IsOpen}
 
--- a reader: its limit on records, whether the header has come, how many records it has given, the bytes
--- of the unfinished line, and the fault that it has met
+-- a reader: its limit on records, the version once the header has come, how many records it has given, the
+-- bytes of the unfinished line, and the fault that it has met
 pub record Reading : Type 0 where
   pub limit : ℕ
-  pub begun : Bool
+  pub version : Option Version
   pub count : ℕ
   pub rest : List ℕ
   pub fault : Option TextFault
 
 abbrev pub at_first_byte : ℕ → Reading
-at_first_byte limit = record { limit = limit; begun = false; count = 0; rest = []; fault = None }
+at_first_byte limit = record { limit = limit; version = None; count = 0; rest = []; fault = None }
 
 -- the bytes are the header, the lines of w and the rest; or the header hasn't come, and they are a rest of line 1
-abbrev pub AreBytes : Bool → List Record → List ℕ → List ℕ → Type 0
-AreBytes true w rest bytes = bytes ≡ text w ++ rest
-AreBytes false w rest bytes = (w ≡ []) × (bytes ≡ rest)
+abbrev pub AreBytes : Option Version → List Record → List ℕ → List ℕ → Type 0
+AreBytes (Some v) w rest bytes = bytes ≡ text v w ++ rest
+AreBytes None w rest bytes = (w ≡ []) × (bytes ≡ rest)
+
+-- the records w have lines in the version; before the header has come there are none
+abbrev pub AllFitIn : Option Version → List Record → Type 0
+AllFitIn (Some v) w = AllFit v w
+AllFitIn None w = w ≡ []
+
+-- the header has come, and the bytes are the text of w in its version
+abbrev pub AreText : Option Version → List Record → List ℕ → Type 0
+AreText (Some v) w bytes = bytes ≡ text v w
+AreText None w bytes = ⊥
 
 -- from these bytes the reader has given the records w, and has met no fault
 pub record HasRead (w : List Record) (bytes : List ℕ) (s : Reading) : Type 0 where
-  pub bytes_are : AreBytes s.begun w s.rest bytes
-  pub fits : AllFit w
+  pub bytes_are : AreBytes s.version w s.rest bytes
+  pub fits : AllFitIn s.version w
   pub unfinished : IsOpen s.rest
   pub count_is : s.count ≡ length w
   pub within : length w ≤ s.limit
@@ -35,16 +46,16 @@ pub record HasRead (w : List Record) (bytes : List ℕ) (s : Reading) : Type 0 w
 
 -- the header has come, and no byte of a line that isn't ended
 pub record IsBetweenLines (s : Reading) : Type 0 where
-  pub begun : s.begun ≡ true
+  pub begun : IsTrue (is_some s.version)
   pub nothing_held : s.rest ≡ []
 
 -- how many bytes are held back: those of the header, and those of the unfinished line
-abbrev pub header_length : Bool → ℕ
-header_length true = length (ended header)
-header_length false = 0
+abbrev pub header_length : Option Version → ℕ
+header_length (Some v) = length (ended (header v))
+header_length None = 0
 
 abbrev pub held_back : Reading → ℕ
-held_back s = header_length s.begun + length s.rest
+held_back s = header_length s.version + length s.rest
 
 -- What a step of a reader makes of a piece. It uses a front of the piece, all of it where it gives no record; what
 -- isn't a record's is held back, and never more than a line; and it counts the records that it gives. A fault is

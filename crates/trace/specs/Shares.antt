@@ -1,12 +1,13 @@
 -- Promised: a shard's share of a list of records.
 use Rattle.std.specs.Prelude.{ℕ, ◌%◌, Bool, true, List, filter, ◌==◌}
 use Rattle.trace.specs.declared.records.Record.{Record}
-use Rattle.trace.specs.declared.records.Record.TheVariants.{Spawn, Return, Sync, Read, Write}
+use Rattle.trace.specs.declared.records.Record.TheVariants.{Spawn, Call, Return, Sync, Read, Write}
 use Rattle.trace.specs.declared.records.Placed.{Placed}
 
--- whether shard k of n gets a record: each gets the spawns, returns and syncs, and location l is of shard l mod n
+-- whether shard k of n gets a record: each gets the spawns, calls, returns and syncs, and location l is of shard l mod n
 abbrev pub goes : ℕ → ℕ → Record → Bool
 goes k n Spawn = true
+goes k n Call = true
 goes k n Return = true
 goes k n Sync = true
 goes k n (Read l) = l % n == k

@@ -1,7 +1,7 @@
 -- Promised: traces, which are lists of records whose places count from 1; depth, and what a well nested trace is.
 use Rattle.std.specs.Prelude.{◌≡◌, ℕ, zero, suc, ◌-◌, ◌<◌, ◌≤◌, List, [], ◌∷◌, length, take, sum_by, slice_get, Option, Some, None}
 use Rattle.trace.specs.declared.records.Record.{Record}
-use Rattle.trace.specs.declared.records.Record.TheVariants.{Spawn, Return, Sync, Read, Write}
+use Rattle.trace.specs.declared.records.Record.TheVariants.{Spawn, Call, Return, Sync, Read, Write}
 use Rattle.trace.specs.declared.records.Placed.{Placed}
 
 -- the record at a place
@@ -23,6 +23,7 @@ placed w = placed_from 1 w
 -- how many procedures a record opens, and how many it closes
 abbrev pub opens : Record → ℕ
 opens Spawn = 1
+opens Call = 1
 opens Return = 0
 opens Sync = 0
 opens (Read l) = 0
@@ -30,12 +31,13 @@ opens (Write l) = 0
 
 abbrev pub closes : Record → ℕ
 closes Spawn = 0
+closes Call = 0
 closes Return = 1
 closes Sync = 0
 closes (Read l) = 0
 closes (Write l) = 0
 
--- how deep the procedure lies that executes the record at a place: the spawns at places below it,
+-- how deep the procedure lies that executes the record at a place: the spawns and calls at places below it,
 -- less the returns at places below it
 abbrev pub depth : List Record → ℕ → ℕ
 depth w zero = 0

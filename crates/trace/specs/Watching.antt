@@ -1,5 +1,5 @@
 -- Promised: the records that a watcher was shown, and the one that comes after them.
-use Rattle.std.specs.Prelude.{◌≡◌, ℕ, ◌+◌, ◌≤◌, List, length}
+use Rattle.std.specs.Prelude.{◌≡◌, ◌+◌, ◌≤◌, List, length}
 use Rattle.trace.specs.declared.records.Record.{Record}
 use Rattle.trace.specs.declared.records.Placed.{Placed}
 use Rattle.trace.specs.Bounds.{most_records}

@@ -1,8 +1,9 @@
 //! What holds of every text, and of every well nested trace.
 
 ghost use Rattle.std.specs.Prelude.{◌≡◌, ℕ, ◌<◌, ◌↔◌, ◌++◌, ◌⊎◌, true, List, Some, Err};
+ghost use Rattle.trace.specs.declared.records.Version.{Version};
 ghost use Rattle.trace.specs.declared.records.Record.{Record};
-ghost use Rattle.trace.specs.declared.records.Record.TheVariants.{Spawn, Return, Sync};
+ghost use Rattle.trace.specs.declared.records.Record.TheVariants.{Spawn, Call, Return, Sync};
 ghost use Rattle.trace.specs.declared.records.Kind.{Kind};
 ghost use Rattle.trace.specs.declared.faults.Fault.{Fault};
 ghost use Rattle.trace.specs.declared.faults.Fault.TheVariants.{Read};
@@ -40,19 +41,22 @@ pub fn parallel()
         → IsPlace w i → IsPlace w j → i < j → Leads w i j ⊎ IsParallel w i j }
 {}
 
-/// Of n shards each spawn, return and sync goes to all, and each access to exactly one, which its location tells.
+/// Of n shards each spawn, call, return and sync goes to all, and each access to exactly one, which its location
+/// tells.
 pub fn shares()
-    ensures structure { (k n : ℕ) → (goes k n Spawn ≡ true) × (goes k n Return ≡ true) × (goes k n Sync ≡ true) }
+    ensures structure { (k n : ℕ) → (goes k n Spawn ≡ true) × (goes k n Call ≡ true)
+        × (goes k n Return ≡ true) × (goes k n Sync ≡ true) }
     ensures one_shard { (n l : ℕ) (a : Kind) → 0 < n → ExactlyOne (λ k. (k < n) × (goes k n (access a l) ≡ true)) }
     ensures by_location { (k n l : ℕ) (a b : Kind) → goes k n (access a l) ≡ goes k n (access b l) }
 {}
 
-/// No two traces have one text, and what a reader gives of bytes is the same however they were cut.
+/// A text is of one trace and in one version, and what a reader gives of bytes is the same however they were cut.
 /// Bytes have one first fault, which stays their first fault when more bytes come; and one fault once they
 /// have ended. The text of a well nested trace has none, and neither have the bytes in front of its end: a feed
 /// over it, whose source tells what it has left, fails only where the source does.
 pub fn texts()
-    ensures one_trace { (u w : List Record) → AllFit u → AllFit w → text u ≡ text w → u ≡ w }
+    ensures one_trace { (v x : Version) (u w : List Record) → AllFit v u → AllFit x w → text v u ≡ text x w
+        → (v ≡ x) × (u ≡ w) }
     ensures any_cutting { (u w : List Record) (bytes : List ℕ) (s t : Reading) → HasRead u bytes s
         → HasRead w bytes t → u ≡ w }
     ensures one_first_fault { (records depths : ℕ) (bytes : List ℕ) (f g : Fault)
@@ -61,13 +65,13 @@ pub fn texts()
         → IsFirstFault records depths bytes f → IsFirstFault records depths (bytes ++ more) f }
     ensures one_fault { (records depths : ℕ) (bytes : List ℕ) (f g : Fault)
         → IsFaultOfAll records depths bytes f → IsFaultOfAll records depths bytes g → f ≡ g }
-    ensures none { (records depths : ℕ) (w : List Record) (f : Fault) → AllFit w
-        → IsWellNested w records depths → IsFaultOfAll records depths (text w) f → ⊥ }
-    ensures none_in_front { (records depths : ℕ) (w : List Record) (bytes more : List ℕ) (f : Fault)
-        → AllFit w → IsWellNested w records depths → text w ≡ bytes ++ more
+    ensures none { (records depths : ℕ) (v : Version) (w : List Record) (f : Fault) → AllFit v w
+        → IsWellNested w records depths → IsFaultOfAll records depths (text v w) f → ⊥ }
+    ensures none_in_front { (records depths : ℕ) (v : Version) (w : List Record) (bytes more : List ℕ) (f : Fault)
+        → AllFit v w → IsWellNested w records depths → text v w ≡ bytes ++ more
         → IsFirstFault records depths bytes f → ⊥ }
-    ensures only_read { (records depths : ℕ) (u w : List Record) (bytes left : List ℕ) (c : Change) (feed : Feeding)
-        (f : Fault)
-        → AllFit u → IsWellNested u records depths → bytes ++ left ≡ text u
+    ensures only_read { (records depths : ℕ) (v : Version) (u w : List Record) (bytes left : List ℕ) (c : Change)
+        (feed : Feeding) (f : Fault)
+        → AllFit v u → IsWellNested u records depths → bytes ++ left ≡ text v u
         → c.new.bytes ≡ Some left → IsFed records depths w bytes c feed (Err f) → f ≡ Read }
 {}

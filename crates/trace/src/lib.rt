@@ -22,6 +22,6 @@ pub use nesting::Nest;
 pub use numbers::decimal_of;
 pub use parallel::is_parallel;
 pub use reading::{Reader, Taken};
-pub use records::{Access, Kind, Limits, Placed, Race, Record};
+pub use records::{Access, Kind, Limits, Placed, Race, Record, Version};
 pub use watching::{Watch, read_to_end};
 pub use writers::{put_all, write_header, write_record};

@@ -1,29 +1,34 @@
-//! The lines of a trace's text: what record a line spells, and where the next line ends.
-ghost use Rattle.std.specs.Prelude.{◌≡◌, ◌++◌, ◌+◌, ◌≤◌, ◌<◌, length, take, IfSome, IfNone, codes, IsTrue, ◌↔◌};
+//! The lines of a trace's text: what version or record a line spells, and where the next line ends.
+ghost use Rattle.std.specs.Prelude.{◌≡◌, ◌++◌, ◌+◌, ◌≤◌, ◌<◌, length, take, IfSome, IfNone, codes, Some};
 ghost use Rattle.std.specs.Int.{w32, from_le_bytes};
 ghost use Rattle.trace.specs.Bounds.{longest_line};
 ghost use Rattle.trace.specs.Fronts.{IsFront};
+ghost use Rattle.trace.specs.declared.records.Version.{Version};
 ghost use Rattle.trace.specs.Text.{spell, header, Fits};
-ghost use Rattle.trace.specs.Faults.{IsNoRecord};
+ghost use Rattle.trace.specs.Faults.{IsNoHeader, IsNoRecord};
 ghost use Rattle.trace.specs.Cuts.{IsCut};
 
 use crate::numbers::{decimal_of, number_of};
-use crate::records::Record;
+use crate::records::{Record, Version};
 use memchr::memchr;
 
 /// How many bytes the longest line of a trace has, its end not counted.
 pub const LONGEST: usize = 26;
 
-/// The record that a line spells, its end left out.
-pub fn record_of(line: &[u8]) -> Option<Record>
+/// The record that a line spells in a version, its end left out.
+pub fn record_of(version: Version, line: &[u8]) -> Option<Record>
     ensures found { IfSome result (λ r. line.now ≡ spell r) }
-    ensures fits { IfSome result Fits }
-    ensures none { IfNone result (IsNoRecord line.now) }
+    ensures fits { IfSome result (Fits version) }
+    ensures none { IfNone result (IsNoRecord version line.now) }
 {
     match line {
         b"spawn" => Some(Record::Spawn),
         b"return" => Some(Record::Return),
         b"sync" => Some(Record::Sync),
+        b"call" => match version {
+            Version::One => None,
+            Version::Two => Some(Record::Call),
+        },
         [b'r', b'e', b'a', b'd', b' ', digits @ ..] => match decimal_of(digits) {
             Some(location) => Some(Record::Read(location)),
             None => None,
@@ -36,11 +41,16 @@ pub fn record_of(line: &[u8]) -> Option<Record>
     }
 }
 
-/// Whether a line is the header, its end left out.
-pub fn is_header(line: &[u8]) -> bool
-    ensures { IsTrue result ↔ (line.now ≡ header) }
+/// The version whose header a line is, its end left out.
+pub fn version_of(line: &[u8]) -> Option<Version>
+    ensures found { IfSome result (λ v. line.now ≡ header v) }
+    ensures none { IfNone result (IsNoHeader line.now) }
 {
-    line == b"trace 1".as_slice()
+    match line {
+        b"trace 1" => Some(Version::One),
+        b"trace 2" => Some(Version::Two),
+        _ => None,
+    }
 }
 
 /// Where the line ends of which some bytes are held, and to which the bytes of a piece are added.
@@ -75,11 +85,11 @@ pub struct Front {
 }
 
 /// The record whose line stands whole at the front of a piece, where it is easily told; the answer
-/// `None` says nothing.
+/// `None` says nothing. The version is looked at where the line is a call's.
 #[inline(always)]
-pub fn front_of(piece: &[u8]) -> Option<Front>
+pub fn front_of(version: Option<Version>, piece: &[u8]) -> Option<Front>
     requires { longest_line < length piece.now }
-    ensures { IfSome result (IsFront piece.now) }
+    ensures { IfSome result (λ f. (v : Version) → version ≡ Some v → IsFront v piece.now f) }
 {
     if word_of(piece) == u32::from_le_bytes([b'r', b'e', b'a', b'd']) {
         read_of(piece)
@@ -91,6 +101,8 @@ pub fn front_of(piece: &[u8]) -> Option<Front>
         return_of(piece)
     } else if word_of(piece) == u32::from_le_bytes([b's', b'y', b'n', b'c']) {
         sync_of(piece)
+    } else if word_of(piece) == u32::from_le_bytes([b'c', b'a', b'l', b'l']) {
+        call_of(version, piece)
     } else {
         None
     }
@@ -110,7 +122,7 @@ fn word_of(piece: &[u8]) -> u32
 fn read_of(piece: &[u8]) -> Option<Front>
     requires whole { longest_line < length piece.now }
     requires begins { from_le_bytes w32 piece.now ≡ from_le_bytes w32 (codes "read") }
-    ensures { IfSome result (IsFront piece.now) }
+    ensures { IfSome result (λ f. (v : Version) → IsFront v piece.now f) }
 {
     if piece[4] != b' ' {
         return None;
@@ -129,7 +141,7 @@ fn read_of(piece: &[u8]) -> Option<Front>
 fn write_of(piece: &[u8]) -> Option<Front>
     requires whole { longest_line < length piece.now }
     requires begins { from_le_bytes w32 piece.now ≡ from_le_bytes w32 (codes "writ") }
-    ensures { IfSome result (IsFront piece.now) }
+    ensures { IfSome result (λ f. (v : Version) → IsFront v piece.now f) }
 {
     if piece[4] != b'e' || piece[5] != b' ' {
         return None;
@@ -148,7 +160,7 @@ fn write_of(piece: &[u8]) -> Option<Front>
 fn spawn_of(piece: &[u8]) -> Option<Front>
     requires whole { longest_line < length piece.now }
     requires begins { from_le_bytes w32 piece.now ≡ from_le_bytes w32 (codes "spaw") }
-    ensures { IfSome result (IsFront piece.now) }
+    ensures { IfSome result (λ f. (v : Version) → IsFront v piece.now f) }
 {
     if piece[4] != b'n' || piece[5] != b'\n' {
         return None;
@@ -164,7 +176,7 @@ fn spawn_of(piece: &[u8]) -> Option<Front>
 fn return_of(piece: &[u8]) -> Option<Front>
     requires whole { longest_line < length piece.now }
     requires begins { from_le_bytes w32 piece.now ≡ from_le_bytes w32 (codes "retu") }
-    ensures { IfSome result (IsFront piece.now) }
+    ensures { IfSome result (λ f. (v : Version) → IsFront v piece.now f) }
 {
     if piece[4] != b'r' || piece[5] != b'n' || piece[6] != b'\n' {
         return None;
@@ -180,7 +192,7 @@ fn return_of(piece: &[u8]) -> Option<Front>
 fn sync_of(piece: &[u8]) -> Option<Front>
     requires whole { longest_line < length piece.now }
     requires begins { from_le_bytes w32 piece.now ≡ from_le_bytes w32 (codes "sync") }
-    ensures { IfSome result (IsFront piece.now) }
+    ensures { IfSome result (λ f. (v : Version) → IsFront v piece.now f) }
 {
     if piece[4] != b'\n' {
         return None;
@@ -189,4 +201,24 @@ fn sync_of(piece: &[u8]) -> Option<Front>
         record: Record::Sync,
         used: 5,
     })
+}
+
+// The call whose line begins with `call`, in the version that has calls.
+#[inline(always)]
+fn call_of(version: Option<Version>, piece: &[u8]) -> Option<Front>
+    requires whole { longest_line < length piece.now }
+    requires begins { from_le_bytes w32 piece.now ≡ from_le_bytes w32 (codes "call") }
+    ensures { IfSome result (λ f. (v : Version) → version ≡ Some v → IsFront v piece.now f) }
+{
+    let Some(Version::Two) = version else {
+        return None;
+    };
+    if piece[4] == b'\n' {
+        Some(Front {
+            record: Record::Call,
+            used: 5,
+        })
+    } else {
+        None
+    }
 }

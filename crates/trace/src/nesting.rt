@@ -75,7 +75,7 @@ impl Nest {
             });
         }
         match what {
-            Record::Spawn => {
+            Record::Spawn | Record::Call => {
                 if self.depth >= self.max_depth {
                     return Err(NestFault {
                         place,

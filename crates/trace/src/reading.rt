@@ -1,14 +1,15 @@
 //! The reader of a trace's text, which comes in pieces of any size. It keeps the bytes of the line that isn't ended yet.
-ghost use Rattle.std.specs.Prelude.{◌≡◌, ◌≢◌, ◌≤◌, ◌+◌, ◌<◌, ◌++◌, ◌∷◌, [], ℕ, List, length, take, IfOk, IfErr, IfSome, IfNone, OnOk, OnErr, Some, None, Ok, Err, true, false, IsTrue, ◌↔◌};
+ghost use Rattle.std.specs.Prelude.{◌≡◌, ◌≢◌, ◌≤◌, ◌+◌, ◌<◌, ◌++◌, ◌∷◌, [], ℕ, List, length, take, IfOk, IfErr, IfSome, IfNone, OnOk, OnErr, Some, None, Ok, Err};
 ghost use Rattle.std.specs.Option.{option_to_list};
+ghost use Rattle.trace.specs.declared.records.Version.{Version};
 ghost use Rattle.trace.specs.declared.records.Record.{Record};
-ghost use Rattle.trace.specs.Text.{text, header, spell, Fits};
+ghost use Rattle.trace.specs.Text.{text, spell, Fits};
 ghost use Rattle.trace.specs.Faults.{IsBadLine, IsTruncated, IsNoRecord};
 ghost use Rattle.trace.specs.Bounds.{most_records, longest_line};
 
 use crate::faults::{TextFault, TextKind};
-use crate::lines::{Cut, Front, LONGEST, cut_of, front_of, is_header, record_of};
-use crate::records::Record;
+use crate::lines::{Cut, Front, LONGEST, cut_of, front_of, record_of, version_of};
+use crate::records::{Record, Version};
 use std::marker::Model;
 
 /// What a step of a reader took from the front of a piece, and the record that it gives.
@@ -84,28 +85,29 @@ fn put_at(buffer: &mut [u8], start: usize, bytes: &[u8])
     buffer[start..end].copy_from_slice(bytes);
 }
 
-// The record that the held bytes and those of the end spell together; then nothing is held.
-fn record_with(held: &mut Held, end: &[u8]) -> Option<Record>
+// The record that the held bytes and those of the end spell together in a version; then nothing is held.
+fn record_with(version: Version, held: &mut Held, end: &[u8]) -> Option<Record>
     requires { length held.old + length end.now ≤ longest_line }
     ensures found { IfSome result (λ r. held.old ++ end.now ≡ spell r) }
-    ensures fits { IfSome result Fits }
-    ensures none { IfNone result (IsNoRecord (held.old ++ end.now)) }
+    ensures fits { IfSome result (Fits version) }
+    ensures none { IfNone result (IsNoRecord version (held.old ++ end.now)) }
     ensures cleared { held.new ≡ [] }
 {
     if held.len() == 0 {
-        return record_of(end);
+        return record_of(version, end);
     }
     held.push_all(end);
-    let record = record_of(held.as_slice());
+    let record = record_of(version, held.as_slice());
     held.clear();
     record
 }
 
-/// Reads the text of a trace in pieces of any size, and gives its records.
+/// Reads the text of a trace in pieces of any size, and gives its records. The header tells the version of the text.
 #[derive(Drop)]
 pub struct Reader {
     limit: u64,
-    begun: bool,
+    // The version of the text, once its header has come.
+    version: Option<Version>,
     count: u64,
     held: Held,
     fault: Option<TextFault>,
@@ -118,13 +120,13 @@ impl Model for Reader {
 
     ghost Value = { Reading };
 
-    ghost view = { λ r. record { limit = r.limit; begun = r.begun; count = r.count; rest = r.held; fault = r.fault } };
+    ghost view = { λ r. record { limit = r.limit; version = r.version; count = r.count; rest = r.held; fault = r.fault } };
 
     ghost invariant = { λ r. (r.limit ≤ most_records) × (r.count ≤ r.limit) × (length r.held ≤ longest_line) };
 }
 
 impl Reader {
-    ghost use Rattle.trace.specs.Reading.{at_first_byte, HasRead, HasStepped, IsBetweenLines, held_back};
+    ghost use Rattle.trace.specs.Reading.{at_first_byte, HasRead, AreText, HasStepped, IsBetweenLines, held_back};
 
     /// A reader of a text of at most so many records, of which nothing has come.
     pub fn new(max_records: u64) -> Self
@@ -133,7 +135,7 @@ impl Reader {
     {
         Reader {
             limit: max_records,
-            begun: false,
+            version: None,
             count: 0,
             held: Held::new(),
             fault: None,
@@ -149,7 +151,8 @@ impl Reader {
             IfOk result (λ t. HasRead (w ++ option_to_list t.what) (bytes ++ take t.used piece.now) self.new) }
         // where a record is given, the bytes used end with its line
         ensures up_to_line_end { (w : List Record) (bytes : List ℕ) → HasRead w bytes self.old →
-            IfOk result (λ t. IfSome t.what (λ r. bytes ++ take t.used piece.now ≡ text (w ++ r ∷ []))) }
+            IfOk result (λ t. IfSome t.what
+            (λ r. AreText self.new.version (w ++ r ∷ []) (bytes ++ take t.used piece.now))) }
         ensures fault { (w : List Record) (bytes : List ℕ) → HasRead w bytes self.old →
             IfErr result (λ f. IsBadLine self.old.limit (bytes ++ piece.now) f) }
         ensures again { IfSome self.old.fault (λ f. (result ≡ Err f) × (self.new ≡ self.old)) }
@@ -157,14 +160,14 @@ impl Reader {
         if let Some(fault) = self.fault {
             return Err(fault);
         }
-        if self.begun {
-            return self.next(piece);
+        if let Some(version) = self.version {
+            return self.next(version, piece);
         }
         let used = self.open(piece)?;
-        if !self.begun {
+        let Some(version) = self.version else {
             return Ok(Taken { used, what: None });
-        }
-        let taken = self.next(&piece[used..])?;
+        };
+        let taken = self.next(version, &piece[used..])?;
         Ok(Taken {
             used: used + taken.used,
             what: taken.what,
@@ -180,7 +183,7 @@ impl Reader {
         ensures no_fault { 0 < result → self.now.fault ≡ None }
         ensures limit { self.now.limit ≤ most_records }
     {
-        if self.begun && self.fault.is_none() && self.held.len() == 0 {
+        if self.version.is_some() && self.fault.is_none() && self.held.len() == 0 {
             self.limit - self.count
         } else {
             0
@@ -201,7 +204,7 @@ impl Reader {
             IfSome result (λ f. HasRead (w ++ f.record ∷ []) (bytes ++ take f.used piece.now)
             (record self.now { count = self.now.count + 1 })) }
     {
-        front_of(piece)
+        front_of(self.version, piece)
     }
 
     /// One record more was given.
@@ -215,10 +218,10 @@ impl Reader {
 
     // Reads on in line 1, up to its end where that comes.
     fn open(&mut self, piece: &[u8]) -> Result<usize, TextFault>
-        requires begun { self.old.begun ≡ false }
+        requires first { self.old.version ≡ None }
         requires no_fault { self.old.fault ≡ None }
         ensures used { IfOk result (λ n. n ≤ length piece.now) }
-        ensures whole { IfOk result (λ n. self.new.begun ≡ false → n ≡ length piece.now) }
+        ensures whole { IfOk result (λ n. self.new.version ≡ None → n ≡ length piece.now) }
         ensures taken { (w : List Record) (bytes : List ℕ) → HasRead w bytes self.old →
             IfOk result (λ n. HasRead w (bytes ++ take n piece.now) self.new) }
         ensures fault { (w : List Record) (bytes : List ℕ) → HasRead w bytes self.old →
@@ -235,12 +238,11 @@ impl Reader {
         match cut_of(self.held.len(), piece) {
             Cut::End(end) => {
                 self.held.push_all(&piece[..end]);
-                self.begun = is_header(self.held.as_slice());
+                self.version = version_of(self.held.as_slice());
                 self.held.clear();
-                if self.begun {
-                    Ok(end + 1)
-                } else {
-                    Err(self.fail(1, TextKind::Header))
+                match self.version {
+                    Some(_) => Ok(end + 1),
+                    None => Err(self.fail(1, TextKind::Header)),
                 }
             }
             Cut::Long => Err(self.fail(1, TextKind::Header)),
@@ -252,8 +254,8 @@ impl Reader {
     }
 
     // Reads on in a line after line 1, up to its end where that comes.
-    fn next(&mut self, piece: &[u8]) -> Result<Taken, TextFault>
-        requires begun { self.old.begun ≡ true }
+    fn next(&mut self, version: Version, piece: &[u8]) -> Result<Taken, TextFault>
+        requires begun { self.old.version ≡ Some version }
         requires no_fault { self.old.fault ≡ None }
         ensures stepped { HasStepped self.old self.new piece.now result }
         ensures taken { (w : List Record) (bytes : List ℕ) → HasRead w bytes self.old →
@@ -264,7 +266,7 @@ impl Reader {
     {
         let line = self.count + 2;
         match cut_of(self.held.len(), piece) {
-            Cut::End(end) => match record_with(&mut self.held, &piece[..end]) {
+            Cut::End(end) => match record_with(version, &mut self.held, &piece[..end]) {
                 None => Err(self.fail(line, TextKind::Line)),
                 Some(record) => {
                     if self.count == self.limit {
@@ -297,11 +299,12 @@ impl Reader {
         fault
     }
 
-    /// Whether the bytes so far are the whole text of a trace. `Ok` changes nothing.
+    /// Whether the bytes so far are the whole text of a trace in a version. `Ok` changes nothing.
     pub fn end(&mut self) -> Result<(), TextFault>
-        ensures ok { (w : List Record) (bytes : List ℕ) → HasRead w bytes self.old → OnOk result (bytes ≡ text w) }
+        ensures ok { (w : List Record) (bytes : List ℕ) → HasRead w bytes self.old
+            → OnOk result (AreText self.old.version w bytes) }
         ensures not_text { (w : List Record) (bytes : List ℕ) → HasRead w bytes self.old
-            → OnErr result (bytes ≢ text w) }
+            → OnErr result ((v : Version) → bytes ≢ text v w) }
         ensures truncated { (w : List Record) (bytes : List ℕ) → HasRead w bytes self.old →
             IfErr result (IsTruncated self.old.limit bytes) }
         ensures unchanged { OnOk result (self.new ≡ self.old) }
@@ -312,7 +315,7 @@ impl Reader {
         if let Some(fault) = self.fault {
             return Err(fault);
         }
-        if !self.begun {
+        if self.version.is_none() {
             return Err(self.fail(1, TextKind::Truncated));
         }
         if self.held.len() > 0 {

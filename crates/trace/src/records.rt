@@ -1,4 +1,4 @@
-//! Records, accesses and races, and the limits within which a trace is read.
+//! Records, accesses and races, the versions of a trace's text, and the limits within which a trace is read.
 ghost use Rattle.std.specs.Prelude.{◌≤◌};
 ghost use Rattle.trace.specs.Bounds.{most_records};
 
@@ -9,14 +9,23 @@ use std::marker::Model;
 pub enum Record {
     /// The executing procedure spawns a child, which executes from the next record on.
     Spawn,
+    /// The executing procedure calls another, which executes from the next record on and returns before it goes on.
+    Call,
     /// The executing procedure returns, after the sync that every return implies.
     Return,
-    /// The executing procedure waits for the children that it has spawned.
+    /// The executing procedure waits for the children that it has spawned itself.
     Sync,
     /// A read of a location.
     Read(u64),
     /// A write of a location.
     Write(u64),
+}
+
+/// The version of a trace's text. Calls stand in version 2 alone.
+#[derive(Clone, Copy, Debug, PartialEq, Eq)]
+pub enum Version {
+    One,
+    Two,
 }
 
 /// A record and its place in the trace, counted from 1.

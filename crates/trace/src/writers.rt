@@ -1,7 +1,8 @@
 //! The writers of a trace's text. On a fault a beginning of the text was written.
-ghost use Rattle.std.specs.Prelude.{◌≡◌, ◌≤◌, [], ◌∷◌, ◌++◌, length, drop, decimal};
+ghost use Rattle.std.specs.Prelude.{◌≡◌, ◌⊎◌, ◌≤◌, [], ◌∷◌, ◌++◌, length, drop, decimal};
 ghost use Rattle.trace.specs.Devices.{◌⇝◌};
-ghost use Rattle.trace.specs.Text.{newline, header, ended, line};
+ghost use Rattle.trace.specs.declared.records.Version.{Version};
+ghost use Rattle.trace.specs.Text.{newline, header, number, ended, line};
 ghost use Rattle.trace.specs.Writers.{Puts};
 
 use crate::devices::Sink;
@@ -21,19 +22,26 @@ pub fn put_all<W: Sink>(sink: &mut W, bytes: &[u8]) -> Result<(), WriteFault>
     Ok(())
 }
 
-/// Writes the header line of a trace.
-pub fn write_header<W: Sink>(sink: &mut W) -> Result<(), WriteFault>
-    ensures { Puts result (ended header) (W.state sink.old ⇝ W.state sink.new) }
+/// Writes the header line of a trace in version 1 or 2.
+pub fn write_header<W: Sink>(version: u32, sink: &mut W) -> Result<(), WriteFault>
+    requires { (version ≡ 1) ⊎ (version ≡ 2) }
+    ensures { (v : Version) → version ≡ number v →
+        Puts result (ended (header v)) (W.state sink.old ⇝ W.state sink.new) }
 {
-    put_all(sink, b"trace 1\n")
+    if version == 1 {
+        put_all(sink, b"trace 1\n")
+    } else {
+        put_all(sink, b"trace 2\n")
+    }
 }
 
-/// Writes the line of a record.
+/// Writes the line of a record. A call's stands in version 2 alone.
 pub fn write_record<W: Sink>(what: &Record, sink: &mut W) -> Result<(), WriteFault>
     ensures { Puts result (line what.now) (W.state sink.old ⇝ W.state sink.new) }
 {
     match what {
         Record::Spawn => put_all(sink, b"spawn\n"),
+        Record::Call => put_all(sink, b"call\n"),
         Record::Return => put_all(sink, b"return\n"),
         Record::Sync => put_all(sink, b"sync\n"),
         Record::Read(location) => put_access(sink, b"read ", *location),

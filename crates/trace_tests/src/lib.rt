@@ -2,6 +2,8 @@
 #![tactic(auto)]
 
 #[cfg(test)]
+mod by_definition;
+#[cfg(test)]
 mod parallel;
 #[cfg(test)]
 mod tests;

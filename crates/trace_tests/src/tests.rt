@@ -3,10 +3,10 @@
 ghost use Rattle.std.specs.Prelude.{None};
 
 use std::io::{self, ErrorKind, Write};
-use trace::devices::{Counted, Failed, Source};
-use trace::faults::{Fault, NestFault, NestKind, TextFault, TextKind};
+use trace::devices::{Counted, Failed, Sink, Source};
+use trace::faults::{Fault, NestFault, NestKind, TextFault, TextKind, WriteFault};
 use trace::feeding::Feed;
-use trace::records::{Limits, Placed, Record};
+use trace::records::{Limits, Placed, Record, Version};
 use trace::writers::{write_header, write_record};
 
 // Hands out the bytes, so many at each call, and fails once they have all come, if that is asked. A call
@@ -81,7 +81,7 @@ fn read_all(
 #[test]
 fn first_faults(rt: HostRuntime) {
     let most = 1 << 48;
-    let rows: [(&[u8], u64, u32, Result<u64, Fault>); 31] = [
+    let rows: [(&[u8], u64, u32, Result<u64, Fault>); 30] = [
         (b"trace 1\nreturn\n", most, 9, Ok(1)),
         (
             b"trace 1\r\nreturn\n",
@@ -91,12 +91,6 @@ fn first_faults(rt: HostRuntime) {
         ),
         (
             b"trace 01\nreturn\n",
-            most,
-            9,
-            Err(text(1, TextKind::Header)),
-        ),
-        (
-            b"trace 2\nreturn\n",
             most,
             9,
             Err(text(1, TextKind::Header)),
@@ -220,10 +214,146 @@ fn first_faults(rt: HostRuntime) {
         (b"trace 1\n\0\n", most, 9, Err(text(2, TextKind::Line))),
     ];
     for (bytes, records, depth, answer) in rows {
-        for size in [1, 2, 7, 4096] {
+        for size in SIZES {
             assert_eq!(rt;
                 read_all(bytes, size, false, records, depth),
                 answer,
+                "{bytes:?} by {size}"
+            );
+        }
+    }
+}
+
+// A reading of each text by one byte, and by some, and whole.
+const SIZES: [usize; 4] = [1, 2, 7, 4096];
+
+// Texts whose first line is a header, with the count of their records, or nearly one.
+const HEADERS: [(&[u8], Result<u64, TextKind>); 16] = [
+    (b"trace 1\nreturn\n", Ok(1)),
+    (b"trace 2\nreturn\n", Ok(1)),
+    (b"trace 0\nreturn\n", Err(TextKind::Header)),
+    (b"trace 3\nreturn\n", Err(TextKind::Header)),
+    (b"trace 02\nreturn\n", Err(TextKind::Header)),
+    (b"trace 12\nreturn\n", Err(TextKind::Header)),
+    (b"trace 20\nreturn\n", Err(TextKind::Header)),
+    (b"trace 22\nreturn\n", Err(TextKind::Header)),
+    (b"trace  2\nreturn\n", Err(TextKind::Header)),
+    (b"trace 2 \nreturn\n", Err(TextKind::Header)),
+    (b"trace 2\r\nreturn\n", Err(TextKind::Header)),
+    (b"trace +2\nreturn\n", Err(TextKind::Header)),
+    (b"trace\nreturn\n", Err(TextKind::Header)),
+    (b"Trace 2\nreturn\n", Err(TextKind::Header)),
+    (b"call\nreturn\n", Err(TextKind::Header)),
+    (b"trace 2", Err(TextKind::Truncated)),
+];
+
+#[test]
+fn headers_of_versions(rt: HostRuntime) {
+    for (bytes, answer) in HEADERS {
+        let answer = answer.map_err(|kind| text(1, kind));
+        for size in SIZES {
+            assert_eq!(rt;
+                read_all(bytes, size, false, 1 << 48, 9),
+                answer,
+                "{bytes:?} by {size}"
+            );
+        }
+    }
+}
+
+// Texts of either version, with the count of their records, or the line that is faulty.
+const LINES: [(&[u8], Result<u64, u64>); 16] = [
+    (b"trace 2\ncall\nreturn\nreturn\n", Ok(3)),
+    (b"trace 1\ncall\nreturn\nreturn\n", Err(2)),
+    // A longer rest, so that the line is told with no look at the others.
+    (
+        b"trace 2\nspawn\ncall\nreturn\nreturn\nwrite 18446744073709551615\nreturn\n",
+        Ok(6),
+    ),
+    (
+        b"trace 1\nspawn\ncall\nreturn\nreturn\nwrite 18446744073709551615\nreturn\n",
+        Err(3),
+    ),
+    (
+        b"trace 2\ncall\nsync\nread 2\nreturn\nspawn\nwrite 2\nreturn\nreturn\n",
+        Ok(8),
+    ),
+    (b"trace 2\nCall\nreturn\nreturn\n", Err(2)),
+    (b"trace 2\ncalls\nreturn\nreturn\n", Err(2)),
+    (b"trace 2\ncal\nreturn\nreturn\n", Err(2)),
+    (b"trace 2\ncall \nreturn\nreturn\n", Err(2)),
+    (b"trace 2\n call\nreturn\nreturn\n", Err(2)),
+    (b"trace 2\ncall\r\nreturn\nreturn\n", Err(2)),
+    (b"trace 2\ncall 1\nwrite 1\nreturn\nreturn\n", Err(2)),
+    (
+        b"trace 2\ncall\ncall 18446744073709551615\nreturn\nreturn\n",
+        Err(3),
+    ),
+    (b"trace 2\nread 01\nreturn\n", Err(2)),
+    (b"trace 2\ntrace 2\nreturn\n", Err(2)),
+    (b"trace 1\ntrace 2\nreturn\n", Err(2)),
+];
+
+#[test]
+fn lines_of_versions(rt: HostRuntime) {
+    for (bytes, answer) in LINES {
+        let answer = answer.map_err(|line| text(line, TextKind::Line));
+        for size in SIZES {
+            assert_eq!(rt;
+                read_all(bytes, size, false, 1 << 48, 9),
+                answer,
+                "{bytes:?} by {size}"
+            );
+        }
+    }
+}
+
+// Texts of version 2 within a limit of their depth, and the place that is faulty.
+const NESTS: [(&[u8], u32, u64, NestKind); 9] = [
+    (b"trace 2\ncall\n", 0, 1, NestKind::TooDeep),
+    (b"trace 2\ncall\ncall\n", 1, 2, NestKind::TooDeep),
+    (b"trace 2\nspawn\ncall\n", 1, 2, NestKind::TooDeep),
+    (b"trace 2\ncall\nspawn\n", 1, 2, NestKind::TooDeep),
+    (
+        b"trace 2\ncall\nreturn\ncall\nspawn\n",
+        1,
+        4,
+        NestKind::TooDeep,
+    ),
+    (b"trace 2\nreturn\ncall\n", 0, 2, NestKind::AfterEnd),
+    (b"trace 2\ncall\nreturn\n", 1, 3, NestKind::Unfinished),
+    (b"trace 2\ncall\n", 1, 2, NestKind::Unfinished),
+    (b"trace 2\n", 0, 1, NestKind::Unfinished),
+];
+
+#[test]
+fn calls_that_nest_badly(rt: HostRuntime) {
+    for (bytes, depth, place, kind) in NESTS {
+        for size in SIZES {
+            assert_eq!(rt;
+                read_all(bytes, size, false, 1 << 48, depth),
+                Err(nest(place, kind)),
+                "{bytes:?} by {size}"
+            );
+        }
+    }
+}
+
+// Texts of version 2 within a limit of their records, and the line that is faulty.
+const LIMITED: [(&[u8], u64, u64, TextKind); 4] = [
+    (b"trace 2\ncall\nreturn\nreturn\n", 2, 4, TextKind::TooMany),
+    (b"trace 2\ncall\n", 0, 2, TextKind::TooMany),
+    (b"trace 2\ncall\nretur\n", 1, 3, TextKind::Line),
+    (b"trace 2\ncall", 9, 2, TextKind::Truncated),
+];
+
+#[test]
+fn calls_within_a_limit_of_records(rt: HostRuntime) {
+    for (bytes, records, line, kind) in LIMITED {
+        for size in SIZES {
+            assert_eq!(rt;
+                read_all(bytes, size, false, records, 9),
+                Err(text(line, kind)),
                 "{bytes:?} by {size}"
             );
         }
@@ -240,7 +370,7 @@ fn failing_sources(rt: HostRuntime) {
         (b"trace 1\nreturn\nsync\n", nest(2, NestKind::AfterEnd)),
     ];
     for (bytes, fault) in rows {
-        for size in [1, 2, 7, 4096] {
+        for size in SIZES {
             assert_eq!(rt;
                 read_all(bytes, size, true, most, 9),
                 Err(fault),
@@ -291,16 +421,33 @@ impl Write for Drip {
     }
 }
 
+// A line that is written: a header, or a record's.
+#[derive(Clone, Copy)]
+enum Line {
+    Header(Version),
+    Record(Record),
+}
+
+fn write_line<W: Sink>(line: Line, sink: &mut W) -> Result<(), WriteFault> {
+    match line {
+        Line::Header(Version::One) => write_header(1, sink),
+        Line::Header(Version::Two) => write_header(2, sink),
+        Line::Record(record) => write_record(&record, sink),
+    }
+}
+
 #[test]
 fn failing_sinks(rt: HostRuntime) {
-    let lines: [(Option<Record>, &[u8]); 6] = [
-        (None, b"trace 1\n"),
-        (Some(Record::Spawn), b"spawn\n"),
-        (Some(Record::Return), b"return\n"),
-        (Some(Record::Sync), b"sync\n"),
-        (Some(Record::Read(0)), b"read 0\n"),
+    let lines: [(Line, &[u8]); 8] = [
+        (Line::Header(Version::One), b"trace 1\n"),
+        (Line::Header(Version::Two), b"trace 2\n"),
+        (Line::Record(Record::Spawn), b"spawn\n"),
+        (Line::Record(Record::Call), b"call\n"),
+        (Line::Record(Record::Return), b"return\n"),
+        (Line::Record(Record::Sync), b"sync\n"),
+        (Line::Record(Record::Read(0)), b"read 0\n"),
         (
-            Some(Record::Write(u64::MAX)),
+            Line::Record(Record::Write(u64::MAX)),
             b"write 18446744073709551615\n",
         ),
     ];
@@ -314,10 +461,7 @@ fn failing_sinks(rt: HostRuntime) {
                     error,
                     failed: false,
                 };
-                let written = match what {
-                    None => write_header(&mut Counted::new(&mut drip)),
-                    Some(record) => write_record(&record, &mut Counted::new(&mut drip)),
-                };
+                let written = write_line(what, &mut Counted::new(&mut drip));
                 assert_eq!(rt;
                     written.is_ok(),
                     most == line.len(),

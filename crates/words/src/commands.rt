@@ -20,8 +20,9 @@ Exit status:
   1  a race, or no
   2  no answer; standard error says why
 
-A trace is text: the line `trace 1`, then a line for each record, in the order of the run: `spawn`, `sync`, `return`,
-`read L` or `write L`, where L is a location, 0 to 18446744073709551615. The root procedure's `return` is the last.
+A trace is text: the line `trace 1` or `trace 2`, then a line for each record, in the order of the run: `spawn`,
+`sync`, `return`, `read L` or `write L`, where L is a location, 0 to 18446744073709551615; and after `trace 2` also
+`call`, an ordinary call of a procedure that may spawn. The root procedure's `return` is the last.
 A file named `-` is standard input. Each command has its own help, as in `spbags check --help`.";
 
 const CHECK_ABOUT: &str = "Tells one race of each location that has any.";

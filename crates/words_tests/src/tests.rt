@@ -231,9 +231,11 @@ fn helps(rt: HostRuntime) -> Result<(), Fail> {
 }
 
 // Command lines that ask for help, and what it has to say.
-const HELPS: [(&str, &str); 19] = [
-    ("--help", "trace 1"),
-    ("--help", "`spawn`, `sync`, `return`"),
+const HELPS: [(&str, &str); 21] = [
+    ("--help", "`trace 1` or `trace 2`"),
+    ("--help", "`spawn`,\n`sync`, `return`, "),
+    ("--help", "after `trace 2` also\n`call`"),
+    ("--help", "an ordinary call of a procedure that may spawn"),
     ("--help", "`read L` or `write L`"),
     ("--help", "0 to 18446744073709551615"),
     ("--help", "A file named `-` is standard input"),

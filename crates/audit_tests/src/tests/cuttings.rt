@@ -1,8 +1,8 @@
 //! The questions on traces that are cut in two pieces at every place, and after every byte; and on readers that fail.
 
 use super::rows::{
-    GRANDCHILD_SYNCED, LIMITS, READER_MOVES_TO_CHILD, SYNC_IN_SIBLING, SYNC_ORDERS, THREE_WRITES,
-    TWO_READERS_THEN_WRITE, Told, WRITE_WRITE, listed,
+    CALL_MIXED, CALL_SPAWNS, CALL_SYNCS, GRANDCHILD_SYNCED, LIMITS, READER_MOVES_TO_CHILD,
+    SYNC_IN_SIBLING, SYNC_ORDERS, THREE_WRITES, TWO_READERS_THEN_WRITE, Told, WRITE_WRITE, listed,
 };
 use audit::{Confirm, Measure, confirm, measure};
 use collect::{Report, read_report};
@@ -100,7 +100,7 @@ type Row = (
     &'static [Told],
 );
 
-const ROWS: [Row; 10] = [
+const ROWS: [Row; 13] = [
     (
         WRITE_WRITE,
         5,
@@ -166,6 +166,21 @@ const ROWS: [Row; 10] = [
             ((Kind::Write, 5), (Kind::Write, 7)),
         ],
     ),
+    (
+        CALL_MIXED,
+        1,
+        b"races 1\nrace 1 write 2 write 8\n",
+        (9, 7, 1, 1),
+        &[((Kind::Write, 2), (Kind::Write, 8))],
+    ),
+    (
+        CALL_SYNCS,
+        1,
+        b"races 1\nrace 1 write 2 write 6\n",
+        (8, 6, 1, 1),
+        &[((Kind::Write, 2), (Kind::Write, 6))],
+    ),
+    (CALL_SPAWNS, 1, b"races 0\n", (7, 7, 1, 2), &[]),
 ];
 
 /// Asserts what is answered of a row from these parts.
@@ -231,7 +246,7 @@ fn nest(place: u64, kind: NestKind) -> Fault {
 
 #[test]
 fn faults_of_pieces(rt: HostRuntime) -> Result<(), Fail> {
-    let rows: [(u32, &[u8], Fault); 8] = [
+    let rows: [(u32, &[u8], Fault); 12] = [
         (
             9,
             b"trace 1\nwrite 18446744073709551616\nreturn\n",
@@ -244,6 +259,10 @@ fn faults_of_pieces(rt: HostRuntime) -> Result<(), Fail> {
         (9, b"trace 1\nreturn", text(2, TextKind::Truncated)),
         (1, b"trace 1\nspawn\nspawn\n", nest(2, NestKind::TooDeep)),
         (0, WRITE_WRITE, nest(1, NestKind::TooDeep)),
+        (9, b"trace 3\nreturn\n", text(1, TextKind::Header)),
+        (9, b"trace 1\ncall\nreturn\n", text(2, TextKind::Line)),
+        (9, b"trace 2\ncall\nreturn\n", nest(3, NestKind::Unfinished)),
+        (1, CALL_SPAWNS, nest(2, NestKind::TooDeep)),
     ];
     for (depth, text, fault) in rows {
         for cut in 0..=text.len() {

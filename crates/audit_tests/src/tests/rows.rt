@@ -36,6 +36,15 @@ const THREE_SHARDS: &[u8] = b"trace 1\nspawn\nwrite 8\nwrite 2\nreturn\nread 8\n
 const READ_THEN_WRITE_IN_CHILD: &[u8] =
     b"trace 1\nspawn\nread 7\nwrite 7\nreturn\nwrite 7\nreturn\n";
 
+pub const CALL_MIXED: &[u8] =
+    b"trace 2\nspawn\nwrite 1\nreturn\ncall\nread 2\nreturn\nwrite 2\nwrite 1\nreturn\n";
+
+/// The two traces of row `call-sync-scopes`.
+pub const CALL_SYNCS: &[u8] =
+    b"trace 2\nspawn\nwrite 1\nreturn\ncall\nsync\nwrite 1\nreturn\nreturn\n";
+
+pub const CALL_SPAWNS: &[u8] = b"trace 2\ncall\nspawn\nwrite 1\nreturn\nreturn\nwrite 1\nreturn\n";
+
 pub const LIMITS: Limits = Limits {
     records: 1 << 48,
     depth: 9,
@@ -47,7 +56,7 @@ fn measured(alloc: Global, text: &[u8]) -> Result<Measure, Fault> {
 
 #[test]
 fn measures(rt: HostRuntime) {
-    let rows: [(&str, &[u8], (u64, u64, u64, u32)); 8] = [
+    let rows: [(&str, &[u8], (u64, u64, u64, u32)); 12] = [
         ("empty", EMPTY, (1, 1, 0, 0)),
         ("write-write", WRITE_WRITE, (5, 4, 1, 1)),
         ("sync-orders", SYNC_ORDERS, (6, 6, 1, 1)),
@@ -64,6 +73,10 @@ fn measures(rt: HostRuntime) {
             READ_THEN_WRITE_IN_CHILD,
             (6, 5, 1, 1),
         ),
+        ("versions", b"trace 2\nreturn\n", (1, 1, 0, 0)),
+        ("call-mixed", CALL_MIXED, (9, 7, 1, 1)),
+        ("call-sync-scopes", CALL_SYNCS, (8, 6, 1, 1)),
+        ("call-sync-scopes", CALL_SPAWNS, (7, 7, 1, 2)),
     ];
     for (name, text, (work, span, spawns, depth)) in rows {
         let wanted = Measure {
@@ -97,7 +110,7 @@ pub fn listed<R: Source>(
 #[test]
 fn pairs_of_locations(rt: HostRuntime) -> Result<(), Fail> {
     let (read, write) = (Kind::Read, Kind::Write);
-    let rows: [(&str, &[u8], u64, &[Told]); 8] = [
+    let rows: [(&str, &[u8], u64, &[Told]); 12] = [
         ("empty", EMPTY, 0, &[]),
         (
             "reader-moves-to-child",
@@ -130,6 +143,15 @@ fn pairs_of_locations(rt: HostRuntime) -> Result<(), Fail> {
             &[((read, 2), (write, 5)), ((write, 3), (write, 5))],
         ),
         ("sync-orders", SYNC_ORDERS, 5, &[]),
+        ("call-mixed", CALL_MIXED, 1, &[((write, 2), (write, 8))]),
+        ("call-mixed", CALL_MIXED, 2, &[]),
+        (
+            "call-sync-scopes",
+            CALL_SYNCS,
+            1,
+            &[((write, 2), (write, 6))],
+        ),
+        ("call-sync-scopes", CALL_SPAWNS, 1, &[]),
     ];
     for (name, text, location, wanted) in rows {
         let told = listed(rt.alloc(), LIMITS, &mut Counted::new(text), location)?;
@@ -148,7 +170,7 @@ fn confirmed(alloc: Global, text: &[u8], report: &[u8]) -> Result<Option<Confirm
 
 #[test]
 fn confirm_answers(rt: HostRuntime) -> Result<(), Fail> {
-    let rows: [(&str, &[u8], &[u8], Confirm); 9] = [
+    let rows: [(&str, &[u8], &[u8], Confirm); 14] = [
         (
             "write-write",
             WRITE_WRITE,
@@ -198,6 +220,36 @@ fn confirm_answers(rt: HostRuntime) -> Result<(), Fail> {
             b"races 2\nrace 2 write 2 read 6\nrace 8 write 2 read 6\n",
             Confirm::No { entry: 1 },
         ),
+        (
+            "call-mixed",
+            CALL_MIXED,
+            b"races 1\nrace 1 write 2 write 8\n",
+            Confirm::Yes,
+        ),
+        (
+            "call-mixed",
+            CALL_MIXED,
+            b"races 1\nrace 2 read 5 write 7\n",
+            Confirm::No { entry: 1 },
+        ),
+        (
+            "call-mixed",
+            CALL_MIXED,
+            b"races 2\nrace 1 write 2 write 8\nrace 2 read 5 write 7\n",
+            Confirm::No { entry: 2 },
+        ),
+        (
+            "call-sync-scopes",
+            CALL_SYNCS,
+            b"races 1\nrace 1 write 2 write 6\n",
+            Confirm::Yes,
+        ),
+        (
+            "call-sync-scopes",
+            CALL_SPAWNS,
+            b"races 1\nrace 1 write 3 write 6\n",
+            Confirm::No { entry: 1 },
+        ),
     ];
     for (name, text, report, wanted) in rows {
         let answer = confirmed(rt.alloc(), text, report)?;
@@ -209,7 +261,7 @@ fn confirm_answers(rt: HostRuntime) -> Result<(), Fail> {
 /// A child and its parent write the same 1,000 locations.
 fn write_thousand_races(text: &mut Vec<u8>) -> Result<(), WriteFault> {
     let mut sink = Counted::new(text);
-    write_header(&mut sink)?;
+    write_header(1, &mut sink)?;
     write_record(&Record::Spawn, &mut sink)?;
     for k in 0..1000 {
         write_record(&Record::Write(2 * k), &mut sink)?;

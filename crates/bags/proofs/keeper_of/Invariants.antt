@@ -1,8 +1,8 @@
-use Rattle.bags.proofs.Halving.{Halved}
+use Rattle.bags.proofs.Halving.{Stepped}
 use Rattle.bags.proofs.keeper_of.Given as goal
 
-abbrev pub invariant-loop-span : goal.invariant-loop-span
-invariant-loop-span l = Halved l.ranges l.keeper l.span l.probes l.procedure
+abbrev pub invariant-loop-step : goal.invariant-loop-step
+invariant-loop-step l = Stepped l.stretches l.part l.step l.probes l.procedure
 
-abbrev pub decreases-loop-span : goal.decreases-loop-span
-decreases-loop-span l = l.span
+abbrev pub decreases-loop-step : goal.decreases-loop-step
+decreases-loop-step l = l.step

@@ -56,10 +56,16 @@ fn fault_at(records: &[Record], i: usize, depth_limit: usize) -> Option<NestKind
     if has_returned(records, i) {
         return Some(NestKind::AfterEnd);
     }
-    if at(records, i) == Some(Record::Spawn) && depth(records, i) >= depth_limit {
+    if opens(records, i) && depth(records, i) >= depth_limit {
         return Some(NestKind::TooDeep);
     }
     None
+}
+
+/// A place that opens a procedure.
+fn opens(records: &[Record], i: usize) -> bool {
+    let record = at(records, i);
+    record == Some(Record::Spawn) || record == Some(Record::Call)
 }
 
 /// Whether the root has returned at a place before this one.
@@ -76,18 +82,18 @@ fn is_root_return(records: &[Record], i: usize) -> bool {
     at(records, i) == Some(Record::Return) && depth(records, i) == 0
 }
 
-/// The spawns before the place, less the returns before it.
+/// The spawns and calls before the place, less the returns before it.
 fn depth(records: &[Record], i: usize) -> usize {
-    let mut spawns: usize = 0;
+    let mut opened: usize = 0;
     let mut returns: usize = 0;
     for record in records.iter().take(i) {
         match record {
-            Record::Spawn => spawns = spawns.saturating_add(1),
+            Record::Spawn | Record::Call => opened = opened.saturating_add(1),
             Record::Return => returns = returns.saturating_add(1),
             _ => {}
         }
     }
-    spawns.saturating_sub(returns)
+    opened.saturating_sub(returns)
 }
 
 fn at(records: &[Record], i: usize) -> Option<Record> {
@@ -123,7 +129,10 @@ fn joins(records: &[Record], i: usize) -> bool {
 fn is_edge(records: &[Record], i: usize, j: usize) -> bool {
     i < j
         && j < records.len()
-        && (is_continuation(records, i, j) || is_spawn(records, i, j) || is_join(records, i, j))
+        && (is_continuation(records, i, j)
+            || is_opening(records, i, j)
+            || is_comeback(records, i, j)
+            || is_join(records, i, j))
 }
 
 /// From a record that isn't a return to the next place of the same procedure.
@@ -136,19 +145,42 @@ fn is_continuation(records: &[Record], i: usize, j: usize) -> bool {
     at(records, i) != Some(Record::Return) && depth(records, j) == depth(records, i)
 }
 
-/// From a spawn to the child's first place.
-fn is_spawn(records: &[Record], i: usize, j: usize) -> bool {
-    at(records, i) == Some(Record::Spawn) && i.checked_add(1) == Some(j)
+/// From a spawn or a call to the child's first place.
+fn is_opening(records: &[Record], i: usize, j: usize) -> bool {
+    opens(records, i) && i.checked_add(1) == Some(j)
 }
 
-/// From a child's return to the first later place of its parent that waits for it.
+/// The record that opened the procedure which executes the place: that of the last earlier place that is one less
+/// deep.
+fn opener(records: &[Record], i: usize) -> Option<Record> {
+    let above = depth(records, i).checked_sub(1)?;
+    let mut opener = None;
+    for k in 0..i {
+        if depth(records, k) == above {
+            opener = at(records, k);
+        }
+    }
+    opener
+}
+
+/// Whether a procedure returns at the place that this record opened.
+fn returns_from(records: &[Record], i: usize, opened: Record) -> bool {
+    at(records, i) == Some(Record::Return) && opener(records, i) == Some(opened)
+}
+
+/// From a called procedure's return to the next place.
+fn is_comeback(records: &[Record], i: usize, j: usize) -> bool {
+    returns_from(records, i, Record::Call) && i.checked_add(1) == Some(j)
+}
+
+/// From a spawned child's return to the first later place of its parent that waits for it.
 fn is_join(records: &[Record], i: usize, j: usize) -> bool {
     for k in i..j {
         if k > i && depth(records, k) == depth(records, j) && joins(records, k) {
             return false;
         }
     }
-    at(records, i) == Some(Record::Return)
+    returns_from(records, i, Record::Spawn)
         && depth(records, i).checked_sub(1) == Some(depth(records, j))
         && joins(records, j)
 }
@@ -206,11 +238,21 @@ fn are_parallel(paths: &Between, i: usize, j: usize) -> bool {
     i != j && !leads(paths, i, j) && !leads(paths, j, i)
 }
 
-fn is_race(records: &[Record], paths: &Between, location: u64, i: usize, j: usize) -> bool {
-    let first = access_at(records, location, i);
-    let second = access_at(records, location, j);
-    let one_writes = first == Some(Kind::Write) || second == Some(Kind::Write);
-    i < j && first.is_some() && second.is_some() && one_writes && are_parallel(paths, i, j)
+/// The accesses of the location at two places, the first before the second, if at least one writes.
+pub fn accesses_at(
+    records: &[Record],
+    location: u64,
+    i: usize,
+    j: usize,
+) -> Option<(Access, Access)> {
+    let first = told_access(records, location, i)?;
+    let second = told_access(records, location, j)?;
+    let one_writes = first.kind == Kind::Write || second.kind == Kind::Write;
+    if i < j && one_writes {
+        Some((first, second))
+    } else {
+        None
+    }
 }
 
 /// The accesses at two places, if they race on the location.
@@ -221,19 +263,18 @@ pub fn race_at(
     i: usize,
     j: usize,
 ) -> Option<(Access, Access)> {
-    if !is_race(records, paths, location, i, j) {
-        return None;
+    if are_parallel(paths, i, j) {
+        accesses_at(records, location, i, j)
+    } else {
+        None
     }
-    let first = told_access(records, location, i)?;
-    let second = told_access(records, location, j)?;
-    Some((first, second))
 }
 
 /// The least place at which a race on the location ends.
 pub fn second_place(records: &[Record], paths: &Between, location: u64) -> Option<usize> {
     for j in 0..records.len() {
         for i in 0..j {
-            if is_race(records, paths, location, i, j) {
+            if race_at(records, paths, location, i, j).is_some() {
                 return Some(j);
             }
         }

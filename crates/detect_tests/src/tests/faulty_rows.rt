@@ -13,7 +13,7 @@ pub struct Faulty {
 }
 
 /// The texts that have a fault.
-pub const FAULTY: [Faulty; 12] = [
+pub const FAULTY: [Faulty; 15] = [
     Faulty {
         name: "location-range",
         limits: LIMITS,
@@ -95,7 +95,16 @@ pub const FAULTY: [Faulty; 12] = [
     Faulty {
         name: "versions",
         limits: LIMITS,
-        text: b"trace 2\nreturn\n",
+        text: b"trace 3\nreturn\n",
+        fault: Fault::Text(TextFault {
+            line: 1,
+            kind: TextKind::Header,
+        }),
+    },
+    Faulty {
+        name: "versions",
+        limits: LIMITS,
+        text: b"trace 02\nreturn\n",
         fault: Fault::Text(TextFault {
             line: 1,
             kind: TextKind::Header,
@@ -108,6 +117,27 @@ pub const FAULTY: [Faulty; 12] = [
         fault: Fault::Text(TextFault {
             line: 2,
             kind: TextKind::Line,
+        }),
+    },
+    Faulty {
+        name: "versions",
+        limits: LIMITS,
+        text: b"trace 2\ncall\nreturn\n",
+        fault: Fault::Nest(NestFault {
+            place: 3,
+            kind: NestKind::Unfinished,
+        }),
+    },
+    Faulty {
+        name: "depth-limit",
+        limits: Limits {
+            records: 1 << 48,
+            depth: 1,
+        },
+        text: b"trace 2\nspawn\ncall\n",
+        fault: Fault::Nest(NestFault {
+            place: 2,
+            kind: NestKind::TooDeep,
         }),
     },
     Faulty {

@@ -13,6 +13,9 @@ pub const WRITE_WRITE: &[u8] = b"trace 1\nspawn\nwrite 5\nreturn\nwrite 5\nretur
 pub const THREE_SHARDS: &[u8] =
     b"trace 1\nspawn\nwrite 8\nwrite 2\nreturn\nread 8\nread 2\nreturn\n";
 
+pub const CALL_MIXED: &[u8] =
+    b"trace 2\nspawn\nwrite 1\nreturn\ncall\nread 2\nreturn\nwrite 2\nwrite 1\nreturn\n";
+
 /// A trace that is reported, within the rows' limits.
 #[derive(Clone, Copy)]
 pub struct Reported {
@@ -22,7 +25,7 @@ pub struct Reported {
 }
 
 /// The traces that are reported.
-pub const REPORTED: [Reported; 15] = [
+pub const REPORTED: [Reported; 20] = [
     Reported {
         name: "empty",
         text: b"trace 1\nreturn\n",
@@ -97,5 +100,31 @@ pub const REPORTED: [Reported; 15] = [
         name: "three-shards",
         text: THREE_SHARDS,
         report: b"races 2\nrace 2 write 3 read 6\nrace 8 write 2 read 5\n",
+    },
+    Reported {
+        name: "call-mixed",
+        text: CALL_MIXED,
+        report: b"races 1\nrace 1 write 2 write 8\n",
+    },
+    Reported {
+        name: "call-sync-scopes",
+        text: b"trace 2\nspawn\nwrite 1\nreturn\ncall\nsync\nwrite 1\nreturn\nreturn\n",
+        report: b"races 1\nrace 1 write 2 write 6\n",
+    },
+    Reported {
+        name: "call-sync-scopes",
+        text: b"trace 2\ncall\nspawn\nwrite 1\nreturn\nreturn\nwrite 1\nreturn\n",
+        report: b"races 0\n",
+    },
+    Reported {
+        name: "versions",
+        text: b"trace 2\nreturn\n",
+        report: b"races 0\n",
+    },
+    // The text of version 1 with another header.
+    Reported {
+        name: "write-write",
+        text: b"trace 2\nspawn\nwrite 5\nreturn\nwrite 5\nreturn\n",
+        report: b"races 1\nrace 5 write 2 write 4\n",
     },
 ];

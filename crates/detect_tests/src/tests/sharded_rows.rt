@@ -2,7 +2,7 @@
 
 use super::answers::{run, text_of, text_plain};
 use super::faulty_rows::FAULTY;
-use super::reported_rows::{LIMITS, REPORTED, THREE_SHARDS, WRITE_WRITE};
+use super::reported_rows::{CALL_MIXED, LIMITS, REPORTED, THREE_SHARDS, WRITE_WRITE};
 use std::test::Fail;
 
 /// How many shards each row is run with.
@@ -46,6 +46,8 @@ fn shards_take_their_shares(rt: HostRuntime) -> Result<(), Fail> {
     assert_eq!(rt; three.taken.as_slice(), [3, 3, 5].as_slice());
     let other = run(&rt, rt.alloc(), 3, LIMITS, THREE_SHARDS)?;
     assert_eq!(rt; other.taken.as_slice(), [3, 3, 7].as_slice());
+    let called = run(&rt, rt.alloc(), 3, LIMITS, CALL_MIXED)?;
+    assert_eq!(rt; called.taken.as_slice(), [5, 7, 7].as_slice());
     let many = run(&rt, rt.alloc(), 64, LIMITS, WRITE_WRITE)?;
     assert_eq!(rt; many.taken.len(), 64);
     for index in 0..many.taken.len() {

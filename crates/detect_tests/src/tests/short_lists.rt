@@ -1,5 +1,5 @@
-//! Every list of at most 7 records over one location: what is detected, and what a shard answers at each place, is
-//! what the definitions tell.
+//! Every list of at most 7 records over one location, and with calls every list of at most 6: what is detected, and
+//! what a shard answers at each place, is what the definitions tell.
 
 use super::answers::Hasher;
 use super::by_definition::{
@@ -12,19 +12,27 @@ use std::alloc::Global;
 use std::process::Abort;
 use std::test::Fail;
 use trace::{
-    Counted, Fault, Limits, NestKind, Placed, Race, Record, WriteFault, write_header, write_record,
+    Counted, Fault, Limits, NestKind, Placed, Race, Record, Version, WriteFault, write_header,
+    write_record,
 };
 
-const LETTERS: [Record; 5] = [
+/// The records of which the lists are. The last one stands in version 2 alone.
+const LETTERS: [Record; 6] = [
     Record::Spawn,
     Record::Return,
     Record::Sync,
     Record::Read(0),
     Record::Write(0),
+    Record::Call,
 ];
 
-/// How many lists there are of each length.
-pub const COUNTS: [usize; MOST] = [5, 25, 125, 625, 3125, 15625, 78125];
+/// How many lists of a version there are of each length.
+pub fn counts(version: Version) -> [usize; MOST] {
+    match version {
+        Version::One => [5, 25, 125, 625, 3125, 15625, 78125],
+        Version::Two => [6, 36, 216, 1296, 7776, 46656, 0],
+    }
+}
 
 /// How many lists were read, and with which answers.
 #[derive(Clone, Copy, Debug, PartialEq, Eq)]
@@ -48,22 +56,33 @@ impl Tally {
     }
 }
 
-/// The list whose letters are the digits of the number.
-pub fn list_of(number: usize) -> [Record; MOST] {
+/// The list of a version whose letters are the digits of the number.
+pub fn list_of(version: Version, number: usize) -> [Record; MOST] {
+    let letters = match version {
+        Version::One => 5,
+        Version::Two => 6,
+    };
     let mut list = [Record::Sync; MOST];
     let mut rest = number;
     for i in 0..MOST {
-        list[i] = LETTERS[rest % 5];
-        rest /= 5;
+        list[i] = LETTERS[rest % letters];
+        rest /= letters;
     }
     list
 }
 
 /// Writes the text of a list, in place of what was there.
-pub fn write_list(records: &[Record], text: &mut Vec<u8>) -> Result<(), WriteFault> {
+pub fn write_list(
+    version: Version,
+    records: &[Record],
+    text: &mut Vec<u8>,
+) -> Result<(), WriteFault> {
     text.clear();
     let mut sink = Counted::new(text);
-    write_header(&mut sink)?;
+    match version {
+        Version::One => write_header(1, &mut sink)?,
+        Version::Two => write_header(2, &mut sink)?,
+    }
     for record in records {
         write_record(record, &mut sink)?;
     }
@@ -133,8 +152,13 @@ fn check_shard(
     Ok(())
 }
 
-/// Detects every list, each after another in the same text.
-fn check_lists(rt: &impl Abort, alloc: Global, depth: u32) -> Result<Tally, Fail> {
+/// Detects every list of a version, each after another in the same text.
+fn check_lists(
+    rt: &impl Abort,
+    alloc: Global,
+    version: Version,
+    depth: u32,
+) -> Result<Tally, Fail> {
     let mut tally = Tally {
         race_free: 0,
         racy: 0,
@@ -143,10 +167,10 @@ fn check_lists(rt: &impl Abort, alloc: Global, depth: u32) -> Result<Tally, Fail
     };
     let mut text = Vec::new(alloc);
     for length in 1..MOST + 1 {
-        for number in 0..COUNTS[length - 1] {
-            let list = list_of(number);
+        for number in 0..counts(version)[length - 1] {
+            let list = list_of(version, number);
             let records = &list[..length];
-            write_list(records, &mut text)?;
+            write_list(version, records, &mut text)?;
             let wanted = expected(rt, records, depth as usize);
             let found = match detected(alloc, &text, depth) {
                 Ok(report) => Ok(only_race(rt, &report)),
@@ -164,7 +188,7 @@ fn check_lists(rt: &impl Abort, alloc: Global, depth: u32) -> Result<Tally, Fail
 
 #[test]
 fn within_depth_7(rt: HostRuntime) -> Result<(), Fail> {
-    let tally = check_lists(&rt, rt.alloc(), 7)?;
+    let tally = check_lists(&rt, rt.alloc(), Version::One, 7)?;
     let wanted = Tally {
         race_free: 2_676,
         racy: 273,
@@ -177,7 +201,7 @@ fn within_depth_7(rt: HostRuntime) -> Result<(), Fail> {
 
 #[test]
 fn within_depth_2(rt: HostRuntime) -> Result<(), Fail> {
-    let tally = check_lists(&rt, rt.alloc(), 2)?;
+    let tally = check_lists(&rt, rt.alloc(), Version::One, 2)?;
     let wanted = Tally {
         race_free: 2_675,
         racy: 273,
@@ -190,12 +214,51 @@ fn within_depth_2(rt: HostRuntime) -> Result<(), Fail> {
 
 #[test]
 fn within_depth_1(rt: HostRuntime) -> Result<(), Fail> {
-    let tally = check_lists(&rt, rt.alloc(), 1)?;
+    let tally = check_lists(&rt, rt.alloc(), Version::One, 1)?;
     let wanted = Tally {
         race_free: 2_533,
         racy: 261,
         too_deep: 21_672,
         otherwise_faulty: 73_189,
+    };
+    assert_eq!(rt; tally, wanted);
+    Ok(())
+}
+
+#[test]
+fn with_calls_within_depth_6(rt: HostRuntime) -> Result<(), Fail> {
+    let tally = check_lists(&rt, rt.alloc(), Version::Two, 6)?;
+    let wanted = Tally {
+        race_free: 1_125,
+        racy: 35,
+        too_deep: 0,
+        otherwise_faulty: 54_826,
+    };
+    assert_eq!(rt; tally, wanted);
+    Ok(())
+}
+
+#[test]
+fn with_calls_within_depth_2(rt: HostRuntime) -> Result<(), Fail> {
+    let tally = check_lists(&rt, rt.alloc(), Version::Two, 2)?;
+    let wanted = Tally {
+        race_free: 1_125,
+        racy: 35,
+        too_deep: 11_056,
+        otherwise_faulty: 43_770,
+    };
+    assert_eq!(rt; tally, wanted);
+    Ok(())
+}
+
+#[test]
+fn with_calls_within_depth_1(rt: HostRuntime) -> Result<(), Fail> {
+    let tally = check_lists(&rt, rt.alloc(), Version::Two, 1)?;
+    let wanted = Tally {
+        race_free: 1_061,
+        racy: 35,
+        too_deep: 23_476,
+        otherwise_faulty: 31_414,
     };
     assert_eq!(rt; tally, wanted);
     Ok(())

@@ -1,12 +1,15 @@
-//! Every list of at most 7 records over one location: its measure, and all its races, are those of the definitions.
+//! Every list of at most 7 records over one location, and with calls every list of at most 6: its measure, all its
+//! races, and what is confirmed of any two of its accesses, are those of the definitions.
 
-use super::by_definition::{self, MOST, is_well_nested, paths, race_at};
-use super::short_lists::{COUNTS, list_of, write_list};
-use audit::{measure, pairs};
+use super::by_definition::{self, Between, MOST, accesses_at, is_well_nested, paths, race_at};
+use super::short_lists::{counts, list_of, write_list};
+use audit::{Confirm, confirm, measure, pairs};
+use collect::{Collector, Report};
+use shard::Back;
 use std::alloc::Global;
 use std::process::Abort;
 use std::test::Fail;
-use trace::{Access, Counted, Limits, Record};
+use trace::{Access, Counted, Kind, Limits, Race, Record, Version};
 
 const LIMITS: Limits = Limits {
     records: 1 << 48,
@@ -14,17 +17,72 @@ const LIMITS: Limits = Limits {
 };
 
 /// The races of location 0, by their second places and then by their first.
-fn races(alloc: Global, records: &[Record]) -> Result<Vec<(Access, Access)>, Fail> {
-    let paths = paths(records);
+fn races(
+    alloc: Global,
+    records: &[Record],
+    paths: &Between,
+) -> Result<Vec<(Access, Access)>, Fail> {
     let mut races = Vec::new(alloc);
     for j in 0..records.len() {
         for i in 0..j {
-            if let Some(race) = race_at(records, &paths, 0, i, j) {
+            if let Some(race) = race_at(records, paths, 0, i, j) {
                 races.push(race)?;
             }
         }
     }
     Ok(races)
+}
+
+/// The report of one race of location 0.
+fn report_of(alloc: Global, first: Access, second: Access) -> Result<Report, Fail> {
+    let one_writes = first.kind == Kind::Write || second.kind == Kind::Write;
+    let are_places = 1 <= first.place && second.place <= 1 << 48;
+    if !one_writes || !are_places || first.place >= second.place {
+        return Err("no race".into());
+    }
+    let mut collector = Collector::new(alloc);
+    collector.take(Back::Race(Race {
+        location: 0,
+        first,
+        second,
+    }))?;
+    Ok(collector.finish()?)
+}
+
+/// Asks whether two accesses race.
+fn check_confirm(
+    rt: &impl Abort,
+    alloc: Global,
+    text: &[u8],
+    (first, second): (Access, Access),
+    wanted: Confirm,
+) -> Result<(), Fail> {
+    let report = report_of(alloc, first, second)?;
+    let answer = confirm(alloc, LIMITS, &mut Counted::new(text), &report);
+    assert_eq!(rt; answer, Ok(wanted), "{first:?} {second:?} of {text:?}");
+    Ok(())
+}
+
+/// Asks so of any two accesses of which one writes.
+fn check_confirms(
+    rt: &impl Abort,
+    alloc: Global,
+    records: &[Record],
+    paths: &Between,
+    text: &[u8],
+) -> Result<(), Fail> {
+    for j in 0..records.len() {
+        for i in 0..j {
+            if let Some(accesses) = accesses_at(records, 0, i, j) {
+                let wanted = match race_at(records, paths, 0, i, j) {
+                    Some(_) => Confirm::Yes,
+                    None => Confirm::No { entry: 1 },
+                };
+                check_confirm(rt, alloc, text, accesses, wanted)?;
+            }
+        }
+    }
+    Ok(())
 }
 
 /// Asks about one list.
@@ -40,22 +98,34 @@ fn check_list(rt: &impl Abort, alloc: Global, records: &[Record], text: &[u8]) -
             Ok(by_definition::measure(records)),
             "{records:?}"
         );
-        let races = races(alloc, records)?;
+        let paths = paths(records);
+        let races = races(alloc, records, &paths)?;
         assert_eq!(rt; listed?.as_slice(), races.as_slice(), "{records:?}");
+        check_confirms(rt, alloc, records, &paths, text)?;
+    }
+    Ok(())
+}
+
+/// Asks about every list of a version.
+fn check_lists(rt: &impl Abort, alloc: Global, version: Version) -> Result<(), Fail> {
+    let mut text = Vec::new(alloc);
+    for length in 1..MOST + 1 {
+        for number in 0..counts(version)[length - 1] {
+            let list = list_of(version, number);
+            let records = &list[..length];
+            write_list(version, records, &mut text)?;
+            check_list(rt, alloc, records, &text)?;
+        }
     }
     Ok(())
 }
 
 #[test]
 fn asked_of_all_lists(rt: HostRuntime) -> Result<(), Fail> {
-    let mut text = Vec::new(rt.alloc());
-    for length in 1..MOST + 1 {
-        for number in 0..COUNTS[length - 1] {
-            let list = list_of(number);
-            let records = &list[..length];
-            write_list(records, &mut text)?;
-            check_list(&rt, rt.alloc(), records, &text)?;
-        }
-    }
-    Ok(())
+    check_lists(&rt, rt.alloc(), Version::One)
+}
+
+#[test]
+fn asked_of_all_lists_with_calls(rt: HostRuntime) -> Result<(), Fail> {
+    check_lists(&rt, rt.alloc(), Version::Two)
 }

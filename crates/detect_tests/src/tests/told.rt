@@ -1,5 +1,6 @@
 //! A source that tells its bytes: what is detected in it is said of these very bytes.
 ghost use Rattle.std.specs.Prelude.{◌≡◌, ◌≤◌, ◌⊎◌, ℕ, List, Some, IfErr, MatchResult};
+ghost use Rattle.trace.specs.declared.records.Version.{Version};
 ghost use Rattle.trace.specs.declared.records.Record.{Record};
 ghost use Rattle.trace.specs.Traces.{IsWellNested};
 ghost use Rattle.trace.specs.Text.{text, AllFit};
@@ -43,8 +44,8 @@ impl<'a> Source for Told<'a> {
 fn report_plain(alloc: Global, limits: Limits, bytes: &[u8], size: usize) -> Result<Report, Fault>
     requires { 1 ≤ size }
     // Of the text of a well nested trace it is the verdict on that trace, where memory isn't refused.
-    ensures report { (w : List Record) → bytes.now ≡ text w → AllFit w → IsWellNested w limits.records limits.depth
-        → MatchResult result (IsReportOf w) IsWantOfMemory }
+    ensures report { (v : Version) (w : List Record) → bytes.now ≡ text v w → AllFit v w
+        → IsWellNested w limits.records limits.depth → MatchResult result (IsReportOf w) IsWantOfMemory }
     // Otherwise the fault is the first of these bytes.
     ensures fault { IfErr result (λ fault. IsWantOfMemory fault
         ⊎ IsFaultOfAll limits.records limits.depth bytes.now fault) }
@@ -64,8 +65,8 @@ fn report_sharded<T: Threads + Wait + Sync>(
 ) -> Result<Report, Fault>
     requires shards { (1 ≤ shards) × (shards ≤ 64) }
     requires size { 1 ≤ size }
-    ensures report { (w : List Record) → bytes.now ≡ text w → AllFit w → IsWellNested w limits.records limits.depth
-        → MatchResult result (IsReportOf w) IsWantOfMemoryOrThread }
+    ensures report { (v : Version) (w : List Record) → bytes.now ≡ text v w → AllFit v w
+        → IsWellNested w limits.records limits.depth → MatchResult result (IsReportOf w) IsWantOfMemoryOrThread }
     ensures fault { IfErr result (λ fault. IsWantOfMemoryOrThread fault
         ⊎ IsFaultOfAll limits.records limits.depth bytes.now fault) }
 {

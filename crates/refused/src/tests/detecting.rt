@@ -15,8 +15,9 @@ const LIMITS: Limits = Limits {
     depth: 9,
 };
 
-/// Rows `write-write`, `sync-in-sibling` and `three-shards`, with their races.
-const ROWS: [(&[u8], &[Told]); 3] = [
+/// Rows `write-write`, `sync-in-sibling`, `three-shards`, `call-mixed` and both of `call-sync-scopes`, with their
+/// races.
+const ROWS: [(&[u8], &[Told]); 6] = [
     (
         b"trace 1\nspawn\nwrite 5\nreturn\nwrite 5\nreturn\n",
         &[(5, 2, 4)],
@@ -28,6 +29,18 @@ const ROWS: [(&[u8], &[Told]); 3] = [
     (
         b"trace 1\nspawn\nwrite 8\nwrite 2\nreturn\nread 8\nread 2\nreturn\n",
         &[(2, 3, 6), (8, 2, 5)],
+    ),
+    (
+        b"trace 2\nspawn\nwrite 1\nreturn\ncall\nread 2\nreturn\nwrite 2\nwrite 1\nreturn\n",
+        &[(1, 2, 8)],
+    ),
+    (
+        b"trace 2\nspawn\nwrite 1\nreturn\ncall\nsync\nwrite 1\nreturn\nreturn\n",
+        &[(1, 2, 6)],
+    ),
+    (
+        b"trace 2\ncall\nspawn\nwrite 1\nreturn\nreturn\nwrite 1\nreturn\n",
+        &[],
     ),
 ];
 

@@ -8,24 +8,30 @@ use std::process::Abort;
 /// How many procedures one test has one after the other.
 const TURNS: u64 = 10_000;
 
-fn numbers(bags: &Bags) -> (u64, u64, u64) {
-    (bags.current(), bags.count(), bags.active())
+fn numbers(bags: &Bags) -> (u64, u64, u64, u64) {
+    (bags.current(), bags.count(), bags.active(), bags.held())
 }
 
 /// Spawns. A refusal changes nothing, and with memory the same call succeeds.
 pub fn spawn<R: Print + Abort>(rt: &R, bags: &mut Bags) {
-    let _ = spawn_tried(rt, bags);
+    let _ = enter_tried(rt, bags, false);
 }
 
-/// The same, and how many tries were refused.
-fn spawn_tried<R: Print + Abort>(rt: &R, bags: &mut Bags) -> u32 {
+/// Calls a procedure, and so on.
+pub fn call<R: Print + Abort>(rt: &R, bags: &mut Bags) {
+    let _ = enter_tried(rt, bags, true);
+}
+
+/// Spawns or calls, and answers how many tries were refused.
+fn enter_tried<R: Print + Abort>(rt: &R, bags: &mut Bags, is_called: bool) -> u32 {
     let before = numbers(bags);
     for tried in 0..TRIES {
         assert!(rt; bags.count() <= TURNS);
-        if bags.spawn().is_ok() {
+        let entered = if is_called { bags.call() } else { bags.spawn() };
+        if entered.is_ok() {
             return tried;
         }
-        tell(rt, "spawn");
+        tell(rt, if is_called { "call" } else { "spawn" });
         assert_eq!(rt; numbers(bags), before);
     }
     assert!(rt; false);
@@ -44,49 +50,102 @@ fn in_p<R: Abort>(rt: &R, bags: &Bags, procedure: u64) -> bool {
     answer
 }
 
-/// Spawns a hundred procedures, each by the one before it; with the other calls these are made too.
-fn nest<R: Print + Abort>(rt: &R, alloc: Global, with: bool) {
+/// Spawns or calls a hundred procedures, each by the one before it; with the other calls these are made too. Whatever
+/// has returned is parallel to its parent where it was spawned, and isn't where it was called.
+fn nest<R: Print + Abort>(rt: &R, alloc: Global, is_called: bool, with: bool) {
     let Ok(mut bags) = Bags::new(alloc) else {
         tell(rt, "bags");
         return;
     };
     for depth in 0..100u64 {
-        spawn(rt, &mut bags);
+        let _ = enter_tried(rt, &mut bags, is_called);
         if with {
             bags.sync();
-            assert_eq!(rt; numbers(&bags), (depth + 1, depth + 2, depth + 2));
-            assert_eq!(rt; bags.held(), 2 * (depth + 2));
+            let wanted = (depth + 1, depth + 2, depth + 2, 2 * (depth + 2));
+            assert_eq!(rt; numbers(&bags), wanted);
             assert!(rt; !in_p(rt, &bags, depth));
         }
     }
     if with {
         for _ in 0..100 {
             ret(rt, &mut bags);
-            assert!(rt; in_p(rt, &bags, 100));
+            assert_eq!(rt; in_p(rt, &bags, 100), !is_called);
         }
     }
 }
 
 #[test]
 fn bags_without(rt: HostRuntime) {
-    nest(&rt, rt.alloc(), false);
+    nest(&rt, rt.alloc(), false, false);
 }
 
 #[test]
 fn bags_with(rt: HostRuntime) {
-    nest(&rt, rt.alloc(), true);
+    nest(&rt, rt.alloc(), false, true);
 }
 
-// A completed procedure leaves nothing: a refusal is met only before the third spawn.
 #[test]
-fn completed(rt: HostRuntime) {
-    let Ok(mut bags) = Bags::new(rt.alloc()) else {
-        tell(&rt, "bags");
+fn called_without(rt: HostRuntime) {
+    nest(&rt, rt.alloc(), true, false);
+}
+
+#[test]
+fn called_with(rt: HostRuntime) {
+    nest(&rt, rt.alloc(), true, true);
+}
+
+/// A completed procedure leaves nothing: a refusal is met only before the third one.
+fn complete<R: Print + Abort>(rt: &R, alloc: Global, is_called: bool) {
+    let Ok(mut bags) = Bags::new(alloc) else {
+        tell(rt, "bags");
         return;
     };
     for turn in 0..TURNS {
-        let refused = spawn_tried(&rt, &mut bags);
+        let refused = enter_tried(rt, &mut bags, is_called);
         assert!(rt; refused == 0 || turn < 2);
-        ret(&rt, &mut bags);
+        ret(rt, &mut bags);
     }
+}
+
+#[test]
+fn completed(rt: HostRuntime) {
+    complete(&rt, rt.alloc(), false);
+}
+
+#[test]
+fn completed_calls(rt: HostRuntime) {
+    complete(&rt, rt.alloc(), true);
+}
+
+/// The children are called and spawned in turn. Whichever growth was refused, the spawned ones are parallel to the
+/// root, and after a sync none is.
+fn alternate<R: Print + Abort>(rt: &R, alloc: Global, called_first: bool) {
+    let Ok(mut bags) = Bags::new(alloc) else {
+        tell(rt, "bags");
+        return;
+    };
+    for turn in 0..100u64 {
+        let is_called = (turn % 2 == 0) == called_first;
+        let _ = enter_tried(rt, &mut bags, is_called);
+        ret(rt, &mut bags);
+    }
+    for child in 0..100u64 {
+        let is_called = (child % 2 == 0) == called_first;
+        assert_eq!(rt; in_p(rt, &bags, child + 1), !is_called);
+    }
+    bags.sync();
+    assert_eq!(rt; numbers(&bags), (0, 101, 1, 2));
+    for procedure in 0..101u64 {
+        assert!(rt; !in_p(rt, &bags, procedure));
+    }
+}
+
+#[test]
+fn spawned_and_called(rt: HostRuntime) {
+    alternate(&rt, rt.alloc(), false);
+}
+
+#[test]
+fn called_and_spawned(rt: HostRuntime) {
+    alternate(&rt, rt.alloc(), true);
 }

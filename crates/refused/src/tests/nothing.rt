@@ -11,7 +11,8 @@ use trace::{
     write_record,
 };
 
-const TEXT: &[u8] = b"trace 1\nspawn\nwrite 5\nsync\nread 18446744073709551615\nreturn\nreturn\n";
+const TEXT: &[u8] =
+    b"trace 2\nspawn\nwrite 5\ncall\nsync\nreturn\nread 18446744073709551615\nreturn\nreturn\n";
 
 const LIMITS: Limits = Limits {
     records: 9,
@@ -26,7 +27,7 @@ fn read<R: Abort>(rt: &R) {
             count = placed.place;
         }
     }
-    assert_eq!(rt; count, 6);
+    assert_eq!(rt; count, 8);
     assert_eq!(rt; feed.next(), Ok(None));
     let mut reader = Reader::new(9);
     assert!(rt; reader.step(TEXT).is_ok());
@@ -36,9 +37,11 @@ fn read<R: Abort>(rt: &R) {
 
 fn nest<R: Abort>(rt: &R) {
     let mut nest = Nest::new(9);
+    assert!(rt; nest.accept(Record::Call).is_ok());
+    assert!(rt; nest.accept(Record::Return).is_ok());
     assert!(rt; nest.accept(Record::Return).is_ok());
     assert!(rt; nest.accept(Record::Sync).is_err());
-    assert!(rt; nest.end().is_ok() && nest.count() == 1);
+    assert!(rt; nest.end().is_ok() && nest.count() == 3);
     assert!(rt; !is_parallel(&[Record::Sync, Record::Return], 1, 2));
 }
 
@@ -46,7 +49,9 @@ fn write<R: Abort>(rt: &R) {
     let mut room = [0u8; 64];
     let mut text: &mut [u8] = &mut room;
     let mut sink = Counted::new(&mut text);
-    assert!(rt; write_header(&mut sink).is_ok());
+    assert!(rt; write_header(1, &mut sink).is_ok());
+    assert!(rt; write_header(2, &mut sink).is_ok());
+    assert!(rt; write_record(&Record::Call, &mut sink).is_ok());
     assert!(rt; write_record(&Record::Read(77), &mut sink).is_ok());
 }
 

@@ -1,7 +1,7 @@
 //! Rows of which a call that is refused is made again. Each ends with the row's answer.
 
 use super::collecting::{finish, take};
-use super::nesting::{ret, spawn};
+use super::nesting::{call, ret, spawn};
 use super::touching::touch;
 use super::{Hasher, TRIES, Told, tell, told};
 use bags::Bags;
@@ -10,13 +10,14 @@ use shadow::Shadow;
 use shard::Shard;
 use std::alloc::Global;
 use std::process::Abort;
-use trace::Record::{Read, Return, Spawn, Sync, Write};
+use trace::Record::{Call, Read, Return, Spawn, Sync, Write};
 use trace::{Kind, Placed, Race, Record};
 
-/// Rows `two-readers-then-write`, `sync-in-sibling` and `three-writes`, and the race of each.
-const ROWS: [([Record; 8], Told); 3] = [
+/// Rows `two-readers-then-write`, `sync-in-sibling`, `three-writes`, `call-mixed` and the first of `call-sync-scopes`,
+/// and the race of each.
+const ROWS: [(&[Record], Told); 5] = [
     (
-        [
+        &[
             Spawn,
             Read(9),
             Return,
@@ -29,7 +30,7 @@ const ROWS: [([Record; 8], Told); 3] = [
         (9, 2, 7),
     ),
     (
-        [
+        &[
             Spawn,
             Write(1),
             Return,
@@ -42,7 +43,7 @@ const ROWS: [([Record; 8], Told); 3] = [
         (1, 2, 6),
     ),
     (
-        [
+        &[
             Spawn,
             Write(3),
             Return,
@@ -54,6 +55,33 @@ const ROWS: [([Record; 8], Told); 3] = [
         ],
         (3, 2, 5),
     ),
+    (
+        &[
+            Spawn,
+            Write(1),
+            Return,
+            Call,
+            Read(2),
+            Return,
+            Write(2),
+            Write(1),
+            Return,
+        ],
+        (1, 2, 8),
+    ),
+    (
+        &[
+            Spawn,
+            Write(1),
+            Return,
+            Call,
+            Sync,
+            Write(1),
+            Return,
+            Return,
+        ],
+        (1, 2, 6),
+    ),
 ];
 
 fn step<R: Print + Abort>(
@@ -64,6 +92,7 @@ fn step<R: Print + Abort>(
 ) -> Option<Race> {
     match placed.what {
         Spawn => spawn(rt, bags),
+        Call => call(rt, bags),
         Return => ret(rt, bags),
         Sync => bags.sync(),
         Read(location) => return touch(rt, shadow, bags, location, Kind::Read, placed.place),
@@ -96,7 +125,7 @@ fn by_parts<R: Print + Abort>(rt: &R, alloc: Global, records: &[Record]) -> Opti
 #[test]
 fn parts(rt: HostRuntime) {
     for (records, wanted) in ROWS {
-        if let Some(report) = by_parts(&rt, rt.alloc(), &records) {
+        if let Some(report) = by_parts(&rt, rt.alloc(), records) {
             let mut races = 0u64;
             for race in report.races() {
                 assert_eq!(rt; told(*race), wanted);
@@ -144,13 +173,13 @@ fn by_shard<R: Print + Abort>(rt: &R, alloc: Global, records: &[Record], wanted:
 #[test]
 fn shards_without(rt: HostRuntime) {
     for (records, wanted) in ROWS {
-        by_shard(&rt, rt.alloc(), &records, wanted, false);
+        by_shard(&rt, rt.alloc(), records, wanted, false);
     }
 }
 
 #[test]
 fn shards_with(rt: HostRuntime) {
     for (records, wanted) in ROWS {
-        by_shard(&rt, rt.alloc(), &records, wanted, true);
+        by_shard(&rt, rt.alloc(), records, wanted, true);
     }
 }

@@ -1,4 +1,5 @@
 //! The traces of `examples/` with their answers: none of these is taken from the program's own output.
+mod calls;
 mod matrices;
 mod others;
 mod sorts;
@@ -20,7 +21,9 @@ struct Example {
     pairs: &'static str,
 }
 
-const EXAMPLES: [Example; 10] = [
+const EXAMPLES: [Example; 12] = [
+    calls::FIB_WITHOUT_SYNC,
+    calls::FILL,
     others::FIRST,
     matrices::MATRIX_PRODUCT,
     matrices::MATRIX_PRODUCT_WITHOUT_SYNC,

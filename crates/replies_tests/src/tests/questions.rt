@@ -1,6 +1,10 @@
 //! Worked rows of `pairs`, `measure` and `confirm`.
-use super::{assert_left, flood, run, run_with_report, trace_of};
+use super::{assert_left, flood, run, run_with_report, trace_of, version_2_of};
+use std::alloc::Global;
+use std::process::Abort;
+use std::sync::Wait;
 use std::test::Fail;
+use std::thread::Threads;
 
 const WRITE_WRITE: &str = "spawn, write 5, return, write 5, return";
 
@@ -16,6 +20,12 @@ const READ_THEN_WRITE_IN_CHILD: &str = "spawn, read 7, write 7, return, write 7,
 
 const TWO_READERS_THEN_WRITE: &str =
     "spawn, read 9, return, spawn, read 9, return, write 9, return";
+
+const CALL_MIXED: &str = "spawn, write 1, return, call, read 2, return, write 2, write 1, return";
+
+const CALL_SYNCS: &str = "spawn, write 1, return, call, sync, write 1, return, return";
+
+const CALL_SPAWNS: &str = "call, spawn, write 1, return, return, write 1, return";
 
 // Traces by their records, a command, its answer and the status.
 const ANSWERS: [(&str, &str, &str, u8); 16] = [
@@ -102,10 +112,65 @@ const ANSWERS: [(&str, &str, &str, u8); 16] = [
     ("write 0, return", "pairs --depth 0 - 0", "pairs 0\n", 0),
 ];
 
+// Of traces in version 2, which alone has calls.
+const ANSWERS_OF_CALLS: [(&str, &str, &str, u8); 8] = [
+    (
+        CALL_MIXED,
+        "measure -",
+        "work 9\nspan 7\nspawns 1\ndepth 1\n",
+        0,
+    ),
+    (
+        CALL_SYNCS,
+        "measure -",
+        "work 8\nspan 6\nspawns 1\ndepth 1\n",
+        0,
+    ),
+    (
+        CALL_SPAWNS,
+        "measure --depth 2 -",
+        "work 7\nspan 7\nspawns 1\ndepth 2\n",
+        0,
+    ),
+    (
+        "return",
+        "measure -",
+        "work 1\nspan 1\nspawns 0\ndepth 0\n",
+        0,
+    ),
+    (
+        CALL_MIXED,
+        "pairs - 1",
+        "pairs 1\npair write 2 write 8\n",
+        1,
+    ),
+    (CALL_MIXED, "pairs - 2", "pairs 0\n", 0),
+    (
+        CALL_SYNCS,
+        "pairs - 1",
+        "pairs 1\npair write 2 write 6\n",
+        1,
+    ),
+    (CALL_SPAWNS, "pairs - 1", "pairs 0\n", 0),
+];
+
 #[test]
 fn answers_questions(rt: HostRuntime) -> Result<(), Fail> {
     for (records, line, answer, status) in ANSWERS {
         let trace = trace_of(rt.alloc(), records)?;
+        for step in [1, 4096] {
+            let ran = run(&rt, rt.alloc(), line, trace.as_slice(), step)?;
+            let case = format!(in rt.alloc(); "{line}: {records}")?;
+            assert_left(&rt, &ran, status, answer.as_bytes(), b"", case.as_str());
+        }
+    }
+    Ok(())
+}
+
+#[test]
+fn answers_questions_of_calls(rt: HostRuntime) -> Result<(), Fail> {
+    for (records, line, answer, status) in ANSWERS_OF_CALLS {
+        let trace = version_2_of(rt.alloc(), records)?;
         for step in [1, 4096] {
             let ran = run(&rt, rt.alloc(), line, trace.as_slice(), step)?;
             let case = format!(in rt.alloc(); "{line}: {records}")?;
@@ -155,23 +220,44 @@ const CONFIRMED: [(&str, &str, &str); 8] = [
     ),
 ];
 
+// Of traces in version 2.
+const CONFIRMED_OF_CALLS: [(&str, &str, &str); 5] = [
+    (CALL_MIXED, "races 1\nrace 1 write 2 write 8\n", "yes\n"),
+    (CALL_MIXED, "races 1\nrace 2 read 5 write 7\n", "no 1\n"),
+    (
+        CALL_MIXED,
+        "races 2\nrace 1 write 2 write 8\nrace 2 read 5 write 7\n",
+        "no 2\n",
+    ),
+    (CALL_SYNCS, "races 1\nrace 1 write 2 write 6\n", "yes\n"),
+    (CALL_SPAWNS, "races 1\nrace 1 write 3 write 6\n", "no 1\n"),
+];
+
+// Asks about a report of a trace with these records.
+fn confirm_report<T: Threads + Wait + Sync + Abort>(
+    rt: &T,
+    alloc: Global,
+    trace: &[u8],
+    (records, report, answer): (&str, &str, &str),
+) -> Result<(), Fail> {
+    for step in [1, 4096] {
+        let ran = run_with_report(rt, alloc, "confirm - b", trace, report.as_bytes(), step)?;
+        let status = if answer == "yes\n" { 0 } else { 1 };
+        let case = format!(in alloc; "{records}: {report}")?;
+        assert_left(rt, &ran, status, answer.as_bytes(), b"", case.as_str());
+    }
+    Ok(())
+}
+
 #[test]
 fn confirms_reports(rt: HostRuntime) -> Result<(), Fail> {
-    for (records, report, answer) in CONFIRMED {
-        let trace = trace_of(rt.alloc(), records)?;
-        for step in [1, 4096] {
-            let ran = run_with_report(
-                &rt,
-                rt.alloc(),
-                "confirm - b",
-                trace.as_slice(),
-                report.as_bytes(),
-                step,
-            )?;
-            let status = if answer == "yes\n" { 0 } else { 1 };
-            let case = format!(in rt.alloc(); "{records}: {report}")?;
-            assert_left(&rt, &ran, status, answer.as_bytes(), b"", case.as_str());
-        }
+    for row in CONFIRMED {
+        let trace = trace_of(rt.alloc(), row.0)?;
+        confirm_report(&rt, rt.alloc(), trace.as_slice(), row)?;
+    }
+    for row in CONFIRMED_OF_CALLS {
+        let trace = version_2_of(rt.alloc(), row.0)?;
+        confirm_report(&rt, rt.alloc(), trace.as_slice(), row)?;
     }
     Ok(())
 }

@@ -1,7 +1,10 @@
 //! Worked rows: traces, and what `check` says of them.
-use super::{assert_left, flood, run, trace_of};
+use super::{assert_left, flood, run, trace_of, version_2_of};
 use std::alloc::{AllocError, Global};
+use std::process::Abort;
+use std::sync::Wait;
 use std::test::Fail;
+use std::thread::Threads;
 
 // Traces by their records, and the lines of their reports after the head.
 const ROWS: [(&str, &str); 17] = [
@@ -57,6 +60,24 @@ const ROWS: [(&str, &str); 17] = [
     ("sync, return", ""),
 ];
 
+// Traces of version 2, which alone has calls.
+const CALLS: [(&str, &str); 5] = [
+    (
+        "spawn, write 1, return, call, read 2, return, write 2, write 1, return",
+        "race 1 write 2 write 8\n",
+    ),
+    (
+        "spawn, write 1, return, call, sync, write 1, return, return",
+        "race 1 write 2 write 6\n",
+    ),
+    ("call, spawn, write 1, return, return, write 1, return", ""),
+    ("call, write 1, return, write 1, return", ""),
+    (
+        "spawn, call, write 1, return, return, write 1, return",
+        "race 1 write 3 write 6\n",
+    ),
+];
+
 // What `check` is given beside its file, and how many bytes its reader hands at a call; neither changes an answer.
 const WAYS: [(&str, usize); 4] = [
     ("", 1),
@@ -65,19 +86,44 @@ const WAYS: [(&str, usize); 4] = [
     ("--shards 3", 4096),
 ];
 
+// Checks a trace with these records in each way.
+fn check_row<T: Threads + Wait + Sync + Abort>(
+    rt: &T,
+    alloc: Global,
+    records: &str,
+    trace: &[u8],
+    lines: &str,
+) -> Result<(), Fail> {
+    let count = lines.split('\n').count() - 1;
+    let report = format!(in alloc; "races {count}\n{lines}")?;
+    for (options, step) in WAYS {
+        let line = format!(in alloc; "check - {options}")?;
+        let ran = run(rt, alloc, line.as_str(), trace, step)?;
+        let status = if count == 0 { 0 } else { 1 };
+        let case = format!(in alloc; "{line}: {records}")?;
+        assert_left(rt, &ran, status, report.as_bytes(), b"", case.as_str());
+    }
+    Ok(())
+}
+
 #[test]
 fn checks_rows(rt: HostRuntime) -> Result<(), Fail> {
     for (records, lines) in ROWS {
         let trace = trace_of(rt.alloc(), records)?;
-        let count = lines.split('\n').count() - 1;
-        let report = format!(in rt.alloc(); "races {count}\n{lines}")?;
-        for (options, step) in WAYS {
-            let line = format!(in rt.alloc(); "check - {options}")?;
-            let ran = run(&rt, rt.alloc(), line.as_str(), trace.as_slice(), step)?;
-            let status = if count == 0 { 0 } else { 1 };
-            let case = format!(in rt.alloc(); "{line}: {records}")?;
-            assert_left(&rt, &ran, status, report.as_bytes(), b"", case.as_str());
-        }
+        check_row(&rt, rt.alloc(), records, trace.as_slice(), lines)?;
+    }
+    Ok(())
+}
+
+#[test]
+fn checks_rows_of_version_2(rt: HostRuntime) -> Result<(), Fail> {
+    for (records, lines) in ROWS {
+        let trace = version_2_of(rt.alloc(), records)?;
+        check_row(&rt, rt.alloc(), records, trace.as_slice(), lines)?;
+    }
+    for (records, lines) in CALLS {
+        let trace = version_2_of(rt.alloc(), records)?;
+        check_row(&rt, rt.alloc(), records, trace.as_slice(), lines)?;
     }
     Ok(())
 }
@@ -92,7 +138,7 @@ fn checks_with_the_most_shards(rt: HostRuntime) -> Result<(), Fail> {
 }
 
 // Texts that are no traces, and the message.
-const FAULTS: [(&str, &str, &str); 26] = [
+const FAULTS: [(&str, &str, &str); 32] = [
     (
         "check -",
         "trace 1\nwrite 18446744073709551616\nreturn\n",
@@ -113,7 +159,25 @@ const FAULTS: [(&str, &str, &str); 26] = [
         "trace 1\naaaaaaaaaaaaaaaaaaaaaaaaaa",
         "line 2: truncated",
     ),
-    ("check -", "trace 2\nreturn\n", "line 1: header"),
+    ("check -", "trace 3\nreturn\n", "line 1: header"),
+    ("check -", "trace 02\nreturn\n", "line 1: header"),
+    ("check -", "trace 2", "line 1: truncated"),
+    (
+        "check -",
+        "trace 2\ncall 1\nreturn\nreturn\n",
+        "line 2: bad line",
+    ),
+    ("check -", "trace 2\ncall\nreturn\n", "place 3: unfinished"),
+    (
+        "check --depth 1 -",
+        "trace 2\ncall\nspawn\nreturn\nreturn\nreturn\n",
+        "place 2: too deep",
+    ),
+    (
+        "check --depth 0 -",
+        "trace 2\ncall\nreturn\nreturn\n",
+        "place 1: too deep",
+    ),
     (
         "check -",
         "trace 1\ncall\nreturn\nreturn\n",

@@ -1,5 +1,6 @@
 //! A trace in memory, whose source tells its bytes: the answer is of these very bytes.
 ghost use Rattle.std.specs.Prelude.{◌≡◌, ◌<◌, ℕ, List};
+ghost use Rattle.trace.specs.declared.records.Version.{Version};
 ghost use Rattle.trace.specs.declared.records.Record.{Record};
 ghost use Rattle.trace.specs.Text.{text, AllFit};
 ghost use Rattle.trace.specs.Devices.{◌⇝◌};
@@ -25,7 +26,7 @@ fn answer_bytes<T: Threads + Wait + Sync, W: Sink, E: Sink>(
     out: &mut W,
     err: &mut E,
 ) -> u8
-    ensures { (w : List Record) → bytes.now ≡ text w → AllFit w → result < 2 → (answer : List ℕ)
+    ensures { (v : Version) (w : List Record) → bytes.now ≡ text v w → AllFit v w → result < 2 → (answer : List ℕ)
         × Answers question.now w answer result
         × Took answer (W.state out.old ⇝ W.state out.new)
         × IsUntouched (E.state err.old ⇝ E.state err.new) }

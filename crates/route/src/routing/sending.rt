@@ -60,8 +60,8 @@ impl Router {
         self.pending = Some(placed);
     }
 
-    /// Puts the pending record on the next lane that it goes to: a spawn, a return or a sync on all
-    /// lanes in their order, an access of location l on lane l mod n.
+    /// Puts the pending record on the next lane that it goes to: a spawn, a call, a return or a sync
+    /// on all lanes in their order, an access of location l on lane l mod n.
     pub fn step(&mut self) -> Progress
         // w is what was sent whole before
         ensures sent { (w : List Placed) → HasSent w self.old

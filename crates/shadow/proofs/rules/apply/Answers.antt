@@ -1,8 +1,8 @@
 use Rattle.std.proofs.Common.{refl, ◌≤◌, subst}
-use Rattle.trace.specs.declared.records.Record.TheVariants.{Spawn, Sync, Return}
-use Rattle.shadow.proofs.StateLemmas.{seen_read, seen_write, seen_spawn, seen_sync, seen_return, seen_root_return, found_read, found_write, found_none, map_OnOk, map_IfOk}
+use Rattle.trace.specs.declared.records.Record.TheVariants.{Spawn, Call, Sync, Return}
+use Rattle.shadow.proofs.StateLemmas.{seen_read, seen_write, seen_spawn, seen_call, seen_sync, seen_return, seen_root_return, found_read, found_write, found_none, map_OnOk, map_IfOk}
 use Rattle.shadow.proofs.rules.apply.Goals as goal
-use Rattle.shadow.proofs.rules.apply.Goals.{in-Spawn+in_ok-spawn-in-Spawn, in-Sync, in-Return+then-active-gt1, in-Return+else-active-gt1}
+use Rattle.shadow.proofs.rules.apply.Goals.{in-Spawn+in_ok-spawn-in-Spawn, in-Call+in_ok-call-in-Call, in-Sync, in-Return+then-active-gt1, in-Return+else-active-gt1}
 
 pub returns-in-Read-clause-seen : goal.returns-in-Read-clause-seen
 returns-in-Read-clause-seen g c =
@@ -24,6 +24,7 @@ pub returns-clause-seen : goal.returns-clause-seen
 returns-clause-seen g c u seen =
     elim c.match-placed.branch [
       | in-Spawn+in_ok-spawn-in-Spawn w ↦ rw (w.bags-is, w.in_ok-spawn-in-Spawn.ensures.ok) (seen_spawn u c.args.placed c.args.bags.now c.args.shadow.now w.in-Spawn.is seen)
+      | in-Call+in_ok-call-in-Call w ↦ rw (w.bags-is, w.in_ok-call-in-Call.ensures.ok) (seen_call u c.args.placed c.args.bags.now c.args.shadow.now w.in-Call.is seen)
       | in-Sync w ↦ rw (w.bags-is, w.sync.ensures) (seen_sync u c.args.placed c.args.bags.now c.args.shadow.now w.in-Sync.is seen)
       | in-Return+then-active-gt1 w ↦ rw (w.bags-is, w.ret.ensures) (seen_return u c.args.placed c.args.bags.now c.args.shadow.now w.in-Return.is seen)
       | in-Return+else-active-gt1 w ↦ rw w.bags-is (seen_root_return u c.args.placed c.args.bags.now c.args.shadow.now w.in-Return.is (subst (λ n. n ≤ 1) w.active.ensures.procedures w.if-active-gt1.false) seen)
@@ -33,6 +34,7 @@ pub returns-clause-found : goal.returns-clause-found
 returns-clause-found g c u seen =
     elim c.match-placed.branch [
       | in-Spawn+in_ok-spawn-in-Spawn w ↦ found_none u c.args.placed Spawn w.in-Spawn.is (λ s. refl)
+      | in-Call+in_ok-call-in-Call w ↦ found_none u c.args.placed Call w.in-Call.is (λ s. refl)
       | in-Sync w ↦ found_none u c.args.placed Sync w.in-Sync.is (λ s. refl)
       | in-Return+then-active-gt1 w ↦ found_none u c.args.placed Return w.in-Return.is (λ s. refl)
       | in-Return+else-active-gt1 w ↦ found_none u c.args.placed Return w.in-Return.is (λ s. refl)

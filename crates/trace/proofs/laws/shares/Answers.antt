@@ -4,7 +4,7 @@ use Rattle.trace.proofs.laws.shares.Goals as goal
 
 pub returns : goal.returns
 returns c = record {
-  structure = λ k n. (refl, refl, refl);
+  structure = λ k n. (refl, refl, refl, refl);
   one_shard = λ n l a h. one_shard n l a h;
   by_location = λ k n l a b. shard-by_location k n l a b;
 }

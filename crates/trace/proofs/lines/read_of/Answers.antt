@@ -3,7 +3,7 @@ use Rattle.trace.proofs.Fronts.{first_four, take_five, word_and_digits}
 use Rattle.trace.proofs.lines.read_of.Goals as goal
 
 pub returns : goal.returns
-returns c =
+returns c v =
     let piece = c.args.piece.now in
     let four = first_four piece 114 101 97 100 c.type_inv.piece (omega arith) (omega arith) (omega arith) (omega arith) (omega arith) in
     let word : take 5 piece ≡ 114 ∷ 101 ∷ 97 ∷ 100 ∷ 32 ∷ [] = take_five piece 114 101 97 100 32 (omega arith) four.0 four.1 four.2 four.3 (omega arith) in

@@ -3,7 +3,7 @@ use Rattle.trace.proofs.Fronts.{first_four, take_six, word_and_digits}
 use Rattle.trace.proofs.lines.write_of.Goals as goal
 
 pub returns : goal.returns
-returns c =
+returns c v =
     let piece = c.args.piece.now in
     let four = first_four piece 119 114 105 116 c.type_inv.piece (omega arith) (omega arith) (omega arith) (omega arith) c.requires.begins in
     let word : take 6 piece ≡ 119 ∷ 114 ∷ 105 ∷ 116 ∷ 101 ∷ 32 ∷ [] = take_six piece 119 114 105 116 101 32 (omega arith) four.0 four.1 four.2 four.3 (omega arith) (omega arith) in

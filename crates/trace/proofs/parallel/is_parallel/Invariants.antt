@@ -6,5 +6,6 @@ use Rattle.trace.proofs.parallel.is_parallel.Given as goal
 abbrev pub invariant-loop-record : goal.invariant-loop-record
 invariant-loop-record l = record {
   near : l.above ≤ l.record-index;
-  walked : Walks l.records l.i (l.i - 1 + l.record-index) l.above l.pending;
+  earlier : l.shallow ≤ l.i;
+  walked : Walks l.records l.i (l.i - 1 + l.record-index) l.above l.shallow l.pending;
 }

@@ -1,4 +1,4 @@
-use Rattle.std.proofs.Common.{◌≡◌, length}
+use Rattle.std.proofs.Common.{length}
 use Rattle.trace.specs.Devices.{◌⇝◌, IsSteady}
 use Rattle.trace.proofs.Parts.{IsPart}
 use Rattle.trace.proofs.writers.put_all.Given as goal

@@ -11,7 +11,7 @@ use Rattle.audit.proofs.confirms.ConfirmingWatch.take.Goals.{in-Read, in-Write, 
 
 pub returns : goal.returns
 returns c =
-    let Moved : Meetings → Type 0 = λ m. OnOk c.take.result (Moves c.args.placed.place c.args.placed.what m.executing m.waiting.items c.take.new.self.executing c.take.new.self.waiting.items) in
+    let Moved : Meetings → Type 0 = λ m. OnOk c.take.result (Moves c.args.placed.place c.args.placed.what m c.take.new.self) in
     elim c.match-placed.branch [
       | in-Read w ↦
           (let P : List Entry → Type 0 = Touches c.args.self.now.meetings w.in-Read.location (record { kind = Read; place = c.args.placed.place }) c.args.self.now.entries.items in

@@ -10,7 +10,7 @@ use Rattle.audit.proofs.location_races.PairingWatch.take.Goals.{in-Some+in_ok-ad
 
 pub returns : goal.returns
 returns c =
-    let Moved : Meetings → Type 0 = λ m. OnOk c.take.result (Moves c.args.placed.place c.args.placed.what m.executing m.waiting.items c.take.new.self.executing c.take.new.self.waiting.items) in
+    let Moved : Meetings → Type 0 = λ m. OnOk c.take.result (Moves c.args.placed.place c.args.placed.what m c.take.new.self) in
     elim c.match-access_of.branch [
       | in-Some+in_ok-add_pairs+in_ok-push w ↦
           (let P : List Kept → Type 0 = λ ks. AddsPairs c.args.self.now.meetings ks w.in-Some.access (length ks) c.args.self.now.pairs.items w.add_pairs.new.pairs.items in

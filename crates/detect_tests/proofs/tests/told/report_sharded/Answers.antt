@@ -7,12 +7,12 @@ use Rattle.detect.proofs.ToldBytes.{told_answer, told_refusal}
 use Rattle.detect_tests.proofs.tests.told.report_sharded.Goals as goal
 
 pub returns-in_err-run_from-clause-report : goal.returns-in_err-run_from-clause-report
-returns-in_err-run_from-clause-report g c w is fit nested =
-    told_answer _ _ _ _ IsWantOfMemoryOrThread (λ report u. IsReportOf u report) _ (ends_refused _ _ _ _ _ _ _ c.from_residual.ensures.1 c.in_err-run_from.ensures) w is fit nested
+returns-in_err-run_from-clause-report g c v w is fit nested =
+    told_answer _ _ _ _ IsWantOfMemoryOrThread (λ report u. IsReportOf u report) _ (ends_refused _ _ _ _ _ _ _ c.from_residual.ensures.1 c.in_err-run_from.ensures) v w is fit nested
 
 pub returns-in_err-run_from-clause-fault : goal.returns-in_err-run_from-clause-fault
 returns-in_err-run_from-clause-fault g c =
     told_refusal _ _ _ _ IsWantOfMemoryOrThread (λ report u. IsReportOf u report) _ (ends_refused _ _ _ _ _ _ _ c.from_residual.ensures.1 c.in_err-run_from.ensures)
 
 pub returns-clause-report : goal.returns-clause-report
-returns-clause-report g c w is fit nested = (told_answer _ _ _ _ IsWantOfMemoryOrThread (RunAnswers c.args.shards) (Ok _) c.in_ok-run_from.ensures w is fit nested).reported
+returns-clause-report g c v w is fit nested = (told_answer _ _ _ _ IsWantOfMemoryOrThread (RunAnswers c.args.shards) (Ok _) c.in_ok-run_from.ensures v w is fit nested).reported

@@ -5,8 +5,8 @@ use Rattle.detect.proofs.ToldBytes.{same_trace}
 use Rattle.replies_tests.proofs.tests.told.answer_bytes.Goals as goal
 
 pub returns : goal.returns
-returns g c w is fit low =
+returns g c v w is fit low =
     let told = c.answer.ensures.answered low in
-    let bytes : c.new-trace.result.device.now ≡ text w = rw c.new-trace.ensures.device is in
-    let same = same_trace _ _ _ told.read.trace w (ap Some bytes) fit told.read.read in
-    (told.text, subst (λ (v : _). Answers c.args.question.now v told.text c.answer.result) same told.read.says, told.took, told.silent)
+    let bytes : c.new-trace.result.device.now ≡ text v w = rw c.new-trace.ensures.device is in
+    let same = same_trace _ _ _ told.read.trace v w (ap Some bytes) fit told.read.read in
+    (told.text, subst (λ (u : _). Answers c.args.question.now u told.text c.answer.result) same told.read.says, told.took, told.silent)

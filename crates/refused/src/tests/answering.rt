@@ -1,0 +1,167 @@
+//! The answers of the program, from a trace to standard output and standard error.
+
+use super::tell;
+use replies::{answer, answer_confirm};
+use std::alloc::{AllocError, Global};
+use std::io::{self, Write};
+use std::process::Abort;
+use std::sync::Wait;
+use std::thread::Threads;
+use trace::Counted;
+use words::{Check, Confirm, Measure, Pairs, Question};
+
+/// Row `call-mixed`.
+const CALL_MIXED: &[u8] =
+    b"trace 2\nspawn\nwrite 1\nreturn\ncall\nread 2\nreturn\nwrite 2\nwrite 1\nreturn\n";
+
+/// Keeps up to 64 bytes, and takes no memory.
+#[derive(Drop)]
+struct Room {
+    bytes: [u8; 64],
+    count: usize,
+}
+
+impl Room {
+    fn new() -> Room {
+        Room {
+            bytes: [0; 64],
+            count: 0,
+        }
+    }
+
+    fn kept(&self) -> &[u8] {
+        self.bytes.split_at(self.count.min(64)).0
+    }
+}
+
+impl Write for Room {
+    fn write(&mut self, buffer: &[u8]) -> io::Result<usize> {
+        if buffer.is_empty() || self.count >= 64 {
+            return Ok(0);
+        }
+        self.bytes[self.count] = buffer[0];
+        self.count += 1;
+        Ok(1)
+    }
+
+    fn flush(&mut self) -> io::Result<()> {
+        Ok(())
+    }
+}
+
+/// Either the answer is the wanted one, or it is the message of a refusal, which is told.
+fn judge<R: Print + Abort>(rt: &R, status: u8, out: &Room, err: &Room, wanted: (u8, &[u8])) {
+    if status != 2 {
+        assert_eq!(rt; (status, out.kept()), wanted);
+        assert!(rt; err.kept().is_empty());
+        return;
+    }
+    assert!(rt; out.kept().is_empty());
+    if err.kept() == b"spbags: out of memory\n".as_slice() {
+        tell(rt, "memory");
+    } else {
+        assert_eq!(rt; err.kept(), b"spbags: no thread\n".as_slice());
+        tell(rt, "thread");
+    }
+}
+
+/// Answers a question about row `call-mixed`.
+fn ask<T: Threads + Wait + Sync + Abort + Print>(
+    rt: &T,
+    alloc: Global,
+    question: Result<Question, AllocError>,
+    wanted: (u8, &[u8]),
+) {
+    let Ok(question) = question else {
+        tell(rt, "name");
+        return;
+    };
+    let (mut out, mut err) = (Room::new(), Room::new());
+    let status = answer(
+        rt,
+        alloc,
+        &question,
+        &mut Counted::new(CALL_MIXED),
+        &mut Counted::new(&mut out),
+        &mut Counted::new(&mut err),
+    );
+    judge(rt, status, &out, &err, wanted);
+}
+
+fn check(alloc: Global) -> Result<Question, AllocError> {
+    Ok(Question::Check(Check {
+        shards: 2,
+        capacity: 1,
+        depth: 9,
+        trace: String::from_str(alloc, "-")?,
+    }))
+}
+
+fn pairs(alloc: Global, location: u64) -> Result<Question, AllocError> {
+    Ok(Question::Pairs(Pairs {
+        depth: 9,
+        trace: String::from_str(alloc, "-")?,
+        location,
+    }))
+}
+
+fn measure(alloc: Global) -> Result<Question, AllocError> {
+    Ok(Question::Measure(Measure {
+        depth: 9,
+        trace: String::from_str(alloc, "-")?,
+    }))
+}
+
+#[test]
+fn checked(rt: HostRuntime) {
+    let wanted = (1, b"races 1\nrace 1 write 2 write 8\n".as_slice());
+    ask(&rt, rt.alloc(), check(rt.alloc()), wanted);
+}
+
+#[test]
+fn listed(rt: HostRuntime) {
+    let wanted = (1, b"pairs 1\npair write 2 write 8\n".as_slice());
+    ask(&rt, rt.alloc(), pairs(rt.alloc(), 1), wanted);
+    let wanted = (0, b"pairs 0\n".as_slice());
+    ask(&rt, rt.alloc(), pairs(rt.alloc(), 2), wanted);
+}
+
+#[test]
+fn measured(rt: HostRuntime) {
+    let wanted = (0, b"work 9\nspan 7\nspawns 1\ndepth 1\n".as_slice());
+    ask(&rt, rt.alloc(), measure(rt.alloc()), wanted);
+}
+
+fn confirm(alloc: Global) -> Result<Confirm, AllocError> {
+    Ok(Confirm {
+        depth: 9,
+        trace: String::from_str(alloc, "trace")?,
+        report: String::from_str(alloc, "-")?,
+    })
+}
+
+/// Answers whether the report is one of races of row `call-mixed`.
+fn ask_confirm<R: Print + Abort>(rt: &R, alloc: Global, report: &[u8], wanted: (u8, &[u8])) {
+    let Ok(confirm) = confirm(alloc) else {
+        tell(rt, "name");
+        return;
+    };
+    let (mut out, mut err) = (Room::new(), Room::new());
+    let status = answer_confirm(
+        alloc,
+        &confirm,
+        &mut Counted::new(CALL_MIXED),
+        &mut Counted::new(report),
+        &mut Counted::new(&mut out),
+        &mut Counted::new(&mut err),
+    );
+    judge(rt, status, &out, &err, wanted);
+}
+
+#[test]
+fn confirmed(rt: HostRuntime) {
+    let yes = (0, b"yes\n".as_slice());
+    ask_confirm(&rt, rt.alloc(), b"races 1\nrace 1 write 2 write 8\n", yes);
+    let no = (1, b"no 1\n".as_slice());
+    ask_confirm(&rt, rt.alloc(), b"races 1\nrace 2 read 5 write 7\n", no);
+}
