@@ -57,9 +57,9 @@ struct Case {
 impl Case {
     fn new(seed: u64, number: u64) -> Case {
         let random = &mut Random::new(seed, number);
-        let command = ["check", "pairs", "measure", "confirm"][random.by_weight(&[6, 2, 2, 4])];
+        let command = ["check", "explain", "pairs", "measure", "confirm"][random.by_weight(&[6, 2, 2, 2, 4])];
         let most = match command {
-            "pairs" => 500,
+            "explain" | "pairs" => 500,
             "confirm" => 1000,
             _ => 4000,
         };
@@ -72,6 +72,7 @@ impl Case {
         let mut report = Vec::new();
         let (question, mut about) = match command {
             "check" => (Question::Check, kind),
+            "explain" => (Question::Explain(location(random, &dag)), kind),
             "pairs" => (Question::Pairs(location(random, &dag)), kind),
             "measure" => (Question::Measure, kind),
             _ => {
@@ -109,7 +110,7 @@ impl Case {
         words.extend_from_slice(&self.options);
         words.push(name(!self.moves_report, "trace"));
         match self.question {
-            Question::Pairs(location) => words.push(location.to_string()),
+            Question::Explain(location) | Question::Pairs(location) => words.push(location.to_string()),
             Question::Confirm => words.push(name(self.moves_report, "report")),
             _ => (),
         }

@@ -35,6 +35,7 @@ pub struct Race {
 #[derive(Clone, Copy)]
 pub enum Question {
     Check,
+    Explain(u64),
     Pairs(u64),
     Measure,
     Confirm,
@@ -94,6 +95,10 @@ fn answer_or_fault(question: Question, deepest: usize, trace: &[u8], report: &[u
             let told = dag.report();
             (report_text(&told), !told.is_empty() as i32)
         }
+        Question::Explain(location) => match dag.report().iter().find(|told| told.location == location) {
+            None => ("no race\n".to_string(), 0),
+            Some(told) => (dag.explanation(told), 1),
+        },
         Question::Pairs(location) => {
             let races = dag.races(location);
             let mut text = format!("pairs {}\n", races.len());
@@ -116,11 +121,13 @@ fn answer_or_fault(question: Question, deepest: usize, trace: &[u8], report: &[u
 }
 
 pub fn report_text(races: &[Race]) -> String {
-    let mut text = format!("races {}\n", races.len());
-    for Race { location, first, second } in races {
-        text += &format!("race {location} {} {} {} {}\n", first.0.word(), first.1, second.0.word(), second.1);
-    }
-    text
+    let lines: String = races.iter().map(race_line).collect();
+    format!("races {}\n{lines}", races.len())
+}
+
+fn race_line(race: &Race) -> String {
+    let Race { location, first, second } = race;
+    format!("race {location} {} {} {} {}\n", first.0.word(), first.1, second.0.word(), second.1)
 }
 
 /// The longest line of a trace has so many bytes before its LF.
@@ -402,6 +409,40 @@ impl Dag {
             place <= self.records.len() && self.at(place) == Record::Access(kind, race.location)
         };
         is_there(first) && is_there(second) && self.do_race(first, second)
+    }
+
+    // Whether a place lies in the part of the procedure that is opened at f: every place from f on is deeper. All lie in
+    // that of the root, which is opened at 0.
+    fn holds(&self, f: usize, place: usize) -> bool {
+        let opens = |f: usize| matches!(self.at(f), Record::Spawn | Record::Call);
+        f == 0 || f < place && opens(f) && (f + 1..=place).all(|k| self.depth(f) < self.depth(k))
+    }
+
+    // The procedures that hold a place, from the root on.
+    fn holders(&self, place: usize) -> Vec<usize> {
+        (0..place).filter(|f| self.holds(*f, place)).collect()
+    }
+
+    /// What is said of a race: where its accesses meet, what was opened on the way to each, and where that waits next.
+    fn explanation(&self, race: &Race) -> String {
+        let [i, j] = [race.first.1 as usize, race.second.1 as usize];
+        let holders = [self.holders(i), self.holders(j)];
+        let meeting = *holders[0].iter().rfind(|f| holders[1].contains(f)).expect("the root holds both");
+        let mut text = race_line(race) + &format!("meet {meeting}\n");
+        for (word, holders, access) in [("first", &holders[0], race.first), ("second", &holders[1], race.second)] {
+            text += word;
+            for f in holders.iter().filter(|f| **f > meeting) {
+                let opened = if self.at(*f) == Record::Spawn { "spawn" } else { "call" };
+                text += &format!(" {opened} {f}");
+            }
+            text += &format!(" {} {}\n", access.0.word(), access.1);
+        }
+        let level = if meeting == 0 { 0 } else { self.depth(meeting) + 1 };
+        let is_own = |k: &usize| self.holds(meeting, *k) && self.depth(*k) == level;
+        if let Some(joined) = (j + 1..=self.records.len()).filter(is_own).find(|k| self.joins_at(*k)) {
+            text += &format!("joined {joined}\n");
+        }
+        text
     }
 
     /// The race that is told of each racy location, by ascending location.

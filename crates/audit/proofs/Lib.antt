@@ -4,4 +4,6 @@ pub mod Measured
 pub mod MeetingLemmas
 pub mod PairLemmas
 pub mod ConfirmLemmas
+pub mod TrailLemmas
+pub mod ExplainLemmas
 pub mod OneAnswer

@@ -1,5 +1,5 @@
 -- A question about a trace has one answer.
-use Rattle.std.proofs.Common.{◌≡◌, ℕ, suc, List, [], ◌∷◌, ◌⊎◌, inl, inr, refl, sym, ap, subst, ◌∙◌, arith}
+use Rattle.std.proofs.Common.{◌≡◌, ℕ, suc, ◌<◌, List, [], ◌∷◌, Option, Some, None, ◌⊎◌, inl, inr, refl, sym, ap, subst, ◌∙◌, arith}
 use Rattle.std.specs.List.{All, AllPairs, AllByRecursion}
 use Rattle.std.proofs.lemmas.Bool.{cases_order}
 use Rattle.std.proofs.lemmas.List.Elements.{recursion_from_All}
@@ -7,7 +7,13 @@ use Rattle.std.proofs.lemmas.Option.{slice_get_within, get_or_from_slice_get}
 use Rattle.trace.specs.declared.records.Record.{Record}
 use Rattle.trace.specs.declared.records.Access.{Access}
 use Rattle.trace.specs.Accesses.{RaceAt}
-use Rattle.trace.proofs.Once.{In, In_from, Contains_from}
+use Rattle.trace.specs.Meeting.{IsMeeting}
+use Rattle.trace.specs.Races.{IsRace}
+use Rattle.trace.proofs.Once.{In, In_from, Contains_from, told_once}
+use Rattle.audit.specs.declared.answers.Opener.{Opener}
+use Rattle.audit.specs.declared.answers.Explained.{Explained}
+use Rattle.audit.specs.Explanations.{AreOpeners, AreJoined, IsExplained, Explains, IsSameExplanation, IsSameAnswer}
+use Rattle.audit.proofs.TrailLemmas.{same_place}
 use Rattle.audit.specs.declared.answers.Measure.{Measure}
 use Rattle.audit.specs.declared.answers.Confirm.{Confirm}
 use Rattle.audit.specs.declared.answers.Confirm.TheVariants.{Yes, No}
@@ -97,3 +103,47 @@ one_confirm w entries Yes Yes h k = refl
 one_confirm w entries Yes (No n) h k = absurd (not_all w entries n h k)
 one_confirm w entries (No m) Yes h k = absurd (not_all w entries m k h)
 one_confirm w entries (No m) (No n) h k = ap No (first_wrong_once w entries m n h k)
+
+-- ---- explanations
+
+opener_one_way : (f g : Opener) → f.place < g.place → g.place < f.place → ⊥
+opener_one_way f g a b = omega arith
+
+one_list_of_openers : (w : List Record) (m i : ℕ) (fs gs : List Opener) → AreOpeners w m i fs → AreOpeners w m i gs → fs ≡ gs
+one_list_of_openers w m i fs gs a b = same_ordered (λ (f g : Opener). f.place < g.place) opener_one_way fs gs (ordered_from (λ (f g : Opener). f.place < g.place) fs a.ascending) (ordered_from (λ (f g : Opener). f.place < g.place) gs b.ascending)
+    (λ f h. In_from gs f ((b.exactly f).1 ((a.exactly f).0 (Contains_from fs f h))))
+    (λ f h. In_from fs f ((a.exactly f).1 ((b.exactly f).0 (Contains_from gs f h))))
+
+one_meeting : (w : List Record) (i j m k : ℕ) → IsMeeting w i j m → IsMeeting w i j k → m ≡ k
+one_meeting w i j m k a b = same_place w i m k a.first b.first (omega (arith, a.deepest k b.first b.second, b.deepest m a.first a.second))
+
+one_join : (w : List Record) (m j : ℕ) (a b : Option ℕ) → AreJoined w m j a → AreJoined w m j b → a ≡ b
+one_join w m j None None x y = refl
+one_join w m j None (Some k) x y = absurd (x k y.after y.waits)
+one_join w m j (Some k) None x y = absurd (y k x.after x.waits)
+one_join w m j (Some i) (Some k) x y = elim (cases_order i k) [
+  | inl e ↦ ap (λ (z : ℕ). Some z) e
+  | inr c ↦ elim c [
+    | inl l ↦ absurd (y.none_between i x.after l x.waits)
+    | inr l ↦ absurd (x.none_between k y.after l y.waits)
+  ]
+]
+
+same_explanation : (w : List Record) (l : ℕ) (a b : Explained) → a.race.location ≡ l → b.race.location ≡ l → IsExplained w a → IsExplained w b → IsSameExplanation a b
+same_explanation w l a b p q x y =
+    let race : a.race ≡ b.race = told_once w a.race b.race x.told y.told (p ∙ sym q) in
+    let meets : IsMeeting w a.race.first.place a.race.second.place b.meeting = subst (λ (r : RaceAt). IsMeeting w r.first.place r.second.place b.meeting) (sym race) y.meets in
+    let meeting : a.meeting ≡ b.meeting = one_meeting w a.race.first.place a.race.second.place a.meeting b.meeting x.meets meets in
+    record {
+      race = race;
+      meeting = meeting;
+      first = one_list_of_openers w b.meeting b.race.first.place a.first.items b.first.items (subst (λ (r : RaceAt). AreOpeners w b.meeting r.first.place a.first.items) race (subst (λ (m : ℕ). AreOpeners w m a.race.first.place a.first.items) meeting x.first)) y.first;
+      second = one_list_of_openers w b.meeting b.race.second.place a.second.items b.second.items (subst (λ (r : RaceAt). AreOpeners w b.meeting r.second.place a.second.items) race (subst (λ (m : ℕ). AreOpeners w m a.race.second.place a.second.items) meeting x.second)) y.second;
+      joined = one_join w b.meeting b.race.second.place a.joined b.joined (subst (λ (r : RaceAt). AreJoined w b.meeting r.second.place a.joined) race (subst (λ (m : ℕ). AreJoined w m a.race.second.place a.joined) meeting x.joined)) y.joined;
+    }
+
+pub one_explanation : (w : List Record) (l : ℕ) (a b : Option Explained) → Explains w l a → Explains w l b → IsSameAnswer a b
+one_explanation w l None None x y = refl
+one_explanation w l None (Some b) x y = absurd (let r = y.1.told.second.race in x r.0 b.race.second.place (subst (λ (z : ℕ). IsRace w z r.0 b.race.second.place) y.0 r.1))
+one_explanation w l (Some a) None x y = absurd (let r = x.1.told.second.race in y r.0 a.race.second.place (subst (λ (z : ℕ). IsRace w z r.0 a.race.second.place) x.0 r.1))
+one_explanation w l (Some a) (Some b) x y = same_explanation w l a b x.0 y.0 x.1 y.1

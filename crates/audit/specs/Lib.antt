@@ -6,3 +6,5 @@ pub mod Pairs
 pub mod Pairing
 pub mod Confirms
 pub mod Entries
+pub mod Explanations
+pub mod Explaining

@@ -80,7 +80,7 @@ fn add_pairs(
 }
 
 /// The access of a location that a record is, if it is one.
-fn access_of(placed: Placed, location: u64) -> Option<Access>
+pub(crate) fn access_of(placed: Placed, location: u64) -> Option<Access>
     ensures { MatchOption result ((k : Kind) → placed.what ≢ access k location) (λ a. (a.place ≡ placed.place)
         × (placed.what ≡ access a.kind location)) }
 {

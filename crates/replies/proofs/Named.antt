@@ -28,6 +28,7 @@ use Rattle.replies.proofs.Endings.{refused}
 wants_memory : (q : Question) → IsWant q NoMemory
 wants_memory (question.Check c) = inl refl
 wants_memory (question.Pairs p) = refl
+wants_memory (question.Explain e) = refl
 wants_memory (question.Measure m) = refl
 
 -- what is said of a trace that wasn't touched

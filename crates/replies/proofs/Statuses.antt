@@ -1,5 +1,5 @@
 -- What a status says of the races of a trace.
-use Rattle.std.proofs.Common.{◌≡◌, ◌↔◌, ℕ, ◌<◌, List, [], ◌∷◌, refl, arith, subst, ◌≤◌, ◌⊎◌, inl, inr}
+use Rattle.std.proofs.Common.{◌≡◌, ◌↔◌, ℕ, ◌<◌, List, [], ◌∷◌, Option, None, Some, refl, arith, subst, ◌≤◌, ◌⊎◌, inl, inr}
 use native.Mathlib.Decide.{dec_le}
 use Rattle.std.specs.List.{Contains}
 use Rattle.trace.specs.declared.records.Record.{Record}
@@ -7,9 +7,11 @@ use Rattle.trace.specs.Accesses.{RaceAt}
 use Rattle.trace.specs.declared.records.Kind.{Kind}
 use Rattle.trace.specs.declared.records.Kind.TheVariants.{Read, Write}
 use Rattle.trace.specs.declared.records.Access.{Access}
-use Rattle.trace.specs.Races.{IsAccess, IsRead, IsWrite}
+use Rattle.trace.specs.Races.{IsAccess, IsRead, IsWrite, IsRace}
 use Rattle.trace.proofs.Lists.{Contains-nil}
+use Rattle.audit.specs.declared.answers.Explained.{Explained}
 use Rattle.audit.specs.Pairs.{IsPair, ArePairs}
+use Rattle.audit.specs.Explanations.{Explains}
 use Rattle.collect.specs.ReportText.{rtext}
 use Rattle.detect.specs.Racy.{HasRace, HasLocation}
 use Rattle.detect.specs.declared.sharded.Run.{Run}
@@ -75,3 +77,18 @@ pairs_one status w l pairs are low none = (to pairs (λ p. (are.exactly p).0) no
             let P : List (Access × Access) → Type 0 = λ ps. Contains ps p in
             absurd (Contains-nil p (subst P e ((are.exactly p).1 is)))
         go (no more) = omega arith
+
+-- where the status is 0 exactly for no explanation of the location, it is 1 exactly where it has a race
+pub explain_one : (status : ℕ) (w : List Record) (l : ℕ) (answer : Option Explained) → Explains w l answer → status < 2 → (status ≡ 0) ↔ (answer ≡ None) → (status ≡ 1) ↔ HasRace w l
+explain_one status w l None none low zero = (λ one. let is : status ≡ 0 = zero.1 refl in absurd (omega arith), λ race. absurd (none race.0 race.1 race.2))
+explain_one status w l (Some e) says low zero = (λ one. has, λ race. is_one (dec_le status 0))
+  where
+    has : HasRace w l
+    has =
+        let race = says.1.told.second.race in
+        let At : ℕ → Type 0 = λ m. IsRace w m race.0 e.race.second.place in
+        (race.0, e.race.second.place, subst At says.0 race.1)
+
+    is_one : Dec (status ≤ 0) → status ≡ 1
+    is_one (yes least) = let none : Some e ≡ None = zero.0 (omega arith) in absurd (cc)
+    is_one (no more) = omega arith

@@ -1,5 +1,5 @@
 -- Promised: what answers the questions of a trace: the text, and the exit status.
-use Rattle.std.specs.Prelude.{◌≡◌, ℕ, ◌↔◌, List, []}
+use Rattle.std.specs.Prelude.{◌≡◌, ℕ, ◌↔◌, List, [], Option, None}
 use Rattle.trace.specs.declared.records.Record.{Record}
 use Rattle.trace.specs.declared.records.Access.{Access}
 use Rattle.trace.specs.declared.faults.Fault.{Fault}
@@ -9,14 +9,16 @@ use Rattle.collect.specs.ReportText.{rtext}
 use Rattle.detect.specs.Racy.{HasRace}
 use Rattle.detect.specs.Reported.{IsReportOf}
 use Rattle.audit.specs.declared.answers.Measure.{Measure}
+use Rattle.audit.specs.declared.answers.Explained.{Explained}
 use Rattle.audit.specs.declared.answers.Confirm.{Confirm}
 use Rattle.audit.specs.declared.answers.Confirm.TheVariants.{Yes, No}
 use Rattle.audit.specs.Measures.{IsMeasure}
 use Rattle.audit.specs.Pairs.{ArePairs}
 use Rattle.audit.specs.Confirms.{Confirms}
+use Rattle.audit.specs.Explanations.{Explains}
 use Rattle.words.specs.declared.asking.Question.{Question}
 use Rattle.words.specs.declared.asking.Question.TheVariants as question
-use Rattle.texts.specs.Texts.{pairs_text, measure_text, confirm_text}
+use Rattle.texts.specs.Texts.{pairs_text, explained_text, measure_text, confirm_text}
 
 -- `check`: the report of the trace. The status is 0 where it has no race, and 1 exactly where some location has one.
 pub record AnswersCheck (w : List Record) (text : List ℕ) (status : ℕ) : Type 0 where
@@ -32,6 +34,14 @@ pub record AnswersPairs (location : ℕ) (w : List Record) (text : List ℕ) (st
   pub are_pairs : ArePairs w location pairs
   pub is_text : text ≡ pairs_text pairs
   pub zero : (status ≡ 0) ↔ (pairs ≡ [])
+  pub one : (status ≡ 1) ↔ HasRace w location
+
+-- `explain`: why the location is racy, or that it isn't; the status is 1 exactly where it is, otherwise 0
+pub record AnswersExplain (location : ℕ) (w : List Record) (text : List ℕ) (status : ℕ) : Type 0 where
+  pub answer : Option Explained
+  pub explains : Explains w location answer
+  pub is_text : text ≡ explained_text answer
+  pub zero : (status ≡ 0) ↔ (answer ≡ None)
   pub one : (status ≡ 1) ↔ HasRace w location
 
 -- `measure`: the numbers of the trace
@@ -57,10 +67,12 @@ pub record AnswersConfirm (entries : List RaceAt) (w : List Record) (text : List
 abbrev pub Answers : Question → List Record → List ℕ → ℕ → Type 0
 Answers (question.Check c) w text status = AnswersCheck w text status
 Answers (question.Pairs p) w text status = AnswersPairs p.location w text status
+Answers (question.Explain e) w text status = AnswersExplain e.location w text status
 Answers (question.Measure m) w text status = AnswersMeasure w text status
 
 -- what reading the trace may want: memory, and for `check`, which starts threads, a thread
 abbrev pub IsWant : Question → Fault → Type 0
 IsWant (question.Check c) = IsWantOfMemoryOrThread
 IsWant (question.Pairs p) = IsWantOfMemory
+IsWant (question.Explain e) = IsWantOfMemory
 IsWant (question.Measure m) = IsWantOfMemory

@@ -11,7 +11,7 @@ ghost use Rattle.replies.specs.Questions.{Answers, AnswersCheck, IsWant};
 ghost use Rattle.trace.specs.Bounds.{most_records};
 ghost use Rattle.replies.specs.Answered.{IsAnswered};
 
-use crate::questions::{answer_measure, answer_pairs};
+use crate::questions::{answer_explain, answer_measure, answer_pairs};
 use collect::write_report;
 use detect::{Plan, Run, detect};
 use shard::Open;
@@ -43,6 +43,9 @@ pub fn answer<T: Threads + Wait + Sync, R: Source, W: Sink, E: Sink>(
     match question {
         Question::Check(check) => answer_check(rt, alloc, check, trace, out, err),
         Question::Pairs(pairs) => answer_pairs(alloc, pairs.depth, pairs.location, trace, out, err),
+        Question::Explain(explain) => {
+            answer_explain(alloc, explain.depth, explain.location, trace, out, err)
+        }
         Question::Measure(measure) => answer_measure(alloc, measure.depth, trace, out, err),
     }
 }

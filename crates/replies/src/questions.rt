@@ -1,14 +1,15 @@
-//! The answers to `pairs` and `measure`.
+//! The answers to `pairs`, `explain` and `measure`.
+ghost use Rattle.std.specs.Prelude.{◌≡◌, ◌<◌, ◌↔◌, None};
 ghost use Rattle.trace.specs.Devices.{◌⇝◌};
 ghost use Rattle.trace.specs.Endings.{IsWantOfMemory};
-ghost use Rattle.replies.specs.Questions.{AnswersPairs, AnswersMeasure};
+ghost use Rattle.replies.specs.Questions.{AnswersPairs, AnswersExplain, AnswersMeasure};
 ghost use Rattle.trace.specs.Bounds.{most_records};
 ghost use Rattle.replies.specs.Answered.{IsAnswered};
 
 use crate::answers::{finish, limits_of, status_of_found};
-use audit::{measure, pairs};
+use audit::{Explained, explain, measure, pairs};
 use std::alloc::Global;
-use texts::{put_measure, put_pairs, say_fault};
+use texts::{put_explained, put_measure, put_pairs, say_fault};
 use trace::{Sink, Source};
 
 // All races of a location, and the exit status: 0 where there is none.
@@ -34,6 +35,42 @@ pub(crate) fn answer_pairs<R: Source, W: Sink, E: Sink>(
             say_fault(&fault, err);
             2
         }
+    }
+}
+
+// Why a location is racy, and the exit status: 0 where it isn't.
+pub(crate) fn answer_explain<R: Source, W: Sink, E: Sink>(
+    alloc: Global,
+    depth: u32,
+    location: u64,
+    trace: &mut R,
+    out: &mut W,
+    err: &mut E,
+) -> u8
+    ensures { IsAnswered IsWantOfMemory most_records depth (AnswersExplain location)
+        (R.state trace.old ⇝ R.state trace.new) (W.state out.old ⇝ W.state out.new)
+        (E.state err.old ⇝ E.state err.new) result }
+{
+    match explain(alloc, limits_of(depth), trace, location) {
+        Ok(answer) => {
+            let put = put_explained(&answer, out);
+            finish(put, status_of_explained(&answer), out, err)
+        }
+        Err(fault) => {
+            say_fault(&fault, err);
+            2
+        }
+    }
+}
+
+// The exit status of what is said of a location: 0 where it has no race.
+fn status_of_explained(answer: &Option<Explained>) -> u8
+    ensures low { result < 2 }
+    ensures zero { (result ≡ 0) ↔ (answer.now ≡ None) }
+{
+    match answer {
+        None => 0,
+        Some(_) => 1,
     }
 }
 

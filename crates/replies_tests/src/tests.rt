@@ -3,6 +3,7 @@
 mod command_lines;
 mod devices;
 mod examples;
+mod explanations;
 mod failures;
 mod files;
 mod questions;

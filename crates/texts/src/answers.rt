@@ -1,5 +1,6 @@
-//! The texts of the answers, as they are put into a sink; that of `check` is written by its report.
-ghost use Rattle.std.specs.Prelude.{◌≡◌, ◌++◌, codes};
+//! The texts of the answers, as they are put into a sink; that of `check` is written by its report, and that of
+//! `explain` stands beside.
+ghost use Rattle.std.specs.Prelude.{◌≡◌, ◌≤◌, ◌++◌, length};
 ghost use Rattle.trace.specs.Devices.{◌⇝◌};
 ghost use Rattle.trace.specs.Writers.{Puts};
 ghost use Rattle.collect.specs.ReportText.{access_text};
@@ -23,27 +24,23 @@ pub fn put_pairs<W: Sink>(pairs: &[(Access, Access)], sink: &mut W) -> Result<()
 fn put_pair<W: Sink>(pair: &(Access, Access), sink: &mut W) -> Result<(), WriteFault>
     ensures { Puts result (pair_line pair.now) (W.state sink.old ⇝ W.state sink.new) }
 {
-    put_first(pair.0, sink)?;
-    put_second(pair.1, sink)
+    put(b"pair ", sink)?;
+    put_access(pair.0, b" ", sink)?;
+    put_access(pair.1, b"\n", sink)
 }
 
-// The first access of a race, as it stands in its line.
-fn put_first<W: Sink>(first: Access, sink: &mut W) -> Result<(), WriteFault>
-    ensures { Puts result (codes "pair " ++ access_text first ++ codes " ") (W.state sink.old ⇝ W.state sink.new) }
+// An access, and what stands after it in its line.
+pub(crate) fn put_access<W: Sink>(
+    access: Access,
+    ending: &[u8],
+    sink: &mut W,
+) -> Result<(), WriteFault>
+    requires { length ending.now ≤ 19 }
+    ensures { Puts result (access_text access ++ ending.now) (W.state sink.old ⇝ W.state sink.new) }
 {
-    match first.kind {
-        Kind::Read => put_at(b"pair read ", first.place, b" ", sink),
-        Kind::Write => put_at(b"pair write ", first.place, b" ", sink),
-    }
-}
-
-// The second access of a race, as it stands in its line.
-fn put_second<W: Sink>(second: Access, sink: &mut W) -> Result<(), WriteFault>
-    ensures { Puts result (access_text second ++ codes "\n") (W.state sink.old ⇝ W.state sink.new) }
-{
-    match second.kind {
-        Kind::Read => put_at(b"read ", second.place, b"\n", sink),
-        Kind::Write => put_at(b"write ", second.place, b"\n", sink),
+    match access.kind {
+        Kind::Read => put_at(b"read ", access.place, ending, sink),
+        Kind::Write => put_at(b"write ", access.place, ending, sink),
     }
 }
 

@@ -2,9 +2,11 @@
 #![tactic(auto)]
 
 mod answers;
+mod explanations;
 mod messages;
 mod reports;
 
 pub use answers::{put_confirm, put_measure, put_pairs};
+pub use explanations::put_explained;
 pub use messages::{put, say, say_fault, say_refusal};
 pub use reports::{MOST_BYTES, ReportRefusal, report_from};

@@ -1,13 +1,15 @@
 //! What is written of answers and faults, to writers that fail too; and reports from readers that fail.
-use audit::{Confirm, Measure};
+use audit::{Confirm, Explained, Measure, Opener, Opening};
+use std::alloc::{AllocError, Global};
 use std::io;
 use std::io::{ErrorKind, Read, Write};
+use std::process::Abort;
 use std::test::Fail;
 use texts::{
-    MOST_BYTES, ReportRefusal, put_confirm, put_measure, put_pairs, report_from, say, say_fault,
-    say_refusal,
+    MOST_BYTES, ReportRefusal, put_confirm, put_explained, put_measure, put_pairs, report_from,
+    say, say_fault, say_refusal,
 };
-use trace::{Access, Counted, Fault, Kind, Sink, TextFault, TextKind, WriteFault};
+use trace::{Access, Counted, Fault, Kind, Race, Sink, TextFault, TextKind, WriteFault};
 
 /// A reader of many bytes, none of which is kept: they are those that the buffers hold. Then it fails, or tells the end.
 #[derive(Drop)]
@@ -135,6 +137,67 @@ fn writes_texts(rt: HostRuntime) -> Result<(), Fail> {
             }
         }
     }
+    Ok(())
+}
+
+/// A race whose accesses meet in the procedure that place 1 opened.
+fn explained(alloc: Global, joined: Option<u64>) -> Result<Explained, AllocError> {
+    let race = Race {
+        location: 7,
+        first: Access {
+            kind: Kind::Write,
+            place: 3,
+        },
+        second: Access {
+            kind: Kind::Read,
+            place: 9,
+        },
+    };
+    let spawned = |place: u64| Opener {
+        what: Opening::Spawn,
+        place,
+    };
+    let called = Opener {
+        what: Opening::Call,
+        place: 5,
+    };
+    Ok(Explained {
+        race,
+        meeting: 1,
+        first: Vec::from_slice(alloc, &[spawned(2)])?,
+        second: Vec::from_slice(alloc, &[called, spawned(8)])?,
+        joined,
+    })
+}
+
+// Puts what is said of a location into a sink of which each byte fails in turn, and last none.
+fn assert_explained<R: Abort>(rt: &R, alloc: Global, answer: &Option<Explained>, want: &str) {
+    for most in 0..=want.len() {
+        for error in [Some(ErrorKind::Interrupted), Some(ErrorKind::Other), None] {
+            let mut out = Vec::new(alloc);
+            let mut sink = Counted::new(Drip {
+                held: &mut out,
+                most,
+                error,
+                failed: false,
+            });
+            let failed = put_explained(answer, &mut sink).is_err();
+            assert_eq!(rt; failed, most < want.len(), "{want} after {most}");
+            assert_eq!(rt; out.as_slice(), &want.as_bytes()[..most], "{error:?}");
+        }
+    }
+}
+
+#[test]
+fn writes_explanations(rt: HostRuntime) -> Result<(), Fail> {
+    let lines =
+        "race 7 write 3 read 9\nmeet 1\nfirst spawn 2 write 3\nsecond call 5 spawn 8 read 9\n";
+    let joined = format!(in rt.alloc(); "{lines}joined 12\n")?;
+    let with_joined = Some(explained(rt.alloc(), Some(12))?);
+    assert_explained(&rt, rt.alloc(), &with_joined, joined.as_str());
+    let without = Some(explained(rt.alloc(), None)?);
+    assert_explained(&rt, rt.alloc(), &without, lines);
+    assert_explained(&rt, rt.alloc(), &None, "no race\n");
     Ok(())
 }
 

@@ -1,13 +1,14 @@
 -- What is asked lies in its ranges.
 use Rattle.words.specs.Asked.{IsQuestionInRange, IsInRange}
 use Rattle.words.specs.declared.asking.Question.{Question}
-use Rattle.words.specs.declared.asking.Question.TheVariants.{Check, Pairs, Measure}
+use Rattle.words.specs.declared.asking.Question.TheVariants.{Check, Pairs, Explain, Measure}
 use Rattle.words.specs.declared.asking.Asked.{Asked}
 use Rattle.words.specs.declared.asking.Asked.TheVariants as asked
 
 question_in_range : (q : Question) → IsQuestionInRange q
 question_in_range (Check c) = (c.shards_within, c.capacity_within, c.depth_within, c.trace_named)
 question_in_range (Pairs p) = (p.depth_within, p.trace_named)
+question_in_range (Explain e) = (e.depth_within, e.trace_named)
 question_in_range (Measure m) = (m.depth_within, m.trace_named)
 
 pub in_range : (a : Asked) → IsInRange a

@@ -2,7 +2,7 @@
 use Rattle.std.specs.Prelude.{◌≡◌, ℕ, ◌<◌, List, codes, string_len, string_bytes}
 use Rattle.trace.specs.Bounds.{IsShardCount, IsCapacity, IsDepth}
 use Rattle.words.specs.declared.asking.Question.{Question}
-use Rattle.words.specs.declared.asking.Question.TheVariants.{Check, Pairs, Measure}
+use Rattle.words.specs.declared.asking.Question.TheVariants.{Check, Pairs, Explain, Measure}
 use Rattle.words.specs.declared.asking.Confirm.{Confirm}
 use Rattle.words.specs.declared.asking.Asked.{Asked}
 use Rattle.words.specs.declared.asking.Asked.TheVariants as asked
@@ -11,6 +11,7 @@ use Rattle.words.specs.declared.asking.Asked.TheVariants as asked
 abbrev pub IsQuestionInRange : Question → Type 0
 IsQuestionInRange (Check c) = IsShardCount c.shards × IsCapacity c.capacity × IsDepth c.depth × (0 < string_len c.trace)
 IsQuestionInRange (Pairs p) = IsDepth p.depth × (0 < string_len p.trace)
+IsQuestionInRange (Explain e) = IsDepth e.depth × (0 < string_len e.trace)
 IsQuestionInRange (Measure m) = IsDepth m.depth × (0 < string_len m.trace)
 
 -- the same of a report and its trace, of which standard input is one at most
@@ -28,10 +29,12 @@ IsInRange (asked.Confirm c) = IsConfirmInRange c
 abbrev pub depth_of : Question → ℕ
 depth_of (Check c) = c.depth
 depth_of (Pairs p) = p.depth
+depth_of (Explain e) = e.depth
 depth_of (Measure m) = m.depth
 
 -- the name of the trace's file
 abbrev pub trace_name : Question → List ℕ
 trace_name (Check c) = string_bytes c.trace
 trace_name (Pairs p) = string_bytes p.trace
+trace_name (Explain e) = string_bytes e.trace
 trace_name (Measure m) = string_bytes m.trace

@@ -18,6 +18,8 @@ pub enum Question {
     Check(Check),
     /// All races of one location.
     Pairs(Pairs),
+    /// Why one location is racy.
+    Explain(Explain),
     /// The numbers of a trace.
     Measure(Measure),
 }
@@ -42,6 +44,19 @@ pub struct Check {
 /// `pairs`: all races of one location.
 #[derive(Debug, Drop, PartialEq, Eq)]
 pub struct Pairs {
+    /// How deep procedures may nest.
+    pub depth: u32,
+    /// The name of the trace's file; `-` is standard input.
+    pub trace: String,
+    /// The location.
+    pub location: u64,
+    ghost depth_within: { IsDepth depth },
+    ghost trace_named: { 0 < string_len trace },
+}
+
+/// `explain`: why one location is racy.
+#[derive(Debug, Drop, PartialEq, Eq)]
+pub struct Explain {
     /// How deep procedures may nest.
     pub depth: u32,
     /// The name of the trace's file; `-` is standard input.
@@ -88,6 +103,7 @@ impl Question {
         match self {
             Question::Check(check) => check.trace.as_str(),
             Question::Pairs(pairs) => pairs.trace.as_str(),
+            Question::Explain(explain) => explain.trace.as_str(),
             Question::Measure(measure) => measure.trace.as_str(),
         }
     }

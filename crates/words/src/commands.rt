@@ -11,6 +11,7 @@ Finds the determinacy races of a fork-join program in the trace of one run, and 
 const NOTES: &str = "\
 Examples:
   spbags check run.trace
+  spbags explain run.trace 5
   spbags pairs run.trace 5
   spbags measure run.trace
   spbags confirm run.trace run.report
@@ -32,6 +33,7 @@ The trace is read from FILE, or from standard input where FILE is `-`. Neither t
 changes the report. Its first line is the number of races; a line follows for each, as `race 5 write 2 write 6`: the
 location, and the kinds and places of two accesses. Place k stands on line k + 1 of the trace. Location l belongs to
 shard l mod N, where N is the number of shards.
+`spbags explain run.trace 5` says why it is a race.
 
 A trace that takes minutes: `pv run.trace | spbags check -` shows how far the reading is (pv is a Debian package). One
 thread reads, and each shard is a thread beside it, so give no more shards than processors are idle. Where locations
@@ -64,6 +66,29 @@ Example:
 Exit status:
   0  no race of the location
   1  a race; the pairs stand on standard output
+  2  no answer; standard error says why";
+
+const EXPLAIN_ABOUT: &str = "Tells why the race of one location is a race.";
+
+const EXPLAIN_NOTES: &str = "\
+The trace is read from FILE, or from standard input where FILE is `-`. Where L has no race the answer is `no race`.
+Otherwise it is the race that `check` tells of L, and why no order of its two accesses is sure:
+
+  race 5 write 2 write 6   the race: its location, and the kinds and places of two accesses
+  meet 0                   the procedure that executes both, itself or below: the place that opened it, the root by 0
+  first spawn 1 write 2    what was opened below that procedure, down to the first access
+  second write 6           the same of the second access
+  joined 7                 where that procedure next waits for what it spawned: a sync, or its return
+
+What comes first below the meeting procedure on the line `first` is a spawn, and from there to the second access that
+procedure doesn't sync. Place k stands on line k + 1 of the trace.
+
+Example:
+  spbags explain run.trace 5
+
+Exit status:
+  0  no race of the location
+  1  a race; why stands on standard output
   2  no answer; standard error says why";
 
 const MEASURE_ABOUT: &str = "Tells how long, how parallel and how deep the run was.";
@@ -107,6 +132,7 @@ pub fn program<'a>(alloc: Global) -> Result<Command<'a>, AllocError> {
         .disable_help_subcommand(true);
     program
         .subcommand(check_command(alloc)?)?
+        .subcommand(explain_command(alloc)?)?
         .subcommand(pairs_command(alloc)?)?
         .subcommand(measure_command(alloc)?)?
         .subcommand(confirm_command(alloc)?)
@@ -126,6 +152,15 @@ fn pairs_command<'a>(alloc: Global) -> Result<Command<'a>, AllocError> {
     Command::new(alloc, "pairs")
         .about(PAIRS_ABOUT)
         .after_help(PAIRS_NOTES)
+        .arg(depth(alloc))?
+        .arg(needed(alloc, "FILE", "The trace; `-` is standard input"))?
+        .arg(needed(alloc, "L", "The location: 0 to 18446744073709551615"))
+}
+
+fn explain_command<'a>(alloc: Global) -> Result<Command<'a>, AllocError> {
+    Command::new(alloc, "explain")
+        .about(EXPLAIN_ABOUT)
+        .after_help(EXPLAIN_NOTES)
         .arg(depth(alloc))?
         .arg(needed(alloc, "FILE", "The trace; `-` is standard input"))?
         .arg(needed(alloc, "L", "The location: 0 to 18446744073709551615"))

@@ -3,7 +3,7 @@ ghost use Rattle.std.specs.Prelude.{◌<◌, ◌≤◌, string_len, IfOk};
 ghost use Rattle.trace.specs.Bounds.{IsShardCount, IsCapacity, IsDepth};
 ghost use Rattle.words.specs.Asked.{IsInRange};
 
-use crate::asking::{Asked, Check, Confirm, Measure, Pairs, Question};
+use crate::asking::{Asked, Check, Confirm, Explain, Measure, Pairs, Question};
 use crate::commands::program;
 use clap::error::ErrorKind;
 use clap::{ArgMatches, Error};
@@ -70,6 +70,9 @@ fn asked_of(alloc: Global, matches: &ArgMatches<'_>) -> Result<Asked, WordsFault
     if let Some(found) = matches.subcommand_matches("pairs") {
         return Ok(Asked::Question(Question::Pairs(pairs_of(alloc, found)?)));
     }
+    if let Some(found) = matches.subcommand_matches("explain") {
+        return Ok(Asked::Question(Question::Explain(explain_of(alloc, found)?)));
+    }
     if let Some(found) = matches.subcommand_matches("measure") {
         return Ok(Asked::Question(Question::Measure(measure_of(alloc, found)?)));
     }
@@ -109,6 +112,17 @@ fn pairs_of(alloc: Global, found: &ArgMatches<'_>) -> Result<Pairs, WordsFault> 
     let trace = name_of(alloc, found, "FILE")?;
     let location = location_of(found)?;
     Ok(Pairs {
+        depth,
+        trace,
+        location,
+    })
+}
+
+fn explain_of(alloc: Global, found: &ArgMatches<'_>) -> Result<Explain, WordsFault> {
+    let depth = depth_of(found)?;
+    let trace = name_of(alloc, found, "FILE")?;
+    let location = location_of(found)?;
+    Ok(Explain {
         depth,
         trace,
         location,

@@ -99,6 +99,35 @@ fn reads_questions(rt: HostRuntime) -> Result<(), Fail> {
 }
 
 #[test]
+fn reads_what_is_explained(rt: HostRuntime) -> Result<(), Fail> {
+    let table = [
+        ("explain run.trace 5", 65536, "run.trace", 5),
+        ("explain - 0", 65536, "-", 0),
+        ("explain --depth 0 - 7", 0, "-", 7),
+        ("explain a --depth=1000000 7", 1000000, "a", 7),
+        (
+            "explain - 18446744073709551615",
+            65536,
+            "-",
+            18446744073709551615,
+        ),
+    ];
+    for (line, depth, trace, location) in table {
+        let words = words_of(rt.alloc(), line)?;
+        let Ok(Asked::Question(Question::Explain(explain))) = read_words(
+            rt.alloc(),
+            words.as_slice(),
+        ) else {
+            return Err(Fail::from(line));
+        };
+        assert_eq!(rt; explain.depth, depth, "{line}");
+        assert_eq!(rt; explain.trace.as_str(), trace, "{line}");
+        assert_eq!(rt; explain.location, location, "{line}");
+    }
+    Ok(())
+}
+
+#[test]
 fn reads_names_of_reports(rt: HostRuntime) -> Result<(), Fail> {
     let table = [
         (
@@ -166,6 +195,14 @@ fn refuses_command_lines(rt: HostRuntime) -> Result<(), Fail> {
         "pairs - 18446744073709551616",
         "pairs --depth 1000001 - 5",
         "pairs --shards 1 - 5",
+        "explain",
+        "explain -",
+        "explain - 03",
+        "explain - x",
+        "explain - 5 6",
+        "explain - 18446744073709551616",
+        "explain --depth 1000001 - 5",
+        "explain --shards 1 - 5",
         "measure",
         "measure - 5",
         "measure --depth 007 -",
@@ -210,6 +247,7 @@ fn helps(rt: HostRuntime) -> Result<(), Fail> {
         "check -h",
         "check - --help",
         "pairs --help",
+        "explain --help",
         "measure -h",
         "confirm --help",
         "--version",
@@ -231,7 +269,7 @@ fn helps(rt: HostRuntime) -> Result<(), Fail> {
 }
 
 // Command lines that ask for help, and what it has to say.
-const HELPS: [(&str, &str); 21] = [
+const HELPS: [(&str, &str); 28] = [
     ("--help", "`trace 1` or `trace 2`"),
     ("--help", "`spawn`,\n`sync`, `return`, "),
     ("--help", "after `trace 2` also\n`call`"),
@@ -250,6 +288,16 @@ const HELPS: [(&str, &str); 21] = [
     ("pairs --help", "Place k stands on line k + 1"),
     ("pairs --help", "comes when the whole trace was read"),
     ("pairs --help", "four times as long"),
+    ("--help", "spbags explain run.trace 5"),
+    (
+        "check --help",
+        "`spbags explain run.trace 5` says why it is a race",
+    ),
+    ("explain --help", "0 to 1000000, 65536 where"),
+    ("explain --help", "0 to 18446744073709551615"),
+    ("explain --help", "Place k stands on line k + 1"),
+    ("explain --help", "the race that `check` tells"),
+    ("explain --help", "first spawn 1 write 2"),
     ("measure --help", "0 to 1000000, 65536 where"),
     ("confirm --help", "0 to 1000000, 65536 where"),
     ("confirm --help", "67108864 bytes"),

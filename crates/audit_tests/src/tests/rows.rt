@@ -1,6 +1,6 @@
 //! The worked rows of the questions.
 
-use audit::{Confirm, Measure, confirm, measure, pairs};
+use audit::{Confirm, Explained, Measure, Opener, Opening, confirm, explain, measure, pairs};
 use collect::read_report;
 use std::alloc::Global;
 use std::process::Abort;
@@ -49,6 +49,12 @@ pub const LIMITS: Limits = Limits {
     records: 1 << 48,
     depth: 9,
 };
+
+const DEEP_MEETING: &[u8] = b"trace 2\ncall\nspawn\ncall\nwrite 5\nreturn\nreturn\n\
+    spawn\nwrite 5\nspawn\nsync\nreturn\nsync\nreturn\nsync\nreturn\nreturn\n";
+
+const RETURN_JOINS: &[u8] = b"trace 2\nspawn\nsync\nspawn\nread 7\nreturn\n\
+    call\nspawn\nwrite 7\nreturn\nreturn\nread 7\nreturn\nsync\nreturn\n";
 
 fn measured(alloc: Global, text: &[u8]) -> Result<Measure, Fault> {
     measure(alloc, LIMITS, &mut Counted::new(text))
@@ -313,5 +319,125 @@ fn faults(rt: HostRuntime) -> Result<(), Fail> {
     assert!(rt; listed(rt.alloc(), LIMITS, &mut Counted::new(text), 5).is_err());
     let answer = confirmed(rt.alloc(), text, b"races 0\n");
     assert_eq!(rt; answer, Err(unfinished));
+    Ok(())
+}
+
+/// How a procedure was opened, and where.
+type Link = (Opening, u64);
+
+/// The race that is told, its meeting procedure, the openers below that one for each access, and the join.
+type Why<'a> = (Told, u64, &'a [Link], &'a [Link], u64);
+
+/// Whether the openers are these.
+fn are_links(openers: &[Opener], links: &[Link]) -> bool {
+    openers.len() == links.len()
+        && openers
+            .iter()
+            .zip(links)
+            .all(|(opener, link)| (opener.what, opener.place) == *link)
+}
+
+/// Whether a location is explained so.
+fn is_why(explained: &Explained, location: u64, why: Why<'_>) -> bool {
+    let (race, (told, meeting, first, second, joined)) = (explained.race, why);
+    let (first_access, second_access) = told;
+    race.location == location
+        && (race.first.kind, race.first.place) == first_access
+        && (race.second.kind, race.second.place) == second_access
+        && explained.meeting == meeting
+        && are_links(&explained.first, first)
+        && are_links(&explained.second, second)
+        && explained.joined == Some(joined)
+}
+
+#[test]
+fn explains_locations(rt: HostRuntime) -> Result<(), Fail> {
+    let (read, write) = (Kind::Read, Kind::Write);
+    let (spawn, call) = (Opening::Spawn, Opening::Call);
+    let rows: [(&str, &[u8], u64, Why<'_>); 8] = [
+        (
+            "write-write",
+            WRITE_WRITE,
+            5,
+            (((write, 2), (write, 4)), 0, &[(spawn, 1)], &[], 5),
+        ),
+        (
+            "sync-in-sibling",
+            SYNC_IN_SIBLING,
+            1,
+            (((write, 2), (write, 6)), 0, &[(spawn, 1)], &[(spawn, 4)], 8),
+        ),
+        (
+            "two-readers-then-write",
+            TWO_READERS_THEN_WRITE,
+            9,
+            (((read, 2), (write, 7)), 0, &[(spawn, 1)], &[], 8),
+        ),
+        (
+            "three-writes",
+            THREE_WRITES,
+            3,
+            (((write, 2), (write, 5)), 0, &[(spawn, 1)], &[(spawn, 4)], 8),
+        ),
+        (
+            "reader-moves-to-child",
+            READER_MOVES_TO_CHILD,
+            9,
+            (((read, 3), (write, 5)), 0, &[(spawn, 2)], &[], 6),
+        ),
+        (
+            "read-then-write-in-child",
+            READ_THEN_WRITE_IN_CHILD,
+            7,
+            (((write, 3), (write, 5)), 0, &[(spawn, 1)], &[], 6),
+        ),
+        (
+            "deep-meeting",
+            DEEP_MEETING,
+            5,
+            (
+                ((write, 4), (write, 8)),
+                1,
+                &[(spawn, 2), (call, 3)],
+                &[(spawn, 7)],
+                14,
+            ),
+        ),
+        (
+            "return-joins",
+            RETURN_JOINS,
+            7,
+            (
+                ((read, 4), (write, 8)),
+                1,
+                &[(spawn, 3)],
+                &[(call, 6), (spawn, 7)],
+                12,
+            ),
+        ),
+    ];
+    for (name, text, location, why) in rows {
+        let answer = explain(rt.alloc(), LIMITS, &mut Counted::new(text), location)?;
+        match &answer {
+            Some(explained) => assert!(rt; is_why(explained, location, why), "{name}"),
+            None => assert!(rt; false, "{name}: nothing is told"),
+        }
+    }
+    Ok(())
+}
+
+#[test]
+fn explains_no_race(rt: HostRuntime) -> Result<(), Fail> {
+    let rows: [(&[u8], u64); 5] = [
+        (EMPTY, 0),
+        (SYNC_ORDERS, 5),
+        (GRANDCHILD_SYNCED, 1),
+        (THREE_WRITES, 4),
+        (WRITE_WRITE, 6),
+    ];
+    for (text, location) in rows {
+        let answer = explain(rt.alloc(), LIMITS, &mut Counted::new(text), location)?;
+        assert!(rt; answer.is_none(), "location {location}");
+    }
     Ok(())
 }

@@ -1,11 +1,13 @@
 //! The traces of `examples/` with their answers: none of these is taken from the program's own output.
 mod calls;
+mod explained;
 mod matrices;
 mod others;
 mod sorts;
 mod sums;
 
 use super::{assert_left, run, run_with_report};
+use explained::EXPLAINED;
 use std::test::Fail;
 
 #[derive(Clone, Copy)]
@@ -83,6 +85,16 @@ fn answers_about_examples(rt: HostRuntime) -> Result<(), Fail> {
             b"",
             example.name,
         );
+    }
+    Ok(())
+}
+
+#[test]
+fn explains_examples(rt: HostRuntime) -> Result<(), Fail> {
+    for (example, line, answer) in EXPLAINED {
+        let status = if answer == "no race\n" { 0 } else { 1 };
+        let ran = run(&rt, rt.alloc(), line, example.trace.as_bytes(), 4096)?;
+        assert_left(&rt, &ran, status, answer.as_bytes(), b"", example.name);
     }
     Ok(())
 }

@@ -11,10 +11,11 @@ use std::thread::Threads;
 use trace::Counted;
 use words::WordsFault;
 
-const COMMANDS: [&str; 5] = [
+const COMMANDS: [&str; 6] = [
     "check --shards 1 -",
     "check --shards 3 --capacity 1 -",
     "pairs - 5",
+    "explain - 5",
     "measure -",
     "confirm - b",
 ];
@@ -118,6 +119,10 @@ fn tells_a_full_output(rt: HostRuntime) -> Result<(), Fail> {
         (
             "pairs - 3",
             "pairs 3\npair write 2 write 5\npair write 2 write 7\npair write 5 write 7\n",
+        ),
+        (
+            "explain - 3",
+            "race 3 write 2 write 5\nmeet 0\nfirst spawn 1 write 2\nsecond spawn 4 write 5\njoined 8\n",
         ),
         ("measure -", "work 8\nspan 5\nspawns 2\ndepth 1\n"),
         ("confirm - b", "no 1\n"),

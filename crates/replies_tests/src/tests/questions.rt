@@ -192,7 +192,7 @@ fn questions_of_a_thousand_races(rt: HostRuntime) -> Result<(), Fail> {
 
     // A fault at the end leaves nothing of an answer.
     let (text, _) = text.split_at(text.len() - b"return\n".len().min(text.len()));
-    for line in ["measure -", "pairs - 0", "confirm - b"] {
+    for line in ["measure -", "pairs - 0", "explain - 0", "confirm - b"] {
         let report = b"races 1\nrace 0 write 2 write 1003\n";
         let ran = run_with_report(&rt, rt.alloc(), line, text, report, 4096)?;
         assert_left(&rt, &ran, 2, b"", b"spbags: place 2003: unfinished\n", line);

@@ -1,0 +1,11 @@
+use Rattle.std.proofs.Common.{codes, subst}
+use Rattle.trace.specs.Accesses.{RaceAt}
+use Rattle.trace.specs.Devices.{◌⇝◌}
+use Rattle.trace.specs.Writers.{Puts}
+use Rattle.texts.specs.Texts.{side_line}
+use Rattle.texts.proofs.explanations.put_first.Goals as goal
+
+pub returns : goal.returns
+returns g c =
+    let P : RaceAt → Type 0 = λ r. Puts c.put_side.result (side_line (codes "first ") c.args.openers.now r.first) (g.W.Sink.state c.args.sink.now ⇝ g.W.Sink.state c.put_side.new.sink) in
+    subst P c.race.view_is c.put_side.ensures
