@@ -17,8 +17,15 @@ most_shards = 64
 abbrev pub most_items : ℕ
 most_items = 65536
 
+-- into how many parts the locations may be divided
+abbrev pub most_parts : ℕ
+most_parts = 65536
+
 abbrev pub IsShardCount : ℕ → Type 0
 IsShardCount n = (1 ≤ n) × (n ≤ most_shards)
+
+abbrev pub IsPartCount : ℕ → Type 0
+IsPartCount n = (1 ≤ n) × (n ≤ most_parts)
 
 abbrev pub IsCapacity : ℕ → Type 0
 IsCapacity n = (1 ≤ n) × (n ≤ most_items)

@@ -7,6 +7,7 @@ pub mod Dag
 pub mod Races
 pub mod Meeting
 pub mod Shares
+pub mod Parts
 pub mod Devices
 pub mod Digits
 pub mod Reading

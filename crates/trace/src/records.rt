@@ -1,6 +1,7 @@
-//! Records, accesses and races, the versions of a trace's text, and the limits within which a trace is read.
-ghost use Rattle.std.specs.Prelude.{◌≤◌};
-ghost use Rattle.trace.specs.Bounds.{most_records};
+//! Records, accesses and races, the versions of a trace's text, the limits within which a trace is read, and the parts of
+//! its locations.
+ghost use Rattle.std.specs.Prelude.{◌<◌, ◌≤◌};
+ghost use Rattle.trace.specs.Bounds.{most_records, IsPartCount};
 
 use std::marker::Model;
 
@@ -77,4 +78,16 @@ pub struct Limits {
     pub records: u64,
     pub depth: u32,
     ghost within: { records ≤ most_records },
+}
+
+/// One of the parts that the locations are divided into: those that leave the rest `index` where they are divided by
+/// `count`. A part numbers its locations from 0 in their order.
+#[derive(Clone, Copy, Debug, PartialEq, Eq)]
+pub struct Part {
+    /// Which part it is: 0 to `count` - 1.
+    pub index: u32,
+    /// How many parts there are: 1 to 65536.
+    pub count: u32,
+    ghost within: { index < count },
+    ghost count_within: { IsPartCount count },
 }
