@@ -33,13 +33,15 @@ pub data IsBadLine (records : ℕ) (bytes : List ℕ) : TextFault → Type 0 whe
   bad_line : (v : Version) (w : List Record) (rest body : List ℕ) → AllFit v w → length w ≤ records → bytes ≡ text v w ++ rest
       → IsJudged rest body → IsNoRecord v body
       → IsBadLine records bytes (record { line = length w + 2; kind = Line })
-  too_many : (v : Version) (w : List Record) (r : Record) (more : List ℕ) → AllFit v w → length w ≡ records → Fits v r → bytes ≡ text v w ++ (line r ++ more)
+  too_many : (v : Version) (w : List Record) (r : Record) (more : List ℕ) → AllFit v w → length w ≡ records → Fits v r
+      → bytes ≡ text v w ++ (line r ++ more)
       → IsBadLine records bytes (record { line = length w + 2; kind = TooMany })
 
 -- at the end of the bytes: a rest without a line end, or no header line
 pub data IsTruncated (records : ℕ) (bytes : List ℕ) : TextFault → Type 0 where
   no_header : IsOpen bytes → IsTruncated records bytes (record { line = 1; kind = Truncated })
-  no_line_end : (v : Version) (w : List Record) (rest : List ℕ) → AllFit v w → length w ≤ records → bytes ≡ text v w ++ rest → IsOpen rest → rest ≢ []
+  no_line_end : (v : Version) (w : List Record) (rest : List ℕ) → AllFit v w → length w ≤ records → bytes ≡ text v w ++ rest
+      → IsOpen rest → rest ≢ []
       → IsTruncated records bytes (record { line = length w + 2; kind = Truncated })
 
 -- the root has returned

@@ -1,5 +1,6 @@
 //! Placed records from a source of bytes: a reader of lines and a nest behind one buffer, and how they have ended.
-ghost use Rattle.std.specs.Prelude.{◌≡◌, ◌≢◌, ℕ, ◌+◌, ◌≤◌, ◌<◌, List, [], ◌++◌, ◌∷◌, length, take, Option, Ok, Err, Some, None, IfOk, IfErr, OnErr, true, false, IfSome};
+ghost use Rattle.std.specs.Prelude.{◌≡◌, ◌≢◌, ℕ, ◌+◌, ◌≤◌, ◌<◌, List, [], ◌++◌, ◌∷◌, length, take, true, false};
+ghost use Rattle.std.specs.Prelude.{Option, Ok, Err, Some, None, IfOk, IfErr, OnErr, IfSome};
 ghost use Rattle.std.specs.Option.{option_to_list};
 ghost use Rattle.trace.specs.declared.records.Record.{Record};
 ghost use Rattle.trace.specs.Devices.{Change, ◌⇝◌, Counts, Gave, IsUsedUp, IsSteady};
@@ -89,8 +90,8 @@ impl Intake {
         }
     }
 
-    /// The next placed record, where the bytes that have come tell it easily. The answer `None` says nothing and changes
-    /// nothing; `next_from` tells then.
+    /// The next placed record, where the bytes that have come tell it easily. The answer `None` says nothing and
+    /// changes nothing; `next_from` tells then.
     #[inline(always)]
     pub fn next_known(&mut self) -> Option<Placed>
         ensures fed { (w : List Record) (bytes : List ℕ) → HasFed w bytes self.old →

@@ -1,5 +1,7 @@
-//! The reader of a trace's text, which comes in pieces of any size. It keeps the bytes of the line that isn't ended yet.
-ghost use Rattle.std.specs.Prelude.{◌≡◌, ◌≢◌, ◌≤◌, ◌+◌, ◌<◌, ◌++◌, ◌∷◌, [], ℕ, List, length, take, IfOk, IfErr, IfSome, IfNone, OnOk, OnErr, Some, None, Ok, Err};
+//! The reader of a trace's text, which comes in pieces of any size. It keeps the bytes of the line that isn't ended
+//! yet.
+ghost use Rattle.std.specs.Prelude.{◌≡◌, ◌≢◌, ◌≤◌, ◌+◌, ◌<◌, ◌++◌, ◌∷◌, [], ℕ, List, length, take};
+ghost use Rattle.std.specs.Prelude.{IfOk, IfErr, IfSome, IfNone, OnOk, OnErr, Some, None, Ok, Err};
 ghost use Rattle.std.specs.Option.{option_to_list};
 ghost use Rattle.trace.specs.declared.records.Version.{Version};
 ghost use Rattle.trace.specs.declared.records.Record.{Record};

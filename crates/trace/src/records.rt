@@ -1,5 +1,5 @@
-//! Records, accesses and races, the versions of a trace's text, the limits within which a trace is read, and the parts of
-//! its locations.
+//! Records, accesses and races, the versions of a trace's text, the limits within which a trace is read, and the parts
+//! of its locations.
 ghost use Rattle.std.specs.Prelude.{◌<◌, ◌≤◌};
 ghost use Rattle.trace.specs.Bounds.{most_records, IsPartCount};
 
