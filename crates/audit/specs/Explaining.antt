@@ -93,17 +93,21 @@ Joins r = (r ≡ Sync) ⊎ (r ≡ Return)
 
 -- what becomes of the join that is looked for, at a record on a depth
 abbrev pub NextJoined : Placed → ℕ → ℕ → Option ℕ → Option ℕ → Type 0
-NextJoined p deep meeting_level old new = MatchOption old (((deep ≡ meeting_level) × Joins p.what × (new ≡ Some p.place)) ⊎ ((deep ≡ meeting_level → Joins p.what → ⊥) × (new ≡ None))) (λ k. new ≡ Some k)
+NextJoined p deep meeting_level old new = MatchOption old (((deep ≡ meeting_level) × Joins p.what × (new ≡ Some p.place))
+    ⊎ ((deep ≡ meeting_level → Joins p.what → ⊥) × (new ≡ None))) (λ k. new ≡ Some k)
 
 -- the race is told, where the first access has one of these kinds and trails, and the active procedures these openers
 abbrev pub TellsIt : Kind → Trail → Access → List Opener → Told → Type 0
-TellsIt first_kind first second openers d = (w : List Record) (l t : ℕ) (records depths : ℕ) → IsWellNested w records depths → second.place ≡ suc t → IsRival w l first_kind first second
+TellsIt first_kind first second openers d = (w : List Record) (l t : ℕ) (records depths : ℕ) → IsWellNested w records depths
+    → second.place ≡ suc t → IsRival w l first_kind first second
     → IsTrail w second.place openers → HasTold w l (suc t) d
 
 -- what is kept after an access with which none races
 abbrev pub Keeps : Explaining → Access → Explaining → Type 0
-Keeps s a s' = (l : ℕ) (u : List Record) → HasMet s.meetings u → a.place ≡ suc (length u) → WhateverComes u (λ w. IsAccess w l a.place a.kind → ((i : ℕ) → IsRace w l i a.place → ⊥)
-    → IsTrail w a.place s.openers.items → HasSought w l (length u) s.last_write s.kept_reader → HasSought w l (suc (length u)) s'.last_write s'.kept_reader)
+Keeps s a s' = (l : ℕ) (u : List Record) → HasMet s.meetings u → a.place ≡ suc (length u)
+    → WhateverComes u (λ w. IsAccess w l a.place a.kind → ((i : ℕ) → IsRace w l i a.place → ⊥)
+    → IsTrail w a.place s.openers.items → HasSought w l (length u) s.last_write s.kept_reader
+    → HasSought w l (suc (length u)) s'.last_write s'.kept_reader)
 
 -- what is known after an access of the location
 abbrev pub Touches : Explaining → Access → Explaining → Type 0

@@ -125,8 +125,10 @@ after_child x false f = record { own = f.own; unjoined = max f.unjoined x }
 
 -- what becomes of the longest paths at a record to which the longest path has x places
 abbrev pub Advances : ℕ → Record → Longest → List Waiting → Longest → List Waiting → Type 0
-Advances x Spawn e waiting e' waiting' = (e' ≡ record { own = x; unjoined = 0 }) × (waiting' ≡ waiting ++ record { longest = record { own = x; unjoined = e.unjoined }; calls = false } ∷ [])
-Advances x Call e waiting e' waiting' = (e' ≡ record { own = x; unjoined = 0 }) × (waiting' ≡ waiting ++ record { longest = record { own = x; unjoined = e.unjoined }; calls = true } ∷ [])
+Advances x Spawn e waiting e' waiting' = (e' ≡ record { own = x; unjoined = 0 })
+    × (waiting' ≡ waiting ++ record { longest = record { own = x; unjoined = e.unjoined }; calls = false } ∷ [])
+Advances x Call e waiting e' waiting' = (e' ≡ record { own = x; unjoined = 0 })
+    × (waiting' ≡ waiting ++ record { longest = record { own = x; unjoined = e.unjoined }; calls = true } ∷ [])
 Advances x Return e waiting e' waiting' = ((waiting ≡ []) × (waiting' ≡ []) × (e' ≡ e))
     ⊎ ((f : Waiting) × (waiting ≡ waiting' ++ f ∷ []) × (e' ≡ after_child x f.calls f.longest))
 Advances x Sync e waiting e' waiting' = (e' ≡ record { own = x; unjoined = 0 }) × (waiting' ≡ waiting)

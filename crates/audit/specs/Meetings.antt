@@ -90,7 +90,8 @@ pub record TellsUnjoined (executing : Active) (waiting : List Active) (place dee
 
 -- the same, after the records u
 abbrev pub TellsUnjoinedAfter : Meetings → List Record → ℕ → ℕ → Bool → Type 0
-TellsUnjoinedAfter m u place deep answer = WhateverComes u (λ w. 1 ≤ place → suc (length u) ≤ length w → TellsUnjoined m.executing m.waiting.items place deep answer)
+TellsUnjoinedAfter m u place deep answer = WhateverComes u (λ w. 1 ≤ place → suc (length u) ≤ length w
+    → TellsUnjoined m.executing m.waiting.items place deep answer)
 
 -- what an answer says of the last turn that began before a place: its kind
 abbrev pub TellsTurn : List Turn → ℕ → Bool → Type 0

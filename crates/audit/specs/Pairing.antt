@@ -41,7 +41,8 @@ pub record ArePairsWith (w : List Record) (l t n : ℕ) (kept : List Kept) (pair
 -- the races of an access with the first n that are kept were added
 abbrev pub AddsPairs : Meetings → List Kept → Access → ℕ → List (Access × Access) → List (Access × Access) → Type 0
 AddsPairs m kept second n old new = (l : ℕ) (u : List Record) → HasMet m u → second.place ≡ suc (length u)
-    → WhateverComes u (λ w. AreKept w l (length u) kept → IsAccess w l second.place second.kind → ArePairsTo w l (length u) old → ArePairsWith w l (length u) n kept new)
+    → WhateverComes u (λ w. AreKept w l (length u) kept → IsAccess w l second.place second.kind → ArePairsTo w l (length u) old
+    → ArePairsWith w l (length u) n kept new)
 
 -- the records u were seen, whatever well nested trace begins with them
 pub record HasPaired (location : ℕ) (u : List Record) (s : Pairing) : Type 0 where

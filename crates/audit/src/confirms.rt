@@ -177,8 +177,8 @@ pub fn confirm<R: Source>(
 ) -> Result<Confirm, Fault>
     // All bytes of the source are the text of a trace that is well nested within the limits. The answer is yes where
     // all entries tell a race of it, otherwise the first that doesn't.
-    // Otherwise no memory was left, or the fault is the first; and where the source holds such a trace and doesn't fail,
-    // no memory was left.
+    // Otherwise no memory was left, or the fault is the first; and where the source holds such a trace and doesn't
+    // fail, no memory was left.
     ensures { EndsReading IsWantOfMemory limits.records limits.depth (R.state source.old ⇝ R.state source.new)
         (λ answer w. Confirms w report.now answer) result }
 {

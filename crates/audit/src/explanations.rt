@@ -264,9 +264,9 @@ fn openers_below(alloc: Global, level: usize, openers: &[Opener]) -> Result<Vec<
 ///
 /// A fault is the whole answer. It keeps three numbers and an opener for each active procedure, two numbers for each
 /// turn that they took from spawned children to called ones or back, and two accesses of the location at most, with the
-/// openers of the procedures that hold them. Once a race is told it keeps that one's openers alone. Until then an access
-/// of the location costs at most two searches among the active procedures and two among the turns, and a copy of the
-/// openers where it is kept; any other record costs the same wherever it stands.
+/// openers of the procedures that hold them. Once a race is told it keeps that one's openers alone. Until then an
+/// access of the location costs at most two searches among the active procedures and two among the turns, and a copy of
+/// the openers where it is kept; any other record costs the same wherever it stands.
 pub fn explain<R: Source>(
     alloc: Global,
     limits: Limits,

@@ -122,8 +122,8 @@ pub fn pairs<R: Source>(
     location: u64,
 ) -> Result<Vec<(Access, Access)>, Fault>
     // All bytes of the source are the text of a trace that is well nested within the limits, and these are the races.
-    // Otherwise no memory was left, or the fault is the first; and where the source holds such a trace and doesn't fail,
-    // no memory was left.
+    // Otherwise no memory was left, or the fault is the first; and where the source holds such a trace and doesn't
+    // fail, no memory was left.
     ensures { EndsReading IsWantOfMemory limits.records limits.depth (R.state source.old ⇝ R.state source.new)
         (λ ps w. ArePairs w location ps.items) result }
 {

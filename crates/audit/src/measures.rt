@@ -10,8 +10,8 @@ use std::alloc::Global;
 use trace::{Fault, Limits, NoMemory, Placed, Record, Source, Watch, read_to_end};
 
 /// The longest paths in an active procedure, by their numbers of records: the one to the record from which it goes on,
-/// which is the last one that it executed itself, the one that opened it or the return of a child that it called; and the
-/// one to a return of a child that it spawned and hasn't waited for. A number is 0 where there is no such record.
+/// which is the last one that it executed itself, the one that opened it or the return of a child that it called; and
+/// the one to a return of a child that it spawned and hasn't waited for. A number is 0 where there is no such record.
 #[derive(Clone, Copy)]
 pub(crate) struct Longest {
     pub(crate) own: u64,
@@ -159,8 +159,8 @@ impl Watch for Measuring {
 /// memory grows with the depth alone, and a record costs the same wherever it stands.
 pub fn measure<R: Source>(alloc: Global, limits: Limits, source: &mut R) -> Result<Measure, Fault>
     // All bytes of the source are the text of a trace that is well nested within the limits, and these are its numbers.
-    // Otherwise no memory was left, or the fault is the first; and where the source holds such a trace and doesn't fail,
-    // no memory was left.
+    // Otherwise no memory was left, or the fault is the first; and where the source holds such a trace and doesn't
+    // fail, no memory was left.
     ensures { EndsReading IsWantOfMemory limits.records limits.depth (R.state source.old ⇝ R.state source.new)
         (λ m w. IsMeasure w m) result }
 {

@@ -13,7 +13,8 @@ pub data IsFirstBadLine (bytes : List ℕ) : ℕ → Type 0 where
   no_head : ((n : ℕ) (more : List ℕ) → n < 2 ^ 64 → bytes ≢ head n ++ more) → IsFirstBadLine bytes 1
   no_race : (n : ℕ) (rs : List RaceAt) (rest : List ℕ) → n < 2 ^ 64 → length rs < n → IsReportList rs → bytes ≡ head n ++ (race_lines rs ++ rest)
       → ((r : RaceAt) (more : List ℕ) → IsReportList (rs ++ r ∷ []) → rest ≢ race_line r ++ more) → IsFirstBadLine bytes (length rs + 2)
-  no_end : (rs : List RaceAt) (rest : List ℕ) → length rs < 2 ^ 64 → IsReportList rs → bytes ≡ rtext rs ++ rest → rest ≢ [] → IsFirstBadLine bytes (length rs + 2)
+  no_end : (rs : List RaceAt) (rest : List ℕ) → length rs < 2 ^ 64 → IsReportList rs → bytes ≡ rtext rs ++ rest → rest ≢ []
+      → IsFirstBadLine bytes (length rs + 2)
 
 -- a fault tells the first faulty line, or that a growth was refused
 abbrev pub IsReportFault : List ℕ → ReportFault → Type 0

@@ -35,8 +35,8 @@ impl Batch {
     ghost use Rattle.route.specs.Batches.{batch_lanes, longest_of, most_of, portion_of, batch_turn, sent_count, unsent_portion};
     ghost use Rattle.route.specs.Batches.{HasStaged, HasSamePortions, IsUnsent, IsSentWhole};
 
-    /// Nothing yet, for so many lanes, and for at most so many records on each. It takes memory for all that it may have,
-    /// and none after that.
+    /// Nothing yet, for so many lanes, and for at most so many records on each. It takes memory for all that it may
+    /// have, and none after that.
     pub fn new(alloc: Global, lanes: usize, most: usize) -> Result<Batch, NoMemory>
         requires lanes { 1 ≤ lanes }
         requires most { (1 ≤ most) × (most ≤ BLOCK) }

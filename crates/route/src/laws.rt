@@ -103,8 +103,8 @@ pub fn routers()
         → TakesShare (lane_count r) u k taken (put_on (puts_of r) k) }
 {}
 
-/// Of every router that is sending a batch: a lane has its share of the batches sent before, and of this one too or without
-/// a rest of it. What was taken from a lane is a beginning of its share of all these.
+/// Of every router that is sending a batch: a lane has its share of the batches sent before, and of this one too or
+/// without a rest of it. What was taken from a lane is a beginning of its share of all these.
 pub fn sendings()
     ensures shares { (b : Batch) (r : Router) (k : ℕ) (bs : List (List Placed)) (us : List Placed)
         → IsSending (all_of bs) b r → HasStaged us b → batch_lanes b ≡ lane_count r → k < lane_count r

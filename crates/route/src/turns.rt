@@ -20,8 +20,8 @@ pub fn first_lane(what: Record, count: usize) -> usize
     }
 }
 
-/// The lane that an access of the location goes to. A remainder by a number that is known before takes a multiplication and
-/// no division, so the numbers that most often are a count of processors stand here.
+/// The lane that an access of the location goes to. A remainder by a number that is known before takes a multiplication
+/// and no division, so the numbers that most often are a count of processors stand here.
 #[inline(always)]
 pub fn lane_of(location: u64, count: usize) -> usize
     requires { 1 ≤ count }

@@ -20,4 +20,5 @@ pub record DidWork {S H : Type 0} (taker : Taker Placed) (back : Sender Back) (w
   pub count : worked.shard.taken ≡ capped_count (length (records (taken_of worked.taker)))
   pub answers : (put : List (Item Back)) × (all_put worked.back ≡ put ++ Finish ∷ []) × HasHandedBack (records (taken_of worked.taker)) put
   -- of a share of a well nested trace: the count is their number, and the answers are the races found
-  pub of_share : IsOfShare (records (taken_of worked.taker)) → (worked.shard.taken ≡ length (records (taken_of worked.taker))) × TellsFound (records (taken_of worked.taker)) (all_put worked.back)
+  pub of_share : IsOfShare (records (taken_of worked.taker)) → (worked.shard.taken ≡ length (records (taken_of worked.taker)))
+      × TellsFound (records (taken_of worked.taker)) (all_put worked.back)

@@ -51,8 +51,8 @@ impl<S: BuildHasher + Drop> Shard<S> {
         Shard::of_shards(alloc, index, 1, hasher)
     }
 
-    /// The shard of this number among so many, before its first record. It takes any location, and the least memory where
-    /// it takes only those that are this shard's.
+    /// The shard of this number among so many, before its first record. It takes any location, and the least memory
+    /// where it takes only those that are this shard's.
     pub fn of_shards(
         alloc: Global,
         index: u32,

@@ -24,10 +24,10 @@ pub struct Worked<S: BuildHasher + Drop> {
 
 /// Runs a shard on the records of a lane up to the mark, and puts its races on the lane back.
 ///
-/// A block of records is taken at a time. Each passes the gate before it is applied, and the races of a block are put at
-/// once where there is room for them, and else one by one, each tried again while the lane back is full. After a refused growth
-/// `Back::NoMemory` is put once, nothing more is applied, and the taking goes on. At the mark the lane back
-/// is marked. A record that the shard doesn't accept isn't applied, and neither is any after it; among
+/// A block of records is taken at a time. Each passes the gate before it is applied, and the races of a block are put
+/// at once where there is room for them, and else one by one, each tried again while the lane back is full. After a
+/// refused growth `Back::NoMemory` is put once, nothing more is applied, and the taking goes on. At the mark the lane
+/// back is marked. A record that the shard doesn't accept isn't applied, and neither is any after it; among
 /// the records of a share there is none.
 pub fn work<R: Wait, S: BuildHasher + Drop, G: Gate>(
     rt: &R,

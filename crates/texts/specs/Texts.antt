@@ -23,7 +23,8 @@ abbrev pub pairs_text : List (Access × Access) → List ℕ
 pairs_text ps = number_line (codes "pairs ") (length ps) ++ flat_map pair_line ps
 
 abbrev pub measure_text : Measure → List ℕ
-measure_text m = number_line (codes "work ") m.work ++ number_line (codes "span ") m.span ++ number_line (codes "spawns ") m.spawns ++ number_line (codes "depth ") m.depth
+measure_text m = number_line (codes "work ") m.work ++ number_line (codes "span ") m.span
+    ++ number_line (codes "spawns ") m.spawns ++ number_line (codes "depth ") m.depth
 
 abbrev pub confirm_text : Confirm → List ℕ
 confirm_text Yes = codes "yes\n"

@@ -11,7 +11,8 @@ use texts::{
 };
 use trace::{Access, Counted, Fault, Kind, Race, Sink, TextFault, TextKind, WriteFault};
 
-/// A reader of many bytes, none of which is kept: they are those that the buffers hold. Then it fails, or tells the end.
+/// A reader of many bytes, none of which is kept: they are those that the buffers hold. Then it fails, or tells the
+/// end.
 #[derive(Drop)]
 struct Large {
     left: usize,

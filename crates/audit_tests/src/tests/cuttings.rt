@@ -275,7 +275,8 @@ fn faults_of_pieces(rt: HostRuntime) -> Result<(), Fail> {
     Ok(())
 }
 
-// A call that fails isn't tried again, and no answer comes of what was read before; but a fault that came before is told.
+// A call that fails isn't tried again, and no answer comes of what was read before; but a fault that came before is
+// told.
 #[test]
 fn failing_calls(rt: HostRuntime) -> Result<(), Fail> {
     for call in 0..=WRITE_WRITE.len() {

@@ -114,7 +114,8 @@ impl Router {
         Progress::Moved
     }
 
-    /// Puts records of the batch on the first lane that lacks some: all that it lacks, or on a small lane a piece of them.
+    /// Puts records of the batch on the first lane that lacks some: all that it lacks, or on a small lane a piece of
+    /// them.
     pub fn send_step(&mut self, batch: &mut Batch) -> Progress
         requires idle { pending_of self.old ≡ None }
         requires unmarked { marked_of self.old ≡ 0 }
@@ -147,7 +148,8 @@ impl Router {
         }
     }
 
-    // Puts the next records of the lane whose turn it is, and tells how many; none where that lane had no room for them.
+    // Puts the next records of the lane whose turn it is, and tells how many; none where that lane had no room for
+    // them.
     fn put_records(&mut self, batch: &Batch) -> Option<usize>
         requires idle { pending_of self.old ≡ None }
         requires unmarked { marked_of self.old ≡ 0 }
