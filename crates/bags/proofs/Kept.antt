@@ -112,6 +112,44 @@ newer_kept count settled ss nested f p s kept own known k =
     ap (λ (t : Stretch). t.is_parallel) (k.is ∙ get_or-drop f.begins ss k.index s)
     ∙ in_p-keeper count ss nested (f.begins + k.index) p s kept.held (omega (arith, k.within)) known (omega (arith, k.not_above, first_at-drop f.begins k.index ss)) next
 
+-- stretches that hold a procedure's keeper, which tells of it
+pub record Searched (count : ℕ) (ss : List Stretch) (nested : List Nested) (p : ℕ) (part : List Stretch) : Type 0 where
+  pub some : 0 < length part
+  pub ascending : IsAscending part
+  pub first : first_at part 0 ≤ p
+  pub no_more : length part ≤ length ss
+  pub says : (s : Stretch) → IsKeeper part p s → s.is_parallel ≡ in_p (procedures_of count ss nested).active p
+
+-- the stretches before the executing procedure's, for a procedure from before it
+pub older_searched : (count settled : ℕ) (ss : List Stretch) (nested : List Nested) (f : Nested) (p : ℕ) → AreKept count settled ss nested → Own ss f → p < count → p < f.number
+    → Searched count ss nested p (take f.begins ss)
+older_searched count settled ss nested f p kept own known below =
+    let root : first_at ss 0 ≡ 0 = first_at_root count ss nested kept.held in
+    let len : length (take f.begins ss) ≡ f.begins = length-take-le f.begins ss (omega (arith, own.within)) in
+    let later : 0 < f.begins = after_root f.begins root own.first (omega arith) in record {
+      some = omega arith;
+      ascending = older_ascending f.begins ss (omega (arith, own.within)) (all_ascending count ss nested kept.held);
+      first = omega (arith, first_at-take f.begins 0 ss later);
+      no_more = omega (arith, own.within);
+      says = λ s k. older_kept count settled ss nested f p s kept own known below k;
+    }
+  where
+    after_root : (n : ℕ) → first_at ss 0 ≡ 0 → first_at ss n ≡ f.number → 0 < f.number → 0 < n
+    after_root zero root is more = absurd (omega arith)
+    after_root (suc n) root is more = omega arith
+
+-- the executing procedure's own, for one from itself on
+pub own_searched : (count settled : ℕ) (ss : List Stretch) (nested : List Nested) (f : Nested) (p : ℕ) → AreKept count settled ss nested → Own ss f → p < count → f.number ≤ p
+    → Searched count ss nested p (drop f.begins ss)
+own_searched count settled ss nested f p kept own known from =
+    let none : f.begins + 0 ≡ f.begins = omega arith in record {
+      some = omega (arith, length-drop f.begins ss, own.within);
+      ascending = newer_ascending f.begins ss (all_ascending count ss nested kept.held);
+      first = omega (arith, first_at-drop f.begins 0 ss, ap (first_at ss) none, own.first);
+      no_more = omega (arith, length-drop f.begins ss);
+      says = λ s k. newer_kept count settled ss nested f p s kept own known k;
+    }
+
 -- the executing procedure's first stretch is the keeper
 first_kept : (count settled : ℕ) (ss : List Stretch) (nested : List Nested) (f : Nested) (p : ℕ) (d : Stretch) → AreKept count settled ss nested → Own ss f → p < count → f.number ≤ p
     → (1 < length (drop f.begins ss) → p < first_at (drop f.begins ss) 1) → false ≡ in_p (procedures_of count ss nested).active p

@@ -202,16 +202,17 @@ impl Bags {
             return false;
         }
         let executing = self.nested[self.nested.len() - 1];
-        if !executing.is_before(procedure) {
-            let older = &self.stretches[..executing.begins()];
-            return keeper_of(older, procedure, probes).is_parallel();
-        }
-        let own = &self.stretches[executing.begins()..];
-        if own.len() > 2 {
-            return keeper_of(own, procedure, probes).is_parallel();
-        }
-        let newest = own[own.len() - 1];
-        newest.is_parallel() && newest.begins_by(procedure, probes)
+        let part = if executing.is_before(procedure) {
+            let own = &self.stretches[executing.begins()..];
+            if own.len() <= 2 {
+                let newest = own[own.len() - 1];
+                return newest.is_parallel() && newest.begins_by(procedure, probes);
+            }
+            own
+        } else {
+            &self.stretches[..executing.begins()]
+        };
+        keeper_of(part, procedure, probes).is_parallel()
     }
 }
 

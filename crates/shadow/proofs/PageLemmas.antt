@@ -12,7 +12,7 @@ use Rattle.bags.specs.Procedures.{Procedures}
 use Rattle.shadow.specs.Before.{IsCellBefore}
 use Rattle.shadow.specs.Touches.{HasTouched}
 use Rattle.shadow.specs.Cells.{Cell, touched}
-use Rattle.shadow.specs.Pages.{cells_of, cell_at, cell_in, cell_of, page_of, seat_of, IsPageAt, HasPut}
+use Rattle.shadow.specs.Pages.{cells_of, cell_at, cell_in, cell_of, page_of, seat_of, IsPageAt, HasPut, HasSameCells}
 use Rattle.shadow.specs.Found.{with_cell}
 
 -- a number at the place that its look-up gives
@@ -68,6 +68,10 @@ pub put_here : (es fs : List (ℕ × List Cell)) (page seat : ℕ) (c : Cell) �
 put_here es fs page seat c put =
     let here : cell_in fs page seat ≡ (if page == page && seat == seat then c else cell_in es page seat) = put page seat in
     rw (eq-eqb page page refl, eq-eqb seat seat refl) at here
+
+-- a put over pages that keep the same
+pub put_over : (es ps fs : List (ℕ × List Cell)) (page seat : ℕ) (c : Cell) → HasSameCells es ps → HasPut page seat c ps fs → HasPut page seat c es fs
+put_over es ps fs page seat c same put q k = put q k ∙ ap (λ d. if q == page && k == seat then c else d) (same q k)
 
 -- an access of the location in a seat
 pub touch_put : {s : Procedures} {l place : ℕ} {kind : Kind} {race : Option RaceAt} (es fs : List (ℕ × List Cell)) (page seat : ℕ) → HasTouched s l kind place (cell_in es page seat) (cell_in fs page seat) race

@@ -35,8 +35,12 @@ IsPageAt pages index page = slice_get pages index ≡ Some (page, cells_of pages
 -- the index where the page of this number stands, or that there is none
 abbrev pub IsLookedUp : List (ℕ × List Cell) → ℕ → Option ℕ → Type 0
 IsLookedUp pages page (Some index) = IsPageAt pages index page
-IsLookedUp pages page None = cells_of pages page ≡ []
+IsLookedUp pages page None = lookup (nat_eq page) pages ≡ None
 
 -- this is kept in one seat of one page, and all else as it was
 abbrev pub HasPut : ℕ → ℕ → Cell → List (ℕ × List Cell) → List (ℕ × List Cell) → Type 0
 HasPut page seat c old new = (q k : ℕ) → cell_in new q k ≡ (if q == page && k == seat then c else cell_in old q k)
+
+-- all is kept as it was
+abbrev pub HasSameCells : List (ℕ × List Cell) → List (ℕ × List Cell) → Type 0
+HasSameCells old new = (q k : ℕ) → cell_in new q k ≡ cell_in old q k

@@ -4,7 +4,6 @@ ghost use Rattle.trace.specs.Bounds.{most_records};
 ghost use Rattle.shadow.specs.Cells.{untouched, race_at, touched};
 ghost use Rattle.shadow.specs.Found.{with_cell};
 
-use crate::cell::Kept;
 use crate::pages::Pages;
 use crate::spot::spot_of;
 use bags::Bags;
@@ -104,21 +103,10 @@ impl<S: BuildHasher> Shadow<S> {
         let at = if self.pages.is_at(remembered, spot.page) {
             remembered
         } else {
-            match self.pages.look_up(spot.slot, spot.page) {
-                Some(found) => found,
-                None => {
-                    let mut kept = Kept::untouched();
-                    let told = kept.touch(bags, location, kind, place);
-                    self.pages.add(spot.page, spot.seat, kept)?;
-                    self.last_place = place;
-                    self.least_count = bags.count();
-                    return Ok(told);
-                }
-            }
+            self.pages.find(spot.slot, spot.page)?
         };
-        let race = self.pages.touch(at, spot, bags, location, kind, place);
         self.last_place = place;
         self.least_count = bags.count();
-        Ok(race)
+        Ok(self.pages.touch(at, spot, bags, location, kind, place))
     }
 }

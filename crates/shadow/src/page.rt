@@ -1,5 +1,5 @@
 //! Pages of cells: what is kept of eight locations.
-ghost use Rattle.std.specs.Prelude.{◌≡◌, ◌≢◌, ◌==◌, ◌<◌, ℕ, if◌then◌else◌};
+ghost use Rattle.std.specs.Prelude.{◌≡◌, ◌≢◌, ◌<◌, ℕ};
 ghost use Rattle.shadow.specs.Pages.{cell_at};
 ghost use Rattle.shadow.specs.Cells.{untouched};
 ghost use Rattle.shadow.specs.Touches.{MayTouch, HasTouched};
@@ -59,14 +59,5 @@ impl Page {
         ensures others { (k : ℕ) → k ≢ seat → cell_at self.new k ≡ cell_at self.old k }
     {
         self.cells[seat].touch(bags, location, kind, place)
-    }
-
-    /// Keeps this in the seat, and leaves the others.
-    #[inline(always)]
-    pub fn put(&mut self, seat: usize, kept: Kept)
-        requires { seat < 8 }
-        ensures { (k : ℕ) → cell_at self.new k ≡ (if k == seat then kept else cell_at self.old k) }
-    {
-        self.cells[seat] = kept;
     }
 }

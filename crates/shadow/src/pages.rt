@@ -1,9 +1,8 @@
 //! The pages that were touched, by their numbers.
-ghost use Rattle.std.specs.Prelude.{◌≡◌, ◌<◌, [], IfSome, IsTrue, OnOk, OnErr};
-ghost use Rattle.shadow.specs.Pages.{cells_of, cell_in, IsPageAt, IsLookedUp, HasPut};
+ghost use Rattle.std.specs.Prelude.{◌≡◌, ◌<◌, [], IfSome, IfOk, IsTrue, OnErr};
+ghost use Rattle.shadow.specs.Pages.{cells_of, cell_in, IsPageAt, IsLookedUp, HasPut, HasSameCells};
 ghost use Rattle.shadow.specs.Touches.{MayTouch, HasTouched};
 
-use crate::cell::Kept;
 use crate::page::Page;
 use crate::spot::Spot;
 use bags::Bags;
@@ -64,9 +63,29 @@ impl<S: BuildHasher> Pages<S> {
         }
     }
 
-    /// Where the page of this number stands, if it is there. It is remembered for the slot.
+    /// Where the page of this number stands, for the slot to remember. It is looked up, and added with nothing kept in it
+    /// where it isn't there.
+    ///
+    /// On an error nothing has changed.
     #[inline(never)]
-    pub fn look_up(&mut self, slot: usize, page: u64) -> Option<usize>
+    pub fn find(&mut self, slot: usize, page: u64) -> Result<usize, NoMemory>
+        requires { slot < 256 }
+        ensures there { IfOk result (λ at. IsPageAt self.new at page) }
+        ensures kept { HasSameCells self.old self.new }
+        ensures err { OnErr result (self.new ≡ self.old) }
+        ensures not_there { OnErr result (cells_of self.old page ≡ []) }
+    {
+        if let Some(index) = self.look_up(slot, page) {
+            return Ok(index);
+        }
+        let index = self.map.len();
+        self.map.insert(page, Page::untouched())?;
+        self.recent[slot] = index;
+        Ok(index)
+    }
+
+    // Where the page of this number stands, if it is there. It is remembered for the slot.
+    fn look_up(&mut self, slot: usize, page: u64) -> Option<usize>
         requires { slot < 256 }
         ensures same { self.new ≡ self.old }
         ensures found { IsLookedUp self.old page result }
@@ -126,23 +145,6 @@ impl<S: BuildHasher> Pages<S> {
             None => unreachable!(),
         }
     }
-
-    /// Adds the page of this number, and keeps this in its seat.
-    ///
-    /// On an error nothing has changed.
-    #[cold]
-    #[inline(never)]
-    pub fn add(&mut self, page: u64, seat: usize, kept: Kept) -> Result<(), NoMemory>
-        requires new { cells_of self.old page ≡ [] }
-        requires within { seat < 8 }
-        ensures ok { OnOk result (HasPut page seat kept self.old self.new) }
-        ensures err { OnErr result (self.new ≡ self.old) }
-    {
-        let mut cells = Page::untouched();
-        cells.put(seat, kept);
-        self.map.insert(page, cells)?;
-        Ok(())
-    }
 }
 
 #[cfg(test)]
@@ -158,9 +160,7 @@ mod tests {
         for number in 0..10_000u64 {
             if 1 <= shards && shards <= 64 {
                 let spot = spot_of(number.wrapping_mul(shards).wrapping_add(2), shards);
-                if pages.look_up(spot.slot, spot.page).is_none() {
-                    pages.add(spot.page, spot.seat, Kept::untouched())?;
-                }
+                let _ = pages.find(spot.slot, spot.page)?;
             }
         }
         Ok(pages.map.len())

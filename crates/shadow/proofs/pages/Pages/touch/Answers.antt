@@ -1,4 +1,4 @@
-use Rattle.std.proofs.Common.{◌+◌, Some, List, ap, sym, ◌∙◌, subst, refl}
+use Rattle.std.proofs.Common.{Some, List, ap, sym, ◌∙◌, subst, refl}
 use Rattle.std.proofs.lemmas.Cmp.{nat_eq_equiv}
 use Rattle.indexmap.proofs.CallerLemmas.{updates-with_value_at}
 use Rattle.std.specs.Option.{option_copied_mut}
