@@ -11,26 +11,26 @@ use Rattle.collect.proofs.Ascending.{Ascends, Ascends-from_increasing}
 use Rattle.collect.proofs.Sorted.{NoneOn, race_on-here, race_on-past}
 
 -- what is said of the races before the first least one, and of those after it
-abbrev Later : RaceAt → RaceAt → Type 0
+abbrev pub Later : RaceAt → RaceAt → Type 0
 Later r s = s.location ≡ r.location → r.second.place < s.second.place
 
-abbrev NoSooner : RaceAt → RaceAt → Type 0
+abbrev pub NoSooner : RaceAt → RaceAt → Type 0
 NoSooner r s = s.location ≡ r.location → r.second.place ≤ s.second.place
 
-all_round : (P : RaceAt → Type 0) (rs ss : List RaceAt) (k : RaceAt) → AllByRecursion P rs → P k → AllByRecursion P ss → AllByRecursion P (rs ++ k ∷ ss)
+pub all_round : (P : RaceAt → Type 0) (rs ss : List RaceAt) (k : RaceAt) → AllByRecursion P rs → P k → AllByRecursion P ss → AllByRecursion P (rs ++ k ∷ ss)
 all_round P [] ss k a p b = (p, b)
 all_round P (r ∷ rs) ss k a p b = (a.0, all_round P rs ss k a.1 p b)
 
-all_map : (P Q : RaceAt → Type 0) → ((s : RaceAt) → P s → Q s) → (rs : List RaceAt) → AllByRecursion P rs → AllByRecursion Q rs
+pub all_map : (P Q : RaceAt → Type 0) → ((s : RaceAt) → P s → Q s) → (rs : List RaceAt) → AllByRecursion P rs → AllByRecursion Q rs
 all_map P Q f [] a = tt
 all_map P Q f (r ∷ rs) a = (f r a.0, all_map P Q f rs a.1)
 
-all_in : (P : RaceAt → Type 0) (rs : List RaceAt) (r : RaceAt) → AllByRecursion P rs → In r rs → P r
+pub all_in : (P : RaceAt → Type 0) (rs : List RaceAt) (r : RaceAt) → AllByRecursion P rs → In r rs → P r
 all_in P [] r a h = absurd h
 all_in P (s ∷ rs) r a (inl e) = subst P e a.0
 all_in P (s ∷ rs) r a (inr h) = all_in P rs r a.1 h
 
-in_round : (rs ss : List RaceAt) (r : RaceAt) → In r (rs ++ r ∷ ss)
+pub in_round : (rs ss : List RaceAt) (r : RaceAt) → In r (rs ++ r ∷ ss)
 in_round [] ss r = inl refl
 in_round (s ∷ rs) ss r = inr (in_round rs ss r)
 
@@ -67,7 +67,7 @@ push_sooner seen k r e l h = record {
 }
 
 -- what is kept of location l of the races seen
-abbrev KeptOf : ℕ → List RaceAt → Option RaceAt → Type 0
+abbrev pub KeptOf : ℕ → List RaceAt → Option RaceAt → Type 0
 KeptOf l seen None = NoneOn l seen
 KeptOf l seen (Some k) = (k.location ≡ l) × IsFirstLeast seen k
 
@@ -87,7 +87,7 @@ kept_fold l seen (r ∷ rs) o h =
     subst (λ x. KeptOf l x (fold (kept_after l) (kept_after l o r) rs)) (append_assoc seen (r ∷ []) rs)
     (kept_fold l (seen ++ r ∷ []) rs (kept_after l o r) (kept_step l seen o r (eqb r.location l) refl h))
 
-kept_best : (l : ℕ) (rs : List RaceAt) → KeptOf l rs (best l rs)
+pub kept_best : (l : ℕ) (rs : List RaceAt) → KeptOf l rs (best l rs)
 kept_best l rs = kept_fold l [] rs None tt
 
 -- ---- there is one
@@ -120,7 +120,7 @@ kept_is rs r (Some k) n h = ap Some (one_least rs k r n.0 n.1 h)
 
 -- ---- the races of a report
 
-race_on_in : (rs : List RaceAt) (r : RaceAt) → Ascends rs → In r rs → race_on r.location rs ≡ Some r
+pub race_on_in : (rs : List RaceAt) (r : RaceAt) → Ascends rs → In r rs → race_on r.location rs ≡ Some r
 race_on_in [] r a h = absurd h
 race_on_in (s ∷ rs) r a (inl e) = subst (λ x. race_on x.location (s ∷ rs) ≡ Some x) e (race_on-here s rs)
 race_on_in (s ∷ rs) r a (inr h) =

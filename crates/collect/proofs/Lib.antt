@@ -9,3 +9,4 @@ pub mod Unique
 pub mod Fronts
 pub mod Listed
 pub mod OneFault
+pub mod Merging

@@ -32,7 +32,7 @@ pub race_on-none : (l : ℕ) (rs : List RaceAt) → NoneOn l rs → race_on l rs
 race_on-none l [] h = refl
 race_on-none l (r ∷ rs) h = race_on-past l r rs h.0 ∙ race_on-none l rs h.1
 
-NoneOn-above : (l : ℕ) (rs : List RaceAt) → Above l rs → NoneOn l rs
+pub NoneOn-above : (l : ℕ) (rs : List RaceAt) → Above l rs → NoneOn l rs
 NoneOn-above l [] h = tt
 NoneOn-above l (r ∷ rs) h = ((λ e. let above = h.0 in omega arith), NoneOn-above l rs h.1)
 

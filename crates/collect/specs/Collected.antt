@@ -1,5 +1,5 @@
 -- Promised: what a collector keeps of the races that it was given.
-use Rattle.std.specs.Prelude.{◌≡◌, ℕ, ◌<◌, ◌≤◌, Bool, false, List, ◌∷◌, ◌++◌, Contains, ◌↔◌, Option, Some, None, find, fold, ◌==◌, nat_lt, nat_le, if◌then◌else◌}
+use Rattle.std.specs.Prelude.{◌≡◌, ℕ, ◌<◌, ◌≤◌, Bool, false, List, ◌∷◌, ◌++◌, Contains, ◌↔◌, Option, Some, None, find, fold, map, ◌==◌, nat_lt, nat_le, if◌then◌else◌}
 use Rattle.std.specs.List.{AllByRecursion}
 use Rattle.std.specs.Option.{option_map_or}
 use Rattle.shard.specs.declared.Back.{Back}
@@ -42,6 +42,16 @@ IsFirstOnLocation c NoMemory = ⊥
 pub record KeepsBest (g : List Back) (c : Kept) : Type 0 where
   pub refused : c.refused ≡ fails g
   pub best_on : (l : ℕ) → race_on l c.races ≡ best l (races_of g)
+
+-- The growth for one race of a list was refused: the races before it were taken, nothing else was, and none is kept on
+-- its location.
+pub record IsTakenInPart (races : List RaceAt) (c d : Kept) : Type 0 where
+  pub before : List RaceAt
+  pub refused_at : RaceAt
+  pub after : List RaceAt
+  pub came : races ≡ before ++ refused_at ∷ after
+  pub took : (g : List Back) → KeepsBest g c → KeepsBest (g ++ map Race before) d
+  pub is_first : IsFirstOnLocation d (Race refused_at)
 
 -- Of the races on its location r is the first of those with the least second place: each that came before it has a
 -- greater one, and none that came after it a lesser one.

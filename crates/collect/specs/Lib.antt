@@ -3,3 +3,4 @@ pub mod Collected
 pub mod ReportText
 pub mod Keyed
 pub mod ReportFaults
+pub mod Merged

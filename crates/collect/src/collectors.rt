@@ -1,7 +1,7 @@
 //! The races of all shards, kept by location.
-ghost use Rattle.std.specs.Prelude.{◌≡◌, List, [], ◌∷◌, ◌++◌, true, OnOk, OnErr, IfOk, IsErr};
+ghost use Rattle.std.specs.Prelude.{◌≡◌, List, [], ◌∷◌, ◌++◌, map, true, OnOk, OnErr, IfOk, IsErr};
 ghost use Rattle.shard.specs.declared.Back.{Back};
-ghost use Rattle.collect.specs.Collected.{AreFirstLeast, KeepsBest, IsCollected, IsFirstOnLocation, fails, has_better};
+ghost use Rattle.collect.specs.Collected.{AreFirstLeast, KeepsBest, IsCollected, IsFirstOnLocation, IsTakenInPart, fails, has_better};
 
 use crate::reports::Report;
 use shard::Back;
@@ -57,6 +57,19 @@ impl Collector {
                 Ok(())
             }
         }
+    }
+
+    /// Takes the races of a report, one after another. Where a growth is refused, the races before
+    /// that one were taken and the rest weren't, so what is collected is no longer the whole.
+    pub fn take_report(&mut self, report: &Report) -> Result<(), NoMemory>
+        ensures ok { OnOk result ((g : List Back) → KeepsBest g self.old
+            → KeepsBest (g ++ map Back.Race report.now) self.new) }
+        ensures err { OnErr result (IsTakenInPart report.now self.old self.new) }
+    {
+        for race in report.races() {
+            self.keep(*race)?;
+        }
+        Ok(())
     }
 
     /// The report of what was taken. It refuses where a shard ran out of memory.

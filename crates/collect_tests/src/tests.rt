@@ -146,6 +146,28 @@ fn best_of_each_location(rt: HostRuntime) -> Result<(), Fail> {
     Ok(())
 }
 
+// Of two races on location 5 the one with the lesser second place is kept, though its report comes last.
+#[test]
+fn merged(rt: HostRuntime) -> Result<(), Fail> {
+    let reports: [&[u8]; 3] = [
+        b"races 2\nrace 5 write 2 write 9\nrace 8 read 3 write 4\n",
+        b"races 1\nrace 4 write 1 read 6\n",
+        b"races 1\nrace 5 write 3 read 7\n",
+    ];
+    let mut collector = Collector::new(rt.alloc());
+    for bytes in reports {
+        let report = read_report(rt.alloc(), bytes)?;
+        collector.take_report(&report)?;
+    }
+    let merged = collector.finish()?;
+    let mut text = Vec::new(rt.alloc());
+    write_report(&merged, &mut Counted::new(&mut text))?;
+    let wanted: &[u8] =
+        b"races 3\nrace 4 write 1 read 6\nrace 5 write 3 read 7\nrace 8 read 3 write 4\n";
+    assert_eq!(rt; text.as_slice(), wanted);
+    Ok(())
+}
+
 #[test]
 fn shard_without_memory(rt: HostRuntime) -> Result<(), Fail> {
     let mut collector = Collector::new(rt.alloc());

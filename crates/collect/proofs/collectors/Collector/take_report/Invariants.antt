@@ -1,0 +1,8 @@
+use Rattle.std.proofs.Common.{List, ◌++◌, map, take}
+use Rattle.shard.specs.declared.Back.{Back}
+use Rattle.shard.specs.declared.Back.TheVariants.{Race}
+use Rattle.collect.specs.Collected.{KeepsBest}
+use Rattle.collect.proofs.collectors.Collector.take_report.Given as goal
+
+abbrev pub invariant-loop-race : goal.invariant-loop-race
+invariant-loop-race l = (g : List Back) → KeepsBest g l.fn.self → KeepsBest (g ++ map Race (take l.race-index l.report)) l.self
