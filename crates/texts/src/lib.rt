@@ -8,5 +8,5 @@ mod reports;
 
 pub use answers::{put_confirm, put_measure, put_pairs};
 pub use explanations::put_explained;
-pub use messages::{put, say, say_fault, say_refusal};
+pub use messages::{put, say, say_fault, say_merge_refusal, say_refusal};
 pub use reports::{MOST_BYTES, ReportRefusal, report_from};

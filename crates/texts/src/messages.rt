@@ -1,8 +1,8 @@
 //! The lines for standard error.
-ghost use Rattle.std.specs.Prelude.{◌≡◌, ◌++◌, ◌≤◌, length, drop, decimal};
+ghost use Rattle.std.specs.Prelude.{◌≡◌, ◌++◌, ◌≤◌, length, drop, codes, decimal};
 ghost use Rattle.trace.specs.Devices.{◌⇝◌};
 ghost use Rattle.trace.specs.Writers.{Puts, WasGiven};
-ghost use Rattle.texts.specs.Messages.{message, report_message, text_ending, nest_ending};
+ghost use Rattle.texts.specs.Messages.{message, report_message, merge_message, text_ending, nest_ending};
 
 use crate::reports::ReportRefusal;
 use itoa::write_digits;
@@ -40,13 +40,34 @@ pub fn say_refusal<E: Sink>(refusal: ReportRefusal, err: &mut E)
     }
 }
 
-// No line is longer: it has at most 20 bytes, 20 digits and 19 bytes.
-const LONGEST: usize = 59;
+/// Writes the line for one of many reports that isn't read; reports are counted from 1. Where that
+/// fails there is nobody left to tell.
+pub fn say_merge_refusal<E: Sink>(number: u64, refusal: ReportRefusal, err: &mut E)
+    ensures { WasGiven (merge_message number refusal) (E.state err.old ⇝ E.state err.new) }
+{
+    match refusal {
+        ReportRefusal::Bad { line } => say_bad_line(number, line, err),
+        other => say_refusal(other, err),
+    }
+}
+
+// Writes the line for a faulty line of one of many reports.
+fn say_bad_line<E: Sink>(number: u64, line: u64, err: &mut E)
+    ensures { WasGiven (codes "spbags: report " ++ decimal number ++ codes " line " ++ decimal line ++ codes ": bad\n")
+        (E.state err.old ⇝ E.state err.new) }
+{
+    let mut bytes = [0; LONGEST];
+    let start = build_line(&mut bytes, b" line ", line, b": bad\n");
+    say_at(b"spbags: report ", number, &bytes[start..], err);
+}
+
+// No line is longer: it has at most 20 bytes, 20 digits and 32 bytes.
+const LONGEST: usize = 72;
 
 // Writes a line with a number in it.
 fn say_at<E: Sink>(head: &[u8], number: u64, ending: &[u8], err: &mut E)
     requires head { length head.now ≤ 20 }
-    requires ending { length ending.now ≤ 19 }
+    requires ending { length ending.now ≤ 32 }
     ensures { WasGiven (head.now ++ decimal number ++ ending.now) (E.state err.old ⇝ E.state err.new) }
 {
     let _ = put_at(head, number, ending, err);
@@ -60,7 +81,7 @@ pub fn put_at<W: Sink>(
     sink: &mut W,
 ) -> Result<(), WriteFault>
     requires head { length head.now ≤ 20 }
-    requires ending { length ending.now ≤ 19 }
+    requires ending { length ending.now ≤ 32 }
     ensures { Puts result (head.now ++ decimal number ++ ending.now) (W.state sink.old ⇝ W.state sink.new) }
 {
     let mut bytes = [0; LONGEST];
@@ -71,8 +92,8 @@ pub fn put_at<W: Sink>(
 // Builds a line up to the end of the buffer, and answers where it starts.
 fn build_line(bytes: &mut [u8; LONGEST], head: &[u8], number: u64, ending: &[u8]) -> usize
     requires head { length head.now ≤ 20 }
-    requires ending { length ending.now ≤ 19 }
-    ensures within { result ≤ 59 }
+    requires ending { length ending.now ≤ 32 }
+    ensures within { result ≤ 72 }
     ensures built { drop result bytes.new ≡ head.now ++ decimal number ++ ending.now }
 {
     let end = LONGEST - ending.len();

@@ -7,7 +7,7 @@ use std::process::Abort;
 use std::test::Fail;
 use texts::{
     MOST_BYTES, ReportRefusal, put_confirm, put_explained, put_measure, put_pairs, report_from,
-    say, say_fault, say_refusal,
+    say, say_fault, say_merge_refusal, say_refusal,
 };
 use trace::{Access, Counted, Fault, Kind, Race, Sink, TextFault, TextKind, WriteFault};
 
@@ -69,6 +69,7 @@ enum Text {
     No,
     Fault,
     Refusal,
+    MergeRefusal,
     Line,
 }
 
@@ -99,13 +100,16 @@ fn write<W: Sink>(text: Text, sink: &mut W) -> Result<(), WriteFault> {
         Text::No => return put_confirm(Confirm::No { entry: 3 }, sink),
         Text::Fault => say_fault(&fault, sink),
         Text::Refusal => say_refusal(ReportRefusal::Bad { line: 7 }, sink),
+        Text::MergeRefusal => {
+            say_merge_refusal(u64::MAX, ReportRefusal::Bad { line: u64::MAX - 1 }, sink);
+        }
         Text::Line => say(b"a line\n", sink),
     }
     Ok(())
 }
 
 /// The texts, and whether a failure is told.
-const TEXTS: [(Text, &str, bool); 7] = [
+const TEXTS: [(Text, &str, bool); 8] = [
     (Text::Pairs, "pairs 1\npair read 2 write 5\n", true),
     (Text::Numbers, "work 8\nspan 5\nspawns 2\ndepth 1\n", true),
     (Text::Yes, "yes\n", true),
@@ -116,6 +120,11 @@ const TEXTS: [(Text, &str, bool); 7] = [
         false,
     ),
     (Text::Refusal, "spbags: report line 7: bad\n", false),
+    (
+        Text::MergeRefusal,
+        "spbags: report 18446744073709551615 line 18446744073709551614: bad\n",
+        false,
+    ),
     (Text::Line, "a line\n", false),
 ];
 
