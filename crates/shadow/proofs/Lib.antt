@@ -7,3 +7,5 @@ pub mod Listed
 pub mod Cells
 pub mod Early
 pub mod Headlines
+pub mod Parted
+pub mod PartListed

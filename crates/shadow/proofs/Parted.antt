@@ -1,0 +1,147 @@
+-- Parts: what is found in a part's records are the races of its locations, each by its location's number.
+use Rattle.std.proofs.Common.{◌≡◌, ℕ, suc, ◌+◌, ◌*◌, ◌/◌, ◌%◌, ◌<◌, ◌^◌, Bool, true, false, filter, List, [], ◌∷◌, ◌++◌, map, Option, Some, None, option_to_list, ⊎_elim, refl, sym, ap, ap₂, subst, ◌∙◌}
+use Rattle.std.specs.List.{AllByRecursion}
+use Rattle.std.proofs.lemmas.Bool.{cases_Bool, cases_eq, cond-true, cond-false, eqb-true}
+use Rattle.std.proofs.lemmas.List.{map-append}
+use Rattle.std.proofs.lemmas.Nat.{div-mul-add, div-add-mod'}
+use Rattle.trace.specs.declared.records.Record.{Record}
+use Rattle.trace.specs.declared.records.Record.TheVariants as records
+use Rattle.trace.specs.declared.records.Kind.{Kind}
+use Rattle.trace.specs.declared.records.Kind.TheVariants.{Read, Write}
+use Rattle.trace.specs.declared.records.Version.{Version}
+use Rattle.trace.specs.declared.records.Access.{Access}
+use Rattle.trace.specs.declared.records.Placed.{Placed}
+use Rattle.trace.specs.declared.records.Part.{Part}
+use Rattle.trace.specs.Accesses.{RaceAt}
+use Rattle.trace.specs.Traces.{placed_from}
+use Rattle.trace.specs.Text.{Fits, AllFit}
+use Rattle.trace.specs.Shares.{goes, goes_placed, share}
+use Rattle.trace.specs.Parts.{numbered, numbered_at, records_of, location_at, races_of_part}
+use Rattle.bags.specs.Procedures.{Procedures, event}
+use Rattle.shadow.specs.Cells.{Cell, touched, race_at, race_with, rival}
+use Rattle.shadow.specs.Found.{State, start, after_access, after_record, race_of, found_from, found}
+use Rattle.shadow.proofs.FoundLaws.{kept-same, kept-other, race_with-is}
+use Rattle.shadow.proofs.Sharing.{found-share}
+
+-- a race whose location is a number in a part, at the location of that number
+abbrev pub located : Part → RaceAt → RaceAt
+located part r = record { location = location_at part r.location; first = r.first; second = r.second }
+
+pub number_of_location : (part : Part) (m : ℕ) → location_at part m / part.count ≡ m
+number_of_location part m = div-mul-add m part.count part.index part.within
+
+-- a location of the part is that of its number
+abbrev IsOf : Part → ℕ → Type 0
+IsOf part l = l % part.count ≡ part.index
+
+location_of_number : (part : Part) (l : ℕ) → IsOf part l → location_at part (l / part.count) ≡ l
+location_of_number part l h = ap (λ k. l / part.count * part.count + k) (sym h) ∙ div-add-mod' l part.count
+
+-- two states have the same bags, and the cell of each number is the cell of its location
+record Agree (part : Part) (s z : State) : Type 0 where
+  bags : z.bags ≡ s.bags
+  kept : (m : ℕ) → z.kept m ≡ s.kept (location_at part m)
+
+agree_event : (part : Part) (s z : State) (r : Record) → Agree part s z → Agree part (record { bags = event s.bags r; kept = s.kept }) (record { bags = event z.bags r; kept = z.kept })
+agree_event part s z r a = record { bags = ap (λ (b : Procedures). event b r) a.bags; kept = a.kept }
+
+kept_here : (part : Part) (s z : State) (l : ℕ) → Agree part s z → IsOf part l → z.kept (l / part.count) ≡ s.kept l
+kept_here part s z l a h = a.kept (l / part.count) ∙ ap s.kept (location_of_number part l h)
+
+-- an access of a location of the part changes both alike
+agree_access : (part : Part) (s z : State) (l : ℕ) (q : Kind) (place : ℕ) → Agree part s z → IsOf part l → Agree part (after_access s l q place) (after_access z (l / part.count) q place)
+agree_access part s z l q place a h = record {
+  bags = a.bags;
+  kept = λ m. ⊎_elim
+      (λ e. subst (λ (x : ℕ). (after_access z (l / part.count) q place).kept x ≡ (after_access s l q place).kept (location_at part x)) (sym e)
+      (kept-same z (l / part.count) q place
+      ∙ ap₂ (λ (b : Procedures) (c : Cell). touched b.active q place c) a.bags (kept_here part s z l a h)
+      ∙ sym (kept-same s l q place)
+      ∙ ap (after_access s l q place).kept (sym (location_of_number part l h))))
+      (λ e. kept-other z (l / part.count) m q place e ∙ a.kept m
+      ∙ sym (kept-other s l (location_at part m) q place (λ same. e (sym (number_of_location part m) ∙ ap (λ x. x / part.count) same))))
+      (cases_eq m (l / part.count));
+}
+
+-- the race that is told by the number is that of the location
+race_moved : (part : Part) (l : ℕ) (q : Kind) (place : ℕ) (told : Bool) (o : Option Access) → IsOf part l
+    → map (located part) (option_to_list (race_with (l / part.count) q place told o)) ≡ option_to_list (race_with l q place told o)
+race_moved part l q place told None h = refl
+race_moved part l q place true (Some f) h = refl
+race_moved part l q place false (Some f) h = ap (λ (m : ℕ). record { location = m; first = f; second = record { kind = q; place = place } } ∷ []) (location_of_number part l h)
+
+race_of_number : (part : Part) (s z : State) (l : ℕ) (q : Kind) (place : ℕ) → Agree part s z → IsOf part l
+    → map (located part) (option_to_list (race_at z.bags.active (l / part.count) q place (z.kept (l / part.count)))) ≡ option_to_list (race_at s.bags.active l q place (s.kept l))
+race_of_number part s z l q place a h =
+    ap₂ (λ (b : Procedures) (c : Cell). map (located part) (option_to_list (race_at b.active (l / part.count) q place c))) a.bags (kept_here part s z l a h)
+    ∙ race_moved part l q place (s.kept l).told (rival s.bags.active q (s.kept l)) h
+
+-- the law for the rest of the records
+abbrev Moved : Part → List Placed → Type 0
+Moved part u = (s z : State) → Agree part s z → map (located part) (found_from z (map (numbered_at part.count) u)) ≡ found_from s u
+
+moved_access : (part : Part) (l : ℕ) (q : Kind) (place : ℕ) (u : List Placed) → Moved part u → (s z : State) → Agree part s z → IsOf part l
+    → map (located part) (option_to_list (race_at z.bags.active (l / part.count) q place (z.kept (l / part.count))) ++ found_from (after_access z (l / part.count) q place) (map (numbered_at part.count) u))
+      ≡ option_to_list (race_at s.bags.active l q place (s.kept l)) ++ found_from (after_access s l q place) u
+moved_access part l q place u ih s z a h =
+    map-append (located part) (option_to_list (race_at z.bags.active (l / part.count) q place (z.kept (l / part.count)))) _
+    ∙ ap₂ (λ (x y : List RaceAt). x ++ y) (race_of_number part s z l q place a h) (ih _ _ (agree_access part s z l q place a h))
+
+moved_step : (part : Part) (place : ℕ) (r : Record) (u : List Placed) → Moved part u → (s z : State) → Agree part s z → goes part.index part.count r ≡ true
+    → map (located part) (option_to_list (race_of z place (numbered part.count r)) ++ found_from (after_record z place (numbered part.count r)) (map (numbered_at part.count) u))
+      ≡ option_to_list (race_of s place r) ++ found_from (after_record s place r) u
+moved_step part place records.Spawn u ih s z a h = ih _ _ (agree_event part s z records.Spawn a)
+moved_step part place records.Call u ih s z a h = ih _ _ (agree_event part s z records.Call a)
+moved_step part place records.Return u ih s z a h = ih _ _ (agree_event part s z records.Return a)
+moved_step part place records.Sync u ih s z a h = ih _ _ (agree_event part s z records.Sync a)
+moved_step part place (records.Read l) u ih s z a h = moved_access part l Read place u ih s z a (eqb-true (l % part.count) part.index h)
+moved_step part place (records.Write l) u ih s z a h = moved_access part l Write place u ih s z a (eqb-true (l % part.count) part.index h)
+
+moved_from : (part : Part) (u : List Placed) → AllByRecursion (λ p. goes_placed part.index part.count p ≡ true) u → Moved part u
+moved_from part [] h s z a = refl
+moved_from part (p ∷ u) h s z a = moved_step part p.place p.what u (moved_from part u h.1) s z a h.0
+
+-- each record of a filtered list passes
+pub all_pass : {X : Type 0} (p : X → Bool) (xs : List X) → AllByRecursion (λ x. p x ≡ true) (filter p xs)
+all_pass p [] = tt
+all_pass {X = X} p (x ∷ xs) =
+    let P : List X → Type 0 = AllByRecursion (λ y. p y ≡ true) in
+    ⊎_elim
+    (λ e. subst P (sym (cond-true (p x) _ _ e)) (e, all_pass p xs))
+    (λ e. subst P (sym (cond-false (p x) _ _ e)) (all_pass p xs))
+    (cases_Bool (p x))
+
+-- what is found in a part's records, each at its location again, are the races of the part's locations
+pub found-part : (part : Part) (u : List Placed) → map (located part) (found (records_of part u)) ≡ races_of_part part (found u)
+found-part part u =
+    moved_from part (share part.index part.count u) (all_pass (goes_placed part.index part.count) u) start start (record { bags = refl; kept = λ m. refl })
+    ∙ found-share part.index part.count u
+
+-- ---- locations that fit
+
+-- the location of the race fits 64 bits
+abbrev pub HasFit : RaceAt → Type 0
+HasFit r = r.location < 2 ^ 64
+
+fit_next : (o : Option RaceAt) (rs : List RaceAt) → ((x : RaceAt) → o ≡ Some x → HasFit x) → AllByRecursion HasFit rs → AllByRecursion HasFit (option_to_list o ++ rs)
+fit_next None rs f a = a
+fit_next (Some x) rs f a = (f x refl, a)
+
+fit_access : (l : ℕ) (q : Kind) (place : ℕ) (told : Bool) (o : Option Access) (x : RaceAt) → l < 2 ^ 64 → race_with l q place told o ≡ Some x → HasFit x
+fit_access l q place told o x h e = subst (λ (m : ℕ). m < 2 ^ 64) (sym (race_with-is l q place told o x e).0) h
+
+fit_race : (v : Version) (s : State) (place : ℕ) (r : Record) (x : RaceAt) → Fits v r → race_of s place r ≡ Some x → HasFit x
+fit_race v s place records.Spawn x h e = absurd (cc)
+fit_race v s place records.Call x h e = absurd (cc)
+fit_race v s place records.Return x h e = absurd (cc)
+fit_race v s place records.Sync x h e = absurd (cc)
+fit_race v s place (records.Read l) x h e = fit_access l Read place _ _ x h e
+fit_race v s place (records.Write l) x h e = fit_access l Write place _ _ x h e
+
+fit_found : (v : Version) (s : State) (i : ℕ) (w : List Record) → AllFit v w → AllByRecursion HasFit (found_from s (placed_from i w))
+fit_found v s i [] h = tt
+fit_found v s i (r ∷ w) h = fit_next _ _ (λ x e. fit_race v s i r x h.0 e) (fit_found v (after_record s i r) (suc i) w h.1)
+
+-- the races found in a trace whose locations fit 64 bits
+pub fit-found : (v : Version) (w : List Record) → AllFit v w → AllByRecursion HasFit (found (placed_from 1 w))
+fit-found v w h = fit_found v start 1 w h
