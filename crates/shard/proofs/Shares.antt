@@ -1,11 +1,13 @@
 -- A beginning of a share of a well nested trace is in order.
-use Rattle.std.proofs.Common.{◌≡◌, ℕ, suc, ◌+◌, ◌-◌, ◌≤◌, ◌^◌, false, List, [], ◌∷◌, length, ⊎_elim, refl, sym, ap, subst, arith}
+use Rattle.std.proofs.Common.{◌≡◌, ℕ, suc, ◌+◌, ◌-◌, ◌≤◌, ◌^◌, false, List, [], ◌∷◌, length, map, ⊎_elim, refl, sym, ap, subst, arith}
 use Rattle.std.proofs.lemmas.Bool.{cases_Bool, cond-true, cond-false}
 use Rattle.trace.specs.declared.records.Record.{Record}
 use Rattle.trace.specs.declared.records.Record.TheVariants.{Spawn, Call, Return, Sync, Read, Write}
 use Rattle.trace.specs.declared.records.Placed.{Placed}
 use Rattle.trace.specs.Traces.{opens, closes, placed, placed_from, IsWellNested}
+use Rattle.trace.specs.declared.records.Part.{Part}
 use Rattle.trace.specs.Shares.{goes, share}
+use Rattle.trace.specs.Parts.{numbered, numbered_at, records_of}
 use Rattle.shard.specs.Working.{whats, RiseFrom, Follow, AreInOrder, IsOfShare}
 use Rattle.shard.proofs.Follows.{EndsLast, ends_last, to_follow, following}
 use Rattle.shard.proofs.Orders.{Follow-front, Follow-earlier}
@@ -53,3 +55,35 @@ pub in_order : (u : List Placed) → IsOfShare u → AreInOrder u
 in_order u h =
     let P : List Placed → Type 0 = Follow 0 1 in
     (following u).1 (Follow-front 0 1 u h.begins.0 (subst P h.begins.1 (Follow-share h.shard h.shards 0 1 (placed h.trace) (follow-placed h.trace h.to_limit h.nested))))
+
+-- ---- a share of a part's records
+
+-- an access by its location's number opens and closes no more than the access
+same_depths : (n : ℕ) (r : Record) → (opens (numbered n r) ≡ opens r) × (closes (numbered n r) ≡ closes r)
+same_depths n Spawn = (refl, refl)
+same_depths n Call = (refl, refl)
+same_depths n Return = (refl, refl)
+same_depths n Sync = (refl, refl)
+same_depths n (Read l) = (refl, refl)
+same_depths n (Write l) = (refl, refl)
+
+a_return : (n : ℕ) (r : Record) → numbered n r ≡ Return → r ≡ Return
+a_return n Spawn e = e
+a_return n Call e = e
+a_return n Return e = e
+a_return n Sync e = e
+a_return n (Read l) e = absurd (cc)
+a_return n (Write l) e = absurd (cc)
+
+Follow-numbered : (n m active : ℕ) (u : List Placed) → Follow m active u → Follow m active (map (numbered_at n) u)
+Follow-numbered n m active [] h = tt
+Follow-numbered n m active (p ∷ u) h =
+    let same = same_depths n p.what in
+    let depth : (active + opens p.what) - closes p.what ≡ (active + opens (numbered n p.what)) - closes (numbered n p.what) = omega (arith, same.0, same.1) in
+    let Q : ℕ → Type 0 = λ a. Follow p.place a (map (numbered_at n) u) in
+    (h.0, h.1, (λ is one. ap (map (numbered_at n)) (h.2 (a_return n p.what is) one)), subst Q depth (Follow-numbered n p.place _ u h.3))
+
+-- so a shard accepts each record of a share of a part's records
+pub in_order_of_part : (k n : ℕ) (part : Part) (w : List Record) {limit depths : ℕ} → limit ≤ 2 ^ 48 → IsWellNested w limit depths → AreInOrder (share k n (records_of part (placed w)))
+in_order_of_part k n part w le h =
+    (following _).1 (Follow-share k n 0 1 _ (Follow-numbered part.count 0 1 _ (Follow-share part.index part.count 0 1 (placed w) (follow-placed w le h))))

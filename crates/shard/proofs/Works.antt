@@ -104,3 +104,12 @@ tells_share u s put stopped h of =
       h.taken ∙ omega arith,
       tells u put (in_order u of) (answers u s put stopped h),
     )
+
+-- the same of any records in order
+pub tells_in_order : (u : List Placed) (count : ℕ) (put all : List (Item Back)) → AreInOrder u → count ≡ capped_count (length u) → all ≡ put ++ Finish ∷ [] → HasHandedBack u put → (count ≡ length u) × TellsFound u all
+tells_in_order u count put all fine counted is handed =
+    let few = length-in_order u fine in
+    let P : List (Item Back) → Type 0 = TellsFound u in (
+      counted ∙ omega arith,
+      subst P (sym is) (tells u put fine handed),
+    )
