@@ -1,4 +1,5 @@
 pub mod Ascending
+pub mod Located
 pub mod Kept
 pub mod Best
 pub mod Sorted

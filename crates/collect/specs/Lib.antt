@@ -1,4 +1,5 @@
 pub mod Reports
+pub mod Located
 pub mod Collected
 pub mod ReportText
 pub mod Keyed

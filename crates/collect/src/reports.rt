@@ -1,9 +1,10 @@
 //! A report: the races of a trace.
-ghost use Rattle.std.specs.Prelude.{◌≡◌};
+ghost use Rattle.std.specs.Prelude.{◌≡◌, map};
 ghost use Rattle.collect.specs.Reports.{IsReportList};
+ghost use Rattle.collect.specs.Located.{HaveLocations, located_at};
 
 use std::marker::Model;
-use trace::Race;
+use trace::{Part, Race};
 
 /// Races, strictly ascending by location.
 #[derive(Drop)]
@@ -30,5 +31,21 @@ impl Report {
         ensures report { IsReportList result.now }
     {
         self.races.as_slice()
+    }
+    /// Of a report whose locations are numbers in a part: the same races, each at the location of its number.
+    pub fn at_locations_of(self, part: Part) -> Report
+        requires { HaveLocations part self }
+        ensures { result ≡ map (located_at part) self }
+    {
+        let Report { mut races } = self;
+        for index in 0..races.len() {
+            let race = races[index];
+            races[index] = Race {
+                location: part.location_at(race.location),
+                first: race.first,
+                second: race.second,
+            };
+        }
+        Report { races }
     }
 }
