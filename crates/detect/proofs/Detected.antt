@@ -1,14 +1,16 @@
 -- Runs over the records of a trace: one more record, and the report at the end.
-use Rattle.std.proofs.Common.{◌≡◌, ◌≢◌, ◌↔◌, ℕ, suc, ◌+◌, List, [], ◌∷◌, ◌++◌, ◌<◌, length, refl, sym, ◌∙◌, ap, subst, arith, length-append, Result, Ok, Err, IfOk, OnOk}
+use Rattle.std.proofs.Common.{◌≡◌, ◌≢◌, ◌↔◌, ℕ, suc, ◌+◌, List, [], ◌∷◌, ◌++◌, ◌<◌, length, refl, sym, ◌∙◌, ap, subst, arith, length-append, Option, Some, None, option_to_list, Result, Ok, Err, IfOk, OnOk}
 use Rattle.std.proofs.lemmas.List.{append-nil}
 use Rattle.std.specs.List.{AllByRecursion}
 use Rattle.shard.specs.declared.Back.{Back}
 use Rattle.shard.specs.declared.Back.TheVariants as backs
 use Rattle.trace.specs.declared.records.Record.{Record}
 use Rattle.trace.specs.declared.records.Placed.{Placed}
+use Rattle.trace.specs.declared.records.Part.{Part}
 use Rattle.trace.specs.Accesses.{RaceAt}
 use Rattle.trace.specs.Traces.{placed, placed_from, IsWellNested}
 use Rattle.trace.specs.Watching.{ComesAfter}
+use Rattle.trace.specs.Parts.{records_of}
 use Rattle.trace.specs.Races.{IsReport}
 use Rattle.bags.specs.Procedures.{Procedures}
 use Rattle.shadow.specs.Memory.{Memory, HaveSeen, AreReadyFor}
@@ -20,7 +22,8 @@ use Rattle.collect.proofs.Best.{races_of-append, fails-push_race}
 use Rattle.collect.proofs.Sorted.{AreApart, NoneOn, collected_is_sorted}
 use Rattle.detect.specs.Racy.{HasRace, HasLocation}
 use Rattle.detect.specs.Reported.{IsReportOf}
-use Rattle.detect.specs.Detected.{HasDetected, HasFollowed}
+use Rattle.detect.specs.Detected.{HasDetected, HasFollowed, HasFollowedPart}
+use Rattle.detect.proofs.PartRecords.{records_of-none, records_of-some}
 
 -- the records of a list that is longer by one
 pub placed-push : (i : ℕ) (w : List Record) (r : Record) → placed_from i (w ++ r ∷ []) ≡ placed_from i w ++ record { place = i + length w; what = r } ∷ []
@@ -92,7 +95,7 @@ followed_more u p bags bags' m m' c c' after ready detects h =
       ready = ready _ (omega (arith, after.place_is, length-append u (p.what ∷ [])));
     }
 
-pub followed_if : (F : Type 0) {T E : Type 0} (p : Placed) (bags bags' : Procedures) (m m' : Memory) (c c' : Kept) (o : Result T E) → ((next : ℕ) → p.place < next → AreReadyFor bags' m' next) → OnOk o ((u : List Placed) → HasDetected u bags m c → HasDetected (u ++ p ∷ []) bags' m' c')
+pub followed_if : (F : Type 0) {T E : Type 0} (p : Placed) (bags bags' : Procedures) (m m' : Memory) (c c' : Kept) (o : Result T E) → OnOk o ((next : ℕ) → p.place < next → AreReadyFor bags' m' next) → OnOk o ((u : List Placed) → HasDetected u bags m c → HasDetected (u ++ p ∷ []) bags' m' c')
     → OnOk o ((first : F) (u : List Record) → HasFollowed u bags m c → ComesAfter u p → HasFollowed (u ++ p.what ∷ []) bags' m' c')
 followed_if F p bags bags' m m' c c' (Ok t) ready detects = λ first u h after. followed_more u p bags bags' m m' c c' after ready (detects (placed u)) h
 followed_if F p bags bags' m m' c c' (Err e) ready detects = tt
@@ -100,3 +103,38 @@ followed_if F p bags bags' m m' c c' (Err e) ready detects = tt
 -- the next record may come
 pub ready_at : (u : List Record) (p : Placed) (bags : Procedures) (m : Memory) (c : Kept) → HasFollowed u bags m c → ComesAfter u p → AreReadyFor bags m p.place
 ready_at u p bags m c h after = subst (AreReadyFor bags m) (sym after.place_is) h.ready
+
+-- what holds anyway holds where the answer is good
+pub on_ok : {T E : Type 0} (P : Type 0) (o : Result T E) → P → OnOk o P
+on_ok P (Ok t) h = h
+on_ok P (Err e) h = tt
+
+pub on_ok_both : {T E : Type 0} (A B C : Type 0) (o : Result T E) → (A → B → C) → OnOk o A → OnOk o B → OnOk o C
+on_ok_both A B C (Ok t) f a b = f a b
+on_ok_both A B C (Err e) f a b = tt
+
+-- ---- a part of the locations
+
+-- the record is nothing that the part has
+pub part_passed : (part : Part) (u : List Record) (p : Placed) (o : Option Placed) (bags : Procedures) (m : Memory) (c : Kept) → o ≡ None → option_to_list o ≡ records_of part (p ∷ []) → ComesAfter u p
+    → HasFollowedPart part u bags m c → HasFollowedPart part (u ++ p.what ∷ []) bags m c
+part_passed part u p o bags m c none is after h =
+    let P : List Placed → Type 0 = λ v. HasDetected v bags m c in
+    let longer : length (u ++ p.what ∷ []) ≡ length u + 1 = length-append u (p.what ∷ []) in
+    record {
+      detected = subst P (sym (ap (records_of part) (placed-next u p after.place_is) ∙ records_of-none part (placed u) p o none is)) h.detected;
+      ready = record { later = omega (arith, h.ready.later, longer); no_fewer = h.ready.no_fewer; numbered = omega (arith, h.ready.numbered, longer) };
+    }
+
+-- the part has this of the record
+pub part_followed : (part : Part) (u : List Record) (p q : Placed) (o : Option Placed) (bags bags' : Procedures) (m m' : Memory) (c c' : Kept) → o ≡ Some q → option_to_list o ≡ records_of part (p ∷ []) → q.place ≡ p.place → ComesAfter u p
+    → ((next : ℕ) → q.place < next → AreReadyFor bags' m' next) → ((v : List Placed) → HasDetected v bags m c → HasDetected (v ++ q ∷ []) bags' m' c') → HasFollowedPart part u bags m c → HasFollowedPart part (u ++ p.what ∷ []) bags' m' c'
+part_followed part u p q o bags bags' m m' c c' some is place after ready detects h =
+    let P : List Placed → Type 0 = λ v. HasDetected v bags' m' c' in
+    record {
+      detected = subst P (sym (ap (records_of part) (placed-next u p after.place_is) ∙ records_of-some part (placed u) p q o some is)) (detects (records_of part (placed u)) h.detected);
+      ready = ready _ (omega (arith, place, after.place_is, length-append u (p.what ∷ [])));
+    }
+
+pub part_ready_at : (part : Part) (u : List Record) (p q : Placed) (bags : Procedures) (m : Memory) (c : Kept) → q.place ≡ p.place → HasFollowedPart part u bags m c → ComesAfter u p → AreReadyFor bags m q.place
+part_ready_at part u p q bags m c place h after = subst (AreReadyFor bags m) (sym (place ∙ after.place_is)) h.ready

@@ -1,14 +1,18 @@
 -- How a run's end is answered.
-use Rattle.std.proofs.Common.{◌≡◌, ℕ, Bool, true, false, IsTrue, IsFalse, Result, Ok, Err, OnOk, IsErrAnd, inl, refl, sym, subst, ◌∙◌}
+use Rattle.std.proofs.Common.{◌≡◌, ℕ, List, Bool, true, false, IsTrue, IsFalse, Result, Ok, Err, OnOk, IsErrAnd, inl, refl, sym, subst, ◌∙◌}
+use Rattle.trace.specs.declared.records.Record.{Record}
+use Rattle.trace.specs.declared.records.Part.{Part}
 use Rattle.trace.specs.declared.faults.Fault.{Fault}
 use Rattle.trace.specs.declared.faults.Fault.TheVariants.{NoMemory}
+use Rattle.trace.specs.Traces.{placed}
+use Rattle.trace.specs.Parts.{records_of}
 use Rattle.trace.specs.Devices.{Device, Change, ◌⇝◌}
 use Rattle.trace.specs.Endings.{OfTrace, IsRefused, EndsReading, IsWantOfMemoryOrThread}
 use Rattle.trace.proofs.Endings.{ends_refused, refused_for_want}
 use Rattle.detect.specs.declared.closing.Done.{Done}
 use Rattle.detect.specs.declared.sharded.Run.{Run}
 use Rattle.detect.specs.Finished.{IsFinished, IsDone}
-use Rattle.detect.specs.RunReports.{RunAnswers}
+use Rattle.detect.specs.RunFinds.{RunFindsPart}
 use Rattle.detect.proofs.Endings.{trace_of, refusal_of}
 
 same_err : (r : Result (Unit {0}) Fault) (a b : Fault) → r ≡ Err a → r ≡ Err b → a ≡ b
@@ -33,24 +37,24 @@ of_good P refused outcome r v is memory none h =
 
 module _ {S H : Type 0} where
   -- want of memory, a refused start, or a fault
-  pub failed_run : (n records depths : ℕ) (change : Change) (done : Done S H) (refused : Bool) (r : Result (Unit {0}) Fault) (answer : Result Run Fault) (e : Fault) → r ≡ Err e → IsErrAnd answer (λ f. f ≡ e)
-      → (IsTrue refused → r ≡ Err NoMemory) → (IsFalse refused → r ≡ done.outcome) → IsDone n records depths change done → EndsReading IsWantOfMemoryOrThread records depths change (RunAnswers n) answer
-  failed_run n records depths change done refused r answer e is answers memory none h =
-      ends_refused IsWantOfMemoryOrThread records depths change (RunAnswers n) answer e answers (go refused memory none)
+  pub failed_run : (part : Part) (n records depths : ℕ) (change : Change) (done : Done S H) (refused : Bool) (r : Result (Unit {0}) Fault) (answer : Result Run Fault) (e : Fault) → r ≡ Err e → IsErrAnd answer (λ f. f ≡ e)
+      → (IsTrue refused → r ≡ Err NoMemory) → (IsFalse refused → r ≡ done.outcome) → IsDone part n records depths change done → EndsReading IsWantOfMemoryOrThread records depths change (RunFindsPart part n) answer
+  failed_run part n records depths change done refused r answer e is answers memory none h =
+      ends_refused IsWantOfMemoryOrThread records depths change (RunFindsPart part n) answer e answers (go refused memory none)
     where
       go : (b : Bool) → (IsTrue b → r ≡ Err NoMemory) → (IsFalse b → r ≡ done.outcome) → IsRefused IsWantOfMemoryOrThread records depths change e
       go true m k = refused_for_want IsWantOfMemoryOrThread records depths change e (inl (same_err r e NoMemory is (m refl)))
-      go false m k = refusal_of IsWantOfMemoryOrThread records depths change (λ (v : Unit {0}). IsFinished n done) done.outcome h e (sym (k refl) ∙ is)
+      go false m k = refusal_of IsWantOfMemoryOrThread records depths change (λ (v : Unit {0}) (w : List Record). IsFinished n done (records_of part (placed w))) done.outcome h e (sym (k refl) ∙ is)
 
-  pub finished_of : (n records depths : ℕ) (change : Change) (done : Done S H) (refused : Bool) (r : Result (Unit {0}) Fault) (v : Unit {0}) → r ≡ Ok v → (IsTrue refused → r ≡ Err NoMemory) → (IsFalse refused → r ≡ done.outcome)
-      → IsDone n records depths change done → OfTrace records depths change (IsFinished n done)
-  finished_of n records depths change done refused r v is memory none h =
-      trace_of IsWantOfMemoryOrThread records depths change (λ (u : Unit {0}). IsFinished n done) done.outcome h v (good_outcome refused done.outcome r v is memory none).1
+  pub finished_of : (part : Part) (n records depths : ℕ) (change : Change) (done : Done S H) (refused : Bool) (r : Result (Unit {0}) Fault) (v : Unit {0}) → r ≡ Ok v → (IsTrue refused → r ≡ Err NoMemory) → (IsFalse refused → r ≡ done.outcome)
+      → IsDone part n records depths change done → OfTrace records depths change (λ w. IsFinished n done (records_of part (placed w)))
+  finished_of part n records depths change done refused r v is memory none h =
+      trace_of IsWantOfMemoryOrThread records depths change (λ (v : Unit {0}) (w : List Record). IsFinished n done (records_of part (placed w))) done.outcome h v (good_outcome refused done.outcome r v is memory none).1
 
 -- the same of as many shards, where the source is the same at last
-pub run_ends : {X : Type 0} (state : X → Device) (n m records depths : ℕ) (before : Device) (x x' : X) (r : Result Run Fault) → n ≡ m → x' ≡ x
-    → EndsReading IsWantOfMemoryOrThread records depths (before ⇝ state x) (RunAnswers n) r → EndsReading IsWantOfMemoryOrThread records depths (before ⇝ state x') (RunAnswers m) r
-run_ends {X = X} state n m records depths before x x' r same end h =
-    let P : ℕ → Type 0 = λ k. EndsReading IsWantOfMemoryOrThread records depths (before ⇝ state x) (RunAnswers k) r in
-    let Q : X → Type 0 = λ y. EndsReading IsWantOfMemoryOrThread records depths (before ⇝ state y) (RunAnswers m) r in
+pub run_ends : {X : Type 0} (part : Part) (state : X → Device) (n m records depths : ℕ) (before : Device) (x x' : X) (r : Result Run Fault) → n ≡ m → x' ≡ x
+    → EndsReading IsWantOfMemoryOrThread records depths (before ⇝ state x) (RunFindsPart part n) r → EndsReading IsWantOfMemoryOrThread records depths (before ⇝ state x') (RunFindsPart part m) r
+run_ends {X = X} part state n m records depths before x x' r same end h =
+    let P : ℕ → Type 0 = λ k. EndsReading IsWantOfMemoryOrThread records depths (before ⇝ state x) (RunFindsPart part k) r in
+    let Q : X → Type 0 = λ y. EndsReading IsWantOfMemoryOrThread records depths (before ⇝ state y) (RunFindsPart part m) r in
     subst Q (sym end) (subst P same h)

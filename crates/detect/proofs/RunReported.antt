@@ -1,8 +1,6 @@
--- What a run reports, from what was compared at its end.
-use Rattle.std.proofs.Common.{◌≡◌, ℕ, ◌<◌, ◌≤◌, ◌^◌, Bool, false, List, [], ◌∷◌, ◌++◌, length, map, get_or, Option, None, refl, sym, ap, subst, ◌∙◌, arith}
-use Rattle.trace.specs.declared.records.Record.{Record}
+-- What a run has found, from what was compared at its end.
+use Rattle.std.proofs.Common.{◌≡◌, ℕ, ◌<◌, ◌≤◌, Bool, false, List, [], ◌∷◌, ◌++◌, length, map, get_or, Option, None, refl, sym, ap, subst, ◌∙◌, arith}
 use Rattle.trace.specs.declared.records.Placed.{Placed}
-use Rattle.trace.specs.Traces.{placed, IsWellNested}
 use Rattle.trace.specs.Shares.{share}
 use Rattle.std.proofs.lemmas.List.{length-map}
 use Rattle.shadow.specs.Found.{by_location, found}
@@ -20,9 +18,9 @@ use Rattle.detect.specs.declared.sharded.Run.{Run}
 use Rattle.detect.specs.Gathered.{given_by, Gathers}
 use Rattle.detect.specs.Closing.{taken_by, told_by, counts_of, IsSettled}
 use Rattle.detect.specs.Finished.{IsFinished}
-use Rattle.detect.specs.RunReports.{TookShares, RunAnswers}
-use Rattle.detect.proofs.RunEnds.{IsWork, IsEnd, did_at, took_share, counted_share, told_share}
-use Rattle.detect.proofs.Detected.{report_of}
+use Rattle.detect.specs.RunReports.{TookSharesOf}
+use Rattle.detect.specs.RunFinds.{RunFinds}
+use Rattle.detect.proofs.RunEnds.{IsWork, IsEnd, OrderlyShares, did_at, took_share, counted_share, told_share}
 use Rattle.detect.proofs.Verdicts.{verdict_of_shares}
 
 module _ {S H : Type 0} where
@@ -33,47 +31,47 @@ module _ {S H : Type 0} where
     pub settled : (k : ℕ) → k < n → IsSettled (taken_by done.workers.items) puts k
     pub settled_back : (k : ℕ) → k < n → IsSettled (given_by done.gathering.backs.items) told k
 
-  ends : (n : ℕ) (done : Done S H) (w : List Record) (puts : List (List (Item Placed))) (told : List (List (Item Back))) → IsFinished n done w → IsCompared n done puts told
-      → IsEnd n w (taken_by done.workers.items) puts (given_by done.gathering.backs.items) told (counts_of done.workers.items)
-  ends n done w puts told f h =
+  ends : (n : ℕ) (done : Done S H) (u : List Placed) (puts : List (List (Item Placed))) (told : List (List (Item Back))) → IsFinished n done u → IsCompared n done puts told
+      → IsEnd n u (taken_by done.workers.items) puts (given_by done.gathering.backs.items) told (counts_of done.workers.items)
+  ends n done u puts told f h =
       let ws : List (Worked S H) = done.workers.items in
       let P : List (List (Item Back)) → Type 0 = λ ts. (k : ℕ) → k < n → IsWork (get_or (taken_by ws) k []) (get_or ts k []) (get_or (counts_of ws) k 0) in
-      let Q : List (List (Item Placed)) → Type 0 = λ ps. (k : ℕ) → k < n → get_or ps k [] ≡ map One (share k n (placed w)) ++ Finish ∷ [] in
-      let R : ℕ → Option Placed → ℕ → Type 0 = λ m pending marked. AllSent m (placed w) (turn_of done.router) pending marked (put_on (puts_of done.router)) in
+      let Q : List (List (Item Placed)) → Type 0 = λ ps. (k : ℕ) → k < n → get_or ps k [] ≡ map One (share k n u) ++ Finish ∷ [] in
+      let R : ℕ → Option Placed → ℕ → Type 0 = λ m pending marked. AllSent m u (turn_of done.router) pending marked (put_on (puts_of done.router)) in
       let OfCount : ℕ → Type 0 = λ m. R m (pending_of done.router) (marked_of done.router) in
       let OfPending : Option Placed → Type 0 = λ pending. R n pending (marked_of done.router) in
       let OfMarked : ℕ → Type 0 = λ marked. R n None marked in
       let sent : R n None n = subst OfMarked f.marked (subst OfPending f.idle (subst OfCount f.count f.sent)) in
       record {
         works = subst P (sym h.told_are) (λ k lt. did_at f.lanes ws k f.did (omega (arith, lt, f.workers)));
-        whole = subst Q (sym h.puts_are) (λ k lt. put_marked n (put_on (puts_of done.router)) (placed w) (turn_of done.router) n k sent lt lt);
+        whole = subst Q (sym h.puts_are) (λ k lt. put_marked n (put_on (puts_of done.router)) u (turn_of done.router) n k sent lt lt);
         settled = h.settled;
         settled_back = h.settled_back;
         ended = f.ended;
       }
 
-  took : (n records depths : ℕ) (done : Done S H) (w : List Record) (puts : List (List (Item Placed))) (told : List (List (Item Back))) (run : Run) → IsFinished n done w → IsCompared n done puts told
-      → records ≤ 2 ^ 48 → IsWellNested w records depths → run.taken.items ≡ counts_of done.workers.items → map taken_of run.lanes.items ≡ taken_by done.workers.items → length run.lanes.items ≡ n → TookShares n w run
-  took n records depths done w puts told run f h most nested counts lanes count =
-      let e = ends n done w puts told f h in
-      let P : List (List (Item Placed)) → Type 0 = λ ts. (k : ℕ) → k < n → get_or ts k [] ≡ map One (share k n (placed w)) ++ Finish ∷ [] in
-      let Q : List ℕ → Type 0 = λ cs. (k : ℕ) → k < n → get_or cs k 0 ≡ length (share k n (placed w)) in
+  took : (n : ℕ) (done : Done S H) (u : List Placed) (puts : List (List (Item Placed))) (told : List (List (Item Back))) (run : Run) → IsFinished n done u → IsCompared n done puts told
+      → OrderlyShares n u → run.taken.items ≡ counts_of done.workers.items → map taken_of run.lanes.items ≡ taken_by done.workers.items → length run.lanes.items ≡ n → TookSharesOf n u run
+  took n done u puts told run f h orders counts lanes count =
+      let e = ends n done u puts told f h in
+      let P : List (List (Item Placed)) → Type 0 = λ ts. (k : ℕ) → k < n → get_or ts k [] ≡ map One (share k n u) ++ Finish ∷ [] in
+      let Q : List ℕ → Type 0 = λ cs. (k : ℕ) → k < n → get_or cs k 0 ≡ length (share k n u) in
       record {
         lanes = count;
         counts = ap length counts ∙ length-map done.workers.items (λ w. w.shard.taken) ∙ f.workers;
-        shares = subst P (sym lanes) (λ k lt. took_share n w _ puts _ told _ e k lt);
-        taken = subst Q (sym counts) (λ k lt. counted_share n records depths w _ puts _ told _ most nested e k lt);
+        shares = subst P (sym lanes) (λ k lt. took_share n u _ puts _ told _ e k lt);
+        taken = subst Q (sym counts) (λ k lt. counted_share n u _ puts _ told _ orders e k lt);
       }
 
-  -- the answer of the run
-  pub run_answers : (n records depths : ℕ) (done : Done S H) (w : List Record) (puts : List (List (Item Placed))) (told : List (List (Item Back))) (run : Run) → 1 ≤ n → records ≤ 2 ^ 48 → IsWellNested w records depths → IsFinished n done w
+  -- what the run has found
+  pub run_finds : (n : ℕ) (done : Done S H) (u : List Placed) (puts : List (List (Item Placed))) (told : List (List (Item Back))) (run : Run) → 1 ≤ n → OrderlyShares n u → IsFinished n done u
       → IsCompared n done puts told → done.gathering.refused ≡ false → ((g : List Back) → KeepsBest g done.gathering.collector → IsCollected g run.report)
-      → run.taken.items ≡ counts_of done.workers.items → map taken_of run.lanes.items ≡ taken_by done.workers.items → length run.lanes.items ≡ n → RunAnswers n run w
-  run_answers n records depths done w puts told run some most nested f h good collected counts lanes count =
-      let e = ends n done w puts told f h in
+      → run.taken.items ≡ counts_of done.workers.items → map taken_of run.lanes.items ≡ taken_by done.workers.items → length run.lanes.items ≡ n → RunFinds n run u
+  run_finds n done u puts told run some orders f h good collected counts lanes count =
+      let e = ends n done u puts told f h in
       let P : Bool → Type 0 = λ b. Gathers (given_by done.gathering.backs.items) b done.gathering.collector in
       let gathers : Gathers (given_by done.gathering.backs.items) false done.gathering.collector = subst P good f.gathered in
-      let is : run.report ≡ by_location (found (placed w)) =
-      verdict_of_shares n (given_by done.gathering.backs.items) (placed w) done.gathering.collector run.report some f.backs
-      (λ k lt. told_share n records depths w _ puts _ told _ most nested e (gathers.none_failed refl) k lt) gathers collected in
-      record { reported = report_of w run.report nested is; took = took n records depths done w puts told run f h most nested counts lanes count }
+      let is : run.report ≡ by_location (found u) =
+      verdict_of_shares n (given_by done.gathering.backs.items) u done.gathering.collector run.report some f.backs
+      (λ k lt. told_share n u _ puts _ told _ orders e (gathers.none_failed refl) k lt) gathers collected in
+      record { races = is; took = took n done u puts told run f h orders counts lanes count }

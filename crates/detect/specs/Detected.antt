@@ -3,7 +3,9 @@ use Rattle.std.specs.Prelude.{◌≡◌, ◌+◌, false, List, length}
 use Rattle.shard.specs.declared.Back.{Back}
 use Rattle.trace.specs.declared.records.Record.{Record}
 use Rattle.trace.specs.declared.records.Placed.{Placed}
+use Rattle.trace.specs.declared.records.Part.{Part}
 use Rattle.trace.specs.Traces.{placed}
+use Rattle.trace.specs.Parts.{records_of}
 use Rattle.bags.specs.Procedures.{Procedures}
 use Rattle.shadow.specs.Memory.{Memory, HaveSeen, AreReadyFor}
 use Rattle.shadow.specs.Found.{found}
@@ -20,4 +22,9 @@ pub record HasDetected (u : List Placed) (bags : Procedures) (memory : Memory) (
 -- so the first records of a trace were detected, and the next one may come
 pub record HasFollowed (u : List Record) (bags : Procedures) (memory : Memory) (collector : Kept) : Type 0 where
   pub detected : HasDetected (placed u) bags memory collector
+  pub ready : AreReadyFor bags memory (length u + 1)
+
+-- so what a part has of the first records of a trace was detected, and the next one may come
+pub record HasFollowedPart (part : Part) (u : List Record) (bags : Procedures) (memory : Memory) (collector : Kept) : Type 0 where
+  pub detected : HasDetected (records_of part (placed u)) bags memory collector
   pub ready : AreReadyFor bags memory (length u + 1)

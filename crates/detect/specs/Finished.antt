@@ -1,7 +1,9 @@
 -- Private: what a run among its workers has come to.
 use Rattle.std.specs.Prelude.{◌≡◌, ℕ, ◌<◌, List, length, map, None}
-use Rattle.trace.specs.declared.records.Record.{Record}
+use Rattle.trace.specs.declared.records.Placed.{Placed}
+use Rattle.trace.specs.declared.records.Part.{Part}
 use Rattle.trace.specs.Traces.{placed}
+use Rattle.trace.specs.Parts.{records_of}
 use Rattle.trace.specs.Devices.{Change}
 use Rattle.trace.specs.Endings.{EndsReading, IsWantOfMemoryOrThread}
 use Rattle.lane.specs.Lanes.{LaneId}
@@ -13,9 +15,9 @@ use Rattle.detect.specs.Workers.{AllDid}
 use Rattle.detect.specs.Closing.{taker_lanes, told_lanes}
 
 module _ {S H : Type 0} where
-  -- the trace was sent whole and the marks after it; n workers have done their work, and all they told came
-  pub record IsFinished (n : ℕ) (done : Done S H) (w : List Record) : Type 0 where
-    pub sent : HasSent (placed w) done.router
+  -- the records u were sent and the marks after them; n workers have done their work, and all they told came
+  pub record IsFinished (n : ℕ) (done : Done S H) (u : List Placed) : Type 0 where
+    pub sent : HasSent u done.router
     pub count : lane_count done.router ≡ n
     pub idle : pending_of done.router ≡ None
     pub marked : marked_of done.router ≡ n
@@ -34,6 +36,7 @@ module _ {S H : Type 0} where
     pub to_shards : taker_lanes done.workers.items ≡ lanes_of done.router
     pub from_shards : told_lanes done.workers.items ≡ back_lanes done.gathering
 
-  -- reading ended well, and so did all n workers; or the fault is why it didn't
-  abbrev pub IsDone : ℕ → ℕ → ℕ → Change → Done S H → Type 0
-  IsDone n records depths change done = EndsReading IsWantOfMemoryOrThread records depths change (λ _. IsFinished n done) done.outcome
+  -- reading ended well, what the part has of the trace was sent, and all n workers ended; or the fault is why it didn't
+  abbrev pub IsDone : Part → ℕ → ℕ → ℕ → Change → Done S H → Type 0
+  IsDone part n records depths change done =
+      EndsReading IsWantOfMemoryOrThread records depths change (λ _ w. IsFinished n done (records_of part (placed w))) done.outcome

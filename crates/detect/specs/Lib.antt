@@ -10,3 +10,4 @@ pub mod Readiness
 pub mod Finished
 pub mod Rooms
 pub mod RunReports
+pub mod RunFinds

@@ -1,8 +1,10 @@
 -- Promised: what a report says of a trace.
-use Rattle.std.specs.Prelude.{◌≡◌, ℕ, List, ◌↔◌}
+use Rattle.std.specs.Prelude.{◌≡◌, ℕ, ◌%◌, List, ◌↔◌}
 use Rattle.trace.specs.declared.records.Record.{Record}
+use Rattle.trace.specs.declared.records.Part.{Part}
 use Rattle.trace.specs.Accesses.{RaceAt}
 use Rattle.trace.specs.Races.{IsReport}
+use Rattle.trace.specs.Parts.{races_of_part}
 use Rattle.shadow.specs.Found.{verdict}
 use Rattle.detect.specs.Racy.{HasRace, HasLocation}
 
@@ -12,3 +14,9 @@ pub record IsReportOf (w : List Record) (races : List RaceAt) : Type 0 where
   pub is_verdict : races ≡ verdict w
   pub is_report : IsReport w races
   pub racy : (l : ℕ) → HasRace w l ↔ HasLocation races l
+
+-- The races are those of the verdict on the trace whose locations are the part's. So the locations reported are exactly
+-- the part's among those with a race.
+pub record IsPartReportOf (part : Part) (w : List Record) (races : List RaceAt) : Type 0 where
+  pub is_part : races ≡ races_of_part part (verdict w)
+  pub racy : (l : ℕ) → HasLocation races l ↔ (HasRace w l × (l % part.count ≡ part.index))

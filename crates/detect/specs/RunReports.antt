@@ -1,21 +1,34 @@
 -- Promised: what a run with shards answers.
 use Rattle.std.specs.Prelude.{◌≡◌, ℕ, ◌<◌, List, [], ◌∷◌, ◌++◌, length, map, slice_index, slice_index_or}
 use Rattle.trace.specs.declared.records.Record.{Record}
+use Rattle.trace.specs.declared.records.Placed.{Placed}
+use Rattle.trace.specs.declared.records.Part.{Part}
 use Rattle.trace.specs.Traces.{placed}
 use Rattle.trace.specs.Shares.{share}
+use Rattle.trace.specs.Parts.{records_of}
 use Rattle.lane.specs.declared.item.Item.TheVariants.{One, Finish}
 use Rattle.lane.specs.Lanes.{taken_of}
 use Rattle.detect.specs.declared.sharded.Run.{Run}
-use Rattle.detect.specs.Reported.{IsReportOf}
+use Rattle.detect.specs.Reported.{IsReportOf, IsPartReportOf}
 
--- of n shards each took its share of the trace, each record once and in trace order, and then the mark
-pub record TookShares (n : ℕ) (trace : List Record) (run : Run) : Type 0 where
+-- of n shards each took its share of the records, each record once and in their order, and then the mark
+pub record TookSharesOf (n : ℕ) (u : List Placed) (run : Run) : Type 0 where
   pub lanes : length run.lanes.items ≡ n
   pub counts : length run.taken.items ≡ n
-  pub shares : (k : ℕ) → k < n → slice_index_or (map taken_of run.lanes.items) k [] ≡ map One (share k n (placed trace)) ++ Finish ∷ []
-  pub taken : (k : ℕ) → k < n → slice_index run.taken.items k ≡ length (share k n (placed trace))
+  pub shares : (k : ℕ) → k < n → slice_index_or (map taken_of run.lanes.items) k [] ≡ map One (share k n u) ++ Finish ∷ []
+  pub taken : (k : ℕ) → k < n → slice_index run.taken.items k ≡ length (share k n u)
+
+-- of n shards each took its share of the trace, each record once and in trace order, and then the mark
+abbrev pub TookShares : ℕ → List Record → Run → Type 0
+TookShares n trace run = TookSharesOf n (placed trace) run
 
 -- the trace is reported, and each of n shards took its share of it
 pub record RunAnswers (n : ℕ) (run : Run) (w : List Record) : Type 0 where
   pub reported : IsReportOf w run.report
   pub took : TookShares n w run
+
+-- the part is reported, and each of n shards took its share of the part's records, in which an access tells its
+-- location's number
+pub record RunAnswersPart (part : Part) (n : ℕ) (run : Run) (w : List Record) : Type 0 where
+  pub reported : IsPartReportOf part w run.report
+  pub took : TookSharesOf n (records_of part (placed w)) run

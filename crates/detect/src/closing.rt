@@ -1,13 +1,14 @@
 //! The answer of a run.
 ghost use Rattle.std.specs.Prelude.{◌≡◌, ◌≤◌, ℕ, Err, OnOk, IsTrue, IsFalse, map, vec_len};
 ghost use Rattle.trace.specs.Bounds.{most_records};
+ghost use Rattle.trace.specs.declared.records.Part.{Part};
 ghost use Rattle.trace.specs.declared.faults.Fault.TheVariants.{NoMemory};
 ghost use Rattle.trace.specs.Devices.{Change};
 ghost use Rattle.trace.specs.Endings.{EndsReading, IsWantOfMemoryOrThread};
 ghost use Rattle.lane.specs.Lanes.{taken_of};
 ghost use Rattle.detect.specs.Closing.{taken_by, counts_of};
 ghost use Rattle.detect.specs.Finished.{IsClosed, IsDone};
-ghost use Rattle.detect.specs.RunReports.{RunAnswers};
+ghost use Rattle.detect.specs.RunFinds.{RunFindsPart};
 ghost use Rattle.detect.specs.Rooms.{HasRoom};
 
 use crate::gathering::Gathering;
@@ -29,13 +30,13 @@ pub(crate) struct Done<S: BuildHasher + Drop> {
     pub(crate) workers: Vec<Worked<S>>,
 }
 
-/// Compares the receipts of a run, and reports.
+/// Compares the receipts of a run, and reports what was found in the records that were sent.
 pub(crate) fn close<S: BuildHasher + Drop>(done: Done<S>, lists: Lists) -> Result<Run, Fault>
     requires room { OnOk done.outcome (HasRoom (vec_len done.workers) lists) }
     requires closed { OnOk done.outcome (IsClosed done) }
-    ensures { (n records depths : ℕ) (change : Change) → 1 ≤ n → records ≤ most_records
-        → IsDone n records depths change done
-        → EndsReading IsWantOfMemoryOrThread records depths change (RunAnswers n) result }
+    ensures { (part : Part) (n records depths : ℕ) (change : Change) → 1 ≤ n → records ≤ most_records
+        → IsDone part n records depths change done
+        → EndsReading IsWantOfMemoryOrThread records depths change (RunFindsPart part n) result }
 {
     let Done {
         outcome,

@@ -1,6 +1,8 @@
 //! The state of a run in one thread: bags, shadow memory and the races so far.
-ghost use Rattle.std.specs.Prelude.{◌≡◌, List, [], ◌∷◌, ◌++◌, IfOk, OnOk};
+ghost use Rattle.std.specs.Prelude.{◌≡◌, ◌<◌, ◌≤◌, ℕ, List, [], ◌∷◌, ◌++◌, IfOk, OnOk};
+ghost use Rattle.trace.specs.Bounds.{most_records};
 ghost use Rattle.trace.specs.declared.records.Placed.{Placed};
+ghost use Rattle.shadow.specs.Memory.{AreReadyFor};
 ghost use Rattle.shadow.specs.Found.{by_location, found};
 ghost use Rattle.detect.specs.Detected.{HasDetected, HasFollowed};
 
@@ -10,7 +12,7 @@ use shadow::{Shadow, apply};
 use shard::Back;
 use std::alloc::Global;
 use std::hash::BuildHasher;
-use trace::{NoMemory, Placed, Watch};
+use trace::{NoMemory, Part, Placed, Watch};
 
 /// What a run has seen of a trace.
 #[derive(Drop)]
@@ -30,6 +32,23 @@ impl<S: BuildHasher + Drop> Detector<S> {
             shadow: Shadow::with_hasher(alloc, hasher),
             collector: Collector::new(alloc),
         })
+    }
+
+    /// Takes a record behind those that were detected.
+    #[inline(always)]
+    fn follow(&mut self, placed: Placed) -> Result<(), NoMemory>
+        requires ready { AreReadyFor self.old.bags self.old.shadow placed.place }
+        requires to_limit { placed.place ≤ most_records }
+        ensures detected { OnOk result ((u : List Placed)
+            → HasDetected u self.old.bags self.old.shadow self.old.collector
+            → HasDetected (u ++ placed ∷ []) self.new.bags self.new.shadow self.new.collector) }
+        ensures ready { OnOk result ((next : ℕ) → placed.place < next
+            → AreReadyFor self.new.bags self.new.shadow next) }
+    {
+        match apply(&mut self.bags, &mut self.shadow, placed)? {
+            None => Ok(()),
+            Some(race) => self.collector.take(Back::Race(race)),
+        }
     }
 
     /// The races found, by ascending location.
@@ -53,9 +72,28 @@ impl<S: BuildHasher + Drop> Watch for Detector<S> {
 
     #[inline(always)]
     fn take(&mut self, placed: Placed) -> Result<(), NoMemory> {
-        match apply(&mut self.bags, &mut self.shadow, placed)? {
+        self.follow(placed)
+    }
+}
+
+/// What a run has seen of a part of a trace's locations, by their numbers.
+#[derive(Drop)]
+pub(crate) struct PartDetector<S: BuildHasher + Drop> {
+    pub(crate) part: Part,
+    pub(crate) detector: Detector<S>,
+}
+
+impl<S: BuildHasher + Drop> Watch for PartDetector<S> {
+    ghost use Rattle.detect.specs.Detected.{HasFollowedPart};
+
+    ghost has_seen = { λ first u now. (now.part ≡ first.part)
+        × HasFollowedPart first.part u now.detector.bags now.detector.shadow now.detector.collector };
+
+    #[inline(always)]
+    fn take(&mut self, placed: Placed) -> Result<(), NoMemory> {
+        match self.part.take(placed) {
             None => Ok(()),
-            Some(race) => self.collector.take(Back::Race(race)),
+            Some(own) => self.detector.follow(own),
         }
     }
 }

@@ -1,12 +1,15 @@
 //! That the rules of SP-bags find just the races of the dag, in every well nested trace.
 
-ghost use Rattle.std.specs.Prelude.{◌≡◌, ◌==◌, ◌%◌, ℕ, List, [], filter, take, ◌↔◌};
+ghost use Rattle.std.specs.Prelude.{◌≡◌, ◌==◌, ◌%◌, ℕ, List, [], filter, map, take, ◌↔◌};
 ghost use Rattle.trace.specs.Traces.{placed};
 ghost use Rattle.trace.specs.Shares.{share};
+ghost use Rattle.trace.specs.Parts.{records_of, races_of_part};
 ghost use Rattle.trace.specs.declared.records.Placed.{Placed};
+ghost use Rattle.trace.specs.declared.records.Part.{Part};
 ghost use Rattle.trace.specs.Accesses.{RaceAt};
 ghost use Rattle.trace.specs.Races.{IsReport};
 ghost use Rattle.shadow.specs.Found.{found, verdict};
+ghost use Rattle.collect.specs.Located.{located_at};
 ghost use Rattle.detect.specs.Racy.{OfWellNested, IsParallelThrough, IsParallelAfter, KeepsParallelReader, AreEarlyRaces, HasRace, HasLocation};
 
 /// Of every well nested trace: what parallel accesses say of a third one; that the kept reader stands for
@@ -27,4 +30,11 @@ pub fn dag()
 /// locations are the shard's.
 pub fn shares()
     ensures { (k n : ℕ) (u : List Placed) → found (share k n u) ≡ filter (λ r. r.location % n == k) (found u) }
+{}
+
+/// Of every list of placed records: what is found in a part's records, each race at the location of its number, are the
+/// races found in the whole list whose locations are the part's.
+pub fn parts()
+    ensures { (part : Part) (u : List Placed)
+        → map (located_at part) (found (records_of part u)) ≡ races_of_part part (found u) }
 {}

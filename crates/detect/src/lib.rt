@@ -15,6 +15,6 @@ mod settling;
 pub mod sharded;
 mod workers;
 
-pub use plain::detect_plain;
+pub use plain::{detect_plain, detect_plain_part};
 pub use plan::Plan;
-pub use sharded::{Run, detect};
+pub use sharded::{Run, detect, detect_part};

@@ -1,13 +1,13 @@
 //! Detection in one thread.
 ghost use Rattle.trace.specs.Devices.{◌⇝◌};
 ghost use Rattle.trace.specs.Endings.{EndsReading, IsWantOfMemory};
-ghost use Rattle.detect.specs.Reported.{IsReportOf};
+ghost use Rattle.detect.specs.Reported.{IsReportOf, IsPartReportOf};
 
-use crate::detector::Detector;
+use crate::detector::{Detector, PartDetector};
 use collect::Report;
 use std::alloc::Global;
 use std::hash::BuildHasher;
-use trace::{Fault, Limits, Source, read_to_end};
+use trace::{Fault, Limits, Part, Source, read_to_end};
 
 /// Reads a trace to its end and reports its races: of each location that has any, one. It is the SP-bags
 /// algorithm of Feng and Leiserson, "Efficient Detection of Determinacy Races in Cilk Programs" (SPAA 1997).
@@ -30,4 +30,24 @@ pub fn detect_plain<R: Source, S: BuildHasher + Drop>(
     let mut detector = Detector::new(alloc, hasher)?;
     read_to_end(limits, source, &mut detector)?;
     Ok(detector.finish()?)
+}
+
+/// Reads a trace to its end and reports the races of a part of its locations. An access of any other location is dropped
+/// as soon as it is read, and no memory is taken for it.
+pub fn detect_plain_part<R: Source, S: BuildHasher + Drop>(
+    alloc: Global,
+    limits: Limits,
+    part: Part,
+    source: &mut R,
+    hasher: S,
+) -> Result<Report, Fault>
+    // As `detect_plain`, but that the report is what the part has of the verdict.
+    ensures { EndsReading IsWantOfMemory limits.records limits.depth (R.state source.old ⇝ R.state source.new)
+        (λ report w. IsPartReportOf part w report) result }
+{
+    let detector = Detector::new(alloc, hasher)?;
+    let mut watch = PartDetector { part, detector };
+    read_to_end(limits, source, &mut watch)?;
+    let numbered = watch.detector.finish()?;
+    Ok(numbered.at_locations_of(part))
 }

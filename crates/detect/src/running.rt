@@ -12,9 +12,9 @@ use shard::Gate;
 use std::hash::BuildHasher;
 use std::sync::Wait;
 use std::thread::{Scope, Threads};
-use trace::{Limits, Source};
+use trace::{Limits, Part, Source};
 
-/// Starts the workers, reads the trace and sends it, and joins all workers that were started. After a
+/// Starts the workers, reads the trace and sends what the part has of it, and joins all workers that were started. After a
 /// refused start nothing is read. Nothing here takes memory but the collector.
 pub(crate) fn run<
     's,
@@ -27,6 +27,7 @@ pub(crate) fn run<
     rt: &'s T,
     scope: &Scope<'s, E>,
     limits: Limits,
+    part: Part,
     source: &mut R,
     gate: &'s G,
     made: Made<S>,
@@ -34,7 +35,7 @@ pub(crate) fn run<
 where
     S::Hasher: Send,
     requires { IsReady (vec_len made.jobs) made }
-    ensures { IsDone (vec_len made.jobs) limits.records limits.depth (R.state source.old ⇝ R.state source.new) result }
+    ensures { IsDone part (vec_len made.jobs) limits.records limits.depth (R.state source.old ⇝ R.state source.new) result }
 {
     let Made {
         mut router,
@@ -45,7 +46,15 @@ where
         mut workers,
     } = made;
     let outcome = match start_all(rt, scope, gate, jobs, &mut handles) {
-        Ok(()) => send_all(rt, limits, source, &mut router, &mut batch, &mut gathering),
+        Ok(()) => send_all(
+            rt,
+            limits,
+            part,
+            source,
+            &mut router,
+            &mut batch,
+            &mut gathering,
+        ),
         Err(refused) => Err(refused),
     };
     mark_all(rt, &mut router, &mut gathering);

@@ -1,7 +1,9 @@
 //! From the source to the shards: records are sent, and at last the marks.
 ghost use Rattle.std.specs.Prelude.{◌≡◌, ◌≤◌, ◌++◌, ◌∷◌, [], List};
+ghost use Rattle.std.specs.Option.{option_to_list};
 ghost use Rattle.trace.specs.declared.records.Placed.{Placed};
 ghost use Rattle.trace.specs.Traces.{placed};
+ghost use Rattle.trace.specs.Parts.{records_of};
 ghost use Rattle.trace.specs.Devices.{◌⇝◌};
 ghost use Rattle.trace.specs.Endings.{EndsReading, IsWantOfMemory};
 ghost use Rattle.route.specs.Batches.{batch_lanes, longest_of, most_of, HasStaged, IsUnsent};
@@ -12,12 +14,13 @@ ghost use Rattle.detect.specs.Sent.{HasSentBut};
 use crate::gathering::Gathering;
 use route::{Batch, Progress, Router};
 use std::sync::Wait;
-use trace::{Fault, Intake, Limits, Placed, Source};
+use trace::{Fault, Intake, Limits, Part, Placed, Source};
 
-/// Reads the trace to its end, or to its first fault, and sends its records in batches.
+/// Reads the trace to its end, or to its first fault, and sends what the part has of its records in batches.
 pub(crate) fn send_all<T: Wait, R: Source>(
     rt: &T,
     limits: Limits,
+    part: Part,
     source: &mut R,
     router: &mut Router,
     batch: &mut Batch,
@@ -30,7 +33,7 @@ pub(crate) fn send_all<T: Wait, R: Source>(
     requires empty { HasStaged [] batch.old }
     requires unsent { IsUnsent batch.old }
     ensures sent { EndsReading IsWantOfMemory limits.records limits.depth (R.state source.old ⇝ R.state source.new)
-        (λ _ w. HasSent (placed w) router.new) result }
+        (λ _ w. HasSent (records_of part (placed w)) router.new) result }
     ensures idle { pending_of router.new ≡ None }
     ensures unmarked { marked_of router.new ≡ 0 }
     ensures lanes { IsOnLanes router.old router.new }
@@ -39,13 +42,13 @@ pub(crate) fn send_all<T: Wait, R: Source>(
     let mut intake = Intake::new(limits);
     'records: loop {
         match intake.next_known() {
-            Some(placed) => send(rt, router, gathering, batch, placed),
+            Some(placed) => send(rt, part, router, gathering, batch, placed),
             None => {
                 // Reading may have to wait for the source, and the shards aren't to wait for it.
                 send_batch(rt, router, gathering, batch);
                 match intake.next_from(source)? {
                     None => return Ok(()),
-                    Some(placed) => send(rt, router, gathering, batch, placed),
+                    Some(placed) => send(rt, part, router, gathering, batch, placed),
                 }
             }
         }
@@ -71,9 +74,50 @@ pub(crate) fn mark_all<T: Wait>(rt: &T, router: &mut Router, gathering: &mut Gat
     unreachable!()
 }
 
-// Adds the record to those that are sent at once. Where the batch is full, it is sent first.
+// Sends what the part has of the record.
 #[inline(always)]
 fn send<T: Wait>(
+    rt: &T,
+    part: Part,
+    router: &mut Router,
+    gathering: &mut Gathering,
+    batch: &mut Batch,
+    placed: Placed,
+)
+    requires idle { pending_of router.old ≡ None }
+    requires unmarked { marked_of router.old ≡ 0 }
+    requires batch { batch_lanes batch.old ≡ lane_count router.old }
+    requires unsent { IsUnsent batch.old }
+    ensures sent { (w : List Placed) → HasSentBut batch.old (records_of part w) router.old
+        → HasSentBut batch.new (records_of part (w ++ placed ∷ [])) router.new }
+    ensures idle { pending_of router.new ≡ None }
+    ensures unmarked { marked_of router.new ≡ 0 }
+    ensures batch { batch_lanes batch.new ≡ lane_count router.new }
+    ensures unsent { IsUnsent batch.new }
+    ensures lanes { IsOnLanes router.old router.new }
+    ensures further { IsFurther gathering.old gathering.new }
+{
+    match taken_by(part, placed) {
+        Some(own) => send_own(rt, router, gathering, batch, own),
+        None => {}
+    }
+}
+
+// What the part has of the record. The whole has the record itself, which takes no division.
+#[inline(always)]
+fn taken_by(part: Part, placed: Placed) -> Option<Placed>
+    ensures { option_to_list result ≡ records_of part (placed ∷ []) }
+{
+    if part.count == 1 {
+        Some(placed)
+    } else {
+        part.take(placed)
+    }
+}
+
+// Adds the record to those that are sent at once. Where the batch is full, it is sent first.
+#[inline(always)]
+fn send_own<T: Wait>(
     rt: &T,
     router: &mut Router,
     gathering: &mut Gathering,

@@ -4,7 +4,7 @@ ghost use Rattle.trace.specs.Devices.{◌⇝◌};
 ghost use Rattle.trace.specs.Endings.{EndsReading, IsWantOfMemoryOrThread};
 ghost use Rattle.detect.specs.Readiness.{IsReady};
 ghost use Rattle.detect.specs.Finished.{IsDone};
-ghost use Rattle.detect.specs.RunReports.{RunAnswers};
+ghost use Rattle.detect.specs.RunReports.{RunAnswers, RunAnswersPart};
 
 use crate::closing::{Done, close};
 use crate::making::{make, make_lists};
@@ -18,7 +18,7 @@ use std::hash::BuildHasher;
 use std::sync::Wait;
 use std::thread;
 use std::thread::Threads;
-use trace::{Fault, Placed, Source};
+use trace::{Fault, Part, Placed, Source};
 
 /// What a run with shards answers.
 #[derive(Drop)]
@@ -57,6 +57,35 @@ where
         (R.state source.old ⇝ R.state source.new)
         (RunAnswers plan.shards) result }
 {
+    detect_part(rt, alloc, plan, Part::whole(), source, gate, hashers)
+}
+
+/// Reads a trace to its end and reports the races of a part of its locations. An access of any other location is dropped
+/// as soon as it is read, and goes to no shard. The shards divide the numbers of the part's locations: shard j of n has
+/// those that leave the rest j where they are divided by n.
+pub fn detect_part<
+    T: Threads + Wait + Sync,
+    R: Source,
+    G: Gate + Sync,
+    S: BuildHasher + Send + Drop,
+>(
+    rt: &T,
+    alloc: Global,
+    plan: Plan,
+    part: Part,
+    source: &mut R,
+    gate: &G,
+    hashers: Vec<S>,
+) -> Result<Run, Fault>
+where
+    S::Hasher: Send,
+    requires { vec_len hashers ≡ plan.shards }
+    // As `detect`, but that the report is what the part has of the verdict, and that each shard took its share of what the
+    // part has of the trace.
+    ensures { EndsReading IsWantOfMemoryOrThread plan.limits.records plan.limits.depth
+        (R.state source.old ⇝ R.state source.new)
+        (RunAnswersPart part plan.shards) result }
+{
     let lists = make_lists(alloc, hashers.len())?;
     let made = make(alloc, plan.capacity, hashers)?;
     let (done, _read) = thread::scope(
@@ -64,13 +93,18 @@ where
         rt,
         move |scope| -> (Done<S>, &mut R)
             requires { IsReady (vec_len made.jobs) made }
-            ensures done { IsDone (vec_len made.jobs) plan.limits.records plan.limits.depth
+            ensures done { IsDone part (vec_len made.jobs) plan.limits.records plan.limits.depth
                 (R.state source.entry.now ⇝ R.state result.1.now) result.0 }
             ensures source { result.1.ghost_name ≡ source.entry.ghost_name }
         {
-            let done = run(rt, scope, plan.limits, &mut *source, gate, made);
+            let done = run(rt, scope, plan.limits, part, &mut *source, gate, made);
             (done, source)
         },
     );
-    close(done, lists)
+    let found = close(done, lists)?;
+    Ok(Run {
+        report: found.report.at_locations_of(part),
+        taken: found.taken,
+        lanes: found.lanes,
+    })
 }

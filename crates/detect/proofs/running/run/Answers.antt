@@ -19,9 +19,9 @@ finish_lanes-requires g c = elim c.match-start_all.branch [
 
 pub returns : goal.returns
 returns g c = elim c.match-start_all.branch [
-  | in-Ok w ↦ done_started g.R.Source.state _ _ _ _ c.args.made _ c.start_all.new.handles.items _ _ _ _ _ _ _ _ w.source-is w.router-is w.gathering-is w.outcome-is
+  | in-Ok w ↦ done_started c.args.part g.R.Source.state _ _ _ _ c.args.made _ c.start_all.new.handles.items _ _ _ _ _ _ _ _ w.source-is w.router-is w.gathering-is w.outcome-is
       c.requires w.in-Ok.ensures.started w.send_all-outcome.ensures.sent w.send_all-outcome.ensures.lanes w.send_all-outcome.ensures.further
       c.mark_all.ensures.sent c.mark_all.ensures.idle c.mark_all.ensures.marked c.mark_all.ensures.lanes c.mark_all.ensures.further c.finish_lanes.ensures.further
       (λ k h. c.finish_lanes.ensures.ended k (omega (arith, h, c.len.ensures, c.start_all.new.handles.ok.0))) c.join_all.ensures
-  | in-Err w ↦ done_refused _ _ _ _ _ _ w.outcome-is w.in-Err.ensures.refused
+  | in-Err w ↦ done_refused c.args.part _ _ _ _ _ _ w.outcome-is w.in-Err.ensures.refused
 ]

@@ -1,6 +1,7 @@
 use Rattle.std.proofs.Common.{rules, ◌≡◌, ℕ, List, [], ◌∷◌, ◌++◌, refl, sym, ap, subst, ◌∙◌, arith, length-append}
 use Rattle.trace.specs.declared.records.Placed.{Placed}
 use Rattle.trace.specs.Traces.{placed}
+use Rattle.trace.specs.Parts.{records_of}
 use Rattle.trace.specs.Devices.{Change, ◌⇝◌}
 use Rattle.trace.specs.Endings.{IsWantOfMemory}
 use Rattle.trace.specs.Feeding.{Feeding, HasFed, IsWhole}
@@ -43,7 +44,7 @@ pub records-preserved-in-Some : goal.records-preserved-in-Some
 records-preserved-in-Some g c =
     let i = c.records.invariant in
     let next = c.in-Some.ensures.fed i.trace i.came i.fed in
-    let P : List Placed → Type 0 = λ u. HasSentBut c.send.new.batch u c.send.new.router in
+    let P : List Placed → Type 0 = λ u. HasSentBut c.send.new.batch (records_of c.args.part u) c.send.new.router in
     record {
       trace = i.trace ++ c.in-Some.placed.what ∷ [];
       came = i.came;
@@ -87,7 +88,7 @@ returns-in-None-2-clause-sent g c =
         gave = consumes_more _ _ _ i.came fed.0 i.gave fed.1;
         whole = at_limits P _ _ _ _ (c.next_known.ensures.limits.records ∙ i.records) (c.next_known.ensures.limits.depths ∙ i.depths) end;
       };
-      says = c.send_batch.ensures.sent (placed i.trace) i.sent;
+      says = c.send_batch.ensures.sent (records_of c.args.part (placed i.trace)) i.sent;
     }
 
 pub records-smaller : goal.records-smaller
@@ -107,8 +108,8 @@ records-preserved g c =
     let fed = c.in_ok-next_from-in-None.ensures.fed i.trace i.came kept in
     let change : Change = g.R.Source.state c.records.source ⇝ g.R.Source.state c.next_from.new.source in
     let next = given_next _ _ _ _ change _ _ _ c.in-Some-2.is fed.2 in
-    let P : List Placed → Type 0 = λ u. HasSentBut c.send-in-Some-2.new.batch u c.send-in-Some-2.new.router in
-    let sent = none_but c.send_batch.new.batch (placed i.trace) c.send_batch.new.router c.send_batch.ensures.empty (c.send_batch.ensures.sent (placed i.trace) i.sent) in
+    let P : List Placed → Type 0 = λ u. HasSentBut c.send-in-Some-2.new.batch (records_of c.args.part u) c.send-in-Some-2.new.router in
+    let sent = none_but c.send_batch.new.batch (records_of c.args.part (placed i.trace)) c.send_batch.new.router c.send_batch.ensures.empty (c.send_batch.ensures.sent (records_of c.args.part (placed i.trace)) i.sent) in
     record {
       trace = i.trace ++ c.in-Some-2.placed.what ∷ [];
       came = i.came ++ fed.0;

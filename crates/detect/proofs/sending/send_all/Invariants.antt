@@ -1,6 +1,7 @@
 use Rattle.std.proofs.Common.{◌≡◌, ◌-◌, ℕ, List, None}
 use Rattle.trace.specs.declared.records.Record.{Record}
 use Rattle.trace.specs.Traces.{placed}
+use Rattle.trace.specs.Parts.{records_of}
 use Rattle.trace.specs.Devices.{◌⇝◌, Gave, IsSteady}
 use Rattle.trace.specs.Feeding.{HasFed}
 use Rattle.route.specs.Routers.{lane_count, pending_of, marked_of, IsOnLanes}
@@ -15,7 +16,7 @@ invariant-records g l = record {
   came : List ℕ;
   gave : Gave (g.R.Source.state l.fn.source ⇝ g.R.Source.state l.source) came;
   fed : HasFed trace came l.intake;
-  sent : HasSentBut l.batch (placed trace) l.router;
+  sent : HasSentBut l.batch (records_of l.fn.part (placed trace)) l.router;
   batch : batch_lanes l.batch ≡ lane_count l.router;
   unsent : IsUnsent l.batch;
   idle : pending_of l.router ≡ None;
