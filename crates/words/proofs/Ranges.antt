@@ -14,3 +14,4 @@ question_in_range (Measure m) = (m.depth_within, m.trace_named)
 pub in_range : (a : Asked) → IsInRange a
 in_range (asked.Question q) = question_in_range q
 in_range (asked.Confirm c) = record { depth = c.depth_within; trace_named = c.trace_named; report_named = c.report_named; one_standard = c.one_standard }
+in_range (asked.Merge m) = record { some = m.some; named = m.named; one_standard = m.one_standard }

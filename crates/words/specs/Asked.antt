@@ -1,13 +1,15 @@
 -- Promised: what the words of a command line may ask for.
-use Rattle.std.specs.Prelude.{◌≡◌, ℕ, ◌<◌, List, codes, string_len, string_bytes}
+use Rattle.std.specs.Prelude.{◌≡◌, ℕ, ◌<◌, List, All, AllPairs, codes, string_len, string_bytes, vec_len}
 use Rattle.trace.specs.Bounds.{IsShardCount, IsCapacity, IsDepth}
 use Rattle.words.specs.declared.asking.Question.{Question}
 use Rattle.words.specs.declared.asking.Question.TheVariants.{Check, Pairs, Explain, Measure}
 use Rattle.words.specs.declared.asking.Confirm.{Confirm}
+use Rattle.words.specs.declared.asking.Merge.{Merge}
 use Rattle.words.specs.declared.asking.Asked.{Asked}
 use Rattle.words.specs.declared.asking.Asked.TheVariants as asked
+use Rattle.words.specs.Names.{IsName, IsOneStandard}
 
--- each number lies in its range, and the trace has a name
+-- each number lies in its range, as those of a part do by themselves, and the trace has a name
 abbrev pub IsQuestionInRange : Question → Type 0
 IsQuestionInRange (Check c) = IsShardCount c.shards × IsCapacity c.capacity × IsDepth c.depth × (0 < string_len c.trace)
 IsQuestionInRange (Pairs p) = IsDepth p.depth × (0 < string_len p.trace)
@@ -21,9 +23,16 @@ pub record IsConfirmInRange (c : Confirm) : Type 0 where
   pub report_named : 0 < string_len c.report
   pub one_standard : string_bytes c.trace ≡ codes "-" → string_bytes c.report ≡ codes "-" → ⊥
 
+-- there is a report, each has a name, and standard input is one of them at most
+pub record IsMergeInRange (m : Merge) : Type 0 where
+  pub some : 0 < vec_len m.reports
+  pub named : All IsName m.reports.items
+  pub one_standard : AllPairs IsOneStandard m.reports.items
+
 abbrev pub IsInRange : Asked → Type 0
 IsInRange (asked.Question q) = IsQuestionInRange q
 IsInRange (asked.Confirm c) = IsConfirmInRange c
+IsInRange (asked.Merge m) = IsMergeInRange m
 
 -- how deep procedures may nest
 abbrev pub depth_of : Question → ℕ

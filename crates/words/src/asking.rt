@@ -1,6 +1,9 @@
 //! What is asked: a command with its numbers and its names, each in its range.
-ghost use Rattle.std.specs.Prelude.{◌≡◌, ◌<◌, ◌≤◌, string_len, string_bytes, codes};
+ghost use Rattle.std.specs.Prelude.{◌≡◌, ◌<◌, ◌≤◌, All, AllPairs, string_len, string_bytes, codes, vec_len};
 ghost use Rattle.trace.specs.Bounds.{IsShardCount, IsCapacity, IsDepth};
+ghost use Rattle.words.specs.Names.{IsName, IsOneStandard};
+
+use trace::Part;
 
 /// What the words ask for.
 #[derive(Debug, Drop, PartialEq, Eq)]
@@ -9,6 +12,8 @@ pub enum Asked {
     Question(Question),
     /// Whether the entries of a report are races.
     Confirm(Confirm),
+    /// One report out of many.
+    Merge(Merge),
 }
 
 /// What is asked of a trace alone.
@@ -33,6 +38,8 @@ pub struct Check {
     pub capacity: u32,
     /// How deep procedures may nest.
     pub depth: u32,
+    /// The part of the locations whose races are told; the whole where no part is asked for.
+    pub part: Part,
     /// The name of the trace's file; `-` is standard input.
     pub trace: String,
     ghost shards_within: { IsShardCount shards },
@@ -91,6 +98,16 @@ pub struct Confirm {
     ghost trace_named: { 0 < string_len trace },
     ghost report_named: { 0 < string_len report },
     ghost one_standard: { string_bytes trace ≡ codes "-" → string_bytes report ≡ codes "-" → ⊥ },
+}
+
+/// `merge`: one report out of many.
+#[derive(Debug, Drop, PartialEq, Eq)]
+pub struct Merge {
+    /// The names of the reports' files, in their order; `-` is standard input, for one of them at most.
+    pub reports: Vec<String>,
+    ghost some: { 0 < vec_len reports },
+    ghost named: { All IsName reports.items },
+    ghost one_standard: { AllPairs IsOneStandard reports.items },
 }
 
 impl Question {

@@ -15,6 +15,7 @@ Examples:
   spbags pairs run.trace 5
   spbags measure run.trace
   spbags confirm run.trace run.report
+  spbags merge part-0.report part-1.report
 
 Exit status:
   0  no race, or the trace was measured, or yes, or help
@@ -33,6 +34,8 @@ The trace is read from FILE, or from standard input where FILE is `-`. Neither t
 changes the report. Its first line is the number of races; a line follows for each, as `race 5 write 2 write 6`: the
 location, and the kinds and places of two accesses. Place k stands on line k + 1 of the trace. Location l belongs to
 shard l mod N, where N is the number of shards.
+With --part K/N the report tells only of the locations l with l mod N = K. A part numbers them by l div N, and it is
+these numbers that --shards divides. `spbags merge` makes the whole report of those of all parts.
 `spbags explain run.trace 5` says why it is a race.
 
 A trace that takes minutes: `pv run.trace | spbags check -` shows how far the reading is (pv is a Debian package). One
@@ -44,6 +47,7 @@ Examples:
   spbags check run.trace
   pv run.trace | spbags check --shards 1 --capacity 16384 -
   spbags check --shards 8 --depth 1000 run.trace
+  spbags check --part 0/2 run.trace
 
 Exit status:
   0  no race
@@ -120,6 +124,25 @@ Exit status:
   1  no
   2  no answer; standard error says why";
 
+const MERGE_ABOUT: &str = "Makes one report of many, such as those of all parts of a trace.";
+
+const MERGE_NOTES: &str = "\
+The reports are read one after another, each whole; one of them may be `-`, which is standard input, and each may have
+67108864 bytes at most. The answer is a report with one race of each location that any of them has. Where several have
+a race of one location, that with the earliest second place stands, and of those with the same one the one that comes
+first: in the order of the words, and within a report of its lines. Of the reports of parts 0 to N - 1 of one trace it
+is the trace's own report.
+
+Example:
+  spbags check --part 0/2 run.trace > part-0.report
+  spbags check --part 1/2 run.trace > part-1.report
+  spbags merge part-0.report part-1.report
+
+Exit status:
+  0  no report has a race
+  1  a race; the report stands on standard output
+  2  no answer; standard error says why";
+
 /// The program with its commands.
 pub fn program<'a>(alloc: Global) -> Result<Command<'a>, AllocError> {
     let program = Command::new(alloc, "spbags")
@@ -135,7 +158,8 @@ pub fn program<'a>(alloc: Global) -> Result<Command<'a>, AllocError> {
         .subcommand(explain_command(alloc)?)?
         .subcommand(pairs_command(alloc)?)?
         .subcommand(measure_command(alloc)?)?
-        .subcommand(confirm_command(alloc)?)
+        .subcommand(confirm_command(alloc)?)?
+        .subcommand(merge_command(alloc)?)
 }
 
 fn check_command<'a>(alloc: Global) -> Result<Command<'a>, AllocError> {
@@ -145,6 +169,7 @@ fn check_command<'a>(alloc: Global) -> Result<Command<'a>, AllocError> {
         .arg(shards(alloc))?
         .arg(capacity(alloc))?
         .arg(depth(alloc))?
+        .arg(part(alloc))?
         .arg(needed(alloc, "FILE", "The trace; `-` is standard input"))
 }
 
@@ -183,6 +208,14 @@ fn confirm_command<'a>(alloc: Global) -> Result<Command<'a>, AllocError> {
         .arg(needed(alloc, "REPORT", "The report; `-` is standard input"))
 }
 
+fn merge_command<'a>(alloc: Global) -> Result<Command<'a>, AllocError> {
+    let reports = needed(alloc, "REPORT", "A report; `-` is standard input").num_args(1..);
+    Command::new(alloc, "merge")
+        .about(MERGE_ABOUT)
+        .after_help(MERGE_NOTES)
+        .arg(reports)
+}
+
 fn shards<'a>(alloc: Global) -> Arg<'a> {
     number(
         alloc,
@@ -205,6 +238,16 @@ fn depth<'a>(alloc: Global) -> Arg<'a> {
         "depth",
         "How deep procedures may nest: 0 to 1000000, 65536 where it is left out",
     )
+}
+
+fn part<'a>(alloc: Global) -> Arg<'a> {
+    Arg::new(alloc, "part")
+        .long("part")
+        .value_name("K/N")
+        .action(ArgAction::Set)
+        .help(
+            "Only the locations that leave the rest K where they are divided by N: N is 1 to 65536, K below N",
+        )
 }
 
 // An option with a number.

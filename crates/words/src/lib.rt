@@ -5,6 +5,6 @@ mod asking;
 mod commands;
 mod reading;
 
-pub use asking::{Asked, Check, Confirm, Explain, Measure, Pairs, Question};
+pub use asking::{Asked, Check, Confirm, Explain, Measure, Merge, Pairs, Question};
 pub use commands::VERSION;
 pub use reading::{WordsFault, read_words};

@@ -1,15 +1,16 @@
 //! The command line: what its words ask for.
-ghost use Rattle.std.specs.Prelude.{◌<◌, ◌≤◌, string_len, IfOk};
+ghost use Rattle.std.specs.Prelude.{◌≡◌, ◌<◌, ◌≤◌, string_len, IfOk, IfSome};
 ghost use Rattle.trace.specs.Bounds.{IsShardCount, IsCapacity, IsDepth};
 ghost use Rattle.words.specs.Asked.{IsInRange};
+ghost use Rattle.words.specs.Names.{IsName, part_text};
 
-use crate::asking::{Asked, Check, Confirm, Explain, Measure, Pairs, Question};
+use crate::asking::{Asked, Check, Confirm, Explain, Measure, Merge, Pairs, Question};
 use crate::commands::program;
 use clap::error::ErrorKind;
 use clap::{ArgMatches, Error};
 use std::alloc::{AllocError, Global};
 use thiserror::Error as ErrorTexts;
-use trace::decimal_of;
+use trace::{Part, decimal_of};
 
 /// Why the words ask for nothing that can be answered.
 #[derive(Debug, Drop, ErrorTexts)]
@@ -49,6 +50,9 @@ pub const GREATEST_DEPTH: u64 = 1_000_000;
 /// The depth where none is asked for.
 pub const USUAL_DEPTH: u32 = 65_536;
 
+/// The most parts that the locations may be divided into.
+pub const MOST_PARTS: u64 = 65_536;
+
 /// Reads the words of a command line, without the program's name.
 #[tactic(auto, using(crate::proofs::Ranges::in_range))]
 pub fn read_words(alloc: Global, words: &[String]) -> Result<Asked, WordsFault>
@@ -76,6 +80,9 @@ fn asked_of(alloc: Global, matches: &ArgMatches<'_>) -> Result<Asked, WordsFault
     if let Some(found) = matches.subcommand_matches("measure") {
         return Ok(Asked::Question(Question::Measure(measure_of(alloc, found)?)));
     }
+    if let Some(found) = matches.subcommand_matches("merge") {
+        return Ok(Asked::Merge(merge_of(alloc, found)?));
+    }
     match matches.subcommand_matches("confirm") {
         Some(found) => Ok(Asked::Confirm(confirm_of(alloc, found)?)),
         None => Err(WordsFault::Bad),
@@ -98,11 +105,13 @@ fn check_of(alloc: Global, found: &ArgMatches<'_>) -> Result<Check, WordsFault> 
     let shards = shards_of(found)?;
     let capacity = capacity_of(found)?;
     let depth = depth_of(found)?;
+    let part = part_of(found)?;
     let trace = name_of(alloc, found, "FILE")?;
     Ok(Check {
         shards,
         capacity,
         depth,
+        part,
         trace,
     })
 }
@@ -150,16 +159,69 @@ fn confirm_of(alloc: Global, found: &ArgMatches<'_>) -> Result<Confirm, WordsFau
     })
 }
 
-// The name of a file. An empty name is no name.
-fn name_of(alloc: Global, found: &ArgMatches<'_>, argument: &str) -> Result<String, WordsFault>
-    ensures { IfOk result (λ name. 0 < string_len name) }
-{
-    let name = found.get_str(argument).ok_or(WordsFault::Bad)?;
-    if name.is_empty() {
+// What `merge` is asked. Standard input can be one of its files, and not two.
+fn merge_of(alloc: Global, found: &ArgMatches<'_>) -> Result<Merge, WordsFault> {
+    let names = found.get_strs("REPORT").ok_or(WordsFault::Bad)?;
+    let mut reports = Vec::new(alloc);
+    let mut has_standard = false;
+    for name in names {
+        let name = named(alloc, name)?;
+        if name.as_str() == "-" {
+            if has_standard {
+                return Err(WordsFault::Bad);
+            }
+            has_standard = true;
+        }
+        reports.push(name).map_err(|_| WordsFault::NoMemory)?;
+    }
+    if reports.is_empty() {
         return Err(WordsFault::Bad);
     }
-    let name = String::from_str(alloc, name)?;
+    Ok(Merge { reports })
+}
+
+// The name of a file.
+fn name_of(alloc: Global, found: &ArgMatches<'_>, argument: &str) -> Result<String, WordsFault>
+    ensures { IfOk result IsName }
+{
+    let name = found.get_str(argument).ok_or(WordsFault::Bad)?;
+    named(alloc, name)
+}
+
+// The name of a file that a word gives. An empty name is no name.
+fn named(alloc: Global, word: &str) -> Result<String, WordsFault>
+    ensures { IfOk result IsName }
+{
+    if word.is_empty() {
+        return Err(WordsFault::Bad);
+    }
+    let name = String::from_str(alloc, word)?;
     Ok(name)
+}
+
+// The part of the locations whose races are told.
+fn part_of(found: &ArgMatches<'_>) -> Result<Part, WordsFault> {
+    match found.get_str("part") {
+        None => Ok(Part::whole()),
+        Some(word) => part_from(word).ok_or(WordsFault::Bad),
+    }
+}
+
+// The part that a word spells, as `2/16`.
+fn part_from(word: &str) -> Option<Part>
+    ensures { IfSome result (λ part. word.now ≡ part_text part) }
+{
+    let (index, count) = word.split_once('/')?;
+    let index = decimal_of(index.as_bytes())?;
+    let count = decimal_of(count.as_bytes())?;
+    if count <= MOST_PARTS && index < count {
+        Some(Part {
+            index: index as u32,
+            count: count as u32,
+        })
+    } else {
+        None
+    }
 }
 
 // A location, spelled as a trace spells it.

@@ -61,6 +61,30 @@ fn reads_shards_and_capacity(rt: HostRuntime) -> Result<(), Fail> {
 }
 
 #[test]
+fn reads_parts(rt: HostRuntime) -> Result<(), Fail> {
+    let table = [
+        ("check -", 0, 1),
+        ("check --part 0/1 -", 0, 1),
+        ("check --part 1/2 -", 1, 2),
+        ("check --part=9/10 -", 9, 10),
+        ("check - --part 10/16", 10, 16),
+        ("check --part 65535/65536 -", 65535, 65536),
+        ("check --shards 5 --part 2/3 --depth 6 -", 2, 3),
+    ];
+    for (line, index, count) in table {
+        let words = words_of(rt.alloc(), line)?;
+        let Ok(Asked::Question(Question::Check(check))) = read_words(rt.alloc(), words.as_slice())
+        else {
+            return Err(Fail::from(line));
+        };
+        assert_eq!(rt; check.part.index, index, "{line}");
+        assert_eq!(rt; check.part.count, count, "{line}");
+        assert_eq!(rt; check.trace.as_str(), "-", "{line}");
+    }
+    Ok(())
+}
+
+#[test]
 fn reads_questions(rt: HostRuntime) -> Result<(), Fail> {
     let table = [
         ("pairs run.trace 5", 65536, "run.trace", 5),
@@ -154,6 +178,27 @@ fn reads_names_of_reports(rt: HostRuntime) -> Result<(), Fail> {
 }
 
 #[test]
+fn reads_names_of_many_reports(rt: HostRuntime) -> Result<(), Fail> {
+    let table = [
+        ("merge a", "a"),
+        ("merge -", "-"),
+        ("merge a b c", "a b c"),
+        ("merge same same", "same same"),
+        ("merge c - a", "c - a"),
+        ("merge -- --part -", "--part -"),
+    ];
+    for (line, names) in table {
+        let words = words_of(rt.alloc(), line)?;
+        let Ok(Asked::Merge(merge)) = read_words(rt.alloc(), words.as_slice()) else {
+            return Err(Fail::from(line));
+        };
+        let want = words_of(rt.alloc(), names)?;
+        assert!(rt; merge.reports == want, "{line}");
+    }
+    Ok(())
+}
+
+#[test]
 fn refuses_command_lines(rt: HostRuntime) -> Result<(), Fail> {
     let table = [
         "",
@@ -185,6 +230,27 @@ fn refuses_command_lines(rt: HostRuntime) -> Result<(), Fail> {
         "check --capacity x -",
         "check --capacity 4294967297 -",
         "check --capacity",
+        "check --part 0/0 -",
+        "check --part 1/1 -",
+        "check --part 2/1 -",
+        "check --part 65536/65537 -",
+        "check --part 0/65537 -",
+        "check --part 65536/65536 -",
+        "check --part 0/4294967297 -",
+        "check --part 0/18446744073709551617 -",
+        "check --part 00/1 -",
+        "check --part 0/01 -",
+        "check --part 1/ -",
+        "check --part /1 -",
+        "check --part / -",
+        "check --part 1 -",
+        "check --part -1/2 -",
+        "check --part +1/2 -",
+        "check --part 1/2/3 -",
+        "check --part x/2 -",
+        "check --part= -",
+        "check --part",
+        "check --part 0/2 --part 1/2 -",
         "check -x -",
         "pairs",
         "pairs -",
@@ -213,6 +279,15 @@ fn refuses_command_lines(rt: HostRuntime) -> Result<(), Fail> {
         "confirm a b c",
         "confirm --depth 1000001 a b",
         "confirm --shards 1 a b",
+        "merge",
+        "merge - -",
+        "merge - a -",
+        "merge --depth 1 a",
+        "merge --part 0/1 a",
+        "pairs --part 0/1 - 5",
+        "explain --part 0/1 - 5",
+        "measure --part 0/1 -",
+        "confirm --part 0/1 a b",
         "--depth 1 check -",
         "chec -",
         "help",
@@ -235,6 +310,17 @@ fn refuses_command_lines(rt: HostRuntime) -> Result<(), Fail> {
             Err(WordsFault::Bad)
         )
     );
+    let unnamed = [
+        String::from_str(rt.alloc(), "merge")?,
+        String::from_str(rt.alloc(), "a")?,
+        String::new(rt.alloc()),
+    ];
+    assert!(rt;
+        matches!(
+            read_words(rt.alloc(), unnamed.as_slice()),
+            Err(WordsFault::Bad)
+        )
+    );
     Ok(())
 }
 
@@ -250,6 +336,7 @@ fn helps(rt: HostRuntime) -> Result<(), Fail> {
         "explain --help",
         "measure -h",
         "confirm --help",
+        "merge --help",
         "--version",
         "-V",
     ] {
@@ -269,7 +356,7 @@ fn helps(rt: HostRuntime) -> Result<(), Fail> {
 }
 
 // Command lines that ask for help, and what it has to say.
-const HELPS: [(&str, &str); 28] = [
+const HELPS: [(&str, &str); 34] = [
     ("--help", "`trace 1` or `trace 2`"),
     ("--help", "`spawn`,\n`sync`, `return`, "),
     ("--help", "after `trace 2` also\n`call`"),
@@ -301,6 +388,12 @@ const HELPS: [(&str, &str); 28] = [
     ("measure --help", "0 to 1000000, 65536 where"),
     ("confirm --help", "0 to 1000000, 65536 where"),
     ("confirm --help", "67108864 bytes"),
+    ("--help", "spbags merge part-0.report part-1.report"),
+    ("check --help", "N is 1 to 65536, K below N"),
+    ("check --help", "l with l mod N = K"),
+    ("check --help", "numbers them by l div N"),
+    ("merge --help", "67108864 bytes"),
+    ("merge --help", "spbags check --part 1/2 run.trace > part-1.report"),
 ];
 
 #[test]

@@ -1,0 +1,15 @@
+-- Promised: how the words of a command line name a part of the locations, and files.
+use Rattle.std.specs.Prelude.{◌≡◌, ℕ, ◌<◌, ◌++◌, List, String, codes, decimal, string_len, string_bytes}
+use Rattle.trace.specs.declared.records.Part.{Part}
+
+-- the spelling of a part, as `2/16`
+abbrev pub part_text : Part → List ℕ
+part_text part = decimal part.index ++ codes "/" ++ decimal part.count
+
+-- a name isn't empty
+abbrev pub IsName : {A : Type 0} → String A → Type 0
+IsName name = 0 < string_len name
+
+-- two names, of which standard input is one at most
+abbrev pub IsOneStandard : {A : Type 0} → String A → String A → Type 0
+IsOneStandard a b = string_bytes a ≡ codes "-" → string_bytes b ≡ codes "-" → ⊥
