@@ -1,10 +1,15 @@
 -- Promised: how the words of a command line name a part of the locations, and files.
-use Rattle.std.specs.Prelude.{◌≡◌, ℕ, ◌<◌, ◌++◌, List, String, codes, decimal, string_len, string_bytes}
+use Rattle.std.specs.Prelude.{◌≡◌, ℕ, ◌<◌, ◌++◌, List, Option, None, Some, String, codes, decimal, string_len, string_bytes}
 use Rattle.trace.specs.declared.records.Part.{Part}
 
 -- the spelling of a part, as `2/16`
 abbrev pub part_text : Part → List ℕ
 part_text part = decimal part.index ++ codes "/" ++ decimal part.count
+
+-- the part that a word asks for; the whole, part 0 of 1, where there is no word
+abbrev pub IsPartAsked : Option (List ℕ) → Part → Type 0
+IsPartAsked None part = part.count ≡ 1
+IsPartAsked (Some word) part = word ≡ part_text part
 
 -- a name isn't empty
 abbrev pub IsName : {A : Type 0} → String A → Type 0

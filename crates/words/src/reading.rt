@@ -1,8 +1,9 @@
 //! The command line: what its words ask for.
-ghost use Rattle.std.specs.Prelude.{◌≡◌, ◌<◌, ◌≤◌, string_len, IfOk, IfSome};
+ghost use Rattle.std.specs.Prelude.{◌≡◌, ◌<◌, ◌≤◌, codes, string_len, IfOk, IfSome};
 ghost use Rattle.trace.specs.Bounds.{IsShardCount, IsCapacity, IsDepth};
 ghost use Rattle.words.specs.Asked.{IsInRange};
-ghost use Rattle.words.specs.Names.{IsName, part_text};
+ghost use Rattle.words.specs.Names.{IsName, IsPartAsked, part_text};
+ghost use Rattle.clap.specs.Words.{first_value, found_of};
 
 use crate::asking::{Asked, Check, Confirm, Explain, Measure, Merge, Pairs, Question};
 use crate::commands::program;
@@ -101,7 +102,10 @@ fn fault_of(alloc: Global, error: &Error) -> WordsFault {
     }
 }
 
-fn check_of(alloc: Global, found: &ArgMatches<'_>) -> Result<Check, WordsFault> {
+// What `check` is asked.
+fn check_of(alloc: Global, found: &ArgMatches<'_>) -> Result<Check, WordsFault>
+    ensures { IfOk result (λ check. IsPartAsked (first_value (found_of found.now) (codes "part")) check.part) }
+{
     let shards = shards_of(found)?;
     let capacity = capacity_of(found)?;
     let depth = depth_of(found)?;
@@ -200,7 +204,9 @@ fn named(alloc: Global, word: &str) -> Result<String, WordsFault>
 }
 
 // The part of the locations whose races are told.
-fn part_of(found: &ArgMatches<'_>) -> Result<Part, WordsFault> {
+fn part_of(found: &ArgMatches<'_>) -> Result<Part, WordsFault>
+    ensures { IfOk result (IsPartAsked (first_value (found_of found.now) (codes "part"))) }
+{
     match found.get_str("part") {
         None => Ok(Part::whole()),
         Some(word) => part_from(word).ok_or(WordsFault::Bad),

@@ -393,7 +393,10 @@ const HELPS: [(&str, &str); 34] = [
     ("check --help", "l with l mod N = K"),
     ("check --help", "numbers them by l div N"),
     ("merge --help", "67108864 bytes"),
-    ("merge --help", "spbags check --part 1/2 run.trace > part-1.report"),
+    (
+        "merge --help",
+        "spbags check --part 1/2 run.trace > part-1.report",
+    ),
 ];
 
 #[test]
