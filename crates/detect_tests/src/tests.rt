@@ -5,6 +5,7 @@ mod answers;
 mod by_definition;
 mod cuttings;
 mod faulty_rows;
+mod part_rows;
 mod reported_rows;
 mod rows;
 mod sharded_rows;

@@ -5,13 +5,13 @@ ghost use Rattle.trace.specs.Endings.{EndsReading, IsWantOfMemoryOrThread};
 ghost use Rattle.detect.specs.RunReports.{RunAnswers};
 
 use collect::{Report, write_report};
-use detect::{Plan, Run, detect, detect_plain};
+use detect::{Plan, Run, detect, detect_part, detect_plain};
 use shard::{Gate, Open};
 use std::alloc::Global;
 use std::hash::{BuildHasherDefault, FoldHasher};
 use std::sync::Wait;
 use std::thread::Threads;
-use trace::{Counted, Failed, Fault, Limits, NoMemory, Source};
+use trace::{Counted, Failed, Fault, Limits, NoMemory, Part, Source};
 
 pub type Hasher = BuildHasherDefault<FoldHasher>;
 
@@ -82,6 +82,30 @@ pub fn run<T: Threads + Wait + Sync>(
 {
     let mut pieces = Pieces { bytes, size: 1 };
     run_from(rt, alloc, shards, limits, &mut pieces, &Open)
+}
+
+/// Detects a part of the locations so.
+pub fn run_part<T: Threads + Wait + Sync>(
+    rt: &T,
+    alloc: Global,
+    shards: u32,
+    part: Part,
+    limits: Limits,
+    bytes: &[u8],
+) -> Result<Run, Fault>
+    requires { (1 ≤ shards) × (shards ≤ 64) }
+{
+    let hashers = hashers(alloc, shards)?;
+    let mut pieces = Pieces { bytes, size: 1 };
+    detect_part(
+        rt,
+        alloc,
+        Plan::new(shards, 1, limits),
+        part,
+        &mut pieces,
+        &Open,
+        hashers,
+    )
 }
 
 fn hashers(alloc: Global, count: u32) -> Result<Vec<Hasher>, NoMemory>
