@@ -2,13 +2,13 @@
 
 use super::{Hasher, Told, tell, told};
 use collect::Report;
-use detect::{Plan, Run, detect, detect_plain};
+use detect::{Plan, Run, detect, detect_part, detect_plain, detect_plain_part};
 use shard::Open;
 use std::alloc::{AllocError, Global};
 use std::process::Abort;
 use std::sync::Wait;
 use std::thread::Threads;
-use trace::{Counted, Fault, Limits, TextFault, TextKind};
+use trace::{Counted, Fault, Limits, Part, TextFault, TextKind};
 
 const LIMITS: Limits = Limits {
     records: 1 << 48,
@@ -69,6 +69,29 @@ fn run<T: Threads + Wait + Sync + Abort>(
     detect(rt, alloc, plan, &mut Counted::new(bytes), &Open, hashers)
 }
 
+fn run_part<T: Threads + Wait + Sync + Abort>(
+    rt: &T,
+    alloc: Global,
+    shards: u32,
+    part: Part,
+    bytes: &[u8],
+) -> Result<Run, Fault> {
+    let Ok(hashers) = hashers(alloc, shards) else {
+        return Err(Fault::NoMemory);
+    };
+    assert!(rt; 1 <= shards && shards <= 64 && hashers.len() == shards as usize);
+    let plan = Plan::new(shards, 1, LIMITS);
+    detect_part(
+        rt,
+        alloc,
+        plan,
+        part,
+        &mut Counted::new(bytes),
+        &Open,
+        hashers,
+    )
+}
+
 /// Either the report is that of the row, or the fault is a refusal.
 fn judge<R: Print + Abort>(rt: &R, found: Result<Report, Fault>, races: &[Told]) {
     match found {
@@ -100,6 +123,20 @@ fn sharded(rt: HostRuntime) {
             let found = run(&rt, rt.alloc(), shards, bytes);
             judge(&rt, found.map(|run| run.report), races);
         }
+    }
+}
+
+// Both locations of row `three-shards` are of part 0 of 2.
+#[test]
+fn part(rt: HostRuntime) {
+    let (bytes, races) = ROWS[2];
+    let part = Part { index: 0, count: 2 };
+    let mut source = Counted::new(bytes);
+    let found = detect_plain_part(rt.alloc(), LIMITS, part, &mut source, Hasher::default());
+    judge(&rt, found, races);
+    for shards in [1, 3u32] {
+        let found = run_part(&rt, rt.alloc(), shards, part, bytes);
+        judge(&rt, found.map(|run| run.report), races);
     }
 }
 
