@@ -1,9 +1,9 @@
 //! The ends in one thread and in two, the least and the greatest capacity, what an end knows of the other, and blocks.
 ghost use Rattle.std.specs.Prelude.{◌≡◌, ◌≤◌, false};
 ghost use Rattle.lane.specs.Items.{has_mark};
-ghost use Rattle.lane.specs.Lanes.{lane_of, end_lane, put_of};
+ghost use Rattle.lane.specs.Lanes.{lane_of, end_lane, put_of, taker_lane};
 
-use lane::{End, Item, Sender, lane};
+use lane::{End, Item, Sender, Taker, lane};
 use std::alloc::Global;
 use std::process::Abort;
 use std::snapshot::Snapshot;
@@ -13,24 +13,40 @@ use std::thread;
 use std::thread::Promise;
 use trace::NoMemory;
 
+// What a call of the sender answers. The callers know of the ends no more than they need, or their proofs take long.
+fn puts<R: Abort>(rt: &R, sender: &mut Sender<u32>, value: u32, wanted: Result<(), u32>)
+    requires { has_mark (put_of sender.old) ≡ false }
+    ensures lane { lane_of sender.new ≡ lane_of sender.old }
+    ensures unmarked { has_mark (put_of sender.new) ≡ false }
+{
+    assert_eq!(rt; sender.put(value), wanted);
+}
+
+// What a call of the taker answers.
+fn takes<R: Abort>(rt: &R, taker: &mut Taker<u32>, wanted: Option<Item<u32>>)
+    ensures { taker_lane taker.new ≡ taker_lane taker.old }
+{
+    assert_eq!(rt; taker.take(), wanted);
+}
+
 #[test]
 fn lane_of_two(rt: HostRuntime) -> Result<(), Fail> {
     let (mut sender, mut taker) = lane::<u32>(rt.alloc(), 2)?;
-    assert_eq!(rt; sender.put(1), Ok(()));
-    assert_eq!(rt; sender.put(2), Ok(()));
-    assert_eq!(rt; sender.put(3), Err(3));
-    assert_eq!(rt; taker.take(), Some(Item::One(1)));
-    assert_eq!(rt; sender.put(3), Ok(()));
+    puts(&rt, &mut sender, 1, Ok(()));
+    puts(&rt, &mut sender, 2, Ok(()));
+    puts(&rt, &mut sender, 3, Err(3));
+    takes(&rt, &mut taker, Some(Item::One(1)));
+    puts(&rt, &mut sender, 3, Ok(()));
     assert!(rt; !sender.mark());
     assert!(rt; !sender.marked());
-    assert_eq!(rt; taker.take(), Some(Item::One(2)));
+    takes(&rt, &mut taker, Some(Item::One(2)));
     assert!(rt; sender.mark());
     assert!(rt; sender.marked());
-    assert_eq!(rt; taker.take(), Some(Item::One(3)));
+    takes(&rt, &mut taker, Some(Item::One(3)));
     assert!(rt; !taker.ended());
-    assert_eq!(rt; taker.take(), Some(Item::Finish));
+    takes(&rt, &mut taker, Some(Item::Finish));
     assert!(rt; taker.ended());
-    assert_eq!(rt; taker.take(), None);
+    takes(&rt, &mut taker, None);
     Ok(())
 }
 
@@ -57,20 +73,20 @@ fn looks_at_the_other_end(rt: HostRuntime) -> Result<(), Fail> {
     let (mut sender, mut taker) = lane::<u32>(rt.alloc(), 4)?;
     assert_eq!(rt; sender.capacity(), 4);
     assert_eq!(rt; sender.room(), 4);
-    assert_eq!(rt; sender.put(7), Ok(()));
-    assert_eq!(rt; sender.put(8), Ok(()));
-    assert_eq!(rt; sender.put(9), Ok(()));
+    puts(&rt, &mut sender, 7, Ok(()));
+    puts(&rt, &mut sender, 8, Ok(()));
+    puts(&rt, &mut sender, 9, Ok(()));
     assert_eq!(rt; sender.room(), 1);
     taker.beside(&mut sender);
     assert_eq!(rt; taker.ready(), 3);
-    assert_eq!(rt; taker.take(), Some(Item::One(7)));
-    assert_eq!(rt; taker.take(), Some(Item::One(8)));
+    takes(&rt, &mut taker, Some(Item::One(7)));
+    takes(&rt, &mut taker, Some(Item::One(8)));
     assert!(rt; sender.mark());
     taker.settle(&mut sender.end());
     assert_eq!(rt; taker.ready(), 2);
-    assert_eq!(rt; taker.take(), Some(Item::One(9)));
-    assert_eq!(rt; taker.take(), Some(Item::Finish));
-    assert_eq!(rt; taker.take(), None);
+    takes(&rt, &mut taker, Some(Item::One(9)));
+    takes(&rt, &mut taker, Some(Item::Finish));
+    takes(&rt, &mut taker, None);
     Ok(())
 }
 
@@ -79,7 +95,7 @@ fn blocks(rt: HostRuntime) -> Result<(), Fail> {
     let (mut sender, mut taker) = lane::<u32>(rt.alloc(), 4)?;
     assert!(rt; sender.put_block([1, 2, 3].as_slice()));
     assert!(rt; !sender.put_block([4, 5].as_slice()));
-    assert_eq!(rt; sender.put(4), Ok(()));
+    puts(&rt, &mut sender, 4, Ok(()));
     let mut two = [Item::Finish; 2];
     assert_eq!(rt; taker.take_block(&mut two), 2);
     assert_eq!(rt; two.as_slice(), [Item::One(1), Item::One(2)].as_slice());
@@ -174,6 +190,6 @@ fn two_threads(rt: HostRuntime) -> Result<(), Fail> {
     assert_eq!(rt; next, 10_001);
     let mut end = child.join(&rt);
     taker.settle(&mut end);
-    assert_eq!(rt; taker.take(), None);
+    takes(&rt, &mut taker, None);
     Ok(())
 }
