@@ -82,14 +82,14 @@ Moved part u = (s z : State) → Agree part s z → map (located part) (found_fr
 
 moved_access : (part : Part) (l : ℕ) (q : Kind) (place : ℕ) (u : List Placed) → Moved part u → (s z : State) → Agree part s z → IsOf part l
     → map (located part) (option_to_list (race_at z.bags.active (l / part.count) q place (z.kept (l / part.count))) ++ found_from (after_access z (l / part.count) q place) (map (numbered_at part.count) u))
-      ≡ option_to_list (race_at s.bags.active l q place (s.kept l)) ++ found_from (after_access s l q place) u
+    ≡ option_to_list (race_at s.bags.active l q place (s.kept l)) ++ found_from (after_access s l q place) u
 moved_access part l q place u ih s z a h =
     map-append (located part) (option_to_list (race_at z.bags.active (l / part.count) q place (z.kept (l / part.count)))) _
     ∙ ap₂ (λ (x y : List RaceAt). x ++ y) (race_of_number part s z l q place a h) (ih _ _ (agree_access part s z l q place a h))
 
 moved_step : (part : Part) (place : ℕ) (r : Record) (u : List Placed) → Moved part u → (s z : State) → Agree part s z → goes part.index part.count r ≡ true
     → map (located part) (option_to_list (race_of z place (numbered part.count r)) ++ found_from (after_record z place (numbered part.count r)) (map (numbered_at part.count) u))
-      ≡ option_to_list (race_of s place r) ++ found_from (after_record s place r) u
+    ≡ option_to_list (race_of s place r) ++ found_from (after_record s place r) u
 moved_step part place records.Spawn u ih s z a h = ih _ _ (agree_event part s z records.Spawn a)
 moved_step part place records.Call u ih s z a h = ih _ _ (agree_event part s z records.Call a)
 moved_step part place records.Return u ih s z a h = ih _ _ (agree_event part s z records.Return a)
