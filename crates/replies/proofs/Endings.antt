@@ -5,6 +5,7 @@ use Rattle.trace.specs.declared.records.Record.{Record}
 use Rattle.trace.specs.declared.faults.Fault.{Fault}
 use Rattle.trace.specs.Devices.{Device, Change, ◌⇝◌}
 use Rattle.trace.specs.Writers.{IsUntouched, WasGiven}
+use Rattle.trace.specs.Traces.{IsWellNested}
 use Rattle.trace.specs.Endings.{OfTrace, ReadsWhole, IsRefused}
 use Rattle.trace.proofs.Feedings.{at_limits}
 use Rattle.audit.specs.declared.answers.Confirm.{Confirm}
@@ -23,6 +24,13 @@ pub says_so : {records depths : ℕ} {c : Change} {P Q : List Record → Type 0}
 says_so {records} {depths} {c} limit depth e f so run =
     let At : ℕ → ℕ → Type 0 = λ r d. ReadsWhole r d c run.trace in
     record { trace = run.trace; read = at_limits At records limit depths depth e f run.read; says = so run.trace run.says }
+
+-- the same, said of a trace that is well nested, as the one that was read is
+pub says_of_nested : {records depths : ℕ} {c : Change} {P Q : List Record → Type 0} (limit depth : ℕ) → records ≡ limit → depths ≡ depth → ((w : List Record) → IsWellNested w records depths → P w → Q w) → OfTrace records depths c P
+    → OfTrace limit depth c Q
+says_of_nested {records} {depths} {c} limit depth e f so run =
+    let At : ℕ → ℕ → Type 0 = λ r d. ReadsWhole r d c run.trace in
+    record { trace = run.trace; read = at_limits At records limit depths depth e f run.read; says = so run.trace run.read.whole.well_nested run.says }
 
 module _ {IsWant : Fault → Type 0} {records depths : ℕ} {Says : List Record → List ℕ → ℕ → Type 0} {trace out err : Change} where
   -- what was put and passed on is the answer

@@ -3,6 +3,8 @@ use Rattle.std.proofs.Common.{◌≡◌, ◌↔◌, ℕ, ◌<◌, List, [], ◌�
 use native.Mathlib.Decide.{dec_le}
 use Rattle.std.specs.List.{Contains}
 use Rattle.trace.specs.declared.records.Record.{Record}
+use Rattle.trace.specs.declared.records.Part.{Part}
+use Rattle.trace.specs.Traces.{IsWellNested}
 use Rattle.trace.specs.Accesses.{RaceAt}
 use Rattle.trace.specs.declared.records.Kind.{Kind}
 use Rattle.trace.specs.declared.records.Kind.TheVariants.{Read, Write}
@@ -15,24 +17,25 @@ use Rattle.audit.specs.Explanations.{Explains}
 use Rattle.collect.specs.ReportText.{rtext}
 use Rattle.detect.specs.Racy.{HasRace, HasLocation}
 use Rattle.detect.specs.declared.sharded.Run.{Run}
-use Rattle.detect.specs.RunReports.{RunAnswers}
-use Rattle.replies.specs.Questions.{AnswersCheck}
+use Rattle.detect.specs.RunReports.{RunAnswers, RunAnswersPart}
+use Rattle.detect.proofs.PartReports.{whole_answers}
+use Rattle.replies.specs.Questions.{AnswersCheck, AnswersCheckOf, IsRacyIn}
 
 no_location : (l : ℕ) → HasLocation [] l → ⊥
 no_location l (r, (k, within, is), at) = absurd (omega arith)
 
-some_race : (w : List Record) (races : List RaceAt) → ((l : ℕ) → HasRace w l ↔ HasLocation races l) → (races ≡ [] → ⊥) → (l : ℕ) × HasRace w l
-some_race w [] racy some = absurd (some refl)
-some_race w (r ∷ rs) racy some = (r.location, (racy r.location).1 (r, (0, omega arith, refl), refl))
+some_race : (races : List RaceAt) (Racy : ℕ → Type 0) → ((l : ℕ) → Racy l ↔ HasLocation races l) → (races ≡ [] → ⊥) → (l : ℕ) × Racy l
+some_race [] Racy racy some = absurd (some refl)
+some_race (r ∷ rs) Racy racy some = (r.location, (racy r.location).1 (r, (0, omega arith, refl), refl))
 
--- where the status is 0 exactly for no race of the report, it is 1 exactly where the trace has a race
-pub one_exactly : (status : ℕ) (races : List RaceAt) (w : List Record) → status < 2 → (status ≡ 0) ↔ (races ≡ []) → ((l : ℕ) → HasRace w l ↔ HasLocation races l) → (status ≡ 1) ↔ ((l : ℕ) × HasRace w l)
-one_exactly status races w low none racy = (to, from)
+-- where the status is 0 exactly for no race of the report, it is 1 exactly where there is a location that is reported
+pub one_exactly : (status : ℕ) (races : List RaceAt) (Racy : ℕ → Type 0) → status < 2 → (status ≡ 0) ↔ (races ≡ []) → ((l : ℕ) → Racy l ↔ HasLocation races l) → (status ≡ 1) ↔ ((l : ℕ) × Racy l)
+one_exactly status races Racy low none racy = (to, from)
   where
-    to : status ≡ 1 → (l : ℕ) × HasRace w l
-    to one = some_race w races racy (λ e. let zero : status ≡ 0 = none.1 e in absurd (omega arith))
+    to : status ≡ 1 → (l : ℕ) × Racy l
+    to one = some_race races Racy racy (λ e. let zero : status ≡ 0 = none.1 e in absurd (omega arith))
 
-    from : (l : ℕ) × HasRace w l → status ≡ 1
+    from : (l : ℕ) × Racy l → status ≡ 1
     from (l, race) = go (dec_le status 0)
       where
         go : Dec (status ≤ 0) → status ≡ 1
@@ -42,14 +45,28 @@ one_exactly status races w low none racy = (to, from)
             absurd (no_location l (subst P e ((racy l).0 race)))
         go (no more) = omega arith
 
--- the report of a run answers `check`
-pub check_answered : (shards status : ℕ) (run : Run) (w : List Record) → status < 2 → (status ≡ 0) ↔ (run.report ≡ []) → RunAnswers shards run w → AnswersCheck w (rtext run.report) status
-check_answered shards status run w low zero answers = record {
+-- the report of a run over the whole answers `check`
+whole_answered : (shards status : ℕ) (run : Run) (w : List Record) → status < 2 → (status ≡ 0) ↔ (run.report ≡ []) → RunAnswers shards run w → AnswersCheck w (rtext run.report) status
+whole_answered shards status run w low zero answers = record {
   races = run.report;
   reported = answers.reported;
   is_text = refl;
   zero = zero;
-  one = one_exactly status run.report w low zero answers.reported.racy;
+  one = one_exactly status run.report (HasRace w) low zero answers.reported.racy;
+}
+
+-- the report of a run over a part answers `check`
+pub check_answered : (part : Part) (shards status : ℕ) (run : Run) (w : List Record) {records depths : ℕ} → IsWellNested w records depths → status < 2 → (status ≡ 0) ↔ (run.report ≡ []) → RunAnswersPart part shards run w
+    → AnswersCheckOf part w (rtext run.report) status
+check_answered part shards status run w nested low zero answers = record {
+  of_part = record {
+    races = run.report;
+    reported = answers.reported;
+    is_text = refl;
+    zero = zero;
+    one = one_exactly status run.report (IsRacyIn part w) low zero (λ l. let racy = answers.reported.racy l in (racy.1, racy.0));
+  };
+  of_whole = λ one. whole_answered shards status run w low zero (whole_answers part shards w run one nested answers);
 }
 
 kind_at : (w : List Record) (l i : ℕ) → IsRead w l i ⊎ IsWrite w l i → (k : Kind) × IsAccess w l i k

@@ -8,13 +8,11 @@ use Rattle.words.specs.declared.asking.Question.{Question}
 use Rattle.words.specs.declared.asking.Confirm.{Confirm}
 use Rattle.words.specs.Asked.{depth_of, trace_name}
 use Rattle.replies.specs.declared.input.Input.{Input}
+pub use Rattle.replies.specs.Inputs.{untried}
 use Rattle.replies.specs.Inputs.{StandsFor, StandsBeside}
 use Rattle.replies.specs.Questions.{Answers, IsWant}
 use Rattle.replies.specs.Answered.{IsAnswered, IsConfirmed}
-
--- a device with these bytes, which no call has failed of
-abbrev pub untried : Option (List ℕ) → Device
-untried bytes = record { bytes = bytes; failures = 0 }
+use Rattle.replies.specs.Merges.{HasMergedOf}
 
 module _ {F E : Type 0} (Gives : List ℕ → Result F E → Type 0) (known : Input F → Option (List ℕ)) where
   -- the question was answered of the trace that its name stands for, or there is no answer
@@ -39,3 +37,4 @@ module _ {F E : Type 0} (Gives : List ℕ → Result F E → Type 0) (known : In
   abbrev pub IsAnsweredOf : Asked → Change → Change → ℕ → Type 0
   IsAnsweredOf (asked.Question q) out err status = HasAnsweredOf q out err status
   IsAnsweredOf (asked.Confirm c) out err status = HasConfirmedOf c out err status
+  IsAnsweredOf (asked.Merge m) out err status = HasMergedOf Gives known m out err status

@@ -1,5 +1,6 @@
 -- Promised: what a name on the command line stands for.
 use Rattle.std.specs.Prelude.{◌≡◌, ◌↔◌, ◌⊎◌, ℕ, ⊤, List, Option, None, Result, Ok, Err, codes}
+use Rattle.trace.specs.Devices.{Device}
 use Rattle.replies.specs.declared.input.Input.{Input}
 use Rattle.replies.specs.declared.input.Input.TheVariants.{File, Standard, Missing}
 
@@ -35,3 +36,7 @@ abbrev pub known_bytes : {F : Type 0} → (F → Option (List ℕ)) → Input F 
 known_bytes remaining (File f) = remaining f
 known_bytes remaining (Standard s) = None
 known_bytes remaining Missing = None
+
+-- a device with these bytes, which no call has failed of
+abbrev pub untried : Option (List ℕ) → Device
+untried bytes = record { bytes = bytes; failures = 0 }

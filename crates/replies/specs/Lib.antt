@@ -1,4 +1,6 @@
 pub mod Answered
 pub mod Files
 pub mod Inputs
+pub mod Merges
+pub mod Merging
 pub mod Questions

@@ -1,13 +1,14 @@
 -- Promised: what answers the questions of a trace: the text, and the exit status.
-use Rattle.std.specs.Prelude.{◌≡◌, ℕ, ◌↔◌, List, [], Option, None}
+use Rattle.std.specs.Prelude.{◌≡◌, ℕ, ◌%◌, ◌↔◌, List, [], Option, None}
 use Rattle.trace.specs.declared.records.Record.{Record}
 use Rattle.trace.specs.declared.records.Access.{Access}
+use Rattle.trace.specs.declared.records.Part.{Part}
 use Rattle.trace.specs.declared.faults.Fault.{Fault}
 use Rattle.trace.specs.Endings.{IsWantOfMemory, IsWantOfMemoryOrThread}
 use Rattle.trace.specs.Accesses.{RaceAt}
 use Rattle.collect.specs.ReportText.{rtext}
 use Rattle.detect.specs.Racy.{HasRace}
-use Rattle.detect.specs.Reported.{IsReportOf}
+use Rattle.detect.specs.Reported.{IsReportOf, IsPartReportOf}
 use Rattle.audit.specs.declared.answers.Measure.{Measure}
 use Rattle.audit.specs.declared.answers.Explained.{Explained}
 use Rattle.audit.specs.declared.answers.Confirm.{Confirm}
@@ -20,13 +21,32 @@ use Rattle.words.specs.declared.asking.Question.{Question}
 use Rattle.words.specs.declared.asking.Question.TheVariants as question
 use Rattle.texts.specs.Texts.{pairs_text, explained_text, measure_text, confirm_text}
 
--- `check`: the report of the trace. The status is 0 where it has no race, and 1 exactly where some location has one.
+-- `check` of the whole: the report of the trace. The status is 0 where it has no race, and 1 exactly where some location
+-- has one.
 pub record AnswersCheck (w : List Record) (text : List ℕ) (status : ℕ) : Type 0 where
   pub races : List RaceAt
   pub reported : IsReportOf w races
   pub is_text : text ≡ rtext races
   pub zero : (status ≡ 0) ↔ (races ≡ [])
   pub one : (status ≡ 1) ↔ ((l : ℕ) × HasRace w l)
+
+-- the location is one of the part's, and it has a race
+abbrev pub IsRacyIn : Part → List Record → ℕ → Type 0
+IsRacyIn part w l = HasRace w l × (l % part.count ≡ part.index)
+
+-- `check` of a part of the locations: the part's report. The status is 0 where it has no race, and 1 exactly where some
+-- location of the part has one.
+pub record AnswersPart (part : Part) (w : List Record) (text : List ℕ) (status : ℕ) : Type 0 where
+  pub races : List RaceAt
+  pub reported : IsPartReportOf part w races
+  pub is_text : text ≡ rtext races
+  pub zero : (status ≡ 0) ↔ (races ≡ [])
+  pub one : (status ≡ 1) ↔ ((l : ℕ) × IsRacyIn part w l)
+
+-- `check`: the report of the part that is asked for; that of the only part of one is the report of the trace
+pub record AnswersCheckOf (part : Part) (w : List Record) (text : List ℕ) (status : ℕ) : Type 0 where
+  pub of_part : AnswersPart part w text status
+  pub of_whole : part.count ≡ 1 → AnswersCheck w text status
 
 -- `pairs`: each race of the location once; the status is 0 exactly where there is none, otherwise 1
 pub record AnswersPairs (location : ℕ) (w : List Record) (text : List ℕ) (status : ℕ) : Type 0 where
@@ -65,7 +85,7 @@ pub record AnswersConfirm (entries : List RaceAt) (w : List Record) (text : List
 
 -- the text and the status that answer what is asked of a trace alone
 abbrev pub Answers : Question → List Record → List ℕ → ℕ → Type 0
-Answers (question.Check c) w text status = AnswersCheck w text status
+Answers (question.Check c) w text status = AnswersCheckOf c.part w text status
 Answers (question.Pairs p) w text status = AnswersPairs p.location w text status
 Answers (question.Explain e) w text status = AnswersExplain e.location w text status
 Answers (question.Measure m) w text status = AnswersMeasure w text status

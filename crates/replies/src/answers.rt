@@ -3,17 +3,17 @@ ghost use Rattle.std.specs.Prelude.{◌≡◌, ◌<◌, ◌↔◌, ℕ, [], List
 ghost use Rattle.trace.specs.Devices.{Device, ◌⇝◌};
 ghost use Rattle.trace.specs.Writers.{IsUntouched, TookFront, WasGiven, Puts};
 ghost use Rattle.trace.specs.Endings.{EndsReading, IsWantOfMemoryOrThread};
-ghost use Rattle.detect.specs.RunReports.{RunAnswers};
+ghost use Rattle.detect.specs.RunReports.{RunAnswersPart};
 ghost use Rattle.texts.specs.Sinks.{Tells};
 ghost use Rattle.words.specs.Asked.{depth_of};
 ghost use Rattle.words.specs.Refusals.{help_of, refusal};
-ghost use Rattle.replies.specs.Questions.{Answers, AnswersCheck, IsWant};
+ghost use Rattle.replies.specs.Questions.{Answers, AnswersCheckOf, IsWant};
 ghost use Rattle.trace.specs.Bounds.{most_records};
 ghost use Rattle.replies.specs.Answered.{IsAnswered};
 
 use crate::questions::{answer_explain, answer_measure, answer_pairs};
 use collect::write_report;
-use detect::{Plan, Run, detect};
+use detect::{Plan, Run, detect_part};
 use shard::Open;
 use std::alloc::Global;
 use std::hash::{BuildHasherDefault, FoldHasher};
@@ -50,7 +50,7 @@ pub fn answer<T: Threads + Wait + Sync, R: Source, W: Sink, E: Sink>(
     }
 }
 
-// The races of a trace.
+// The races of a part of a trace's locations, which may be the whole.
 fn answer_check<T: Threads + Wait + Sync, R: Source, W: Sink, E: Sink>(
     rt: &T,
     alloc: Global,
@@ -59,7 +59,7 @@ fn answer_check<T: Threads + Wait + Sync, R: Source, W: Sink, E: Sink>(
     out: &mut W,
     err: &mut E,
 ) -> u8
-    ensures { IsAnswered IsWantOfMemoryOrThread most_records check.now.depth AnswersCheck
+    ensures { IsAnswered IsWantOfMemoryOrThread most_records check.now.depth (AnswersCheckOf check.now.part)
         (R.state trace.old ⇝ R.state trace.new) (W.state out.old ⇝ W.state out.new)
         (E.state err.old ⇝ E.state err.new) result }
 {
@@ -75,7 +75,7 @@ fn answer_check<T: Threads + Wait + Sync, R: Source, W: Sink, E: Sink>(
     }
 }
 
-// Detects the races of a trace, with a thread for each shard.
+// Detects the races of a part, with a thread for each shard.
 fn run_on<T: Threads + Wait + Sync, R: Source>(
     rt: &T,
     alloc: Global,
@@ -83,11 +83,11 @@ fn run_on<T: Threads + Wait + Sync, R: Source>(
     trace: &mut R,
 ) -> Result<Run, Fault>
     ensures { EndsReading IsWantOfMemoryOrThread most_records check.now.depth (R.state trace.old ⇝ R.state trace.new)
-        (RunAnswers check.now.shards) result }
+        (RunAnswersPart check.now.part check.now.shards) result }
 {
     let hashers = hashers_for(alloc, check.shards)?;
     let plan = Plan::new(check.shards, check.capacity, limits_of(check.depth));
-    detect(rt, alloc, plan, trace, &Open, hashers)
+    detect_part(rt, alloc, plan, check.part, trace, &Open, hashers)
 }
 
 // A hasher for each shard.

@@ -9,11 +9,13 @@ ghost use Rattle.replies.specs.Inputs.{known_bytes};
 mod answers;
 mod confirms;
 mod input;
+mod merges;
 mod questions;
 
 pub use answers::{MOST_RECORDS, answer, limits_of, refuse};
 pub use confirms::answer_confirm;
 pub use input::{Input, open_report};
+use merges::merge_from_files;
 use std::fs::File;
 use std::io;
 use std::io::{BufReader, Read};
@@ -57,6 +59,7 @@ where
     match asked {
         Asked::Question(question) => question_from_files(threads, rt, question, opener, out, err),
         Asked::Confirm(confirm) => confirm_from_files(rt, confirm, opener, out, err),
+        Asked::Merge(merge) => merge_from_files(rt, merge, opener, out, err),
     }
 }
 

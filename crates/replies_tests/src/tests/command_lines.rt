@@ -9,8 +9,10 @@ fn refuses_command_lines(rt: HostRuntime) -> Result<(), Fail> {
         "",
         "check",
         "check --shards 65 -",
+        "check --part 1/1 -",
         "pairs - 03",
         "confirm - -",
+        "merge - -",
         "chec -",
     ] {
         let ran = run(&rt, rt.alloc(), line, b"trace 1\nreturn\n", 1)?;

@@ -1,18 +1,49 @@
 //! The files that the words name, as the system opens them.
 use super::{Ran, assert_left, words_of};
 use replies::answer_asked;
+use std::alloc::{AllocError, Global};
 use std::env::temp_dir;
 use std::test::Fail;
 use std::{fs, process};
 use trace::Counted;
 use words::read_words;
 
-const TRACE: &str = "trace 1\nspawn\nwrite 5\nreturn\nwrite 5\nreturn\n";
+// The files, by the words that stand for their names: two traces, the report of each and of its parts, reports that have
+// a race of location 5 of their own, one with a faulty line, and one without a race.
+const FILES: [(&str, &str); 11] = [
+    ("TRACE", "trace 1\nspawn\nwrite 5\nreturn\nwrite 5\nreturn\n"),
+    (
+        "MANY",
+        "trace 1\nspawn\nwrite 8\nwrite 2\nwrite 3\nreturn\nread 8\nread 2\nread 3\nreturn\n",
+    ),
+    ("REPORT", REPORT),
+    ("ALL", ALL),
+    ("EVEN", EVEN),
+    ("ODD", ODD),
+    ("LATER", "races 1\nrace 5 write 2 write 6\n"),
+    ("READ", READ),
+    (
+        "FAULTY",
+        "races 2\nrace 5 write 2 write 4\nrace 5 write 2 write 4\n",
+    ),
+    ("CLEAN", CLEAN),
+    ("EMPTY", ""),
+];
 
 const REPORT: &str = "races 1\nrace 5 write 2 write 4\n";
 
-// What the words leave, where `TRACE` and `REPORT` stand for the two files, and `NONE` for one that isn't there.
-const CASES: [(&str, u8, &str, &str); 8] = [
+const READ: &str = "races 1\nrace 5 read 1 write 4\n";
+
+const ALL: &str = "races 3\nrace 2 write 3 read 7\nrace 3 write 4 read 8\nrace 8 write 2 read 6\n";
+
+const EVEN: &str = "races 2\nrace 2 write 3 read 7\nrace 8 write 2 read 6\n";
+
+const ODD: &str = "races 1\nrace 3 write 4 read 8\n";
+
+const CLEAN: &str = "races 0\n";
+
+// What the words leave, where `NONE` stands for a file that isn't there.
+const CASES: [(&str, u8, &str, &str); 33] = [
     ("check TRACE", 1, REPORT, ""),
     (
         "measure TRACE",
@@ -31,24 +62,59 @@ const CASES: [(&str, u8, &str, &str); 8] = [
     ("check NONE", 2, "", "spbags: cannot read\n"),
     ("confirm NONE REPORT", 2, "", "spbags: cannot read\n"),
     ("confirm TRACE NONE", 2, "", "spbags: cannot read\n"),
+    ("check MANY", 1, ALL, ""),
+    ("check --part 0/1 MANY", 1, ALL, ""),
+    ("check --part 0/2 MANY", 1, EVEN, ""),
+    ("check --part 1/2 MANY", 1, ODD, ""),
+    ("check --part 0/3 --shards 1 MANY", 1, ODD, ""),
+    ("check --part 1/3 MANY", 0, CLEAN, ""),
+    ("check --part 2/3 --shards 3 MANY", 1, EVEN, ""),
+    ("check --part 3/65536 MANY", 1, ODD, ""),
+    ("check --part 65535/65536 MANY", 0, CLEAN, ""),
+    ("check --part 1/2 REPORT", 2, "", "spbags: line 1: header\n"),
+    ("merge EVEN ODD", 1, ALL, ""),
+    ("merge ODD CLEAN EVEN ODD", 1, ALL, ""),
+    ("merge ALL", 1, ALL, ""),
+    ("merge CLEAN", 0, CLEAN, ""),
+    ("merge CLEAN CLEAN", 0, CLEAN, ""),
+    ("merge LATER REPORT", 1, REPORT, ""),
+    ("merge REPORT LATER", 1, REPORT, ""),
+    ("merge REPORT READ", 1, REPORT, ""),
+    ("merge READ REPORT", 1, READ, ""),
+    (
+        "merge REPORT FAULTY EMPTY",
+        2,
+        "",
+        "spbags: report 2 line 3: bad\n",
+    ),
+    ("merge EMPTY", 2, "", "spbags: report 1 line 1: bad\n"),
+    ("merge CLEAN REPORT MANY", 2, "", "spbags: report 3 line 1: bad\n"),
+    ("merge REPORT NONE", 2, "", "spbags: cannot read\n"),
+    ("merge NONE FAULTY", 2, "", "spbags: cannot read\n"),
+    ("merge FAULTY NONE", 2, "", "spbags: report 1 line 3: bad\n"),
 ];
+
+// The name of the file that a word stands for, where it stands for one.
+fn name_of(alloc: Global, front: &str, word: &str) -> Result<Option<String>, AllocError> {
+    if word != "NONE" && !FILES.iter().any(|(name, _)| *name == word) {
+        return Ok(None);
+    }
+    Ok(Some(format!(in alloc; "{front}.{word}")?))
+}
 
 #[test]
 fn reads_the_files_that_are_named(rt: HostRuntime) -> Result<(), Fail> {
     let folder = temp_dir(&rt)?;
     let front = format!(in rt.alloc(); "{}/spbags-{}", folder.as_str(), process::id(rt.process()))?;
-    let trace = format!(in rt.alloc(); "{front}.trace")?;
-    let report = format!(in rt.alloc(); "{front}.report")?;
-    fs::write(&rt, trace.as_str(), TRACE)?;
-    fs::write(&rt, report.as_str(), REPORT)?;
+    for (name, text) in FILES {
+        let file = format!(in rt.alloc(); "{front}.{name}")?;
+        fs::write(&rt, file.as_str(), text)?;
+    }
     for (line, status, out, err) in CASES {
         let mut words = words_of(rt.alloc(), line)?;
         for word in words.iter_mut() {
-            match word.as_str() {
-                "TRACE" => *word = trace.clone()?,
-                "REPORT" => *word = report.clone()?,
-                "NONE" => *word = format!(in rt.alloc(); "{front}.none")?,
-                _ => {}
+            if let Some(name) = name_of(rt.alloc(), front.as_str(), word.as_str())? {
+                *word = name;
             }
         }
         let Ok(asked) = read_words(rt.alloc(), words.as_slice()) else {
@@ -68,7 +134,9 @@ fn reads_the_files_that_are_named(rt: HostRuntime) -> Result<(), Fail> {
         );
         assert_left(&rt, &ran, status, out.as_bytes(), err.as_bytes(), line);
     }
-    fs::remove_file(&rt, trace.as_str())?;
-    fs::remove_file(&rt, report.as_str())?;
+    for (name, _) in FILES {
+        let file = format!(in rt.alloc(); "{front}.{name}")?;
+        fs::remove_file(&rt, file.as_str())?;
+    }
     Ok(())
 }

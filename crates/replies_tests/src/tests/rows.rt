@@ -128,6 +128,40 @@ fn checks_rows_of_version_2(rt: HostRuntime) -> Result<(), Fail> {
     Ok(())
 }
 
+// Of the lines of a report those of the locations that leave the rest `index` where they are divided by `count`.
+fn lines_of_part(
+    alloc: Global,
+    lines: &str,
+    index: u64,
+    count: u64,
+) -> Result<String, AllocError> {
+    let mut own = String::new(alloc);
+    for line in lines.split_inclusive('\n') {
+        let location = line.split(' ').nth(1).and_then(|word| word.parse::<u64>().ok());
+        if location.is_some_and(|location| location % count == index) {
+            own.push_str(line)?;
+        }
+    }
+    Ok(own)
+}
+
+#[test]
+fn checks_parts_of_rows(rt: HostRuntime) -> Result<(), Fail> {
+    for (records, lines) in ROWS {
+        let trace = trace_of(rt.alloc(), records)?;
+        for (index, count) in [(0, 1), (0, 2), (1, 2), (0, 3), (1, 3), (2, 3)] {
+            let own = lines_of_part(rt.alloc(), lines, index, count)?;
+            let races = own.as_str().split('\n').count() - 1;
+            let report = format!(in rt.alloc(); "races {races}\n{own}")?;
+            let line = format!(in rt.alloc(); "check --part {index}/{count} -")?;
+            let ran = run(&rt, rt.alloc(), line.as_str(), trace.as_slice(), 4096)?;
+            let status = if races == 0 { 0 } else { 1 };
+            assert_left(&rt, &ran, status, report.as_bytes(), b"", records);
+        }
+    }
+    Ok(())
+}
+
 #[test]
 fn checks_with_the_most_shards(rt: HostRuntime) -> Result<(), Fail> {
     let trace = trace_of(rt.alloc(), "spawn, write 5, return, sync, write 5, return")?;

@@ -1,0 +1,56 @@
+-- Reports on their way into a collector, and the one that is made of them.
+use Rattle.std.proofs.Common.{◌≡◌, ◌↔◌, ℕ, suc, ◌+◌, ◌<◌, ◌≤◌, List, [], ◌∷◌, ◌++◌, length, map, get_or, take, drop, Option, Result, String, string_bytes, refl, sym, ap, ◌∙◌, subst, arith, take-append-drop, drop-cons, length-take-le}
+use native.Mathlib.Decide.{dec_le}
+use Rattle.std.proofs.lemmas.List.{take_more, flat_map_more}
+use Rattle.shard.specs.declared.Back.{Back}
+use Rattle.shard.specs.declared.Back.TheVariants.{Race}
+use Rattle.trace.specs.Accesses.{RaceAt}
+use Rattle.texts.specs.declared.reports.ReportRefusal.{ReportRefusal}
+use Rattle.collect.specs.Collected.{Kept, KeepsBest}
+use Rattle.collect.specs.Merged.{given_by}
+use Rattle.replies.specs.declared.input.Input.{Input}
+use Rattle.replies.specs.Merges.{report_status, HasReadReport, IsRefusedReport, HaveReadReports, IsFirstRefused}
+use Rattle.replies.specs.Merging.{HasTaken, HaveTaken}
+
+-- the status that is 0 exactly for no race is that of the report
+pub is_report_status : (races : List RaceAt) (status : ℕ) → status < 2 → (status ≡ 0) ↔ (races ≡ []) → status ≡ report_status races
+is_report_status [] status low zero = zero.1 refl
+is_report_status (r ∷ rs) status low zero = go (dec_le status 0)
+  where
+    go : Dec (status ≤ 0) → status ≡ 1
+    go (yes least) = let none : r ∷ rs ≡ [] = zero.0 (omega arith) in absurd (cc)
+    go (no more) = omega arith
+
+module _ {F E : Type 0} (Gives : List ℕ → Result F E → Type 0) (known : Input F → Option (List ℕ)) {A : Type 0} where
+  read_more : (names : List (String A)) (name : String A) (reports : List (List RaceAt)) (entries : List RaceAt) → HaveReadReports Gives known names reports → HasReadReport Gives known (string_bytes name) entries
+      → HaveReadReports Gives known (names ++ name ∷ []) (reports ++ entries ∷ [])
+  read_more [] name [] entries none one = (one, tt)
+  read_more [] name (rs ∷ reports) entries none one = absurd none
+  read_more (n ∷ names) name [] entries none one = absurd none
+  read_more (n ∷ names) name (rs ∷ reports) entries more one = (more.0, read_more names name reports entries more.1 one)
+
+  -- one more report was taken
+  pub taken_more : (names : List (String A)) (i : ℕ) (name : String A) (c d : Kept) → i < length names → name ≡ get_or names i name → HaveTaken Gives known (take i names) c → HasTaken Gives known (string_bytes name) c d
+      → HaveTaken Gives known (take (i + 1) names) d
+  taken_more names i name c d within is before one =
+      let all : take (i + 1) names ≡ take i names ++ name ∷ [] = take_more names i name within ∙ ap (λ n. take i names ++ n ∷ []) (sym is) in
+      let P : List (String A) → Type 0 = λ ns. HaveReadReports Gives known ns (before.reports ++ one.entries ∷ []) in
+      let Q : List Back → Type 0 = λ g. KeepsBest g d in
+      record {
+        reports = before.reports ++ one.entries ∷ [];
+        read = subst P (sym all) (read_more (take i names) name before.reports one.entries before.read one.read);
+        kept = subst Q (flat_map_more (map Race) [] before.reports one.entries) (one.took (given_by before.reports) before.kept);
+      }
+
+  -- the reports before this one were taken, and it wasn't
+  pub first_refused : (names : List (String A)) (i number : ℕ) (name : String A) (c : Kept) (refusal : ReportRefusal) → i < length names → name ≡ get_or names i name → number ≡ i → HaveTaken Gives known (take i names) c
+      → IsRefusedReport Gives known (string_bytes name) refusal → IsFirstRefused Gives known names (number + 1) refusal
+  first_refused names i number name c refusal within is counted before why = record {
+    before = take i names;
+    name = name;
+    after = drop (suc i) names;
+    names_are = sym (take-append-drop i names) ∙ ap (λ l. take i names ++ l) (drop-cons names i name within ∙ ap (λ n. n ∷ drop (suc i) names) (sym is));
+    number_is = let long = length-take-le i names (omega (arith, within)) in omega (arith, long, counted);
+    earlier = (before.reports, before.read);
+    refused = why;
+  }

@@ -1,0 +1,10 @@
+use Rattle.std.proofs.Common.{◌≡◌, take}
+use Rattle.std.specs.Fn.{FnReturnsAt}
+use Rattle.replies.specs.Inputs.{known_bytes}
+use Rattle.replies.specs.Merging.{HaveTaken}
+use Rattle.replies.proofs.merges.take_reports.Given as goal
+
+-- the reports before this name were taken
+abbrev pub invariant-loop-name : goal.invariant-loop-name
+invariant-loop-name g l = (l.number ≡ l.name-index)
+    × HaveTaken (FnReturnsAt g.O.Fn l.fn.opener) (known_bytes g.F.Read.remaining) (take l.name-index l.names) l.collector

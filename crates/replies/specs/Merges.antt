@@ -1,0 +1,78 @@
+-- Promised: how the program ends that was asked to merge reports.
+use Rattle.std.specs.Prelude.{◌≡◌, ◌⊎◌, ℕ, ◌+◌, List, [], ◌∷◌, ◌++◌, length, Option, Result, String, string_bytes}
+use Rattle.trace.specs.declared.faults.Fault.TheVariants.{NoMemory}
+use Rattle.trace.specs.Accesses.{RaceAt}
+use Rattle.trace.specs.Devices.{Device, Change, ◌⇝◌}
+use Rattle.trace.specs.Writers.{IsUntouched, WasGiven}
+use Rattle.collect.specs.ReportText.{rtext}
+use Rattle.collect.specs.Merged.{IsMerged}
+use Rattle.texts.specs.declared.reports.ReportRefusal.{ReportRefusal}
+use Rattle.texts.specs.Messages.{message, merge_message}
+use Rattle.texts.specs.ReportBytes.{GivesReport, IsRefusal}
+use Rattle.texts.specs.Sinks.{Tells}
+use Rattle.words.specs.declared.asking.Merge.{Merge}
+use Rattle.replies.specs.declared.input.Input.{Input}
+use Rattle.replies.specs.Inputs.{StandsFor, untried}
+
+-- the status of a report: 1 where it has a race, 0 where it has none
+abbrev pub report_status : List RaceAt → ℕ
+report_status [] = 0
+report_status (r ∷ rs) = 1
+
+-- The one report of these was written whole, with its status, or writing it failed; or there was no memory for it, which
+-- standard error was told, and nothing was written.
+abbrev pub HasToldMerged : List (List RaceAt) → Change → Change → ℕ → Type 0
+HasToldMerged reports out err status = ((races : List RaceAt) × IsMerged reports races × Tells status (report_status races) (rtext races) out err)
+    ⊎ ((status ≡ 2) × IsUntouched out × WasGiven (message NoMemory) err)
+
+module _ {F E : Type 0} (Gives : List ℕ → Result F E → Type 0) (known : Input F → Option (List ℕ)) where
+  -- the report that the name stands for was read whole, and has these entries
+  pub record HasReadReport (name : List ℕ) (entries : List RaceAt) : Type 0 where
+    pub report : Input F
+    pub stands : StandsFor Gives name report
+    pub left : Device
+    pub given : GivesReport (untried (known report) ⇝ left) entries
+
+  -- why the report that the name stands for wasn't taken
+  pub record IsRefusedReport (name : List ℕ) (refusal : ReportRefusal) : Type 0 where
+    pub report : Input F
+    pub stands : StandsFor Gives name report
+    pub left : Device
+    pub refused : IsRefusal (untried (known report) ⇝ left) refusal
+
+  -- these are the entries of the reports that the names stand for, in the order of the names
+  abbrev pub HaveReadReports : {A : Type 0} → List (String A) → List (List RaceAt) → Type 0
+  HaveReadReports [] [] = Unit {0}
+  HaveReadReports [] (entries ∷ reports) = ⊥
+  HaveReadReports (name ∷ names) [] = ⊥
+  HaveReadReports (name ∷ names) (entries ∷ reports) = HasReadReport (string_bytes name) entries × HaveReadReports names reports
+
+  -- of the reports that the names stand for that of this number, counted from 1, is the first that wasn't taken
+  pub record IsFirstRefused {A : Type 0} (names : List (String A)) (number : ℕ) (refusal : ReportRefusal) : Type 0 where
+    pub before : List (String A)
+    pub name : String A
+    pub after : List (String A)
+    pub names_are : names ≡ before ++ name ∷ after
+    pub number_is : number ≡ length before + 1
+    pub earlier : (reports : List (List RaceAt)) × HaveReadReports before reports
+    pub refused : IsRefusedReport (string_bytes name) refusal
+
+  -- all reports were read, and one was made of them
+  pub record HasMerged {A : Type 0} (names : List (String A)) (out err : Change) (status : ℕ) : Type 0 where
+    pub reports : List (List RaceAt)
+    pub read : HaveReadReports names reports
+    pub told : HasToldMerged reports out err status
+
+  -- a report wasn't taken, which standard error was told, and nothing was written
+  pub record HasNotMerged {A : Type 0} (names : List (String A)) (out err : Change) (status : ℕ) : Type 0 where
+    pub number : ℕ
+    pub refusal : ReportRefusal
+    pub first : IsFirstRefused names number refusal
+    pub untouched : IsUntouched out
+    pub said : WasGiven (merge_message number refusal) err
+    pub is_two : status ≡ 2
+
+  -- Status 0 or 1 is that of the one report of all that the names stand for, which was written whole. So reports from
+  -- sources that hold them and don't fail have status 2 only for want of memory, or where standard output failed.
+  abbrev pub HasMergedOf : Merge → Change → Change → ℕ → Type 0
+  HasMergedOf merge out err status = HasMerged merge.reports.items out err status ⊎ HasNotMerged merge.reports.items out err status
