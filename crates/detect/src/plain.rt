@@ -32,8 +32,8 @@ pub fn detect_plain<R: Source, S: BuildHasher + Drop>(
     Ok(detector.finish()?)
 }
 
-/// Reads a trace to its end and reports the races of a part of its locations. An access of any other location is dropped
-/// as soon as it is read, and no memory is taken for it.
+/// Reads a trace to its end and reports the races of a part of its locations. An access of any other location is
+/// dropped as soon as it is read, and no memory is taken for it.
 pub fn detect_plain_part<R: Source, S: BuildHasher + Drop>(
     alloc: Global,
     limits: Limits,

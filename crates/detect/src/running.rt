@@ -14,8 +14,8 @@ use std::sync::Wait;
 use std::thread::{Scope, Threads};
 use trace::{Limits, Part, Source};
 
-/// Starts the workers, reads the trace and sends what the part has of it, and joins all workers that were started. After a
-/// refused start nothing is read. Nothing here takes memory but the collector.
+/// Starts the workers, reads the trace and sends what the part has of it, and joins all workers that were started.
+/// After a refused start nothing is read. Nothing here takes memory but the collector.
 pub(crate) fn run<
     's,
     E,

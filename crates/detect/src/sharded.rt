@@ -60,9 +60,9 @@ where
     detect_part(rt, alloc, plan, Part::whole(), source, gate, hashers)
 }
 
-/// Reads a trace to its end and reports the races of a part of its locations. An access of any other location is dropped
-/// as soon as it is read, and goes to no shard. The shards divide the numbers of the part's locations: shard j of n has
-/// those that leave the rest j where they are divided by n.
+/// Reads a trace to its end and reports the races of a part of its locations. An access of any other location is
+/// dropped as soon as it is read, and goes to no shard. The shards divide the numbers of the part's locations: shard j
+/// of n has those that leave the rest j where they are divided by n.
 pub fn detect_part<
     T: Threads + Wait + Sync,
     R: Source,
@@ -80,8 +80,8 @@ pub fn detect_part<
 where
     S::Hasher: Send,
     requires { vec_len hashers ≡ plan.shards }
-    // As `detect`, but that the report is what the part has of the verdict, and that each shard took its share of what the
-    // part has of the trace.
+    // As `detect`, but that the report is what the part has of the verdict, and that each shard took its share of what
+    // the part has of the trace.
     ensures { EndsReading IsWantOfMemoryOrThread plan.limits.records plan.limits.depth
         (R.state source.old ⇝ R.state source.new)
         (RunAnswersPart part plan.shards) result }

@@ -26,8 +26,8 @@ use words::{Check, Question, WordsFault};
 /// The most records that a trace may have: 2^48.
 pub const MOST_RECORDS: u64 = 1 << 48;
 
-/// Answers what is asked of a trace alone, and gives the exit status: 0 for no race, or for the numbers of a trace, 1 for
-/// a race, 2 for a fault. For `check` this starts threads, and waits for them.
+/// Answers what is asked of a trace alone, and gives the exit status: 0 for no race, or for the numbers of a trace, 1
+/// for a race, 2 for a fault. For `check` this starts threads, and waits for them.
 pub fn answer<T: Threads + Wait + Sync, R: Source, W: Sink, E: Sink>(
     rt: &T,
     alloc: Global,

@@ -1,4 +1,5 @@
-//! The program's replies to what its words ask: what goes to standard output and to standard error, and the exit status.
+//! The program's replies to what its words ask: what goes to standard output and to standard error, and the exit
+//! status.
 #![tactic(auto)]
 
 ghost use Rattle.std.specs.Fn.{FnReturnsAt};

@@ -83,8 +83,8 @@ pub fn assert_left<R: Abort>(rt: &R, ran: &Ran, status: u8, out: &[u8], err: &[u
     assert_eq!(rt; ran.err.as_slice(), err, "{case}");
 }
 
-/// Answers what is asked of these sources; the report is read only where it is asked for. The reports that `merge` reads
-/// stand in files, which these are not.
+/// Answers what is asked of these sources; the report is read only where it is asked for. The reports that `merge`
+/// reads stand in files, which these are not.
 fn answer_any<T: Threads + Wait + Sync, R: Source, Q: Source, W: Sink, E: Sink>(
     rt: &T,
     alloc: Global,

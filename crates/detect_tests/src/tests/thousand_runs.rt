@@ -1,7 +1,7 @@
 //! A run with 64 shards over the thousand races, 1,000 times: each ends, and reports the same.
 //!
-//! The runs are shared out among twenty tests, since a test's time is limited: with lanes of capacity 1 each record waits
-//! for a thread's turn, and beside eight busy processes a run takes more than fifty times as long.
+//! The runs are shared out among twenty tests, since a test's time is limited: with lanes of capacity 1 each record
+//! waits for a thread's turn, and beside eight busy processes a run takes more than fifty times as long.
 
 use super::answers::{Pieces, run_from, text_of};
 use super::thousand_races::{LIMITS, report_text, trace_text};

@@ -12,7 +12,8 @@ use std::test::Fail;
 
 #[derive(Clone, Copy)]
 struct Example {
-    // The files are NAME.trace and NAME.report in `examples/`, and `examples/compare` says whether they have these texts.
+    // The files are NAME.trace and NAME.report in `examples/`, and `examples/compare` says whether they have these
+    // texts.
     name: &'static str,
     trace: &'static str,
     report: &'static str,

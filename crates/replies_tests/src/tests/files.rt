@@ -8,8 +8,8 @@ use std::{fs, process};
 use trace::Counted;
 use words::read_words;
 
-// The files, by the words that stand for their names: two traces, the report of each and of its parts, reports that have
-// a race of location 5 of their own, one with a faulty line, and one without a race.
+// The files, by the words that stand for their names: two traces, the report of each and of its parts, reports that
+// have a race of location 5 of their own, one with a faulty line, and one without a race.
 const FILES: [(&str, &str); 11] = [
     ("TRACE", "trace 1\nspawn\nwrite 5\nreturn\nwrite 5\nreturn\n"),
     (
