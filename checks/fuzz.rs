@@ -7,7 +7,7 @@
 mod judge;
 mod making;
 
-use judge::{Answer, Dag, Ending, Question, Record, Version};
+use judge::{Answer, Dag, Ending, Question, Race, Record, Version};
 use making::Random;
 use std::collections::BTreeMap;
 use std::env;
@@ -30,6 +30,7 @@ const WHOLE: usize = 60_000;
 /// No read of the program asks for fewer bytes, so none cuts a piece.
 const PIECE: usize = 4000;
 const USUAL_DEPTH: usize = 65_536;
+const COMMANDS: [&str; 6] = ["check", "explain", "pairs", "measure", "confirm", "merge"];
 
 /// How a text comes to the program.
 #[derive(Clone, Copy, PartialEq)]
@@ -57,34 +58,38 @@ struct Case {
 impl Case {
     fn new(seed: u64, number: u64) -> Case {
         let random = &mut Random::new(seed, number);
-        let command = ["check", "explain", "pairs", "measure", "confirm"][random.by_weight(&[6, 2, 2, 2, 4])];
+        let command = COMMANDS[random.by_weight(&[6, 2, 2, 2, 4, 2])];
         let most = match command {
             "explain" | "pairs" => 500,
-            "confirm" => 1000,
+            "confirm" | "merge" => 1000,
             _ => 4000,
         };
         let version = random.pick(&[Version::One, Version::Two]);
         let records = making::records(random, version, most);
-        let (options, deepest) = options(random, command, &records);
+        let (mut options, deepest) = options(random, command, &records);
         let mut trace = making::text_of(version, &records);
         let kind = if records.contains(&Record::Call) { "a trace with calls" } else { "a trace" };
         let dag = Dag::new(records);
         let mut report = Vec::new();
         let (question, mut about) = match command {
-            "check" => (Question::Check, kind),
+            "check" => part(random, &mut options, kind),
             "explain" => (Question::Explain(location(random, &dag)), kind),
             "pairs" => (Question::Pairs(location(random, &dag)), kind),
             "measure" => (Question::Measure, kind),
+            "merge" => {
+                (trace, report) = two_reports(random, &dag);
+                (Question::Merge, "reports")
+            }
             _ => {
                 report = judge::report_text(&dag.report()).into_bytes();
                 (Question::Confirm, confirmed(random, &dag, &mut report))
             }
         };
-        if random.once_in(if command == "confirm" { 8 } else { 3 }) {
+        if random.once_in(if matches!(command, "confirm" | "merge") { 8 } else { 3 }) {
             making::damage(random, &mut trace);
-            about = "a damaged trace";
+            about = if command == "merge" { "a damaged report" } else { "a damaged trace" };
         }
-        let moves_report = command == "confirm" && random.once_in(2);
+        let moves_report = matches!(command, "confirm" | "merge") && random.once_in(2);
         let moved = if moves_report { &report } else { &trace };
         let way = match random.below(3) {
             1 if moved.len() <= WHOLE => Way::Pipe,
@@ -111,10 +116,14 @@ impl Case {
         words.push(name(!self.moves_report, "trace"));
         match self.question {
             Question::Explain(location) | Question::Pairs(location) => words.push(location.to_string()),
-            Question::Confirm => words.push(name(self.moves_report, "report")),
+            Question::Confirm | Question::Merge => words.push(name(self.moves_report, "report")),
             _ => (),
         }
         words
+    }
+
+    fn has_report(&self) -> bool {
+        matches!(self.question, Question::Confirm | Question::Merge)
     }
 
     fn pieces(&self) -> Vec<&[u8]> {
@@ -149,13 +158,34 @@ fn options(random: &mut Random, command: &str, records: &[Record]) -> (Vec<Strin
         let any = (random.within(1, 65536) >> random.below(17)).max(1);
         options.extend(["--capacity".to_string(), if capacity == 0 { any } else { capacity }.to_string()]);
     }
-    if !random.once_in(4) {
+    if command == "merge" || !random.once_in(4) {
         return (options, USUAL_DEPTH);
     }
     let opened = records.iter().filter(|record| matches!(record, Record::Spawn | Record::Call)).count();
     let deepest = random.pick(&[0, 1, 2, 3, 9, opened, opened.saturating_sub(1), 1_000_000]);
     options.extend(["--depth".to_string(), deepest.to_string()]);
     (options, deepest)
+}
+
+// Asks for a part of the locations at times.
+fn part(random: &mut Random, options: &mut Vec<String>, kind: &'static str) -> (Question, &'static str) {
+    if !random.once_in(3) {
+        return (Question::Check(0, 1), kind);
+    }
+    let count = random.pick(&[1, 2, 2, 3, 4, 5, 7, 8, 16, 64, 65_535, 65_536]);
+    let rest = random.below(count);
+    options.extend(["--part".to_string(), format!("{rest}/{count}")]);
+    (Question::Check(rest as u64, count as u64), "a part of a trace")
+}
+
+// Two reports for one: the true one by parts, or others.
+fn two_reports(random: &mut Random, dag: &Dag) -> (Vec<u8>, Vec<u8>) {
+    if random.once_in(2) {
+        return (making::another_report(random, dag), making::another_report(random, dag));
+    }
+    let count = random.pick(&[1, 2, 3, 8]);
+    let (first, second): (Vec<Race>, Vec<Race>) = dag.report().iter().partition(|race| race.location % count == 0);
+    (judge::report_text(&first).into_bytes(), judge::report_text(&second).into_bytes())
 }
 
 // Mostly a location of the trace.
@@ -192,7 +222,7 @@ struct Asker {
 impl Asker {
     fn ask(&self, case: &Case) -> io::Result<Answer> {
         fs::write(self.room.join("trace"), &case.trace)?;
-        if let Question::Confirm = case.question {
+        if case.has_report() {
             fs::write(self.room.join("report"), &case.report)?;
         }
         let [out, err] = ["out", "err"].map(|name| self.room.join(name));
@@ -351,7 +381,7 @@ fn keep(folder: &Path, case: &Case, asker: &Asker, came: &Answer) -> io::Result<
     fs::create_dir_all(folder)?;
     fs::write(folder.join("trace"), &case.trace)?;
     let mut words = format!("{} {}", asker.program.display(), case.words().join(" "));
-    if let Question::Confirm = case.question {
+    if case.has_report() {
         fs::write(folder.join("report"), &case.report)?;
     }
     if case.way != Way::File {
@@ -467,7 +497,7 @@ fn judge_examples(examples: &Path) -> io::Result<()> {
     for entry in fs::read_dir(examples)? {
         let name = entry?.path();
         if name.extension().is_some_and(|extension| extension == "trace") {
-            let told = judge::answer(Question::Check, USUAL_DEPTH, &fs::read(&name)?, &[]).out;
+            let told = judge::answer(Question::Check(0, 1), USUAL_DEPTH, &fs::read(&name)?, &[]).out;
             if told != fs::read(name.with_extension("report"))? {
                 return Err(io::Error::other(format!("the judge tells another report of {}", name.display())));
             }

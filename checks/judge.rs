@@ -34,11 +34,14 @@ pub struct Race {
 
 #[derive(Clone, Copy)]
 pub enum Question {
-    Check,
+    /// The races of the locations that leave this rest by this number.
+    Check(u64, u64),
     Explain(u64),
     Pairs(u64),
     Measure,
     Confirm,
+    /// Of two reports, where the first stands in the place of the trace.
+    Merge,
 }
 
 #[derive(Clone, PartialEq, Eq)]
@@ -84,6 +87,9 @@ pub fn answer(question: Question, deepest: usize, trace: &[u8], report: &[u8]) -
 }
 
 fn answer_or_fault(question: Question, deepest: usize, trace: &[u8], report: &[u8]) -> Result<(String, i32), String> {
+    if let Question::Merge = question {
+        return merged(trace, report);
+    }
     // A report is judged before the trace.
     let entries = match question {
         Question::Confirm => entries_of(report).map_err(|line| format!("report line {line}: bad"))?,
@@ -91,8 +97,9 @@ fn answer_or_fault(question: Question, deepest: usize, trace: &[u8], report: &[u
     };
     let dag = Dag::new(records_of(trace, deepest)?);
     Ok(match question {
-        Question::Check => {
-            let told = dag.report();
+        Question::Check(rest, count) => {
+            let mut told = dag.report();
+            told.retain(|race| race.location % count == rest);
             (report_text(&told), !told.is_empty() as i32)
         }
         Question::Explain(location) => match dag.report().iter().find(|told| told.location == location) {
@@ -117,7 +124,22 @@ fn answer_or_fault(question: Question, deepest: usize, trace: &[u8], report: &[u
             None => ("yes\n".to_string(), 0),
             Some(before) => (format!("no {}\n", before + 1), 1),
         },
+        Question::Merge => unreachable!("it has no trace"),
     })
+}
+
+// One report of two: of two races of one location the one whose second access comes first, or that of the first report.
+fn merged(first: &[u8], second: &[u8]) -> Result<(String, i32), String> {
+    let mut kept: BTreeMap<u64, Race> = BTreeMap::new();
+    for (report, number) in [(first, 1), (second, 2)] {
+        for race in entries_of(report).map_err(|line| format!("report {number} line {line}: bad"))? {
+            if kept.get(&race.location).is_none_or(|other| race.second.1 < other.second.1) {
+                kept.insert(race.location, race);
+            }
+        }
+    }
+    let told: Vec<Race> = kept.into_values().collect();
+    Ok((report_text(&told), !told.is_empty() as i32))
 }
 
 pub fn report_text(races: &[Race]) -> String {
