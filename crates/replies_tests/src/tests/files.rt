@@ -11,7 +11,10 @@ use words::read_words;
 // The files, by the words that stand for their names: two traces, the report of each and of its parts, reports that
 // have a race of location 5 of their own, one with a faulty line, and one without a race.
 const FILES: [(&str, &str); 11] = [
-    ("TRACE", "trace 1\nspawn\nwrite 5\nreturn\nwrite 5\nreturn\n"),
+    (
+        "TRACE",
+        "trace 1\nspawn\nwrite 5\nreturn\nwrite 5\nreturn\n",
+    ),
     (
         "MANY",
         "trace 1\nspawn\nwrite 8\nwrite 2\nwrite 3\nreturn\nread 8\nread 2\nread 3\nreturn\n",
@@ -88,7 +91,12 @@ const CASES: [(&str, u8, &str, &str); 33] = [
         "spbags: report 2 line 3: bad\n",
     ),
     ("merge EMPTY", 2, "", "spbags: report 1 line 1: bad\n"),
-    ("merge CLEAN REPORT MANY", 2, "", "spbags: report 3 line 1: bad\n"),
+    (
+        "merge CLEAN REPORT MANY",
+        2,
+        "",
+        "spbags: report 3 line 1: bad\n",
+    ),
     ("merge REPORT NONE", 2, "", "spbags: cannot read\n"),
     ("merge NONE FAULTY", 2, "", "spbags: cannot read\n"),
     ("merge FAULTY NONE", 2, "", "spbags: report 1 line 3: bad\n"),

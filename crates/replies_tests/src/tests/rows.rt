@@ -129,15 +129,13 @@ fn checks_rows_of_version_2(rt: HostRuntime) -> Result<(), Fail> {
 }
 
 // Of the lines of a report those of the locations that leave the rest `index` where they are divided by `count`.
-fn lines_of_part(
-    alloc: Global,
-    lines: &str,
-    index: u64,
-    count: u64,
-) -> Result<String, AllocError> {
+fn lines_of_part(alloc: Global, lines: &str, index: u64, count: u64) -> Result<String, AllocError> {
     let mut own = String::new(alloc);
     for line in lines.split_inclusive('\n') {
-        let location = line.split(' ').nth(1).and_then(|word| word.parse::<u64>().ok());
+        let location = line
+            .split(' ')
+            .nth(1)
+            .and_then(|word| word.parse::<u64>().ok());
         if location.is_some_and(|location| location % count == index) {
             own.push_str(line)?;
         }
