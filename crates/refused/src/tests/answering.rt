@@ -7,7 +7,7 @@ use std::io::{self, Write};
 use std::process::Abort;
 use std::sync::Wait;
 use std::thread::Threads;
-use trace::Counted;
+use trace::{Counted, Part};
 use words::{Check, Confirm, Measure, Pairs, Question};
 
 /// Row `call-mixed`.
@@ -93,6 +93,7 @@ fn check(alloc: Global) -> Result<Question, AllocError> {
         shards: 2,
         capacity: 1,
         depth: 9,
+        part: Part::whole(),
         trace: String::from_str(alloc, "-")?,
     }))
 }
