@@ -136,7 +136,7 @@ fn lines_of_part(alloc: Global, lines: &str, index: u64, count: u64) -> Result<S
             .split(' ')
             .nth(1)
             .and_then(|word| word.parse::<u64>().ok());
-        if location.is_some_and(|location| location % count == index) {
+        if location.is_some_and(|location| location.checked_rem(count) == Some(index)) {
             own.push_str(line)?;
         }
     }
