@@ -9,7 +9,7 @@ use Rattle.shard.specs.declared.Back.TheVariants.{Race, NoMemory}
 use Rattle.lane.specs.declared.item.Item.{Item}
 use Rattle.lane.specs.declared.item.Item.TheVariants.{One, Finish}
 use Rattle.lane.specs.Items.{records}
-use Rattle.lane.proofs.Marks.{records-one, records-finish}
+use Rattle.lane.proofs.Marks.{records_one, records-finish}
 use Rattle.trace.specs.Accesses.{RaceAt}
 use Rattle.trace.proofs.Lists.{all-front, all-last}
 use Rattle.collect.specs.Collected.{Kept, KeepsBest, races_of, fails, kept_after, best}
@@ -23,7 +23,7 @@ on_lane lists k = records (slice_index_or lists k [])
 -- ---- an item more
 
 races-more : (items : List (Item Back)) (x : Item Back) → races_of (records (items ++ x ∷ [])) ≡ races_of (records items) ++ races_of (records (x ∷ []))
-races-more items (One back) = ap races_of (records-one items back) ∙ races_of-append (records items) (back ∷ [])
+races-more items (One back) = ap races_of (records_one items back) ∙ races_of-append (records items) (back ∷ [])
 races-more items Finish = ap races_of (records-finish items) ∙ sym (append-nil (races_of (records items)))
 
 -- the mark is nothing that was given
@@ -52,7 +52,7 @@ pub fails-race : (lists : List (List (Item Back))) (k : ℕ) (r : RaceAt) → fa
 fails-race [] k r e = e
 fails-race (items ∷ lists) zero r e =
     fails-both (records (items ++ One (Race r) ∷ [])) (all_given lists)
-    (ap fails (records-one items (Race r)) ∙ fails-push_race (records items) r ∙ fails-front (records items) (all_given lists) e)
+    (ap fails (records_one items (Race r)) ∙ fails-push_race (records items) r ∙ fails-front (records items) (all_given lists) e)
     (fails-back (records items) (all_given lists) e)
 fails-race (items ∷ lists) (suc k) r e =
     fails-both (records items) (all_given (set lists k (get_or lists k [] ++ One (Race r) ∷ [])))

@@ -1,5 +1,5 @@
 -- The mark in a list that grows at its end.
-use Rattle.std.proofs.Common.{◌≡◌, ℕ, zero, suc, ◌+◌, arith, ◌-◌, ◌<◌, ◌≤◌, true, false, true≢false, List, [], ◌∷◌, ◌++◌, length, map, take, slice_index_or, sym, refl, ap, subst, ◌∙◌, append-nil, append_assoc}
+use Rattle.std.proofs.Common.{◌≡◌, ℕ, zero, suc, ◌+◌, arith, ◌-◌, ◌<◌, ◌≤◌, true, false, true≢false, List, [], ◌∷◌, ◌++◌, length, map, take, drop, slice_index_or, sym, refl, ap, subst, ◌∙◌, append-nil, append_assoc}
 use Rattle.std.proofs.Math.Seq.{take-suc}
 use Rattle.rtrb.specs.Fifo.{Allowed, EachAllowed}
 use Rattle.lane.specs.declared.item.Item.{Item}
@@ -31,26 +31,26 @@ module _ {T : Type 0} where
   all_taken taken put (x ∷ rest, e) last h = absurd (true≢false (sym h ∙ no_mark_before taken x rest (ap mark_last (sym e) ∙ last)))
 
   -- a value joins the values, and the mark doesn't
-  pub records-one : (xs : List (Item T)) (x : T) → records (xs ++ One x ∷ []) ≡ records xs ++ x ∷ []
-  records-one [] x = refl
-  records-one (One y ∷ ys) x = ap (λ l. y ∷ l) (records-one ys x)
-  records-one (Finish ∷ ys) x = records-one ys x
+  pub records_one : (xs : List (Item T)) (x : T) → records (xs ++ One x ∷ []) ≡ records xs ++ x ∷ []
+  records_one [] x = refl
+  records_one (One y ∷ ys) x = ap (λ l. y ∷ l) (records_one ys x)
+  records_one (Finish ∷ ys) x = records_one ys x
 
   pub records-finish : (xs : List (Item T)) → records (xs ++ Finish ∷ []) ≡ records xs
   records-finish [] = refl
   records-finish (One y ∷ ys) = ap (λ l. y ∷ l) (records-finish ys)
   records-finish (Finish ∷ ys) = records-finish ys
 
-  pub records-append : (xs ys : List (Item T)) → records (xs ++ ys) ≡ records xs ++ records ys
-  records-append [] ys = refl
-  records-append (One x ∷ xs) ys = ap (λ l. x ∷ l) (records-append xs ys)
-  records-append (Finish ∷ xs) ys = records-append xs ys
+  pub records_append : (xs ys : List (Item T)) → records (xs ++ ys) ≡ records xs ++ records ys
+  records_append [] ys = refl
+  records_append (One x ∷ xs) ys = ap (λ l. x ∷ l) (records_append xs ys)
+  records_append (Finish ∷ xs) ys = records_append xs ys
 
   -- the values in one item more of a block
   pub records_next : (xs : List (Item T)) (i : ℕ) (d : Item T) → i < length xs → records (take (i + 1) xs) ≡ records (take i xs) ++ records (slice_index_or xs i d ∷ [])
   records_next xs i d lt =
       let is : i + 1 ≡ suc i = omega arith in
-      ap (λ k. records (take k xs)) is ∙ ap records (take-suc xs i d lt) ∙ records-append (take i xs) (slice_index_or xs i d ∷ [])
+      ap (λ k. records (take k xs)) is ∙ ap records (take-suc xs i d lt) ∙ records_append (take i xs) (slice_index_or xs i d ∷ [])
 
   -- with the mark a list is its values and the mark
   pub all_to_mark : (xs : List (Item T)) → mark_last xs ≡ true → has_mark xs ≡ true → xs ≡ map One (records xs) ++ Finish ∷ []
@@ -104,11 +104,41 @@ module _ {T : Type 0} where
   no_mark_in [] = refl
   no_mark_in (x ∷ xs) = no_mark_in xs
 
+  pub length_values : (xs : List (Item T)) → has_mark xs ≡ false → length (records xs) ≡ length xs
+  length_values [] h = refl
+  length_values (One x ∷ xs) h = ap (λ n. suc n) (length_values xs h)
+  length_values (Finish ∷ xs) h = absurd (true≢false h)
+
+  -- and so are a front of it and what is behind that
   take_values : (xs : List (Item T)) (i : ℕ) → has_mark xs ≡ false → has_mark (take i xs) ≡ false
   take_values xs zero h = refl
   take_values [] (suc i) h = refl
   take_values (One x ∷ xs) (suc i) h = take_values xs i h
   take_values (Finish ∷ xs) (suc i) h = absurd (true≢false h)
+
+  drop_values : (xs : List (Item T)) (i : ℕ) → has_mark xs ≡ false → has_mark (drop i xs) ≡ false
+  drop_values xs zero h = h
+  drop_values [] (suc i) h = refl
+  drop_values (One x ∷ xs) (suc i) h = drop_values xs i h
+  drop_values (Finish ∷ xs) (suc i) h = absurd (true≢false h)
+
+  records_take : (xs : List (Item T)) (i : ℕ) → has_mark xs ≡ false → records (take i xs) ≡ take i (records xs)
+  records_take xs zero h = refl
+  records_take [] (suc i) h = refl
+  records_take (One x ∷ xs) (suc i) h = ap (λ l. x ∷ l) (records_take xs i h)
+  records_take (Finish ∷ xs) (suc i) h = absurd (true≢false h)
+
+  records_drop : (xs : List (Item T)) (i : ℕ) → has_mark xs ≡ false → records (drop i xs) ≡ drop i (records xs)
+  records_drop xs zero h = refl
+  records_drop [] (suc i) h = refl
+  records_drop (One x ∷ xs) (suc i) h = records_drop xs i h
+  records_drop (Finish ∷ xs) (suc i) h = absurd (true≢false h)
+
+  pub between_values : (xs : List (Item T)) (i n : ℕ) → has_mark xs ≡ false → has_mark (take n (drop i xs)) ≡ false
+  between_values xs i n h = take_values (drop i xs) n (drop_values xs i h)
+
+  pub records_between : (xs : List (Item T)) (i n : ℕ) → has_mark xs ≡ false → records (take n (drop i xs)) ≡ take n (drop i (records xs))
+  records_between xs i n h = records_take (drop i xs) n (drop_values xs i h) ∙ ap (λ l. take n l) (records_drop xs i h)
 
   pub each_allowed : (before xs : List (Item T)) → has_mark before ≡ false → has_mark xs ≡ false → EachAllowed AllowsAfter before xs
   each_allowed before xs h none i d lt = has_mark_block before (take i xs) h (take_values xs i none)

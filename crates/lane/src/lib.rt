@@ -1,12 +1,14 @@
 //! Lanes: bounded queues of one sender and one taker, with a finish mark and a receipt of what was put.
 #![tactic(auto)]
 
+mod block;
 mod ends;
 mod item;
 mod sender;
 mod taker;
 mod waiting;
 
+pub use block::{Block, Values};
 pub use ends::lane;
 pub use item::Item;
 pub use sender::{BLOCK, End, Sender};

@@ -5,6 +5,7 @@ ghost use Rattle.lane.specs.declared.sender.TheConstants.{BLOCK};
 ghost use Rattle.lane.specs.declared.item.Item.TheVariants.{One, Finish};
 ghost use Rattle.lane.specs.Items.{has_mark, mark_last};
 
+use crate::block::Values;
 use crate::item::{Item, MarkLast};
 use rtrb::Producer;
 use std::alloc::Global;
@@ -65,6 +66,19 @@ impl<T: Copy + Send> Sender<T> {
     {
         wrap(&mut self.block, values);
         self.ring.push_entire_slice(&self.block).is_ok()
+    }
+
+    /// Adds values of a block, or none of them because the lane had no room for all.
+    #[tactic(auto, using(crate::proofs::Marks::has_mark_block, crate::proofs::Marks::mark_last_values, crate::proofs::Marks::all_values, crate::proofs::Marks::length_values))]
+    pub fn put_values(&mut self, values: &Values<T>) -> bool
+        requires unmarked { has_mark (put_of self.old) ≡ false }
+        ensures lane { (lane_of self.new ≡ lane_of self.old) × (capacity_of self.new ≡ capacity_of self.old) }
+        ensures put { IsTrue result → put_of self.new ≡ put_of self.old ++ map One values.now }
+        ensures full { IsFalse result → (put_of self.new ≡ put_of self.old) × (room_of self.new < length values.now) }
+        ensures succeeds { length values.now ≤ room_of self.old → IsTrue result }
+        ensures unmarked { has_mark (put_of self.new) ≡ false }
+    {
+        self.ring.push_entire_slice(values.items).is_ok()
     }
 
     /// Puts the mark, which takes a place too; false where the lane was full.

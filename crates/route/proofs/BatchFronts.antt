@@ -8,7 +8,7 @@ use Rattle.std.proofs.lemmas.List.FromFn.{length-map-range_with_len}
 use Rattle.lane.specs.declared.item.Item.{Item}
 use Rattle.lane.specs.declared.item.Item.TheVariants.{One, Finish}
 use Rattle.lane.specs.Items.{records}
-use Rattle.lane.proofs.Marks.{records-append}
+use Rattle.lane.proofs.Marks.{records_append}
 use Rattle.trace.specs.declared.records.Placed.{Placed}
 use Rattle.trace.specs.Shares.{share}
 use Rattle.trace.proofs.ShareLemmas.{share-append}
@@ -140,7 +140,7 @@ inside_batch n u bs e s r whole =
       whole = refl;
       portion = λ k. records (of_lane k (e ∷ s));
       left = λ k. records (of_lane k r);
-      cut = λ k l. sym (records-map (share k n u)) ∙ ap records (sym (both k l)) ∙ records-append (of_lane k (e ∷ s)) (of_lane k r);
+      cut = λ k l. sym (records-map (share k n u)) ∙ ap records (sym (both k l)) ∙ records_append (of_lane k (e ∷ s)) (of_lane k r);
       sent = λ k l. ones_front (of_lane k (e ∷ s)) (of_lane k r) (share k n u) (both k l);
       some = (e.0, first.0, first.1, one_of_lane (e.0 == e.0) e.1 first.1 (of_lane e.0 s) (eq-eqb e.0 e.0 refl) first.2);
     }

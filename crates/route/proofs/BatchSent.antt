@@ -1,7 +1,7 @@
 -- What stands on the lanes while a batch is sent.
-use Rattle.std.proofs.Common.{◌≡◌, ℕ, zero, suc, ◌+◌, ◌<◌, ◌≤◌, ◌==◌, nat_lt, Bool, true, false, cond, List, [], ◌∷◌, ◌++◌, length, take, drop, map, sym, ap, ap₂, subst, ◌∙◌, append_assoc, append-nil, refl, Option, None, arith}
+use Rattle.std.proofs.Common.{◌≡◌, ℕ, zero, suc, ◌+◌, ◌<◌, ◌≤◌, ◌==◌, nat_lt, cond, List, [], ◌∷◌, ◌++◌, length, take, drop, map, sym, ap, ap₂, subst, ◌∙◌, append_assoc, append-nil, Option, None, arith}
 use Rattle.std.proofs.lemmas.List.{take-append-drop, drop-take, take-take, drop-drop, drop_all, map-append, length-set}
-use Rattle.std.proofs.lemmas.Bool.{lt-ltb, le-ltb, cond-true, cond-false}
+use Rattle.std.proofs.lemmas.Bool.{lt-ltb, cond-true}
 use Rattle.lane.specs.declared.item.Item.TheVariants.{One}
 use Rattle.trace.specs.declared.records.Placed.{Placed}
 use Rattle.trace.specs.Shares.{share}
@@ -10,7 +10,7 @@ use Rattle.route.specs.declared.routing.Router.{Router}
 use Rattle.route.specs.Sending.{put_on, with_puts, portion, mark_of}
 use Rattle.route.specs.Routers.{puts_of, lane_count, pending_of, turn_of, marked_of, HasSent}
 use Rattle.route.specs.declared.batch.Batch.{Batch}
-use Rattle.route.specs.Batches.{portion_of, sent_count, sent_portion, unsent_portion, batch_lanes, HasStaged, HasSamePortions, IsUnsent, IsSentWhole, IsSending, IsAsFarSent, IsFirstToLack}
+use Rattle.route.specs.Batches.{portion_of, sent_count, sent_portion, unsent_portion, batch_lanes, HasStaged, HasSamePortions, IsSentWhole, IsSending, IsAsFarSent, IsFirstToLack}
 use Rattle.route.proofs.Sent.{Items, each_after, mark_of-from}
 
 -- so many more from the front

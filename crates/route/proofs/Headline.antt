@@ -4,7 +4,7 @@ use Rattle.std.proofs.lemmas.Bool.{cond_both}
 use Rattle.lane.specs.declared.item.Item.{Item}
 use Rattle.lane.specs.declared.item.Item.TheVariants.{One, Finish}
 use Rattle.lane.specs.Items.{has_mark, mark_last, records, IsBeginning}
-use Rattle.lane.proofs.Marks.{records-append, all_taken, mark_last_more, no_mark_in}
+use Rattle.lane.proofs.Marks.{records_append, all_taken, mark_last_more, no_mark_in}
 use Rattle.trace.specs.declared.records.Placed.{Placed}
 use Rattle.trace.specs.Shares.{goes_placed, share}
 use Rattle.trace.proofs.Once.{AllAbove, Rises, Rises-from, increasing-from_rises}
@@ -37,7 +37,7 @@ beginning-trans taken put whole (r, e) (s, f) = (r ++ s, f ∙ ap (λ (l : List 
 
 -- the values of a beginning
 records-front : (taken put : List (Item Placed)) → IsBeginning taken put → IsBeginning (records taken) (records put)
-records-front taken put (r, e) = (records r, ap records e ∙ records-append taken r)
+records-front taken put (r, e) = (records r, ap records e ∙ records_append taken r)
 
 mark_within : (taken rest : List (Item Placed)) → has_mark taken ≡ true → has_mark (taken ++ rest) ≡ true
 mark_within [] rest h = absurd (cc)

@@ -5,17 +5,17 @@ use Rattle.trace.specs.declared.records.Placed.{Placed}
 use Rattle.trace.specs.Shares.{share}
 use Rattle.route.specs.declared.batch.Batch.{Batch}
 use Rattle.route.specs.declared.routing.Router.{Router}
-use Rattle.route.specs.Portions.{portion_at}
+use Rattle.route.specs.Portions.{lanes_in, portion_at}
 use Rattle.route.specs.Sending.{put_on, with_puts}
 use Rattle.route.specs.Routers.{puts_of, lane_count, capacity_on, room_on}
 
 -- of how many lanes
 abbrev pub batch_lanes : Batch → ℕ
-batch_lanes b = length b.portions.items
+batch_lanes b = lanes_in b.portions
 
 -- the records for lane k
 abbrev pub portion_of : Batch → ℕ → List Placed
-portion_of b k = portion_at b.portions.items k
+portion_of b k = portion_at b.portions k
 
 -- no lane has more of them
 abbrev pub longest_of : Batch → ℕ

@@ -3,11 +3,11 @@ ghost use Rattle.std.specs.Prelude.{◌≡◌, ◌≢◌, ◌+◌, ◌<◌, ◌�
 ghost use Rattle.std.specs.Prelude.{ℕ, List, [], length, take, vec_len, IfOk, IsTrue, IsFalse};
 ghost use Rattle.lane.specs.declared.sender.TheConstants.{BLOCK};
 ghost use Rattle.trace.specs.declared.records.Placed.{Placed};
-ghost use Rattle.route.specs.Portions.{portion_at, AreNoLonger};
+ghost use Rattle.route.specs.Portions.{lanes_in, portion_at, common_of, AreNoLonger};
 
-use crate::portion::{Portion, clear_all, push_on, push_on_all};
+use crate::portions::Portions;
 use crate::turns::{lane_of, location_of};
-use lane::BLOCK;
+use lane::{BLOCK, Values};
 use std::alloc::Global;
 use trace::{NoMemory, Placed};
 
@@ -15,7 +15,7 @@ use trace::{NoMemory, Placed};
 /// after lane.
 #[derive(Drop)]
 pub struct Batch {
-    portions: Vec<Portion>,
+    portions: Portions,
     // no portion is longer
     longest: usize,
     // nor ever longer than this
@@ -23,12 +23,13 @@ pub struct Batch {
     // the lane whose portion is being sent, and how many records of that portion were sent
     turn: usize,
     sent: usize,
-    ghost some: { 1 ≤ vec_len portions },
+    ghost some: { 1 ≤ lanes_in portions },
     ghost within: { longest ≤ most },
     ghost most_within: { (1 ≤ most) × (most ≤ BLOCK) },
-    ghost no_longer: { AreNoLonger longest portions.items },
-    ghost turn_within: { turn ≤ vec_len portions },
-    ghost sent_within: { sent ≤ length (portion_at portions.items turn) },
+    ghost no_longer: { AreNoLonger longest portions },
+    ghost common_within: { length (common_of portions) ≤ longest },
+    ghost turn_within: { turn ≤ lanes_in portions },
+    ghost sent_within: { sent ≤ length (portion_at portions turn) },
 }
 
 impl Batch {
@@ -46,10 +47,7 @@ impl Batch {
         ensures longest { IfOk result (λ b. longest_of b ≡ 0) }
         ensures unsent { IfOk result IsUnsent }
     {
-        let mut portions = Vec::with_capacity(alloc, lanes)?;
-        for _ in 0..lanes {
-            portions.push_reserved(Portion::new(alloc)?);
-        }
+        let portions = Portions::new(alloc, lanes)?;
         Ok(Batch {
             portions,
             longest: 0,
@@ -71,7 +69,7 @@ impl Batch {
         ensures most { most_of self.new ≡ most_of self.old }
         ensures unsent { IsUnsent self.new }
     {
-        let lanes = self.portions.len();
+        let lanes = self.portions.lanes();
         match location_of(placed.what) {
             Some(location) => self.add_to(lane_of(location, lanes), placed),
             None => self.add_to_all(placed),
@@ -89,11 +87,12 @@ impl Batch {
         ensures most { most_of self.new ≡ most_of self.old }
         ensures unsent { IsUnsent self.new }
     {
-        if self.portions[lane].len() == self.most {
+        let len = self.portions.len(lane);
+        if len == self.most {
             return false;
         }
-        push_on(&mut self.portions, lane, placed);
-        self.longest = self.longest.max(self.portions[lane].len());
+        self.portions.push_on(lane, placed);
+        self.longest = self.longest.max(len + 1);
         true
     }
 
@@ -110,20 +109,21 @@ impl Batch {
         if self.longest == self.most {
             return false;
         }
-        push_on_all(&mut self.portions, placed);
+        self.portions.push_on_all(placed);
         self.longest += 1;
         true
     }
 
     /// Turns to the next lane that lacks records of the batch, or behind the last lane.
+    #[tactic(auto, unfolding(crate::specs::Portions::portion_at))]
     pub(crate) fn turn_on(&mut self)
         ensures portions { HasSamePortions self.old self.new }
         ensures sent { (k : ℕ) → sent_count self.new k ≡ sent_count self.old k }
         ensures lacks { batch_turn self.new < batch_lanes self.new → unsent_portion self.new (batch_turn self.new) ≢ [] }
         ensures whole { batch_turn self.new ≡ batch_lanes self.new → IsSentWhole self.new }
     {
-        for lane in self.turn..self.portions.len() {
-            if self.sent < self.portions[lane].len() {
+        for lane in self.turn..self.portions.lanes() {
+            if self.sent < self.portions.len(lane) {
                 return;
             }
             self.turn = lane + 1;
@@ -138,18 +138,19 @@ impl Batch {
         self.turn
     }
 
-    /// The next records for that lane, at most so many.
-    pub(crate) fn next(&self, most: usize) -> &[Placed]
+    /// Records of that lane that weren't sent, from the first of them on: at most so many, and at least one where that is
+    /// allowed and there are any.
+    pub(crate) fn next(&self, most: usize) -> Values<Placed>
         requires { batch_turn self.now < batch_lanes self.now }
-        ensures next { result.now ≡ take most (unsent_portion self.now (batch_turn self.now)) }
-        ensures most { length result.now ≤ BLOCK }
+        ensures next { result ≡ take (length result) (unsent_portion self.now (batch_turn self.now)) }
+        ensures most { length result ≤ most }
+        ensures some { unsent_portion self.now (batch_turn self.now) ≢ [] → 1 ≤ most → 1 ≤ length result }
     {
-        let portion = &self.portions[self.turn];
-        let count = (portion.len() - self.sent).min(most);
-        portion.between(self.sent, self.sent + count)
+        self.portions.next(self.turn, self.sent, most)
     }
 
     /// Counts so many records more for that lane as sent.
+    #[tactic(auto, unfolding(crate::specs::Portions::portion_at))]
     pub(crate) fn count_sent(&mut self, count: usize)
         requires { count ≤ length (unsent_portion self.old (batch_turn self.old)) }
         ensures portions { HasSamePortions self.old self.new }
@@ -168,7 +169,7 @@ impl Batch {
         ensures unsent { IsUnsent self.new }
         ensures lanes { batch_lanes self.new ≡ batch_lanes self.old }
     {
-        clear_all(&mut self.portions);
+        self.portions.clear();
         self.longest = 0;
         self.turn = 0;
         self.sent = 0;

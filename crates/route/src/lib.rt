@@ -4,7 +4,7 @@
 
 mod batch;
 pub mod laws;
-mod portion;
+mod portions;
 mod progress;
 mod puts;
 mod routing;

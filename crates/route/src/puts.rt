@@ -5,7 +5,7 @@ ghost use Rattle.lane.specs.Items.{has_mark};
 ghost use Rattle.route.specs.Senders.{lanes, puts, capacities, rooms};
 ghost use Rattle.route.specs.Sending.{put_on, with_put, with_puts};
 
-use lane::{BLOCK, Sender};
+use lane::{Sender, Values};
 use trace::Placed;
 
 /// Puts the record on the lane; false where the lane was full.
@@ -27,10 +27,13 @@ pub fn put_on(senders: &mut Vec<Sender<Placed>>, lane: usize, placed: Placed) ->
 }
 
 /// Puts the records on the lane; false where it hadn't room for all.
-pub fn put_block_on(senders: &mut Vec<Sender<Placed>>, lane: usize, records: &[Placed]) -> bool
+pub fn put_values_on(
+    senders: &mut Vec<Sender<Placed>>,
+    lane: usize,
+    records: &Values<Placed>,
+) -> bool
     requires within { lane < vec_len senders.old }
     requires unmarked { has_mark (put_on (puts senders.old.items) lane) ≡ false }
-    requires most { length records.now ≤ BLOCK }
     ensures puts { puts senders.new.items
         ≡ (if result then with_puts (puts senders.old.items) lane (map One records.now)
         else puts senders.old.items) }
@@ -39,7 +42,7 @@ pub fn put_block_on(senders: &mut Vec<Sender<Placed>>, lane: usize, records: &[P
     ensures len { vec_len senders.new ≡ vec_len senders.old }
     ensures full { IsFalse result → slice_index_or (rooms senders.new.items) lane 0 < length records.now }
 {
-    senders[lane].put_block(records)
+    senders[lane].put_values(records)
 }
 
 /// Puts the mark on the lane; false where the lane was full.

@@ -13,7 +13,7 @@ ghost use Rattle.route.specs.Routers.{HasSent, IsOnLanes, IsUnchanged, IsLastLan
 use super::Router;
 use crate::batch::Batch;
 use crate::progress::Progress;
-use crate::puts::{mark_on, put_block_on, put_on};
+use crate::puts::{mark_on, put_on, put_values_on};
 use crate::turns::{first_lane, lane_after};
 use trace::Placed;
 
@@ -114,8 +114,8 @@ impl Router {
         Progress::Moved
     }
 
-    /// Puts records of the batch on the first lane that lacks some: all that it lacks, or on a small lane a piece of
-    /// them.
+    /// Puts records of the batch on the first lane that lacks some: the next of those that it lacks, and on a small lane no
+    /// more than it has half the room for.
     pub fn send_step(&mut self, batch: &mut Batch) -> Progress
         requires idle { pending_of self.old ≡ None }
         requires unmarked { marked_of self.old ≡ 0 }
@@ -173,7 +173,7 @@ impl Router {
         // half of the lane at most, so that one half is filled while the other is taken
         let most = (self.senders[lane].capacity() / 2).max(1);
         let records = batch.next(most);
-        if put_block_on(&mut self.senders, lane, records) {
+        if put_values_on(&mut self.senders, lane, &records) {
             Some(records.len())
         } else {
             None

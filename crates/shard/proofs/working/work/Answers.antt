@@ -4,7 +4,7 @@ use Rattle.lane.specs.declared.item.Item.{Item}
 use Rattle.lane.specs.Items.{has_mark, records}
 use Rattle.lane.specs.Lanes.{taken_of}
 use Rattle.shard.specs.Tellings.{told_of}
-use Rattle.lane.proofs.Marks.{records-append, all_to_mark}
+use Rattle.lane.proofs.Marks.{records_append, all_to_mark}
 use Rattle.shard.specs.declared.Back.{Back}
 use Rattle.shard.specs.Working.{HasWorked, IsOfShare, TellsFound}
 use Rattle.shard.proofs.Works.{worked_new, answers, tells_share}
@@ -24,7 +24,7 @@ loop-init g c =
 pub loop-preserved : goal.loop-preserved
 loop-preserved g c =
     let i = c.loop.invariant in
-    let same : records (taken_of c.take_block-count.new.self) ≡ records (taken_of c.loop.taker) ++ records (take c.take_block-count.result c.take_block-count.new.items) = ap records c.take_block-count.ensures.taken ∙ records-append (taken_of c.loop.taker) _ in
+    let same : records (taken_of c.take_block-count.new.self) ≡ records (taken_of c.loop.taker) ++ records (take c.take_block-count.result c.take_block-count.new.items) = ap records c.take_block-count.ensures.taken ∙ records_append (taken_of c.loop.taker) _ in
     let P : List Placed → Type 0 = λ u. HasWorked u c.take_block.new.self.shard (told_of c.take_block.new.self.telling) c.take_block.new.self.stopped in
     record {
       same_taker = c.take_block-count.ensures.lane ∙ i.same_taker;
@@ -38,7 +38,7 @@ returns-then-ended g c =
     let i = c.loop.invariant in
     let taken = taken_of c.take_block-count.new.self in
     let put = told_of c.take_block.new.self.telling in
-    let same : records taken ≡ records (taken_of c.loop.taker) ++ records (take c.take_block-count.result c.take_block-count.new.items) = ap records c.take_block-count.ensures.taken ∙ records-append (taken_of c.loop.taker) _ in
+    let same : records taken ≡ records (taken_of c.loop.taker) ++ records (take c.take_block-count.result c.take_block-count.new.items) = ap records c.take_block-count.ensures.taken ∙ records_append (taken_of c.loop.taker) _ in
     let P : List Placed → Type 0 = λ u. HasWorked u c.take_block.new.self.shard put c.take_block.new.self.stopped in
     let worked = subst P (sym same) (c.take_block.ensures.worked (records (taken_of c.loop.taker)) i.worked) in
     let Q : List (Item Back) → Type 0 = λ all. IsOfShare (records taken) → (c.take_block.new.self.shard.taken ≡ length (records taken)) × TellsFound (records taken) all in

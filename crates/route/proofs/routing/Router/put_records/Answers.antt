@@ -11,4 +11,4 @@ invariant_of-self-clause-marks c =
     let old = puts s.senders.items in
     let within : c.turn-lane.result < length old = omega (arith, c.turn-lane.ensures, c.requires.within, c.requires.lanes) in
     let none : has_mark (put_on old c.turn-lane.result) ≡ false = unmarked_at old s.marked c.turn-lane.result (omega (arith, c.requires.unmarked)) within s.marks in
-    marks_either c.put_block_on.result old (puts c.put_block_on.new.senders.items) c.turn-lane.result s.marked c.next-records.result.now c.put_block_on.ensures.puts within none s.marks
+    marks_either c.put_values_on.result old (puts c.put_values_on.new.senders.items) c.turn-lane.result s.marked c.next-records.result c.put_values_on.ensures.puts within none s.marks

@@ -13,7 +13,7 @@ use Rattle.route.proofs.routing.Router.send_step.Goals as goal
 
 -- the lane whose turn it is
 lane_within : (c : goal.After-count_sent) → c.turn_on.new.self.turn < batch_lanes c.turn_on.new.self
-lane_within c = let s = c.args.self.now in omega (arith, c.turn_on.new.self.turn_within, c.turn_on.new.self.portions.ok.0, c.if-turn-len.false, c.turn.ensures, c.len.ensures, c.turn_on.ensures.portions.lanes, c.requires.lanes, length-map s.senders.items put_of, s.senders.ok.0)
+lane_within c = let s = c.args.self.now in omega (arith, c.turn_on.new.self.turn_within, c.if-turn-len.false, c.turn.ensures, c.len.ensures, c.turn_on.ensures.portions.lanes, c.requires.lanes, length-map s.senders.items put_of, s.senders.ok.0)
 
 pub returns-in-Some-clause-sending : goal.returns-in-Some-clause-sending
 returns-in-Some-clause-sending c w h k lt =
@@ -61,7 +61,7 @@ returns-in-None-clause-blocked c =
     let j = turned.turn in
     let router = c.put_records.new.self in
     let s = c.args.self.now in
-    let within : j < batch_lanes turned = omega (arith, turned.turn_within, turned.portions.ok.0, c.if-turn-len.false, c.turn.ensures, c.len.ensures, c.turn_on.ensures.portions.lanes, c.requires.lanes, length-map s.senders.items put_of, s.senders.ok.0) in
+    let within : j < batch_lanes turned = omega (arith, turned.turn_within, c.if-turn-len.false, c.turn.ensures, c.len.ensures, c.turn_on.ensures.portions.lanes, c.requires.lanes, length-map s.senders.items put_of, s.senders.ok.0) in
     let P : ℕ → Type 0 = λ k. LacksRoom old s router k in
     let Q : List Placed → Type 0 = λ l. room_on router j < length l in
     subst P (sym c.turn-in-None.ensures) (record {

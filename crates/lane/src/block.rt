@@ -1,0 +1,125 @@
+//! Values that are put on lanes together.
+ghost use Rattle.std.specs.Prelude.{◌≡◌, ◌-◌, ◌+◌, ◌<◌, ◌≤◌, false, [], ◌∷◌, ◌++◌, length, take, drop, vec_len, vec_capacity, ℕ, IfOk};
+ghost use Rattle.lane.specs.declared.sender.TheConstants.{BLOCK};
+
+use crate::item::Item;
+use crate::sender::BLOCK;
+use std::alloc::Global;
+use std::marker::Model;
+use trace::NoMemory;
+
+/// Values in their order, kept as a lane keeps them: so a put of them only copies. It takes memory for 64 when it is made,
+/// and none after that.
+#[derive(Drop)]
+pub struct Block<T> {
+    pub(crate) items: Vec<Item<T>>,
+}
+
+impl<T> Model for Block<T> {
+    ghost use Rattle.std.specs.Prelude.{◌≡◌, ◌≤◌, false, List, vec_len, vec_capacity};
+    ghost use Rattle.lane.specs.declared.sender.TheConstants.{BLOCK};
+    ghost use Rattle.lane.specs.Items.{has_mark, records};
+
+    ghost Value = { List T };
+
+    ghost view = { λ b. records b.items.items };
+
+    ghost invariant = { λ b. (has_mark b.items.items ≡ false) × (vec_len b.items ≤ BLOCK) × (BLOCK ≤ vec_capacity b.items) };
+}
+
+/// Some values of a block that follow one another.
+#[derive(Drop)]
+pub struct Values<'a, T> {
+    pub(crate) items: &'a [Item<T>],
+}
+
+impl<'a, T> Model for Values<'a, T> {
+    ghost use Rattle.std.specs.Prelude.{◌≡◌, ◌≤◌, false, List, length};
+    ghost use Rattle.lane.specs.declared.sender.TheConstants.{BLOCK};
+    ghost use Rattle.lane.specs.Items.{has_mark, records};
+
+    ghost Value = { List T };
+
+    ghost view = { λ v. records v.items.now };
+
+    ghost invariant = { λ v. (has_mark v.items.now ≡ false) × (length v.items.now ≤ BLOCK) };
+}
+
+impl<T: Copy> Block<T> {
+    /// No value yet.
+    pub fn new(alloc: Global) -> Result<Block<T>, NoMemory>
+        ensures { IfOk result (λ block. block ≡ []) }
+    {
+        let items = Vec::with_capacity(alloc, BLOCK)?;
+        Ok(Block { items })
+    }
+
+    /// How many values it has.
+    #[inline(always)]
+    #[tactic(auto, using(crate::proofs::Marks::length_values))]
+    pub fn len(&self) -> usize
+        ensures len { result ≡ length self.now }
+        ensures most { result ≤ BLOCK }
+    {
+        self.items.len()
+    }
+
+    /// Adds a value behind the others.
+    #[inline(always)]
+    #[tactic(auto, using(crate::proofs::Marks::length_values, crate::proofs::Marks::has_mark_more, crate::proofs::Marks::records_one))]
+    pub fn push(&mut self, value: T)
+        requires { length self.old < BLOCK }
+        ensures { self.new ≡ self.old ++ value ∷ [] }
+    {
+        self.items.push_reserved(Item::One(value));
+    }
+
+    /// Adds the values behind the others.
+    #[tactic(auto, using(crate::proofs::Marks::length_values, crate::proofs::Marks::has_mark_block, crate::proofs::Marks::records_append))]
+    pub fn append(&mut self, values: &Values<T>)
+        requires { length self.old + length values.now ≤ BLOCK }
+        ensures { self.new ≡ self.old ++ values.now }
+    {
+        copy_behind(&mut self.items, values.items);
+    }
+
+    /// The values from one index up to another.
+    #[tactic(auto, using(crate::proofs::Marks::length_values, crate::proofs::Marks::between_values, crate::proofs::Marks::records_between))]
+    pub fn between(&self, from: usize, to: usize) -> Values<T>
+        requires { (from ≤ to) × (to ≤ length self.now) }
+        ensures { result ≡ take (to - from) (drop from self.now) }
+    {
+        Values {
+            items: &self.items[from..to],
+        }
+    }
+
+    /// Leaves no value in it.
+    pub fn clear(&mut self)
+        ensures { self.new ≡ [] }
+    {
+        self.items.clear();
+    }
+}
+
+impl<'a, T: Copy> Values<'a, T> {
+    /// How many they are.
+    #[tactic(auto, using(crate::proofs::Marks::length_values))]
+    pub fn len(&self) -> usize
+        ensures len { result ≡ length self.now }
+        ensures most { result ≤ BLOCK }
+    {
+        self.items.len()
+    }
+}
+
+// Copies the items behind the others.
+fn copy_behind<T: Copy>(items: &mut Vec<Item<T>>, more: &[Item<T>])
+    requires { vec_len items.old + length more.now ≤ vec_capacity items.old }
+    ensures items { items.new.items ≡ items.old.items ++ more.now }
+    ensures capacity { vec_capacity items.new ≡ vec_capacity items.old }
+{
+    for item in more {
+        items.push_reserved(*item);
+    }
+}
