@@ -1,10 +1,13 @@
 //! The router call by call, and what each lane gave at every point of a run.
-ghost use Rattle.std.specs.Prelude.{◌≡◌, ◌≤◌, [], ◌∷◌, All, map, IfOk, OnOk, vec_len};
+ghost use Rattle.std.specs.Prelude.{◌≡◌, ◌≤◌, [], ◌∷◌, All, map, IfOk, vec_len};
+ghost use Rattle.trace.specs.Bounds.{IsCapacity};
 ghost use Rattle.lane.specs.Lanes.{put_of, taker_lane, end_lane};
-ghost use Rattle.route.specs.Routers.{lanes_of, pending_of, marked_of};
+ghost use Rattle.route.specs.Batches.{batch_lanes, IsUnsent};
+ghost use Rattle.route.specs.Routers.{lanes_of, lane_count, pending_of, marked_of};
 
 use lane::{BLOCK, End, Item, Sender, Taker, lane};
-use route::{Batch, Progress, Router};
+use route::Progress::{self, Blocked, Idle, Moved};
+use route::{Batch, Router};
 use std::alloc::Global;
 use std::process::Abort;
 use std::sync::Wait;
@@ -15,37 +18,86 @@ fn at(place: u64, what: Record) -> Placed {
     Placed { place, what }
 }
 
-fn one(place: u64, what: Record) -> Option<Item<Placed>> {
-    Some(Item::One(at(place, what)))
+fn one(place: u64, what: Record) -> Item<Placed> {
+    Item::One(at(place, what))
+}
+
+// A router over two lanes of these capacities, and the takers. What the calls below promise to their callers is no more
+// than these need, or their proofs take long.
+fn over_two(
+    alloc: Global,
+    first: usize,
+    second: usize,
+) -> Result<(Router, Taker<Placed>, Taker<Placed>), NoMemory>
+    requires { IsCapacity first × IsCapacity second }
+    ensures lanes { IfOk result (λ r. lanes_of r.0 ≡ taker_lane r.1 ∷ taker_lane r.2 ∷ []) }
+    ensures count { IfOk result (λ r. lane_count r.0 ≡ 2) }
+    ensures idle { IfOk result (λ r. pending_of r.0 ≡ None) }
+    ensures unmarked { IfOk result (λ r. marked_of r.0 ≡ 0) }
+{
+    let mut senders = Vec::with_capacity(alloc, 2)?;
+    let (sender, taker) = lane::<Placed>(alloc, first)?;
+    senders.push_reserved(sender);
+    let (sender, other) = lane::<Placed>(alloc, second)?;
+    senders.push_reserved(sender);
+    Ok((Router::new(alloc, senders)?, taker, other))
+}
+
+// Offers a record where none is pending, and then one is.
+fn offers<R: Abort>(rt: &R, router: &mut Router, place: u64, what: Record)
+    requires { marked_of router.old ≡ 0 }
+    ensures lanes { lanes_of router.new ≡ lanes_of router.old }
+    ensures unmarked { marked_of router.new ≡ 0 }
+{
+    assert!(rt; !router.pending());
+    router.offer(at(place, what));
+    assert!(rt; router.pending());
+}
+
+// What the next steps come to.
+fn steps<R: Abort>(rt: &R, router: &mut Router, wanted: &[Progress])
+    requires { marked_of router.old ≡ 0 }
+    ensures lanes { lanes_of router.new ≡ lanes_of router.old }
+    ensures unmarked { marked_of router.new ≡ 0 }
+{
+    for progress in wanted {
+        assert!(rt; router.step() == *progress, "{progress:?}");
+    }
+}
+
+// What the next steps to the marks come to.
+fn mark_steps<R: Abort>(rt: &R, router: &mut Router, wanted: &[Progress])
+    requires { pending_of router.old ≡ None }
+    ensures lanes { lanes_of router.new ≡ lanes_of router.old }
+    ensures idle { pending_of router.new ≡ None }
+{
+    for progress in wanted {
+        assert!(rt; router.mark_all_step() == *progress, "{progress:?}");
+    }
+}
+
+// What a lane gives next.
+fn gives<R: Abort>(rt: &R, taker: &mut Taker<Placed>, wanted: Item<Placed>)
+    ensures { taker_lane taker.new ≡ taker_lane taker.old }
+{
+    assert!(rt; taker.take() == Some(wanted), "{wanted:?}");
 }
 
 #[test]
 fn two_lanes(rt: HostRuntime) -> Result<(), Fail> {
-    let (first, mut taker) = lane::<Placed>(rt.alloc(), 1)?;
-    let (second, mut other) = lane::<Placed>(rt.alloc(), 1)?;
-    let mut senders = Vec::new(rt.alloc());
-    senders.push(first)?;
-    senders.push(second)?;
-    let mut router = Router::new(rt.alloc(), senders)?;
-    router.offer(at(1, Record::Spawn));
-    assert!(rt; router.pending());
-    assert_eq!(rt; router.step(), Progress::Moved);
-    assert_eq!(rt; router.step(), Progress::Moved);
-    assert_eq!(rt; router.step(), Progress::Idle);
-    assert!(rt; !router.pending());
-    router.offer(at(2, Record::Write(5)));
-    assert_eq!(rt; router.step(), Progress::Blocked(1));
-    assert_eq!(rt; other.take(), one(1, Record::Spawn));
-    assert_eq!(rt; router.step(), Progress::Moved);
-    assert_eq!(rt; router.step(), Progress::Idle);
-    router.offer(at(3, Record::Return));
-    assert_eq!(rt; router.step(), Progress::Blocked(0));
-    assert_eq!(rt; taker.take(), one(1, Record::Spawn));
-    assert_eq!(rt; router.step(), Progress::Moved);
-    assert_eq!(rt; router.step(), Progress::Blocked(1));
-    assert_eq!(rt; other.take(), one(2, Record::Write(5)));
-    assert_eq!(rt; router.step(), Progress::Moved);
-    assert!(rt; !router.pending());
+    let (mut router, mut taker, mut other) = over_two(rt.alloc(), 1, 1)?;
+    offers(&rt, &mut router, 1, Record::Spawn);
+    steps(&rt, &mut router, &[Moved, Moved, Idle]);
+    offers(&rt, &mut router, 2, Record::Write(5));
+    steps(&rt, &mut router, &[Blocked(1)]);
+    gives(&rt, &mut other, one(1, Record::Spawn));
+    steps(&rt, &mut router, &[Moved, Idle]);
+    offers(&rt, &mut router, 3, Record::Return);
+    steps(&rt, &mut router, &[Blocked(0)]);
+    gives(&rt, &mut taker, one(1, Record::Spawn));
+    steps(&rt, &mut router, &[Moved, Blocked(1)]);
+    gives(&rt, &mut other, one(2, Record::Write(5)));
+    steps(&rt, &mut router, &[Moved]);
     mark_two(&rt, router, taker, other);
     Ok(())
 }
@@ -57,63 +109,94 @@ fn mark_two<R: Abort>(
     mut taker: Taker<Placed>,
     mut other: Taker<Placed>,
 )
-    requires idle { pending_of router ≡ None }
     requires lanes { lanes_of router ≡ taker_lane taker ∷ taker_lane other ∷ [] }
 {
-    assert_eq!(rt; router.mark_all_step(), Progress::Blocked(0));
-    assert_eq!(rt; taker.take(), one(3, Record::Return));
-    assert_eq!(rt; router.mark_all_step(), Progress::Moved);
-    assert_eq!(rt; router.mark_all_step(), Progress::Blocked(1));
-    assert_eq!(rt; other.take(), one(3, Record::Return));
-    assert_eq!(rt; router.mark_all_step(), Progress::Moved);
-    assert_eq!(rt; router.mark_all_step(), Progress::Idle);
-    assert_eq!(rt; taker.take(), Some(Item::Finish));
-    assert_eq!(rt; other.take(), Some(Item::Finish));
-    settle_two(router.into_ends(), taker, other);
+    assert!(rt; !router.pending());
+    mark_steps(rt, &mut router, &[Blocked(0)]);
+    gives(rt, &mut taker, one(3, Record::Return));
+    mark_steps(rt, &mut router, &[Moved, Blocked(1)]);
+    gives(rt, &mut other, one(3, Record::Return));
+    mark_steps(rt, &mut router, &[Moved]);
+    let ends = ends_of(rt, router);
+    gives(rt, &mut taker, Item::Finish);
+    gives(rt, &mut other, Item::Finish);
+    settle_two(ends, taker, other);
+}
+
+// The receipts of a router whose lanes have their marks.
+fn ends_of<R: Abort>(rt: &R, mut router: Router) -> Vec<End<Placed>>
+    requires { pending_of router ≡ None }
+    ensures { map end_lane result.items ≡ lanes_of router }
+{
+    assert!(rt; router.mark_all_step() == Idle);
+    router.into_ends()
 }
 
 // The receipts are those of the two lanes, in their order.
 fn settle_two(mut ends: Vec<End<Placed>>, mut taker: Taker<Placed>, mut other: Taker<Placed>)
-    requires count { vec_len ends ≡ 2 }
-    requires lanes { map end_lane ends.items ≡ taker_lane taker ∷ taker_lane other ∷ [] }
+    requires { map end_lane ends.items ≡ taker_lane taker ∷ taker_lane other ∷ [] }
 {
     taker.settle(&mut ends[0]);
     other.settle(&mut ends[1]);
 }
 
+// Adds a record to the batch, or finds it full.
+fn adds<R: Abort>(rt: &R, batch: &mut Batch, place: u64, what: Record, fits: bool)
+    requires { IsUnsent batch.old }
+    ensures unsent { IsUnsent batch.new }
+    ensures lanes { batch_lanes batch.new ≡ batch_lanes batch.old }
+{
+    assert!(rt; batch.add(at(place, what)) == fits, "{place}");
+}
+
+// Stages the records with the places from 1 on, and nothing else.
+fn stage<R: Abort>(rt: &R, batch: &mut Batch, records: &[Record])
+    ensures { batch_lanes batch.new ≡ batch_lanes batch.old }
+{
+    batch.clear();
+    let mut place = 0u64;
+    for what in records {
+        place = place.saturating_add(1);
+        adds(rt, batch, place, *what, true);
+    }
+}
+
+// What the next steps come to that send of the batch.
+fn send_steps<R: Abort>(rt: &R, router: &mut Router, batch: &mut Batch, wanted: &[Progress])
+    requires idle { pending_of router.old ≡ None }
+    requires unmarked { marked_of router.old ≡ 0 }
+    requires lanes { batch_lanes batch.old ≡ lane_count router.old }
+    ensures idle { pending_of router.new ≡ None }
+    ensures unmarked { marked_of router.new ≡ 0 }
+    ensures lanes { batch_lanes batch.new ≡ lane_count router.new }
+{
+    for progress in wanted {
+        assert!(rt; router.send_step(batch) == *progress, "{progress:?}");
+    }
+}
+
 #[test]
 fn batch_on_two_lanes(rt: HostRuntime) -> Result<(), Fail> {
-    let (first, mut even) = lane::<Placed>(rt.alloc(), 3)?;
-    let (second, mut odd) = lane::<Placed>(rt.alloc(), 2)?;
-    let mut senders = Vec::new(rt.alloc());
-    senders.push(first)?;
-    senders.push(second)?;
-    let mut router = Router::new(rt.alloc(), senders)?;
+    let (mut router, mut even, mut odd) = over_two(rt.alloc(), 3, 2)?;
     let mut batch = Batch::new(rt.alloc(), 2, BLOCK)?;
-    assert_eq!(rt; router.send_step(&mut batch), Progress::Idle);
-    batch.clear();
-    assert!(rt; batch.add(at(1, Record::Spawn)));
-    assert!(rt; batch.add(at(2, Record::Write(5))));
-    assert!(rt; batch.add(at(3, Record::Read(4))));
-    assert!(rt; batch.add(at(4, Record::Read(7))));
-    for progress in [
-        Progress::Moved,
-        Progress::Moved,
-        Progress::Moved,
-        Progress::Moved,
-        Progress::Blocked(1),
-    ] {
-        assert_eq!(rt; router.send_step(&mut batch), progress);
-    }
-    assert_eq!(rt; even.take(), one(1, Record::Spawn));
-    assert_eq!(rt; even.take(), one(3, Record::Read(4)));
-    assert_eq!(rt; odd.take(), one(1, Record::Spawn));
-    assert_eq!(rt; router.send_step(&mut batch), Progress::Moved);
-    assert_eq!(rt; router.send_step(&mut batch), Progress::Idle);
-    assert_eq!(rt; odd.take(), one(2, Record::Write(5)));
-    assert_eq!(rt; odd.take(), one(4, Record::Read(7)));
-    batch.clear();
-    assert_eq!(rt; router.send_step(&mut batch), Progress::Idle);
+    send_steps(&rt, &mut router, &mut batch, &[Idle]);
+    let records = [
+        Record::Spawn,
+        Record::Write(5),
+        Record::Read(4),
+        Record::Read(7),
+    ];
+    stage(&rt, &mut batch, &records);
+    let progress = [Moved, Moved, Moved, Moved, Blocked(1)];
+    send_steps(&rt, &mut router, &mut batch, &progress);
+    gives(&rt, &mut even, one(1, Record::Spawn));
+    gives(&rt, &mut even, one(3, Record::Read(4)));
+    gives(&rt, &mut odd, one(1, Record::Spawn));
+    send_steps(&rt, &mut router, &mut batch, &[Moved, Idle]);
+    gives(&rt, &mut odd, one(2, Record::Write(5)));
+    gives(&rt, &mut odd, one(4, Record::Read(7)));
+    stage(&rt, &mut batch, &[]);
+    send_steps(&rt, &mut router, &mut batch, &[Idle]);
     Ok(())
 }
 
@@ -121,19 +204,23 @@ fn batch_on_two_lanes(rt: HostRuntime) -> Result<(), Fail> {
 fn batch_is_full(rt: HostRuntime) -> Result<(), Fail> {
     let mut batch = Batch::new(rt.alloc(), 3, BLOCK)?;
     for place in 1..65 {
-        assert!(rt; batch.add(at(place, Record::Write(3 * place))));
+        adds(&rt, &mut batch, place, Record::Write(3 * place), true);
     }
-    assert!(rt; !batch.add(at(65, Record::Read(0))));
-    assert!(rt; !batch.add(at(65, Record::Sync)));
-    assert!(rt; batch.add(at(65, Record::Read(1))));
-    batch.clear();
-    assert!(rt; batch.add(at(66, Record::Sync)));
-    let mut of_two = Batch::new(rt.alloc(), 3, 2)?;
-    assert!(rt; of_two.add(at(1, Record::Spawn)));
-    assert!(rt; of_two.add(at(2, Record::Read(4))));
-    assert!(rt; !of_two.add(at(3, Record::Read(1))));
-    assert!(rt; of_two.add(at(3, Record::Read(2))));
-    assert!(rt; !of_two.add(at(4, Record::Sync)));
+    adds(&rt, &mut batch, 65, Record::Read(0), false);
+    adds(&rt, &mut batch, 65, Record::Sync, false);
+    adds(&rt, &mut batch, 65, Record::Read(1), true);
+    stage(&rt, &mut batch, &[Record::Sync]);
+    Ok(())
+}
+
+#[test]
+fn batch_of_two_is_full(rt: HostRuntime) -> Result<(), Fail> {
+    let mut batch = Batch::new(rt.alloc(), 3, 2)?;
+    adds(&rt, &mut batch, 1, Record::Spawn, true);
+    adds(&rt, &mut batch, 2, Record::Read(4), true);
+    adds(&rt, &mut batch, 3, Record::Read(1), false);
+    adds(&rt, &mut batch, 3, Record::Read(2), true);
+    adds(&rt, &mut batch, 4, Record::Sync, false);
     Ok(())
 }
 
@@ -147,9 +234,9 @@ struct Watched {
 
 impl Watched {
     // Takes the item that is there, and tells whether there was one.
-    fn take(&mut self) -> Result<bool, NoMemory> {
+    fn take(&mut self) -> Result<bool, Fail> {
         match self.taker.take() {
-            Some(Item::One(placed)) => self.given.push(placed).map_err(|_| NoMemory)?,
+            Some(Item::One(placed)) => self.given.push(placed)?,
             Some(Item::Finish) => self.marks = self.marks.saturating_add(1),
             None => return Ok(false),
         }
@@ -161,20 +248,16 @@ fn lanes(alloc: Global, count: usize) -> Result<(Vec<Sender<Placed>>, Vec<Watche
     ensures count { IfOk result (λ r. vec_len r.0 ≡ count) }
     ensures empty { IfOk result (λ r. All (λ s. put_of s ≡ []) r.0.items) }
 {
-    let mut senders = Vec::new(alloc);
-    let mut watched = Vec::new(alloc);
+    let mut senders = Vec::with_capacity(alloc, count)?;
+    let mut watched = Vec::with_capacity(alloc, count)?;
     for _ in 0..count {
         let (sender, taker) = lane::<Placed>(alloc, 1)?;
-        senders.push(sender).map_err(|_| NoMemory)?;
-        let given = Vec::new(alloc);
-        let marks = 0;
-        watched
-            .push(Watched {
-                taker,
-                given,
-                marks,
-            })
-            .map_err(|_| NoMemory)?;
+        senders.push_reserved(sender);
+        watched.push_reserved(Watched {
+            taker,
+            given: Vec::new(alloc),
+            marks: 0,
+        });
     }
     Ok((senders, watched))
 }
@@ -217,14 +300,14 @@ fn is_share(given: &[Placed], lane: u64, count: u64, last: u64) -> bool
 }
 
 // Takes from each lane: one of them has an item.
-fn take_one<R: Abort>(rt: &R, watched: &mut Vec<Watched>) -> Result<(), NoMemory> {
+fn take_one<R: Abort>(rt: &R, watched: &mut Vec<Watched>) -> Result<(), Fail> {
     let mut taken = 0u64;
     for one in watched.iter_mut() {
         if one.take()? {
             taken = taken.saturating_add(1);
         }
     }
-    assert_eq!(rt; taken, 1);
+    assert!(rt; taken == 1, "{taken}");
     Ok(())
 }
 
@@ -235,31 +318,48 @@ fn compare<R: Abort>(rt: &R, watched: &Vec<Watched>, place: u64, pending: bool) 
     for one in watched {
         let whole = is_share(&one.given, lane, count, place);
         let lacking = is_share(&one.given, lane, count, place.saturating_sub(1));
-        assert!(rt; whole || pending && lacking);
+        assert!(rt; whole || pending && lacking, "lane {lane} at {place}");
         lane = lane.saturating_add(1);
     }
 }
 
-// Sends the offered record, and compares after each put.
+// Whether a put was done, of the pending record; a lane is never full.
+fn moves<R: Abort>(rt: &R, router: &mut Router) -> bool
+    requires { marked_of router.old ≡ 0 }
+    ensures { marked_of router.new ≡ 0 }
+{
+    let progress = router.step();
+    assert!(rt; progress == Moved || progress == Idle);
+    progress == Moved
+}
+
+// Whether a put was done, of a mark; a lane is never full.
+fn marks<R: Abort>(rt: &R, router: &mut Router) -> bool
+    requires { pending_of router.old ≡ None }
+    ensures { pending_of router.new ≡ None }
+{
+    let progress = router.mark_all_step();
+    assert!(rt; progress == Moved || progress == Idle);
+    progress == Moved
+}
+
+// Sends the record, and compares after each put.
 fn send<R: Wait + Abort>(
     rt: &R,
     router: &mut Router,
     watched: &mut Vec<Watched>,
-    place: u64,
-) -> Result<(), NoMemory>
+    placed: Placed,
+) -> Result<(), Fail>
     requires { marked_of router.old ≡ 0 }
-    ensures idle { OnOk result (pending_of router.new ≡ None) }
-    ensures unmarked { OnOk result (marked_of router.new ≡ 0) }
+    ensures { marked_of router.new ≡ 0 }
 {
+    offers(rt, router, placed.place, placed.what);
     for _ in rt.forever() {
-        match router.step() {
-            Progress::Idle => return Ok(()),
-            progress => {
-                assert_eq!(rt; progress, Progress::Moved);
-                take_one(rt, watched)?;
-                compare(rt, watched, place, router.pending());
-            }
+        if !moves(rt, router) {
+            return Ok(());
         }
+        take_one(rt, watched)?;
+        compare(rt, watched, placed.place, router.pending());
     }
     unreachable!()
 }
@@ -269,29 +369,23 @@ fn mark<R: Wait + Abort>(
     rt: &R,
     mut router: Router,
     watched: &mut Vec<Watched>,
-) -> Result<(), NoMemory>
-    requires { pending_of router ≡ None }
-{
+) -> Result<(), Fail> {
+    assert!(rt; !router.pending());
     for _ in rt.forever() {
-        match router.mark_all_step() {
-            Progress::Idle => break,
-            progress => {
-                assert_eq!(rt; progress, Progress::Moved);
-                take_one(rt, watched)?;
-            }
+        if !marks(rt, &mut router) {
+            break;
         }
+        take_one(rt, watched)?;
     }
     compare(rt, watched, 7, false);
-    assert!(rt; watched.iter().all(|one| one.marks == 1));
-    assert_eq!(rt; router.into_ends().len(), watched.len());
+    for one in watched.iter() {
+        assert!(rt; one.marks == 1);
+    }
+    assert!(rt; ends_of(rt, router).len() == watched.len());
     Ok(())
 }
 
-fn three_shards<R: Wait + Abort>(
-    rt: &R,
-    alloc: Global,
-    count: usize,
-) -> Result<Vec<Watched>, NoMemory>
+fn three_shards<R: Wait + Abort>(rt: &R, alloc: Global, count: usize) -> Result<Vec<Watched>, Fail>
     requires { (1 ≤ count) × (count ≤ 64) }
 {
     let (senders, mut watched) = lanes(alloc, count)?;
@@ -299,8 +393,7 @@ fn three_shards<R: Wait + Abort>(
     let mut place = 0u64;
     for what in THREE_SHARDS {
         place = place.saturating_add(1);
-        router.offer(at(place, what));
-        send(rt, &mut router, &mut watched, place)?;
+        send(rt, &mut router, &mut watched, at(place, what))?;
     }
     mark(rt, router, &mut watched)?;
     Ok(watched)
@@ -310,7 +403,7 @@ fn three_shards<R: Wait + Abort>(
 fn shares_at_every_point(rt: HostRuntime) -> Result<(), Fail> {
     for count in [1, 2, 3, 64] {
         let watched = three_shards(&rt, rt.alloc(), count)?;
-        assert_eq!(rt; watched.len(), count);
+        assert!(rt; watched.len() == count, "{count}");
     }
     Ok(())
 }
@@ -318,9 +411,11 @@ fn shares_at_every_point(rt: HostRuntime) -> Result<(), Fail> {
 #[test]
 fn taken_by_three(rt: HostRuntime) -> Result<(), Fail> {
     let watched = three_shards(&rt, rt.alloc(), 3)?;
-    let taken = [3, 3, 7];
-    for (one, count) in watched.iter().zip(taken) {
-        assert_eq!(rt; one.given.len(), count);
+    let mut lane = 0usize;
+    for count in [3, 3, 7] {
+        let given = watched.get(lane).map(|one| one.given.len());
+        assert!(rt; given == Some(count), "lane {lane}");
+        lane = lane.saturating_add(1);
     }
     Ok(())
 }

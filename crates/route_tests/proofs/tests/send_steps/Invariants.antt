@@ -1,7 +1,7 @@
 use Rattle.std.proofs.Common.{◌≡◌, None}
 use Rattle.route.specs.Batches.{batch_lanes}
 use Rattle.route.specs.Routers.{lane_count, pending_of, marked_of}
-use Rattle.route_tests.proofs.tests.batch_on_two_lanes.Given as goal
+use Rattle.route_tests.proofs.tests.send_steps.Given as goal
 
 abbrev pub invariant-loop-progress : goal.invariant-loop-progress
 invariant-loop-progress g l = record {
