@@ -1,7 +1,7 @@
 //! The router call by call, and what each lane gave at every point of a run.
 ghost use Rattle.std.specs.Prelude.{◌≡◌, ◌≤◌, [], ◌∷◌, All, map, IfOk, vec_len};
 ghost use Rattle.trace.specs.Bounds.{IsCapacity};
-ghost use Rattle.lane.specs.Lanes.{put_of, taker_lane, end_lane};
+ghost use Rattle.lane.specs.Lanes.{lane_of, put_of, taker_lane, end_lane};
 ghost use Rattle.route.specs.Batches.{batch_lanes, IsUnsent};
 ghost use Rattle.route.specs.Routers.{lanes_of, lane_count, pending_of, marked_of};
 
@@ -35,12 +35,26 @@ fn over_two(
     ensures idle { IfOk result (λ r. pending_of r.0 ≡ None) }
     ensures unmarked { IfOk result (λ r. marked_of r.0 ≡ 0) }
 {
-    let mut senders = Vec::with_capacity(alloc, 2)?;
     let (sender, taker) = lane::<Placed>(alloc, first)?;
-    senders.push_reserved(sender);
-    let (sender, other) = lane::<Placed>(alloc, second)?;
-    senders.push_reserved(sender);
-    Ok((Router::new(alloc, senders)?, taker, other))
+    let (other_sender, other) = lane::<Placed>(alloc, second)?;
+    Ok((router_of(alloc, sender, other_sender)?, taker, other))
+}
+
+fn router_of(
+    alloc: Global,
+    first: Sender<Placed>,
+    second: Sender<Placed>,
+) -> Result<Router, NoMemory>
+    requires { (put_of first ≡ []) × (put_of second ≡ []) }
+    ensures lanes { IfOk result (λ r. lanes_of r ≡ lane_of first ∷ lane_of second ∷ []) }
+    ensures count { IfOk result (λ r. lane_count r ≡ 2) }
+    ensures idle { IfOk result (λ r. pending_of r ≡ None) }
+    ensures unmarked { IfOk result (λ r. marked_of r ≡ 0) }
+{
+    let mut senders = Vec::with_capacity(alloc, 2)?;
+    senders.push_reserved(first);
+    senders.push_reserved(second);
+    Router::new(alloc, senders)
 }
 
 // Offers a record where none is pending, and then one is.
@@ -85,21 +99,34 @@ fn gives<R: Abort>(rt: &R, taker: &mut Taker<Placed>, wanted: Item<Placed>)
 
 #[test]
 fn two_lanes(rt: HostRuntime) -> Result<(), Fail> {
-    let (mut router, mut taker, mut other) = over_two(rt.alloc(), 1, 1)?;
-    offers(&rt, &mut router, 1, Record::Spawn);
-    steps(&rt, &mut router, &[Moved, Moved, Idle]);
-    offers(&rt, &mut router, 2, Record::Write(5));
-    steps(&rt, &mut router, &[Blocked(1)]);
-    gives(&rt, &mut other, one(1, Record::Spawn));
-    steps(&rt, &mut router, &[Moved, Idle]);
-    offers(&rt, &mut router, 3, Record::Return);
-    steps(&rt, &mut router, &[Blocked(0)]);
-    gives(&rt, &mut taker, one(1, Record::Spawn));
-    steps(&rt, &mut router, &[Moved, Blocked(1)]);
-    gives(&rt, &mut other, one(2, Record::Write(5)));
-    steps(&rt, &mut router, &[Moved]);
-    mark_two(&rt, router, taker, other);
+    let (router, taker, other) = over_two(rt.alloc(), 1, 1)?;
+    send_two(&rt, router, taker, other);
     Ok(())
+}
+
+// Three records on two lanes of one item each.
+fn send_two<R: Abort>(
+    rt: &R,
+    mut router: Router,
+    mut taker: Taker<Placed>,
+    mut other: Taker<Placed>,
+)
+    requires unmarked { marked_of router ≡ 0 }
+    requires lanes { lanes_of router ≡ taker_lane taker ∷ taker_lane other ∷ [] }
+{
+    offers(rt, &mut router, 1, Record::Spawn);
+    steps(rt, &mut router, &[Moved, Moved, Idle]);
+    offers(rt, &mut router, 2, Record::Write(5));
+    steps(rt, &mut router, &[Blocked(1)]);
+    gives(rt, &mut other, one(1, Record::Spawn));
+    steps(rt, &mut router, &[Moved, Idle]);
+    offers(rt, &mut router, 3, Record::Return);
+    steps(rt, &mut router, &[Blocked(0)]);
+    gives(rt, &mut taker, one(1, Record::Spawn));
+    steps(rt, &mut router, &[Moved, Blocked(1)]);
+    gives(rt, &mut other, one(2, Record::Write(5)));
+    steps(rt, &mut router, &[Moved]);
+    mark_two(rt, router, taker, other);
 }
 
 // The marks, after which both lanes are settled.
@@ -244,22 +271,31 @@ impl Watched {
     }
 }
 
-fn lanes(alloc: Global, count: usize) -> Result<(Vec<Sender<Placed>>, Vec<Watched>), NoMemory>
+// A lane of one item.
+fn watch(alloc: Global) -> Result<(Sender<Placed>, Watched), NoMemory>
+    ensures { IfOk result (λ r. put_of r.0 ≡ []) }
+{
+    let (sender, taker) = lane::<Placed>(alloc, 1)?;
+    let watched = Watched {
+        taker,
+        given: Vec::new(alloc),
+        marks: 0,
+    };
+    Ok((sender, watched))
+}
+
+fn lanes(alloc: Global, count: usize) -> Result<(Vec<Sender<Placed>>, Vec<Watched>), Fail>
     ensures count { IfOk result (λ r. vec_len r.0 ≡ count) }
     ensures empty { IfOk result (λ r. All (λ s. put_of s ≡ []) r.0.items) }
 {
-    let mut senders = Vec::with_capacity(alloc, count)?;
-    let mut watched = Vec::with_capacity(alloc, count)?;
+    let mut senders = Vec::new(alloc);
+    let mut all = Vec::new(alloc);
     for _ in 0..count {
-        let (sender, taker) = lane::<Placed>(alloc, 1)?;
-        senders.push_reserved(sender);
-        watched.push_reserved(Watched {
-            taker,
-            given: Vec::new(alloc),
-            marks: 0,
-        });
+        let (sender, watched) = watch(alloc)?;
+        senders.push(sender)?;
+        all.push(watched)?;
     }
-    Ok((senders, watched))
+    Ok((senders, all))
 }
 
 const THREE_SHARDS: [Record; 7] = [
