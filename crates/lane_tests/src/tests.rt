@@ -1,9 +1,10 @@
 //! The ends in one thread and in two, the least and the greatest capacity, what an end knows of the other, and blocks.
-ghost use Rattle.std.specs.Prelude.{◌≡◌, ◌≤◌, false};
+ghost use Rattle.std.specs.Prelude.{◌≡◌, ◌≤◌, false, length};
+ghost use Rattle.lane.specs.declared.sender.TheConstants.{BLOCK};
 ghost use Rattle.lane.specs.Items.{has_mark};
 ghost use Rattle.lane.specs.Lanes.{lane_of, end_lane, put_of, taker_lane};
 
-use lane::{End, Item, Sender, Taker, lane};
+use lane::{BLOCK, End, Item, Sender, Taker, lane};
 use std::alloc::Global;
 use std::process::Abort;
 use std::snapshot::Snapshot;
@@ -19,14 +20,44 @@ fn puts<R: Abort>(rt: &R, sender: &mut Sender<u32>, value: u32, wanted: Result<(
     ensures lane { lane_of sender.new ≡ lane_of sender.old }
     ensures unmarked { has_mark (put_of sender.new) ≡ false }
 {
-    assert_eq!(rt; sender.put(value), wanted);
+    assert!(rt; sender.put(value) == wanted, "{value}");
+}
+
+// What the sender answers to a block.
+fn puts_block<R: Abort>(rt: &R, sender: &mut Sender<u32>, values: &[u32], wanted: bool)
+    requires unmarked { has_mark (put_of sender.old) ≡ false }
+    requires most { length values.now ≤ BLOCK }
+    ensures { has_mark (put_of sender.new) ≡ false }
+{
+    assert!(rt; sender.put_block(values) == wanted, "{values:?}");
+}
+
+// Whether the mark is put.
+fn marks<R: Abort>(rt: &R, sender: &mut Sender<u32>, wanted: bool)
+    requires { has_mark (put_of sender.old) ≡ false }
+    ensures lane { lane_of sender.new ≡ lane_of sender.old }
+    ensures marked { has_mark (put_of sender.new) ≡ wanted }
+{
+    assert!(rt; sender.mark() == wanted);
+    assert!(rt; sender.marked() == wanted);
 }
 
 // What a call of the taker answers.
 fn takes<R: Abort>(rt: &R, taker: &mut Taker<u32>, wanted: Option<Item<u32>>)
     ensures { taker_lane taker.new ≡ taker_lane taker.old }
 {
-    assert_eq!(rt; taker.take(), wanted);
+    assert!(rt; taker.take() == wanted, "{wanted:?}");
+}
+
+// What the taker puts into the front of a slice.
+fn takes_block<R: Abort>(
+    rt: &R,
+    taker: &mut Taker<u32>,
+    items: &mut [Item<u32>],
+    wanted: &[Item<u32>],
+) {
+    assert!(rt; taker.take_block(items) == wanted.len(), "{wanted:?}");
+    assert!(rt; items.starts_with(wanted), "{wanted:?}");
 }
 
 #[test]
@@ -37,11 +68,9 @@ fn lane_of_two(rt: HostRuntime) -> Result<(), Fail> {
     puts(&rt, &mut sender, 3, Err(3));
     takes(&rt, &mut taker, Some(Item::One(1)));
     puts(&rt, &mut sender, 3, Ok(()));
-    assert!(rt; !sender.mark());
-    assert!(rt; !sender.marked());
+    marks(&rt, &mut sender, false);
     takes(&rt, &mut taker, Some(Item::One(2)));
-    assert!(rt; sender.mark());
-    assert!(rt; sender.marked());
+    marks(&rt, &mut sender, true);
     takes(&rt, &mut taker, Some(Item::One(3)));
     assert!(rt; !taker.ended());
     takes(&rt, &mut taker, Some(Item::Finish));
@@ -51,39 +80,66 @@ fn lane_of_two(rt: HostRuntime) -> Result<(), Fail> {
 }
 
 // Puts the numbers below the capacity, and takes them.
-fn fill<R: Wait + Abort>(rt: &R, alloc: Global, capacity: usize) -> Result<(), NoMemory>
+fn fill<R: Wait + Abort>(rt: &R, alloc: Global, capacity: u32) -> Result<(), NoMemory>
     requires { (1 ≤ capacity) × (capacity ≤ 65536) }
 {
-    let (mut sender, mut taker) = lane::<usize>(alloc, capacity)?;
+    let (mut sender, mut taker) = lane::<u32>(alloc, capacity as usize)?;
     for value in 0..capacity {
-        assert_eq!(rt; sender.put(value), Ok(()));
+        puts(rt, &mut sender, value, Ok(()));
     }
-    assert_eq!(rt; sender.put(capacity), Err(capacity));
+    puts(rt, &mut sender, capacity, Err(capacity));
     for value in 0..capacity {
-        assert_eq!(rt; taker.take(), Some(Item::One(value)));
+        takes(rt, &mut taker, Some(Item::One(value)));
     }
-    assert_eq!(rt; taker.take(), None);
-    assert!(rt; sender.mark());
-    assert_eq!(rt; taker.take(), Some(Item::Finish));
+    takes(rt, &mut taker, None);
+    marks(rt, &mut sender, true);
+    takes(rt, &mut taker, Some(Item::Finish));
     Ok(())
+}
+
+// For how many items more the sender knows to have room.
+fn has_room<R: Abort>(rt: &R, sender: &Sender<u32>, wanted: usize) {
+    assert!(rt; sender.room() == wanted, "{wanted}");
+}
+
+// How many items the taker knows to wait.
+fn has_ready<R: Abort>(rt: &R, taker: &Taker<u32>, wanted: usize) {
+    assert!(rt; taker.ready() == wanted, "{wanted}");
+}
+
+// Looks at the other end.
+fn looks(taker: &mut Taker<u32>, sender: &mut Sender<u32>)
+    requires { lane_of sender.old ≡ taker_lane taker.old }
+    ensures lane { lane_of sender.new ≡ lane_of sender.old }
+    ensures taken { taker_lane taker.new ≡ taker_lane taker.old }
+    ensures unmarked { has_mark (put_of sender.new) ≡ has_mark (put_of sender.old) }
+{
+    taker.beside(sender);
+}
+
+// Looks at the receipt.
+fn settles(taker: &mut Taker<u32>, mut end: End<u32>)
+    requires { end_lane end ≡ taker_lane taker.old }
+{
+    taker.settle(&mut end);
 }
 
 #[test]
 fn looks_at_the_other_end(rt: HostRuntime) -> Result<(), Fail> {
     let (mut sender, mut taker) = lane::<u32>(rt.alloc(), 4)?;
-    assert_eq!(rt; sender.capacity(), 4);
-    assert_eq!(rt; sender.room(), 4);
+    assert!(rt; sender.capacity() == 4);
+    has_room(&rt, &sender, 4);
     puts(&rt, &mut sender, 7, Ok(()));
     puts(&rt, &mut sender, 8, Ok(()));
     puts(&rt, &mut sender, 9, Ok(()));
-    assert_eq!(rt; sender.room(), 1);
-    taker.beside(&mut sender);
-    assert_eq!(rt; taker.ready(), 3);
+    has_room(&rt, &sender, 1);
+    looks(&mut taker, &mut sender);
+    has_ready(&rt, &taker, 3);
     takes(&rt, &mut taker, Some(Item::One(7)));
     takes(&rt, &mut taker, Some(Item::One(8)));
-    assert!(rt; sender.mark());
-    taker.settle(&mut sender.end());
-    assert_eq!(rt; taker.ready(), 2);
+    marks(&rt, &mut sender, true);
+    settles(&mut taker, sender.end());
+    has_ready(&rt, &taker, 2);
     takes(&rt, &mut taker, Some(Item::One(9)));
     takes(&rt, &mut taker, Some(Item::Finish));
     takes(&rt, &mut taker, None);
@@ -93,21 +149,16 @@ fn looks_at_the_other_end(rt: HostRuntime) -> Result<(), Fail> {
 #[test]
 fn blocks(rt: HostRuntime) -> Result<(), Fail> {
     let (mut sender, mut taker) = lane::<u32>(rt.alloc(), 4)?;
-    assert!(rt; sender.put_block([1, 2, 3].as_slice()));
-    assert!(rt; !sender.put_block([4, 5].as_slice()));
+    puts_block(&rt, &mut sender, &[1, 2, 3], true);
+    puts_block(&rt, &mut sender, &[4, 5], false);
     puts(&rt, &mut sender, 4, Ok(()));
     let mut two = [Item::Finish; 2];
-    assert_eq!(rt; taker.take_block(&mut two), 2);
-    assert_eq!(rt; two.as_slice(), [Item::One(1), Item::One(2)].as_slice());
-    assert!(rt; sender.mark());
+    takes_block(&rt, &mut taker, &mut two, &[Item::One(1), Item::One(2)]);
+    marks(&rt, &mut sender, true);
     let mut many = [Item::Finish; 64];
-    assert_eq!(rt; taker.take_block(&mut many), 3);
-    let (front, _) = many.split_at(3);
-    assert_eq!(rt;
-        front,
-        [Item::One(3), Item::One(4), Item::Finish].as_slice()
-    );
-    assert_eq!(rt; taker.take_block(&mut many), 0);
+    let rest = [Item::One(3), Item::One(4), Item::Finish];
+    takes_block(&rt, &mut taker, &mut many, &rest);
+    takes_block(&rt, &mut taker, &mut many, &[]);
     Ok(())
 }
 
@@ -169,6 +220,24 @@ fn send<R: Wait>(rt: &R, mut sender: Sender<u32>, count: u32) -> End<u32>
     mark_waiting(rt, sender)
 }
 
+// Takes up to the mark: the numbers from 1 on. The last one is told.
+fn receive<R: Wait + Abort>(rt: &R, taker: &mut Taker<u32>) -> u32
+    ensures { taker_lane taker.new ≡ taker_lane taker.old }
+{
+    let mut last = 0u32;
+    for _ in rt.forever() {
+        match taker.take() {
+            Some(Item::One(value)) => {
+                assert!(rt; last.checked_add(1) == Some(value), "{value} after {last}");
+                last = value;
+            }
+            Some(Item::Finish) => break,
+            None => thread::yield_now(),
+        }
+    }
+    last
+}
+
 #[test]
 fn two_threads(rt: HostRuntime) -> Result<(), Fail> {
     let (sender, mut taker) = lane::<u32>(rt.alloc(), 3)?;
@@ -176,20 +245,9 @@ fn two_threads(rt: HostRuntime) -> Result<(), Fail> {
         sender: Snapshot::of(&sender),
     };
     let child = thread::spawn_with(&rt, promise, move || send(&rt, sender, 10_000))?;
-    let mut next = 1u64;
-    for _ in rt.forever() {
-        match taker.take() {
-            Some(Item::One(value)) => {
-                assert_eq!(rt; u64::from(value), next);
-                next = next.saturating_add(1);
-            }
-            Some(Item::Finish) => break,
-            None => thread::yield_now(),
-        }
-    }
-    assert_eq!(rt; next, 10_001);
-    let mut end = child.join(&rt);
-    taker.settle(&mut end);
+    let last = receive(&rt, &mut taker);
+    assert!(rt; last == 10_000, "{last}");
+    settles(&mut taker, child.join(&rt));
     takes(&rt, &mut taker, None);
     Ok(())
 }
