@@ -70,7 +70,7 @@ const LETTERS: [Record; 5] = [Spawn, Call, Return, Sync, Read(0)];
 const COUNTS: [usize; MOST] = [5, 25, 125, 625, 3125, 15625, 78125];
 
 /// Of how many pairs of places was told that they are parallel, and that they aren't.
-#[derive(Clone, Copy, Debug, PartialEq, Eq)]
+#[derive(Drop)]
 struct Tally {
     parallel: u64,
     serial: u64,
@@ -96,7 +96,7 @@ fn check_list(rt: &impl Abort, records: &[Record], tally: &mut Tally) {
                 continue;
             }
             let answer = is_parallel(records, i as u64 + 1, j as u64 + 1);
-            assert_eq!(rt; answer, are_parallel(&paths, i, j), "{records:?} {i} {j}");
+            assert!(rt; answer == are_parallel(&paths, i, j), "{records:?} {i} {j}");
             if answer {
                 tally.parallel = tally.parallel.saturating_add(1);
             } else {
@@ -121,9 +121,6 @@ fn short_lists(rt: HostRuntime) {
             }
         }
     }
-    let all = Tally {
-        parallel: 692,
-        serial: 6848,
-    };
-    assert_eq!(rt; tally, all);
+    assert!(rt; tally.parallel == 692, "{}", tally.parallel);
+    assert!(rt; tally.serial == 6848, "{}", tally.serial);
 }

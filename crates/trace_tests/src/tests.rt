@@ -1,8 +1,9 @@
 //! The worked rows and the tables of faults, whole and cut after every byte; sources and sinks that fail.
 
-ghost use Rattle.std.specs.Prelude.{None};
+ghost use Rattle.std.specs.Prelude.{None, ◌≤◌, length};
 
 use std::io::{self, ErrorKind, Write};
+use std::process::Abort;
 use trace::devices::{Counted, Failed, Sink, Source};
 use trace::faults::{Fault, NestFault, NestKind, TextFault, TextKind, WriteFault};
 use trace::feeding::Feed;
@@ -44,6 +45,14 @@ fn nest(place: u64, kind: NestKind) -> Fault {
     Fault::Nest(NestFault { place, kind })
 }
 
+// Whether one more record was read. What else is known of the feed isn't needed here.
+fn read_one(feed: &mut Feed<Pieces<'_>>) -> Result<bool, Fault> {
+    match feed.next() {
+        Ok(placed) => Ok(placed.is_some()),
+        Err(fault) => Err(fault),
+    }
+}
+
 // Reads all records, and answers how many there were or the fault, where the next call answers that too.
 fn read_all(
     bytes: &[u8],
@@ -62,165 +71,109 @@ fn read_all(
     let mut feed = Feed::new(Limits { records, depth }, pieces);
     let mut count: u64 = 0;
     for _ in 0..1_000_000 {
-        match feed.next() {
-            Ok(Some(_)) => count = count.saturating_add(1),
-            Ok(None) => return Ok(count),
-            Err(fault) => {
-                let again = feed.next();
-                return if again == Err(fault) {
-                    Err(fault)
-                } else {
-                    Ok(count)
-                };
-            }
+        match read_one(&mut feed) {
+            Ok(true) => count = count.saturating_add(1),
+            Ok(false) => return Ok(count),
+            Err(fault) if read_one(&mut feed) == Err(fault) => return Err(fault),
+            Err(_) => return Ok(count),
         }
     }
     Ok(count)
 }
 
+// What the bytes are read as, in pieces of each size.
+fn reads<R: Abort>(
+    rt: &R,
+    bytes: &[u8],
+    fails: bool,
+    limits: (u64, u32),
+    answer: Result<u64, Fault>,
+) {
+    let (records, depth) = limits;
+    for size in SIZES {
+        let told = read_all(bytes, size, fails, records, depth);
+        assert!(rt; told == answer, "{bytes:?} by {size}: {told:?}");
+    }
+}
+
+// Texts with no fault, and the count of their records.
+const FAULTLESS: [(&[u8], u64); 4] = [
+    (b"trace 1\nreturn\n", 1),
+    (b"trace 1\nspawn\nwrite 5\nreturn\nwrite 5\nreturn\n", 5),
+    (b"trace 1\nwrite 18446744073709551615\nreturn\n", 2),
+    (
+        b"trace 1\nread 0\nread 1844674407370955161\nread 10\nreturn\n",
+        4,
+    ),
+];
+
+#[test]
+fn faultless(rt: HostRuntime) {
+    for (bytes, count) in FAULTLESS {
+        reads(&rt, bytes, false, (1 << 48, 9), Ok(count));
+    }
+}
+
+// Texts within a limit of their records, and the line that is faulty.
+const FAULTY: [(&[u8], u64, u64, TextKind); 22] = [
+    (b"trace 1\r\nreturn\n", 1 << 48, 1, TextKind::Header),
+    (b"trace 01\nreturn\n", 1 << 48, 1, TextKind::Header),
+    (b"trace 1", 1 << 48, 1, TextKind::Truncated),
+    (b"trace 1\n\nreturn\n", 1 << 48, 2, TextKind::Line),
+    (b"trace 1\nread  1\nreturn\n", 1 << 48, 2, TextKind::Line),
+    (b"trace 1\nspawn \n", 1 << 48, 2, TextKind::Line),
+    (b"trace 1\nread -1\n", 1 << 48, 2, TextKind::Line),
+    (b"trace 1\nread\n", 1 << 48, 2, TextKind::Line),
+    (b"trace 1\ncall\nreturn\n", 1 << 48, 2, TextKind::Line),
+    (b"trace 1\nreturn\nreturn", 1 << 48, 3, TextKind::Truncated),
+    (b"trace 1\nreturn\nx\n", 1 << 48, 3, TextKind::Line),
+    (
+        b"trace 1\nwrite 18446744073709551616\nreturn\n",
+        1 << 48,
+        2,
+        TextKind::Line,
+    ),
+    (b"", 1 << 48, 1, TextKind::Truncated),
+    (b"trace 1\nread 01\nreturn\n", 1 << 48, 2, TextKind::Line),
+    (b"trace 1\nreturn", 1 << 48, 2, TextKind::Truncated),
+    (b"trace 1\nreturn\nreturn\n", 1, 3, TextKind::TooMany),
+    (b"trace 1\nreturn\nretur\n", 1, 3, TextKind::Line),
+    (
+        b"trace 1\naaaaaaaaaaaaaaaaaaaaaaaaaaa",
+        1 << 48,
+        2,
+        TextKind::Line,
+    ),
+    (
+        b"trace 1\naaaaaaaaaaaaaaaaaaaaaaaaaa",
+        1 << 48,
+        2,
+        TextKind::Truncated,
+    ),
+    (b"trace 1\nspawn\r\n", 1 << 48, 2, TextKind::Line),
+    (b"trace 1\n\xff\n", 1 << 48, 2, TextKind::Line),
+    (b"trace 1\n\0\n", 1 << 48, 2, TextKind::Line),
+];
+
 #[test]
 fn first_faults(rt: HostRuntime) {
-    let most = 1 << 48;
-    let rows: [(&[u8], u64, u32, Result<u64, Fault>); 30] = [
-        (b"trace 1\nreturn\n", most, 9, Ok(1)),
-        (
-            b"trace 1\r\nreturn\n",
-            most,
-            9,
-            Err(text(1, TextKind::Header)),
-        ),
-        (
-            b"trace 01\nreturn\n",
-            most,
-            9,
-            Err(text(1, TextKind::Header)),
-        ),
-        (b"trace 1", most, 9, Err(text(1, TextKind::Truncated))),
-        (
-            b"trace 1\n\nreturn\n",
-            most,
-            9,
-            Err(text(2, TextKind::Line)),
-        ),
-        (
-            b"trace 1\nread  1\nreturn\n",
-            most,
-            9,
-            Err(text(2, TextKind::Line)),
-        ),
-        (b"trace 1\nspawn \n", most, 9, Err(text(2, TextKind::Line))),
-        (b"trace 1\nread -1\n", most, 9, Err(text(2, TextKind::Line))),
-        (b"trace 1\nread\n", most, 9, Err(text(2, TextKind::Line))),
-        (
-            b"trace 1\ncall\nreturn\n",
-            most,
-            9,
-            Err(text(2, TextKind::Line)),
-        ),
-        (
-            b"trace 1\nreturn\nreturn",
-            most,
-            9,
-            Err(text(3, TextKind::Truncated)),
-        ),
-        (
-            b"trace 1\nreturn\nreturn\n",
-            most,
-            9,
-            Err(nest(2, NestKind::AfterEnd)),
-        ),
-        (
-            b"trace 1\nreturn\nx\n",
-            most,
-            9,
-            Err(text(3, TextKind::Line)),
-        ),
-        (
-            b"trace 1\nspawn\nwrite 5\nreturn\nwrite 5\nreturn\n",
-            most,
-            9,
-            Ok(5),
-        ),
-        (
-            b"trace 1\nwrite 18446744073709551615\nreturn\n",
-            most,
-            9,
-            Ok(2),
-        ),
-        (
-            b"trace 1\nwrite 18446744073709551616\nreturn\n",
-            most,
-            9,
-            Err(text(2, TextKind::Line)),
-        ),
-        (
-            b"trace 1\nread 0\nread 1844674407370955161\nread 10\nreturn\n",
-            most,
-            9,
-            Ok(4),
-        ),
-        (b"", most, 9, Err(text(1, TextKind::Truncated))),
-        (b"trace 1\n", most, 9, Err(nest(1, NestKind::Unfinished))),
-        (
-            b"trace 1\nreturn\nread 1\n",
-            most,
-            9,
-            Err(nest(2, NestKind::AfterEnd)),
-        ),
-        (
-            b"trace 1\nread 01\nreturn\n",
-            most,
-            9,
-            Err(text(2, TextKind::Line)),
-        ),
-        (
-            b"trace 1\nreturn",
-            most,
-            9,
-            Err(text(2, TextKind::Truncated)),
-        ),
-        (
-            b"trace 1\nspawn\nspawn\n",
-            most,
-            1,
-            Err(nest(2, NestKind::TooDeep)),
-        ),
-        (
-            b"trace 1\nreturn\nreturn\n",
-            1,
-            9,
-            Err(text(3, TextKind::TooMany)),
-        ),
-        (
-            b"trace 1\nreturn\nretur\n",
-            1,
-            9,
-            Err(text(3, TextKind::Line)),
-        ),
-        (
-            b"trace 1\naaaaaaaaaaaaaaaaaaaaaaaaaaa",
-            most,
-            9,
-            Err(text(2, TextKind::Line)),
-        ),
-        (
-            b"trace 1\naaaaaaaaaaaaaaaaaaaaaaaaaa",
-            most,
-            9,
-            Err(text(2, TextKind::Truncated)),
-        ),
-        (b"trace 1\nspawn\r\n", most, 9, Err(text(2, TextKind::Line))),
-        (b"trace 1\n\xff\n", most, 9, Err(text(2, TextKind::Line))),
-        (b"trace 1\n\0\n", most, 9, Err(text(2, TextKind::Line))),
-    ];
-    for (bytes, records, depth, answer) in rows {
-        for size in SIZES {
-            assert_eq!(rt;
-                read_all(bytes, size, false, records, depth),
-                answer,
-                "{bytes:?} by {size}"
-            );
-        }
+    for (bytes, records, line, kind) in FAULTY {
+        reads(&rt, bytes, false, (records, 9), Err(text(line, kind)));
+    }
+}
+
+// Texts within a limit of their depth, and the place that is faulty.
+const BADLY_NESTED: [(&[u8], u32, u64, NestKind); 4] = [
+    (b"trace 1\nreturn\nreturn\n", 9, 2, NestKind::AfterEnd),
+    (b"trace 1\n", 9, 1, NestKind::Unfinished),
+    (b"trace 1\nreturn\nread 1\n", 9, 2, NestKind::AfterEnd),
+    (b"trace 1\nspawn\nspawn\n", 1, 2, NestKind::TooDeep),
+];
+
+#[test]
+fn bad_nesting(rt: HostRuntime) {
+    for (bytes, depth, place, kind) in BADLY_NESTED {
+        reads(&rt, bytes, false, (1 << 48, depth), Err(nest(place, kind)));
     }
 }
 
@@ -250,14 +203,11 @@ const HEADERS: [(&[u8], Result<u64, TextKind>); 16] = [
 #[test]
 fn headers_of_versions(rt: HostRuntime) {
     for (bytes, answer) in HEADERS {
-        let answer = answer.map_err(|kind| text(1, kind));
-        for size in SIZES {
-            assert_eq!(rt;
-                read_all(bytes, size, false, 1 << 48, 9),
-                answer,
-                "{bytes:?} by {size}"
-            );
-        }
+        let answer = match answer {
+            Ok(count) => Ok(count),
+            Err(kind) => Err(text(1, kind)),
+        };
+        reads(&rt, bytes, false, (1 << 48, 9), answer);
     }
 }
 
@@ -297,14 +247,11 @@ const LINES: [(&[u8], Result<u64, u64>); 16] = [
 #[test]
 fn lines_of_versions(rt: HostRuntime) {
     for (bytes, answer) in LINES {
-        let answer = answer.map_err(|line| text(line, TextKind::Line));
-        for size in SIZES {
-            assert_eq!(rt;
-                read_all(bytes, size, false, 1 << 48, 9),
-                answer,
-                "{bytes:?} by {size}"
-            );
-        }
+        let answer = match answer {
+            Ok(count) => Ok(count),
+            Err(line) => Err(text(line, TextKind::Line)),
+        };
+        reads(&rt, bytes, false, (1 << 48, 9), answer);
     }
 }
 
@@ -329,13 +276,7 @@ const NESTS: [(&[u8], u32, u64, NestKind); 9] = [
 #[test]
 fn calls_that_nest_badly(rt: HostRuntime) {
     for (bytes, depth, place, kind) in NESTS {
-        for size in SIZES {
-            assert_eq!(rt;
-                read_all(bytes, size, false, 1 << 48, depth),
-                Err(nest(place, kind)),
-                "{bytes:?} by {size}"
-            );
-        }
+        reads(&rt, bytes, false, (1 << 48, depth), Err(nest(place, kind)));
     }
 }
 
@@ -350,42 +291,31 @@ const LIMITED: [(&[u8], u64, u64, TextKind); 4] = [
 #[test]
 fn calls_within_a_limit_of_records(rt: HostRuntime) {
     for (bytes, records, line, kind) in LIMITED {
-        for size in SIZES {
-            assert_eq!(rt;
-                read_all(bytes, size, false, records, 9),
-                Err(text(line, kind)),
-                "{bytes:?} by {size}"
-            );
-        }
+        reads(&rt, bytes, false, (records, 9), Err(text(line, kind)));
     }
 }
 
 #[test]
 fn failing_sources(rt: HostRuntime) {
-    let most = 1 << 48;
-    let rows: [(&[u8], Fault); 4] = [
-        (b"trace 1\nx\n", text(2, TextKind::Line)),
-        (b"trace 1\nretu", Fault::Read),
-        (b"trace 1\nreturn\n", Fault::Read),
-        (b"trace 1\nreturn\nsync\n", nest(2, NestKind::AfterEnd)),
-    ];
-    for (bytes, fault) in rows {
-        for size in SIZES {
-            assert_eq!(rt;
-                read_all(bytes, size, true, most, 9),
-                Err(fault),
-                "{bytes:?} by {size}"
-            );
-        }
-    }
+    let limits = (1 << 48, 9);
+    reads(
+        &rt,
+        b"trace 1\nx\n",
+        true,
+        limits,
+        Err(text(2, TextKind::Line)),
+    );
+    reads(&rt, b"trace 1\nretu", true, limits, Err(Fault::Read));
+    reads(&rt, b"trace 1\nreturn\n", true, limits, Err(Fault::Read));
+    let after_end = Err(nest(2, NestKind::AfterEnd));
+    reads(&rt, b"trace 1\nreturn\nsync\n", true, limits, after_end);
+}
+
+#[test]
+fn failing_at_each_call(rt: HostRuntime) {
     let race: &[u8] = b"trace 1\nspawn\nwrite 5\nreturn\nwrite 5\nreturn\n";
     for calls in 0..=race.len() {
-        let front = &race[..calls];
-        assert_eq!(rt;
-            read_all(front, 1, true, most, 9),
-            Err(Fault::Read),
-            "at call {calls}"
-        );
+        reads(&rt, &race[..calls], true, (1 << 48, 9), Err(Fault::Read));
     }
 }
 
@@ -454,22 +384,28 @@ fn failing_sinks(rt: HostRuntime) {
     for (what, line) in lines {
         for most in 0..=line.len() {
             for error in [Some(ErrorKind::Interrupted), Some(ErrorKind::Other), None] {
-                let mut drip = Drip {
-                    bytes: [0; 32],
-                    count: 0,
-                    most,
-                    error,
-                    failed: false,
-                };
-                let written = write_line(what, &mut Counted::new(&mut drip));
-                assert_eq!(rt;
-                    written.is_ok(),
-                    most == line.len(),
-                    "{line:?} after {most}"
+                assert!(rt;
+                    is_cut(what, line, most, error),
+                    "{line:?} after {most}: {error:?}"
                 );
-                assert_eq!(rt; drip.count, most, "{line:?} after {most}");
-                assert_eq!(rt; drip.bytes[..most], line[..most], "{line:?} after {most}");
             }
         }
     }
+}
+
+// Whether the line is written up to the byte at which the sink fails, and the failure told.
+fn is_cut(what: Line, line: &[u8], most: usize, error: Option<ErrorKind>) -> bool
+    requires { most ≤ length line.now }
+{
+    let mut drip = Drip {
+        bytes: [0; 32],
+        count: 0,
+        most,
+        error,
+        failed: false,
+    };
+    let written = write_line(what, &mut Counted::new(&mut drip)).is_ok();
+    written == (most == line.len())
+        && drip.count == most
+        && drip.bytes.get(..most) == Some(&line[..most])
 }
