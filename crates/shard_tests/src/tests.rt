@@ -55,20 +55,25 @@ fn told(race: Race) -> Told {
     )
 }
 
-/// The races that a shard tells along records, each at its second place.
+/// The race that a shard tells of a record, at its second place.
+fn apply(shard: &mut Shard<Hasher>, place: u64, what: Record) -> Result<Option<Told>, Fail> {
+    if !shard.accepts(place) {
+        return Err("not accepted".into());
+    }
+    match shard.apply(Placed { place, what })? {
+        Some(race) if race.second.place != place => Err("told at another place".into()),
+        Some(race) => Ok(Some(told(race))),
+        None => Ok(None),
+    }
+}
+
+/// The races that a shard tells along records, and how many it took.
 fn races(alloc: Global, records: &[(u64, Record)]) -> Result<(Vec<Told>, u64), Fail> {
     let mut shard = Shard::new(alloc, 0, Hasher::default())?;
     let mut all = Vec::new(alloc);
     for (place, what) in records {
-        let (place, what) = (*place, *what);
-        if !shard.accepts(place) {
-            return Err("not accepted".into());
-        }
-        if let Some(race) = shard.apply(Placed { place, what })? {
-            if race.second.place != place {
-                return Err("told at another place".into());
-            }
-            all.push(told(race))?;
+        if let Some(told) = apply(&mut shard, *place, *what)? {
+            all.push(told)?;
         }
     }
     Ok((all, shard.taken()))
@@ -230,8 +235,8 @@ fn rows(rt: HostRuntime) -> Result<(), Fail> {
     ];
     for (name, records, expected) in rows {
         let (found, taken) = races(rt.alloc(), placed(rt.alloc(), records)?.as_slice())?;
-        assert_eq!(rt; found.as_slice(), expected, "{name}");
-        assert_eq!(rt; taken, records.len() as u64, "{name}");
+        assert!(rt; found.as_slice() == expected, "{name}");
+        assert!(rt; taken == records.len() as u64, "{name}");
     }
     Ok(())
 }
@@ -242,12 +247,12 @@ fn shares(rt: HostRuntime) -> Result<(), Fail> {
     let write = Record::Write(5);
     let whole = [(1, SPAWN), (2, write), (3, RETURN), (4, write), (5, RETURN)];
     let (found, taken) = races(rt.alloc(), &whole)?;
-    assert_eq!(rt; found.as_slice(), [(5, (Write, 2), (Write, 4))].as_slice());
-    assert_eq!(rt; taken, 5);
+    assert!(rt; found.as_slice() == [(5, (Write, 2), (Write, 4))].as_slice());
+    assert!(rt; taken == 5);
     let structure = [(1, SPAWN), (3, RETURN), (5, RETURN)];
     let (found, taken) = races(rt.alloc(), &structure)?;
     assert!(rt; found.is_empty());
-    assert_eq!(rt; taken, 3);
+    assert!(rt; taken == 3);
     Ok(())
 }
 
@@ -257,17 +262,9 @@ fn after_the_roots_return(rt: HostRuntime) -> Result<(), Fail> {
     assert!(rt; !shard.accepts(0));
     assert!(rt; shard.accepts(281_474_976_710_656));
     assert!(rt; !shard.accepts(281_474_976_710_657));
-    if shard.accepts(3) {
-        assert_eq!(rt;
-            shard.apply(Placed {
-                place: 3,
-                what: RETURN
-            })?,
-            None
-        );
-    }
+    assert!(rt; apply(&mut shard, 3, RETURN)?.is_none());
     assert!(rt; !shard.accepts(4));
-    assert_eq!(rt; shard.taken(), 1);
+    assert!(rt; shard.taken() == 1);
     Ok(())
 }
 
@@ -278,7 +275,7 @@ fn fill<R: Abort>(rt: &R, mut sender: Sender<Placed>, records: &[Record])
     for (index, what) in records.iter().enumerate() {
         let place = index as u64 + 1;
         let what = *what;
-        assert_eq!(rt; sender.put(Placed { place, what }), Ok(()));
+        assert!(rt; sender.put(Placed { place, what }).is_ok(), "{place}");
     }
     assert!(rt; sender.mark());
 }
@@ -299,6 +296,37 @@ impl Gate for Passes {
     }
 }
 
+impl Passes {
+    fn none() -> Passes {
+        Passes {
+            count: AtomicU64::new(0),
+            shards: AtomicU64::new(0),
+            places: AtomicU64::new(0),
+        }
+    }
+
+    /// Shard 7 has passed at each place from 1 on, so many times.
+    fn are_by_seven(&self, count: u64) -> bool {
+        let places = count.saturating_mul(count.saturating_add(1)) / 2;
+        self.count.load(Ordering::SeqCst) == count
+            && self.shards.load(Ordering::SeqCst) == count.saturating_mul(7)
+            && self.places.load(Ordering::SeqCst) == places
+    }
+}
+
+/// Takes all that waits, at most 16 items.
+fn take_all(alloc: Global, taker: &mut Taker<Back>) -> Result<Vec<Item<Back>>, Fail>
+    ensures { taker_lane taker.new ≡ taker_lane taker.old }
+{
+    let mut items = Vec::new(alloc);
+    for _ in 0..16 {
+        if let Some(item) = taker.take() {
+            items.push(item)?;
+        }
+    }
+    Ok(items)
+}
+
 /// What a worker of shard 7 puts on its lane back that is given these records, and its count. At each
 /// record it passes the gate.
 fn worked<R: Wait + Abort>(
@@ -310,26 +338,11 @@ fn worked<R: Wait + Abort>(
     let (back, mut back_taker) = lane::<Back>(alloc, 16)?;
     let shard = Shard::new(alloc, 7, Hasher::default())?;
     fill(rt, sender, records);
-    let gate = Passes {
-        count: AtomicU64::new(0),
-        shards: AtomicU64::new(0),
-        places: AtomicU64::new(0),
-    };
+    let gate = Passes::none();
     let mut worked = work(rt, shard, taker, back, &gate);
-    let count = records.len() as u64;
-    assert_eq!(rt; gate.count.load(Ordering::SeqCst), count);
-    assert_eq!(rt; gate.shards.load(Ordering::SeqCst), count.saturating_mul(7));
-    assert_eq!(rt;
-        gate.places.load(Ordering::SeqCst),
-        count.saturating_mul(count.saturating_add(1)) / 2
-    );
+    assert!(rt; gate.are_by_seven(records.len() as u64));
     assert!(rt; worked.taker.ended());
-    let mut items = Vec::new(alloc);
-    for _ in 0..16 {
-        if let Some(item) = back_taker.take() {
-            items.push(item)?;
-        }
-    }
+    let items = take_all(alloc, &mut back_taker)?;
     back_taker.settle(&mut worked.back);
     Ok((items, worked.shard.taken()))
 }
@@ -337,13 +350,13 @@ fn worked<R: Wait + Abort>(
 #[test]
 fn work_in_one_thread(rt: HostRuntime) -> Result<(), Fail> {
     let (items, taken) = worked(&rt, rt.alloc(), &THREE_WRITES)?;
-    assert_eq!(rt; taken, 8);
-    assert_eq!(rt; items.len(), 2);
+    assert!(rt; taken == 8);
+    assert!(rt; items.len() == 2);
     match items[0] {
-        Item::One(Back::Race(race)) => assert_eq!(rt; told(race), (3, (Write, 2), (Write, 5))),
+        Item::One(Back::Race(race)) => assert!(rt; told(race) == (3, (Write, 2), (Write, 5))),
         _ => return Err("no race".into()),
     }
-    assert_eq!(rt; items[1], Item::Finish);
+    assert!(rt; items[1] == Item::Finish);
     Ok(())
 }
 
@@ -352,8 +365,8 @@ fn work_in_one_thread(rt: HostRuntime) -> Result<(), Fail> {
 fn work_past_the_end(rt: HostRuntime) -> Result<(), Fail> {
     let records = [SPAWN, WRITE_3, RETURN, RETURN, WRITE_3];
     let (items, taken) = worked(&rt, rt.alloc(), &records)?;
-    assert_eq!(rt; items.as_slice(), [Item::Finish].as_slice());
-    assert_eq!(rt; taken, 5);
+    assert!(rt; items.as_slice() == [Item::Finish].as_slice());
+    assert!(rt; taken == 5);
     Ok(())
 }
 
@@ -370,6 +383,25 @@ impl Promise<Worked<Hasher>> for WorkOf {
     ghost kept_by = { λ p r. DidWork p.taker.value p.back.value r };
 }
 
+/// Puts the next of the records, or else the mark, where the lane has room, and tells which record is then the next.
+fn put_next(sender: &mut Sender<Placed>, records: &[Record], next: usize) -> usize
+    ensures { lane_of sender.new ≡ lane_of sender.old }
+{
+    if sender.marked() {
+        return next;
+    }
+    if next >= records.len() {
+        sender.mark();
+        return next;
+    }
+    let place = next as u64 + 1;
+    let what = records[next];
+    match sender.put(Placed { place, what }) {
+        Ok(()) => next + 1,
+        Err(_) => next,
+    }
+}
+
 /// Puts the records and the mark, while it takes what comes back up to the mark: how many races those are.
 fn exchange<R: Wait>(
     rt: &R,
@@ -383,15 +415,7 @@ fn exchange<R: Wait>(
     let mut next = 0;
     let mut count = 0u64;
     for _ in rt.forever() {
-        if !sender.marked() {
-            if next >= records.len() {
-                sender.mark();
-            } else {
-                let place = next as u64 + 1;
-                let what = records[next];
-                next += usize::from(sender.put(Placed { place, what }).is_ok());
-            }
-        }
+        next = put_next(sender, records, next);
         match back.take() {
             Some(Item::One(_)) => count = count.saturating_add(1),
             Some(Item::Finish) => return count,
@@ -413,10 +437,10 @@ fn work_in_a_thread(rt: HostRuntime) -> Result<(), Fail> {
     };
     let child = thread::spawn_with(&rt, promise, move || work(&rt, shard, taker, back, &Open))?;
     let count = exchange(&rt, &mut sender, &mut back_taker, &THREE_SHARDS);
-    assert_eq!(rt; count, 2);
+    assert!(rt; count == 2);
     let mut worked = child.join(&rt);
     worked.taker.settle(&mut sender.end());
     back_taker.settle(&mut worked.back);
-    assert_eq!(rt; worked.shard.taken(), 7);
+    assert!(rt; worked.shard.taken() == 7);
     Ok(())
 }
