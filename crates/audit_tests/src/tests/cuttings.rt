@@ -2,15 +2,14 @@
 
 use super::rows::{
     CALL_MIXED, CALL_SPAWNS, CALL_SYNCS, GRANDCHILD_SYNCED, LIMITS, READER_MOVES_TO_CHILD,
-    SYNC_IN_SIBLING, SYNC_ORDERS, THREE_WRITES, TWO_READERS_THEN_WRITE, Told, WRITE_WRITE, listed,
+    SYNC_IN_SIBLING, SYNC_ORDERS, THREE_WRITES, TWO_READERS_THEN_WRITE, Told, WRITE_WRITE,
+    are_told, confirmed, listed, measured,
 };
-use audit::{Confirm, Measure, confirm, measure};
-use collect::{Report, read_report};
+use audit::{Confirm, Measure};
 use std::alloc::Global;
 use std::io::{self, ErrorKind, Read};
 use std::process::Abort;
-use std::test::Fail;
-use trace::{Counted, Fault, Kind, Limits, NestFault, NestKind, TextFault, TextKind};
+use trace::{Access, Counted, Fault, Kind, Limits, NestFault, NestKind, TextFault, TextKind};
 
 /// Hands out the bytes up to the cut in pieces of the size, and then the others. One call fails, where that is asked:
 /// the calls after it go on as if it hadn't been.
@@ -70,14 +69,14 @@ impl Read for Parts<'_> {
 struct Question<'a> {
     depth: u32,
     location: u64,
-    report: &'a Report,
+    report: &'a [u8],
 }
 
 /// What the three questions answer.
 type Answers = (
     Result<Measure, Fault>,
-    Result<Vec<Told>, Fault>,
-    Result<Confirm, Fault>,
+    Result<Vec<(Access, Access)>, Fault>,
+    Result<Option<Confirm>, Fault>,
 );
 
 fn ask(alloc: Global, question: Question<'_>, parts: Parts<'_>) -> Answers {
@@ -85,9 +84,9 @@ fn ask(alloc: Global, question: Question<'_>, parts: Parts<'_>) -> Answers {
         records: LIMITS.records,
         depth: question.depth,
     };
-    let measured = measure(alloc, limits, &mut Counted::new(parts));
+    let measured = measured(alloc, limits, &mut Counted::new(parts));
     let told = listed(alloc, limits, &mut Counted::new(parts), question.location);
-    let confirmed = confirm(alloc, limits, &mut Counted::new(parts), question.report);
+    let confirmed = confirmed(alloc, limits, &mut Counted::new(parts), question.report);
     (measured, told, confirmed)
 }
 
@@ -184,56 +183,58 @@ const ROWS: [Row; 13] = [
 ];
 
 /// Asserts what is answered of a row from these parts.
-fn assert_answers(rt: &impl Abort, alloc: Global, row: Row, parts: Parts<'_>) -> Result<(), Fail> {
+fn assert_answers(rt: &impl Abort, alloc: Global, row: Row, parts: Parts<'_>) {
     let (text, location, report, (work, span, spawns, depth), pairs) = row;
-    let report = read_report(alloc, report)?;
     let question = Question {
         depth: LIMITS.depth,
         location,
-        report: &report,
+        report,
     };
-    let (measured, told, confirmed) = ask(alloc, question, parts);
     let wanted = Measure {
         work,
         span,
         spawns,
         depth,
     };
-    assert_eq!(rt; measured, Ok(wanted), "{text:?}");
-    assert_eq!(rt; told?.as_slice(), pairs, "{text:?}");
-    assert_eq!(rt; confirmed, Ok(Confirm::Yes), "{text:?}");
-    Ok(())
+    let (measured, told, confirmed) = ask(alloc, question, parts);
+    assert!(rt; measured == Ok(wanted), "{text:?}");
+    assert!(rt; confirmed == Ok(Some(Confirm::Yes)), "{text:?}");
+    match told {
+        Ok(told) => assert!(rt; are_told(&told, pairs), "{text:?}"),
+        Err(fault) => assert!(rt; false, "{text:?}: {fault:?}"),
+    }
 }
 
 #[test]
-fn answers_of_pieces(rt: HostRuntime) -> Result<(), Fail> {
+fn answers_of_pieces(rt: HostRuntime) {
     for row in ROWS {
         for cut in 0..=row.0.len() {
-            assert_answers(&rt, rt.alloc(), row, Parts::cut(row.0, cut))?;
+            assert_answers(&rt, rt.alloc(), row, Parts::cut(row.0, cut));
         }
-        let parts = Parts::byte_by_byte(row.0, None);
-        assert_answers(&rt, rt.alloc(), row, parts)?;
+        assert_answers(&rt, rt.alloc(), row, Parts::byte_by_byte(row.0, None));
     }
-    Ok(())
 }
 
 /// Asserts that there is this fault for an answer from these parts.
-fn assert_fault(
-    rt: &impl Abort,
-    alloc: Global,
-    depth: u32,
-    fault: Fault,
-    parts: Parts<'_>,
-) -> Result<(), Fail> {
-    let report = read_report(alloc, b"races 0\n")?;
+fn assert_fault(rt: &impl Abort, alloc: Global, depth: u32, fault: Fault, parts: Parts<'_>) {
     let question = Question {
         depth,
         location: 5,
-        report: &report,
+        report: b"races 0\n",
     };
-    let wanted = (Err(fault), Err(fault), Err(fault));
-    assert_eq!(rt; ask(alloc, question, parts), wanted, "{:?}", parts.first);
-    Ok(())
+    let (measured, told, confirmed) = ask(alloc, question, parts);
+    assert!(rt; measured.err() == Some(fault), "{:?}", parts.first);
+    assert!(rt; told.err() == Some(fault), "{:?}", parts.first);
+    assert!(rt; confirmed.err() == Some(fault), "{:?}", parts.first);
+}
+
+/// Asserts that there is this fault for an answer from the text, cut at each place and after each byte.
+fn assert_fault_of_pieces(rt: &impl Abort, alloc: Global, depth: u32, text: &[u8], fault: Fault) {
+    for cut in 0..=text.len() {
+        assert_fault(rt, alloc, depth, fault, Parts::cut(text, cut));
+    }
+    let parts = Parts::byte_by_byte(text, None);
+    assert_fault(rt, alloc, depth, fault, parts);
 }
 
 fn text(line: u64, kind: TextKind) -> Fault {
@@ -244,54 +245,58 @@ fn nest(place: u64, kind: NestKind) -> Fault {
     Fault::Nest(NestFault { place, kind })
 }
 
+/// Texts, and the line that is faulty.
+const FAULTY: [(&[u8], u64, TextKind); 6] = [
+    (
+        b"trace 1\nwrite 18446744073709551616\nreturn\n",
+        2,
+        TextKind::Line,
+    ),
+    (b"", 1, TextKind::Truncated),
+    (b"trace 1\nread 01\nreturn\n", 2, TextKind::Line),
+    (b"trace 1\nreturn", 2, TextKind::Truncated),
+    (b"trace 3\nreturn\n", 1, TextKind::Header),
+    (b"trace 1\ncall\nreturn\n", 2, TextKind::Line),
+];
+
+/// Texts within a limit of their depth, and the place that is faulty.
+const BADLY_NESTED: [(u32, &[u8], u64, NestKind); 6] = [
+    (9, b"trace 1\n", 1, NestKind::Unfinished),
+    (9, b"trace 1\nreturn\nread 1\n", 2, NestKind::AfterEnd),
+    (1, b"trace 1\nspawn\nspawn\n", 2, NestKind::TooDeep),
+    (0, WRITE_WRITE, 1, NestKind::TooDeep),
+    (9, b"trace 2\ncall\nreturn\n", 3, NestKind::Unfinished),
+    (1, CALL_SPAWNS, 2, NestKind::TooDeep),
+];
+
 #[test]
-fn faults_of_pieces(rt: HostRuntime) -> Result<(), Fail> {
-    let rows: [(u32, &[u8], Fault); 12] = [
-        (
-            9,
-            b"trace 1\nwrite 18446744073709551616\nreturn\n",
-            text(2, TextKind::Line),
-        ),
-        (9, b"", text(1, TextKind::Truncated)),
-        (9, b"trace 1\n", nest(1, NestKind::Unfinished)),
-        (9, b"trace 1\nreturn\nread 1\n", nest(2, NestKind::AfterEnd)),
-        (9, b"trace 1\nread 01\nreturn\n", text(2, TextKind::Line)),
-        (9, b"trace 1\nreturn", text(2, TextKind::Truncated)),
-        (1, b"trace 1\nspawn\nspawn\n", nest(2, NestKind::TooDeep)),
-        (0, WRITE_WRITE, nest(1, NestKind::TooDeep)),
-        (9, b"trace 3\nreturn\n", text(1, TextKind::Header)),
-        (9, b"trace 1\ncall\nreturn\n", text(2, TextKind::Line)),
-        (9, b"trace 2\ncall\nreturn\n", nest(3, NestKind::Unfinished)),
-        (1, CALL_SPAWNS, nest(2, NestKind::TooDeep)),
-    ];
-    for (depth, text, fault) in rows {
-        for cut in 0..=text.len() {
-            let parts = Parts::cut(text, cut);
-            assert_fault(&rt, rt.alloc(), depth, fault, parts)?;
-        }
-        let parts = Parts::byte_by_byte(text, None);
-        assert_fault(&rt, rt.alloc(), depth, fault, parts)?;
+fn faults_of_pieces(rt: HostRuntime) {
+    for (faulty, line, kind) in FAULTY {
+        assert_fault_of_pieces(&rt, rt.alloc(), 9, faulty, text(line, kind));
     }
-    Ok(())
+    for (depth, text, place, kind) in BADLY_NESTED {
+        assert_fault_of_pieces(&rt, rt.alloc(), depth, text, nest(place, kind));
+    }
+}
+
+/// Asserts that there is this fault for an answer from the text, of which the call after the last byte fails.
+fn assert_fault_at_end(rt: &impl Abort, alloc: Global, text: &[u8], fault: Fault) {
+    let parts = Parts::byte_by_byte(text, Some(text.len()));
+    assert_fault(rt, alloc, 9, fault, parts);
 }
 
 // A call that fails isn't tried again, and no answer comes of what was read before; but a fault that came before is
 // told.
 #[test]
-fn failing_calls(rt: HostRuntime) -> Result<(), Fail> {
+fn failing_calls(rt: HostRuntime) {
     for call in 0..=WRITE_WRITE.len() {
         let parts = Parts::byte_by_byte(WRITE_WRITE, Some(call));
-        assert_fault(&rt, rt.alloc(), 9, Fault::Read, parts)?;
+        assert_fault(&rt, rt.alloc(), 9, Fault::Read, parts);
     }
-    let rows: [(&[u8], Fault); 4] = [
-        (b"trace 1\nx\n", text(2, TextKind::Line)),
-        (b"trace 1\nretu", Fault::Read),
-        (b"trace 1\nreturn\n", Fault::Read),
-        (b"trace 1\nreturn\nsync\n", nest(2, NestKind::AfterEnd)),
-    ];
-    for (text, fault) in rows {
-        let parts = Parts::byte_by_byte(text, Some(text.len()));
-        assert_fault(&rt, rt.alloc(), 9, fault, parts)?;
-    }
-    Ok(())
+    let alloc = rt.alloc();
+    assert_fault_at_end(&rt, alloc, b"trace 1\nx\n", text(2, TextKind::Line));
+    assert_fault_at_end(&rt, alloc, b"trace 1\nretu", Fault::Read);
+    assert_fault_at_end(&rt, alloc, b"trace 1\nreturn\n", Fault::Read);
+    let after_end = nest(2, NestKind::AfterEnd);
+    assert_fault_at_end(&rt, alloc, b"trace 1\nreturn\nsync\n", after_end);
 }
