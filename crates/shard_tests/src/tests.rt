@@ -1,7 +1,8 @@
 //! A shard on worked rows, and its worker in one thread and in a thread of its own.
-ghost use Rattle.std.specs.Prelude.{◌≡◌, false};
+ghost use Rattle.std.specs.Prelude.{◌≡◌, false, [], IfOk};
+ghost use Rattle.trace.specs.Bounds.{IsCapacity};
 ghost use Rattle.lane.specs.Items.{has_mark};
-ghost use Rattle.lane.specs.Lanes.{lane_of, put_of, taker_lane};
+ghost use Rattle.lane.specs.Lanes.{end_lane, lane_of, put_of, taken_of, taker_lane};
 
 use lane::{Item, Sender, Taker, lane};
 use shard::{Back, Gate, Open, Shard, Worked, work};
@@ -15,7 +16,7 @@ use std::test::*;
 use std::thread;
 use std::thread::Promise;
 use trace::Kind::{Read, Write};
-use trace::{Kind, Placed, Race, Record};
+use trace::{Kind, NoMemory, Placed, Race, Record};
 
 type Hasher = BuildHasherDefault<FoldHasher>;
 
@@ -67,15 +68,25 @@ fn apply(shard: &mut Shard<Hasher>, place: u64, what: Record) -> Result<Option<T
     }
 }
 
-/// The races that a shard tells along records, and how many it took.
-fn races(alloc: Global, records: &[(u64, Record)]) -> Result<(Vec<Told>, u64), Fail> {
-    let mut shard = Shard::new(alloc, 0, Hasher::default())?;
+/// The races that a shard tells along records.
+fn apply_all(
+    alloc: Global,
+    shard: &mut Shard<Hasher>,
+    records: &[(u64, Record)],
+) -> Result<Vec<Told>, Fail> {
     let mut all = Vec::new(alloc);
     for (place, what) in records {
-        if let Some(told) = apply(&mut shard, *place, *what)? {
+        if let Some(told) = apply(shard, *place, *what)? {
             all.push(told)?;
         }
     }
+    Ok(all)
+}
+
+/// The races that a new shard tells along records, and how many records it took.
+fn races(alloc: Global, records: &[(u64, Record)]) -> Result<(Vec<Told>, u64), Fail> {
+    let mut shard = Shard::new(alloc, 0, Hasher::default())?;
+    let all = apply_all(alloc, &mut shard, records)?;
     Ok((all, shard.taken()))
 }
 
@@ -88,155 +99,162 @@ fn placed(alloc: Global, records: &[Record]) -> Result<Vec<(u64, Record)>, Fail>
     Ok(all)
 }
 
+/// Records, and the races that are told of them.
+const ROWS: [(&str, &[Record], &[Told]); 15] = [
+    ("empty", &[RETURN], &[]),
+    (
+        "write-write",
+        &[SPAWN, Record::Write(5), RETURN, Record::Write(5), RETURN],
+        &[(5, (Write, 2), (Write, 4))],
+    ),
+    (
+        "sync-orders",
+        &[
+            SPAWN,
+            Record::Write(5),
+            RETURN,
+            SYNC,
+            Record::Write(5),
+            RETURN,
+        ],
+        &[],
+    ),
+    (
+        "read-read",
+        &[SPAWN, Record::Read(5), RETURN, Record::Read(5), RETURN],
+        &[],
+    ),
+    (
+        "two-readers-then-write",
+        &[
+            SPAWN,
+            Record::Read(9),
+            RETURN,
+            SPAWN,
+            Record::Read(9),
+            RETURN,
+            Record::Write(9),
+            RETURN,
+        ],
+        &[(9, (Read, 2), (Write, 7))],
+    ),
+    (
+        "reader-moves-to-child",
+        &[
+            Record::Read(9),
+            SPAWN,
+            Record::Read(9),
+            RETURN,
+            Record::Write(9),
+            RETURN,
+        ],
+        &[(9, (Read, 3), (Write, 5))],
+    ),
+    (
+        "grandchild-synced",
+        &[
+            SPAWN,
+            SPAWN,
+            Record::Write(1),
+            RETURN,
+            RETURN,
+            SYNC,
+            Record::Read(1),
+            RETURN,
+        ],
+        &[],
+    ),
+    (
+        "sync-in-sibling",
+        &[
+            SPAWN,
+            Record::Write(1),
+            RETURN,
+            SPAWN,
+            SYNC,
+            Record::Write(1),
+            RETURN,
+            RETURN,
+        ],
+        &[(1, (Write, 2), (Write, 6))],
+    ),
+    (
+        "grandchild-unsynced",
+        &[
+            SPAWN,
+            SPAWN,
+            Record::Write(1),
+            RETURN,
+            RETURN,
+            Record::Read(1),
+            RETURN,
+        ],
+        &[(1, (Write, 3), (Read, 6))],
+    ),
+    (
+        "location-range",
+        &[Record::Write(18_446_744_073_709_551_615), RETURN],
+        &[],
+    ),
+    (
+        "three-writes",
+        &THREE_WRITES,
+        &[(3, (Write, 2), (Write, 5))],
+    ),
+    (
+        "first-reader-stays",
+        &[
+            SPAWN,
+            Record::Read(4),
+            RETURN,
+            Record::Read(4),
+            Record::Write(4),
+            RETURN,
+        ],
+        &[(4, (Read, 2), (Write, 5))],
+    ),
+    (
+        "read-then-write-in-child",
+        &[
+            SPAWN,
+            Record::Read(7),
+            Record::Write(7),
+            RETURN,
+            Record::Write(7),
+            RETURN,
+        ],
+        &[(7, (Write, 3), (Write, 5))],
+    ),
+    (
+        "read-in-child-of-writer",
+        &[
+            Record::Write(7),
+            SPAWN,
+            Record::Read(7),
+            RETURN,
+            Record::Write(7),
+            RETURN,
+        ],
+        &[(7, (Read, 3), (Write, 5))],
+    ),
+    (
+        "three-shards",
+        &THREE_SHARDS,
+        &[(8, (Write, 2), (Read, 5)), (2, (Write, 3), (Read, 6))],
+    ),
+];
+
+/// Whether these races are told of the records, and all records taken.
+fn are_races(alloc: Global, records: &[Record], wanted: &[Told]) -> Result<bool, Fail> {
+    let placed = placed(alloc, records)?;
+    let (found, taken) = races(alloc, &placed)?;
+    Ok(found.as_slice() == wanted && taken == records.len() as u64)
+}
+
 #[test]
 fn rows(rt: HostRuntime) -> Result<(), Fail> {
-    let rows: [(&str, &[Record], &[Told]); 15] = [
-        ("empty", &[RETURN], &[]),
-        (
-            "write-write",
-            &[SPAWN, Record::Write(5), RETURN, Record::Write(5), RETURN],
-            &[(5, (Write, 2), (Write, 4))],
-        ),
-        (
-            "sync-orders",
-            &[
-                SPAWN,
-                Record::Write(5),
-                RETURN,
-                SYNC,
-                Record::Write(5),
-                RETURN,
-            ],
-            &[],
-        ),
-        (
-            "read-read",
-            &[SPAWN, Record::Read(5), RETURN, Record::Read(5), RETURN],
-            &[],
-        ),
-        (
-            "two-readers-then-write",
-            &[
-                SPAWN,
-                Record::Read(9),
-                RETURN,
-                SPAWN,
-                Record::Read(9),
-                RETURN,
-                Record::Write(9),
-                RETURN,
-            ],
-            &[(9, (Read, 2), (Write, 7))],
-        ),
-        (
-            "reader-moves-to-child",
-            &[
-                Record::Read(9),
-                SPAWN,
-                Record::Read(9),
-                RETURN,
-                Record::Write(9),
-                RETURN,
-            ],
-            &[(9, (Read, 3), (Write, 5))],
-        ),
-        (
-            "grandchild-synced",
-            &[
-                SPAWN,
-                SPAWN,
-                Record::Write(1),
-                RETURN,
-                RETURN,
-                SYNC,
-                Record::Read(1),
-                RETURN,
-            ],
-            &[],
-        ),
-        (
-            "sync-in-sibling",
-            &[
-                SPAWN,
-                Record::Write(1),
-                RETURN,
-                SPAWN,
-                SYNC,
-                Record::Write(1),
-                RETURN,
-                RETURN,
-            ],
-            &[(1, (Write, 2), (Write, 6))],
-        ),
-        (
-            "grandchild-unsynced",
-            &[
-                SPAWN,
-                SPAWN,
-                Record::Write(1),
-                RETURN,
-                RETURN,
-                Record::Read(1),
-                RETURN,
-            ],
-            &[(1, (Write, 3), (Read, 6))],
-        ),
-        (
-            "location-range",
-            &[Record::Write(18_446_744_073_709_551_615), RETURN],
-            &[],
-        ),
-        (
-            "three-writes",
-            &THREE_WRITES,
-            &[(3, (Write, 2), (Write, 5))],
-        ),
-        (
-            "first-reader-stays",
-            &[
-                SPAWN,
-                Record::Read(4),
-                RETURN,
-                Record::Read(4),
-                Record::Write(4),
-                RETURN,
-            ],
-            &[(4, (Read, 2), (Write, 5))],
-        ),
-        (
-            "read-then-write-in-child",
-            &[
-                SPAWN,
-                Record::Read(7),
-                Record::Write(7),
-                RETURN,
-                Record::Write(7),
-                RETURN,
-            ],
-            &[(7, (Write, 3), (Write, 5))],
-        ),
-        (
-            "read-in-child-of-writer",
-            &[
-                Record::Write(7),
-                SPAWN,
-                Record::Read(7),
-                RETURN,
-                Record::Write(7),
-                RETURN,
-            ],
-            &[(7, (Read, 3), (Write, 5))],
-        ),
-        (
-            "three-shards",
-            &THREE_SHARDS,
-            &[(8, (Write, 2), (Read, 5)), (2, (Write, 3), (Read, 6))],
-        ),
-    ];
-    for (name, records, expected) in rows {
-        let (found, taken) = races(rt.alloc(), placed(rt.alloc(), records)?.as_slice())?;
-        assert!(rt; found.as_slice() == expected, "{name}");
-        assert!(rt; taken == records.len() as u64, "{name}");
+    for (name, records, wanted) in ROWS {
+        assert!(rt; are_races(rt.alloc(), records, wanted)?, "{name}");
     }
     Ok(())
 }
@@ -327,6 +345,22 @@ fn take_all(alloc: Global, taker: &mut Taker<Back>) -> Result<Vec<Item<Back>>, F
     Ok(items)
 }
 
+/// The ends of a lane to a worker and of one back, for so many items each.
+fn lanes(
+    alloc: Global,
+    capacity: usize,
+) -> Result<(Sender<Placed>, Taker<Placed>, Sender<Back>, Taker<Back>), NoMemory>
+    requires { IsCapacity capacity }
+    ensures to { IfOk result (λ r. lane_of r.0 ≡ taker_lane r.1) }
+    ensures back { IfOk result (λ r. lane_of r.2 ≡ taker_lane r.3) }
+    ensures none_put { IfOk result (λ r. (put_of r.0 ≡ []) × (put_of r.2 ≡ [])) }
+    ensures none_taken { IfOk result (λ r. taken_of r.1 ≡ []) }
+{
+    let (sender, taker) = lane::<Placed>(alloc, capacity)?;
+    let (back, back_taker) = lane::<Back>(alloc, capacity)?;
+    Ok((sender, taker, back, back_taker))
+}
+
 /// What a worker of shard 7 puts on its lane back that is given these records, and its count. At each
 /// record it passes the gate.
 fn worked<R: Wait + Abort>(
@@ -334,13 +368,24 @@ fn worked<R: Wait + Abort>(
     alloc: Global,
     records: &[Record],
 ) -> Result<(Vec<Item<Back>>, u64), Fail> {
-    let (sender, taker) = lane::<Placed>(alloc, 16)?;
-    let (back, mut back_taker) = lane::<Back>(alloc, 16)?;
     let shard = Shard::new(alloc, 7, Hasher::default())?;
+    let (sender, taker, back, back_taker) = lanes(alloc, 16)?;
     fill(rt, sender, records);
     let gate = Passes::none();
-    let mut worked = work(rt, shard, taker, back, &gate);
+    let worked = work(rt, shard, taker, back, &gate);
     assert!(rt; gate.are_by_seven(records.len() as u64));
+    put_back(rt, alloc, worked, back_taker)
+}
+
+/// What a worker that has ended put on its lane back, and its count.
+fn put_back<R: Abort>(
+    rt: &R,
+    alloc: Global,
+    mut worked: Worked<Hasher>,
+    mut back_taker: Taker<Back>,
+) -> Result<(Vec<Item<Back>>, u64), Fail>
+    requires { end_lane worked.back ≡ taker_lane back_taker }
+{
     assert!(rt; worked.taker.ended());
     let items = take_all(alloc, &mut back_taker)?;
     back_taker.settle(&mut worked.back);
@@ -428,9 +473,8 @@ fn exchange<R: Wait>(
 // The lanes hold one item each, so that a race finds the lane back full.
 #[test]
 fn work_in_a_thread(rt: HostRuntime) -> Result<(), Fail> {
-    let (mut sender, taker) = lane::<Placed>(rt.alloc(), 1)?;
-    let (back, mut back_taker) = lane::<Back>(rt.alloc(), 1)?;
     let shard = Shard::new(rt.alloc(), 0, Hasher::default())?;
+    let (mut sender, taker, back, mut back_taker) = lanes(rt.alloc(), 1)?;
     let promise = WorkOf {
         taker: Snapshot::of(&taker),
         back: Snapshot::of(&back),
@@ -438,9 +482,17 @@ fn work_in_a_thread(rt: HostRuntime) -> Result<(), Fail> {
     let child = thread::spawn_with(&rt, promise, move || work(&rt, shard, taker, back, &Open))?;
     let count = exchange(&rt, &mut sender, &mut back_taker, &THREE_SHARDS);
     assert!(rt; count == 2);
-    let mut worked = child.join(&rt);
+    let taken = settle(child.join(&rt), sender, back_taker);
+    assert!(rt; taken == 7);
+    Ok(())
+}
+
+/// Settles both lanes of a worker that has ended, and tells its count.
+fn settle(mut worked: Worked<Hasher>, sender: Sender<Placed>, mut back_taker: Taker<Back>) -> u64
+    requires to { lane_of sender ≡ taker_lane worked.taker }
+    requires back { end_lane worked.back ≡ taker_lane back_taker }
+{
     worked.taker.settle(&mut sender.end());
     back_taker.settle(&mut worked.back);
-    assert!(rt; worked.shard.taken() == 7);
-    Ok(())
+    worked.shard.taken()
 }
