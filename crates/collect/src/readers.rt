@@ -1,5 +1,6 @@
 //! The reader of a report's text.
-ghost use Rattle.std.specs.Prelude.{◌≡◌, ◌≢◌, ℕ, ◌+◌, ◌<◌, ◌≤◌, ◌^◌, List, [], ◌∷◌, ◌++◌, length, decimal, slice_index, IsTrue, ◌↔◌, IfSome, IfNone, IfOk, IfErr, MatchResult};
+ghost use Rattle.std.specs.Prelude.{◌≡◌, ◌≢◌, ◌↔◌, ℕ, ◌+◌, ◌<◌, ◌≤◌, ◌^◌, List, [], ◌∷◌, ◌++◌, length, decimal};
+ghost use Rattle.std.specs.Prelude.{slice_index, IsTrue, IfSome, IfNone, IfOk, IfErr, MatchResult};
 ghost use Rattle.trace.specs.declared.records.Kind.{Kind};
 ghost use Rattle.trace.specs.declared.records.Access.{Access};
 ghost use Rattle.trace.specs.Accesses.{RaceAt, IsRaceShape};

@@ -8,8 +8,8 @@ use std::alloc::Global;
 use std::marker::Model;
 use trace::NoMemory;
 
-/// Values in their order, kept as a lane keeps them: so a put of them only copies. It takes memory for 64 when it is made,
-/// and none after that.
+/// Values in their order, kept as a lane keeps them: so a put of them only copies. It takes memory for 64 when it is
+/// made, and none after that.
 #[derive(Drop)]
 pub struct Block<T> {
     pub(crate) items: Vec<Item<T>>,
@@ -24,7 +24,8 @@ impl<T> Model for Block<T> {
 
     ghost view = { λ b. records b.items.items };
 
-    ghost invariant = { λ b. (has_mark b.items.items ≡ false) × (vec_len b.items ≤ BLOCK) × (BLOCK ≤ vec_capacity b.items) };
+    ghost invariant = { λ b. (has_mark b.items.items ≡ false)
+        × (vec_len b.items ≤ BLOCK) × (BLOCK ≤ vec_capacity b.items) };
 }
 
 /// Some values of a block that follow one another.

@@ -100,8 +100,8 @@ impl<T: Copy + Send> Sender<T> {
         true
     }
 
-    /// How many items the sender knows to have room, without a look at the other end. While that is above 0 neither `put`
-    /// nor `mark` is refused.
+    /// How many items the sender knows to have room, without a look at the other end. While that is above 0 neither
+    /// `put` nor `mark` is refused.
     pub fn room(&self) -> usize
         ensures { result ≡ room_of self.now }
     {

@@ -62,8 +62,8 @@ impl<T: Copy + Send> Taker<T> {
         count
     }
 
-    /// How many items the taker knows to wait, without a look at the other end. While that is above 0 and the mark wasn't
-    /// taken `take` gives one.
+    /// How many items the taker knows to wait, without a look at the other end. While that is above 0 and the mark
+    /// wasn't taken `take` gives one.
     pub fn ready(&self) -> usize
         ensures { result ≡ length (waiting_of self.now) }
     {

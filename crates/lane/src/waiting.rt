@@ -7,13 +7,13 @@ use std::time::Duration;
 
 /// How an end of a lane waits for the other one, be it for items or for room.
 ///
-/// It lets other threads run and looks again, so many times, and then it naps. Where other programs want the processor a
-/// thread that gives way gets it back after a slice of time, and a lane is filled in less than a hundredth of a slice; so
-/// where that is seen it naps at once for a while, since one that slept gets the processor when it wakes: for the longer
-/// the more often it is seen. How often it looks before it naps, and how long a nap takes, goes by what the last waits
-/// showed. Looks that found what they waited for make more looks. A nap after which half of the lane was filled, or
-/// emptied for a sender, was too long, and more looks would have been better; one after which little has changed was
-/// too short.
+/// It lets other threads run and looks again, so many times, and then it naps. Where other programs want the processor
+/// a thread that gives way gets it back after a slice of time, and a lane is filled in less than a hundredth of a
+/// slice; so where that is seen it naps at once for a while, since one that slept gets the processor when it wakes: for
+/// the longer the more often it is seen. How often it looks before it naps, and how long a nap takes, goes by what the
+/// last waits showed. Looks that found what they waited for make more looks. A nap after which half of the lane was
+/// filled, or emptied for a sender, was too long, and more looks would have been better; one after which little has
+/// changed was too short.
 #[derive(Drop)]
 pub struct Waiting {
     parker: Parker,
@@ -24,8 +24,8 @@ pub struct Waiting {
     // how long a nap takes, and how long the shortest one, in microseconds
     nap: u64,
     shortest_nap: u64,
-    // how many waits are naps from the start, since others want the processor; how many will be when that is seen again;
-    // and how many looks since then came in time
+    // how many waits are naps from the start, since others want the processor; how many will be when that is seen
+    // again; and how many looks since then came in time
     busy: u32,
     next_busy: u32,
     in_time: u32,
@@ -72,8 +72,9 @@ impl Waiting {
         Waiting::beside(1)
     }
 
-    /// An end that hasn't waited yet, one of so many in as many threads. They share the processors, and what a lane holds
-    /// lasts the longer the more there are: so with n of them each looks n times less often, and naps n times as long.
+    /// An end that hasn't waited yet, one of so many in as many threads. They share the processors, and what a lane
+    /// holds lasts the longer the more there are: so with n of them each looks n times less often, and naps n times as
+    /// long.
     pub fn beside(ends: u64) -> Waiting {
         let ends = ends.clamp(1, MOST_LOOKS as u64);
         let most_looks = MOST_LOOKS / ends as u32;
@@ -91,8 +92,8 @@ impl Waiting {
         }
     }
 
-    /// Waits a little where a look showed nothing; else learns from what it showed: so many items or so much room, of as
-    /// much as the lane has.
+    /// Waits a little where a look showed nothing; else learns from what it showed: so many items or so much room, of
+    /// as much as the lane has.
     #[inline(always)]
     pub fn after_look<R: Wait>(&mut self, rt: &R, shown: usize, capacity: usize) {
         if shown == 0 {

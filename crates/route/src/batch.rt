@@ -119,7 +119,8 @@ impl Batch {
     pub(crate) fn turn_on(&mut self)
         ensures portions { HasSamePortions self.old self.new }
         ensures sent { (k : ℕ) → sent_count self.new k ≡ sent_count self.old k }
-        ensures lacks { batch_turn self.new < batch_lanes self.new → unsent_portion self.new (batch_turn self.new) ≢ [] }
+        ensures lacks { batch_turn self.new < batch_lanes self.new
+            → unsent_portion self.new (batch_turn self.new) ≢ [] }
         ensures whole { batch_turn self.new ≡ batch_lanes self.new → IsSentWhole self.new }
     {
         for lane in self.turn..self.portions.lanes() {
@@ -138,8 +139,8 @@ impl Batch {
         self.turn
     }
 
-    /// Records of that lane that weren't sent, from the first of them on: at most so many, and at least one where that is
-    /// allowed and there are any.
+    /// Records of that lane that weren't sent, from the first of them on: at most so many, and at least one where that
+    /// is allowed and there are any.
     pub(crate) fn next(&self, most: usize) -> Values<Placed>
         requires { batch_turn self.now < batch_lanes self.now }
         ensures next { result ≡ take (length result) (unsent_portion self.now (batch_turn self.now)) }

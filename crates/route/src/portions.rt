@@ -6,8 +6,8 @@ use lane::{BLOCK, Block, Values};
 use std::alloc::Global;
 use trace::{NoMemory, Placed};
 
-/// The portions of a batch, one for each lane. A record for all lanes is kept once. It joins the portion of a lane when a
-/// record for that lane alone comes behind it.
+/// The portions of a batch, one for each lane. A record for all lanes is kept once. It joins the portion of a lane when
+/// a record for that lane alone comes behind it.
 #[derive(Drop)]
 pub struct Portions {
     // for each lane the records that are for it alone, and what joined them
@@ -109,7 +109,8 @@ impl Portions {
         self.common.push(placed);
     }
 
-    /// Records of the lane's portion from this index on, at most so many; at least one where that is allowed and there are any.
+    /// Records of the lane's portion from this index on, at most so many; at least one where that is allowed and there
+    /// are any.
     #[tactic(auto, unfolding(crate::specs::Portions::portion_at))]
     pub fn next(&self, lane: usize, from: usize, most: usize) -> Values<Placed>
         requires within { lane < lanes_in self.now }

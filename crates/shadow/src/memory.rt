@@ -27,9 +27,19 @@ impl<S: BuildHasher> Model for Shadow<S> {
 
     ghost Value = { Memory };
 
-    ghost view = { λ s. record { shards = s.shards; pages = s.pages; last_place = s.last_place; least_count = s.least_count } };
+    ghost view = { λ s. record {
+      shards = s.shards;
+      pages = s.pages;
+      last_place = s.last_place;
+      least_count = s.least_count;
+    } };
 
-    ghost invariant = { λ s. IsMemoryBefore (record { shards = s.shards; pages = s.pages; last_place = s.last_place; least_count = s.least_count }) };
+    ghost invariant = { λ s. IsMemoryBefore (record {
+      shards = s.shards;
+      pages = s.pages;
+      last_place = s.last_place;
+      least_count = s.least_count;
+    }) };
 }
 
 impl<S: BuildHasher> Shadow<S> {

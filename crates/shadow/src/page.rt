@@ -55,7 +55,8 @@ impl Page {
     ) -> Option<Race>
         requires within { seat < 8 }
         requires may { MayTouch bags.now place (cell_at self.old seat) }
-        ensures touched { HasTouched bags.now location kind place (cell_at self.old seat) (cell_at self.new seat) result }
+        ensures touched { HasTouched bags.now location kind place
+            (cell_at self.old seat) (cell_at self.new seat) result }
         ensures others { (k : ℕ) → k ≢ seat → cell_at self.new k ≡ cell_at self.old k }
     {
         self.cells[seat].touch(bags, location, kind, place)

@@ -63,8 +63,8 @@ impl<S: BuildHasher> Pages<S> {
         }
     }
 
-    /// Where the page of this number stands, for the slot to remember. It is looked up, and added with nothing kept in it
-    /// where it isn't there.
+    /// Where the page of this number stands, for the slot to remember. It is looked up, and added with nothing kept in
+    /// it where it isn't there.
     ///
     /// On an error nothing has changed.
     #[inline(never)]

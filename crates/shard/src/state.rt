@@ -37,7 +37,14 @@ impl<S: BuildHasher + Drop> Model for Shard<S> {
 
     ghost coded = { Prim.hlevel (codes, coded_procedures) };
 
-    ghost view = { λ s. record { index = s.index; bags = s.bags; memory = s.shadow; last_place = s.last_place; ended = s.ended; taken = s.taken } };
+    ghost view = { λ s. record {
+      index = s.index;
+      bags = s.bags;
+      memory = s.shadow;
+      last_place = s.last_place;
+      ended = s.ended;
+      taken = s.taken;
+    } };
 
     ghost invariant = { λ s. AreReadyFor s.bags s.shadow (s.last_place + 1) };
 }

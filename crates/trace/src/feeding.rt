@@ -46,7 +46,12 @@ impl Model for Intake {
 
     ghost Value = { Feeding };
 
-    ghost view = { λ s. record { reading = s.reader; nesting = s.nest; coming = take (s.end - s.start) (drop s.start s.buffer); ending = s.ending } };
+    ghost view = { λ s. record {
+      reading = s.reader;
+      nesting = s.nest;
+      coming = take (s.end - s.start) (drop s.start s.buffer);
+      ending = s.ending;
+    } };
 
     ghost invariant = { λ s. (s.start ≤ s.end) × (s.end ≤ length s.buffer) × (s.nest.count ≤ s.reader.count)
         × (s.start < s.easy_until → IsEasy s.reader s.ending (s.easy_until - s.start))

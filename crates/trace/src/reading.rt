@@ -122,7 +122,13 @@ impl Model for Reader {
 
     ghost Value = { Reading };
 
-    ghost view = { λ r. record { limit = r.limit; version = r.version; count = r.count; rest = r.held; fault = r.fault } };
+    ghost view = { λ r. record {
+      limit = r.limit;
+      version = r.version;
+      count = r.count;
+      rest = r.held;
+      fault = r.fault;
+    } };
 
     ghost invariant = { λ r. (r.limit ≤ most_records) × (r.count ≤ r.limit) × (length r.held ≤ longest_line) };
 }

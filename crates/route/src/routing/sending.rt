@@ -114,8 +114,8 @@ impl Router {
         Progress::Moved
     }
 
-    /// Puts records of the batch on the first lane that lacks some: the next of those that it lacks, and on a small lane no
-    /// more than it has half the room for.
+    /// Puts records of the batch on the first lane that lacks some: the next of those that it lacks, and on a small
+    /// lane no more than it has half the room for.
     pub fn send_step(&mut self, batch: &mut Batch) -> Progress
         requires idle { pending_of self.old ≡ None }
         requires unmarked { marked_of self.old ≡ 0 }
