@@ -1,14 +1,13 @@
 //! The bags after each record of worked rows, and how many numbers and probes they take.
 
 use bags::Bags;
-use std::alloc::{AllocError, Global};
 use std::test::Fail;
 use trace::{NoMemory, Record};
 
 /// The call that a record makes.
 fn call(bags: &mut Bags, what: Record) -> Result<(), NoMemory> {
     match what {
-        Record::Spawn => enter(bags, false)?,
+        Record::Spawn | Record::Call => enter(bags, what == Record::Call)?,
         Record::Sync => bags.sync(),
         Record::Return if bags.active() > 1 => bags.ret(),
         _ => (),
@@ -25,24 +24,61 @@ fn enter(bags: &mut Bags, is_called: bool) -> Result<(), NoMemory> {
     }
 }
 
-/// The procedures that stand in a P-bag, and the most probes that a look-up takes.
-fn looked_up(alloc: Global, bags: &Bags) -> Result<(Vec<u64>, u32), AllocError> {
-    let mut procedures = Vec::new(alloc);
-    let mut most = 0;
-    for procedure in 0..bags.count() {
-        let (is_parallel, probes) = bags.in_p_counted(procedure);
-        if is_parallel {
-            procedures.push(procedure)?;
-        }
-        most = most.max(probes);
+/// The calls that records make.
+fn run(bags: &mut Bags, records: &[Record]) -> Result<(), NoMemory> {
+    for what in records {
+        call(bags, *what)?;
     }
-    Ok((procedures, most))
+    Ok(())
 }
 
-/// How many are active, how many there are, and how many numbers are held.
-fn sizes(bags: &Bags) -> (u64, u64, u64) {
-    (bags.active(), bags.count(), bags.held())
+/// The calls that records make so many times.
+fn repeat(bags: &mut Bags, times: u32, records: &[Record]) -> Result<(), NoMemory> {
+    for _ in 0..times {
+        run(bags, records)?;
+    }
+    Ok(())
 }
+
+/// Whether this procedure executes, and so many are active, and so many there are.
+fn is_at(bags: &Bags, current: u64, active: u64, count: u64) -> bool {
+    bags.current() == current && bags.active() == active && bags.count() == count
+}
+
+/// Whether so many are active, so many there are, and so many numbers are held.
+fn has_sizes(bags: &Bags, active: u64, count: u64, held: u64) -> bool {
+    bags.active() == active && bags.count() == count && bags.held() == held
+}
+
+/// Whether these procedures stand in a P-bag, and no others, and a look-up takes so many probes at most.
+fn are_in_p(bags: &Bags, wanted: &[u64], most: u32) -> bool {
+    let mut rest = wanted.iter();
+    for procedure in 0..bags.count() {
+        let (is_parallel, probes) = bags.in_p_counted(procedure);
+        if probes > most || is_parallel && rest.next() != Some(&procedure) {
+            return false;
+        }
+    }
+    rest.next().is_none()
+}
+
+/// The same of procedure 1 and those that follow it by such steps.
+fn steps_are_in_p(bags: &Bags, step: u64, most: u32) -> bool {
+    let mut next = 1u64;
+    for procedure in 0..bags.count() {
+        let (is_parallel, probes) = bags.in_p_counted(procedure);
+        if probes > most || is_parallel != (procedure == next) {
+            return false;
+        }
+        if is_parallel {
+            next = next.saturating_add(step);
+        }
+    }
+    true
+}
+
+/// For a look-up whose probes aren't counted.
+const ANY: u32 = u32::MAX;
 
 // After each record: the executing procedure, how many are active, how many there are, and
 // which stand in a P-bag. The sync in procedure 2 leaves the root's P-bag alone.
@@ -60,20 +96,12 @@ fn sync_in_sibling(rt: HostRuntime) -> Result<(), Fail> {
         (Record::Sync, 0, 1, 3, none),
     ];
     let mut bags = Bags::new(rt.alloc())?;
-    assert_eq!(rt; (bags.current(), bags.active(), bags.count()), (0, 1, 1));
-    assert!(rt; looked_up(rt.alloc(), &bags)?.0.is_empty());
+    assert!(rt; is_at(&bags, 0, 1, 1));
+    assert!(rt; are_in_p(&bags, &[], ANY));
     for (what, current, active, count, in_p) in steps {
         call(&mut bags, what)?;
-        assert_eq!(rt;
-            (bags.current(), bags.active(), bags.count()),
-            (current, active, count),
-            "after {what:?}"
-        );
-        assert_eq!(rt;
-            looked_up(rt.alloc(), &bags)?.0.as_slice(),
-            in_p,
-            "after {what:?}"
-        );
+        assert!(rt; is_at(&bags, current, active, count), "after {what:?}");
+        assert!(rt; are_in_p(&bags, in_p, ANY), "after {what:?}");
     }
     Ok(())
 }
@@ -82,27 +110,15 @@ fn sync_in_sibling(rt: HostRuntime) -> Result<(), Fail> {
 #[test]
 fn completed_child_at_each_depth(rt: HostRuntime) -> Result<(), Fail> {
     let mut bags = Bags::new(rt.alloc())?;
-    for _ in 0..100 {
-        call(&mut bags, Record::Spawn)?;
-        call(&mut bags, Record::Return)?;
-        call(&mut bags, Record::Spawn)?;
-    }
-    assert_eq!(rt;
-        (bags.current(), bags.active(), bags.count()),
-        (200, 101, 201)
-    );
+    let records = [Record::Spawn, Record::Return, Record::Spawn];
+    repeat(&mut bags, 100, &records)?;
+    assert!(rt; is_at(&bags, 200, 101, 201));
     for procedure in 0..bags.count() {
-        assert_eq!(rt;
-            bags.in_p(procedure),
-            procedure % 2 == 1,
-            "procedure {procedure}"
-        );
+        let is_odd = procedure % 2 == 1;
+        assert!(rt; bags.in_p(procedure) == is_odd, "procedure {procedure}");
     }
-    for _ in 0..100 {
-        call(&mut bags, Record::Return)?;
-    }
-    let all: Vec<u64> = (1..201).collect(rt.alloc())?;
-    assert_eq!(rt; looked_up(rt.alloc(), &bags)?.0.as_slice(), all.as_slice());
+    repeat(&mut bags, 100, &[Record::Return])?;
+    assert!(rt; steps_are_in_p(&bags, 1, ANY));
     Ok(())
 }
 
@@ -110,51 +126,34 @@ fn completed_child_at_each_depth(rt: HostRuntime) -> Result<(), Fail> {
 #[test]
 fn numbers_of_rows(rt: HostRuntime) -> Result<(), Fail> {
     let mut bags = Bags::new(rt.alloc())?;
-    for what in [
+    let records = [
         Record::Spawn,
         Record::Write(1),
         Record::Return,
         Record::Spawn,
         Record::Sync,
-    ] {
-        call(&mut bags, what)?;
-    }
-    let (in_p, most) = looked_up(rt.alloc(), &bags)?;
-    assert_eq!(rt; sizes(&bags), (2, 3, 5));
-    assert_eq!(rt; in_p.as_slice(), [1].as_slice());
-    assert!(rt; most <= 2);
+    ];
+    run(&mut bags, &records)?;
+    assert!(rt; has_sizes(&bags, 2, 3, 5));
+    assert!(rt; are_in_p(&bags, &[1], 2));
 
     let mut bags = Bags::new(rt.alloc())?;
-    for _ in 0..2 {
-        call(&mut bags, Record::Spawn)?;
-        call(&mut bags, Record::Read(1))?;
-        call(&mut bags, Record::Return)?;
-    }
-    let (in_p, most) = looked_up(rt.alloc(), &bags)?;
-    assert_eq!(rt; sizes(&bags), (1, 3, 3));
-    assert_eq!(rt; in_p.as_slice(), [1, 2].as_slice());
-    assert!(rt; most <= 2);
+    let records = [Record::Spawn, Record::Read(1), Record::Return];
+    repeat(&mut bags, 2, &records)?;
+    assert!(rt; has_sizes(&bags, 1, 3, 3));
+    assert!(rt; are_in_p(&bags, &[1, 2], 2));
     Ok(())
 }
 
 #[test]
 fn numbers_of_a_thousand(rt: HostRuntime) -> Result<(), Fail> {
     let mut bags = Bags::new(rt.alloc())?;
-    for _ in 0..1000 {
-        call(&mut bags, Record::Spawn)?;
-    }
-    let (in_p, most) = looked_up(rt.alloc(), &bags)?;
-    assert_eq!(rt; sizes(&bags), (1001, 1001, 2002));
-    assert!(rt; in_p.is_empty());
-    assert!(rt; most <= 10);
-    for _ in 0..1000 {
-        call(&mut bags, Record::Return)?;
-    }
-    let (in_p, most) = looked_up(rt.alloc(), &bags)?;
-    let all: Vec<u64> = (1..1001).collect(rt.alloc())?;
-    assert_eq!(rt; sizes(&bags), (1, 1001, 3));
-    assert_eq!(rt; in_p.as_slice(), all.as_slice());
-    assert!(rt; most <= 2);
+    repeat(&mut bags, 1000, &[Record::Spawn])?;
+    assert!(rt; has_sizes(&bags, 1001, 1001, 2002));
+    assert!(rt; are_in_p(&bags, &[], 10));
+    repeat(&mut bags, 1000, &[Record::Return])?;
+    assert!(rt; has_sizes(&bags, 1, 1001, 3));
+    assert!(rt; steps_are_in_p(&bags, 1, 2));
     Ok(())
 }
 
@@ -162,27 +161,29 @@ fn numbers_of_a_thousand(rt: HostRuntime) -> Result<(), Fail> {
 #[test]
 fn newest_of_seventeen(rt: HostRuntime) -> Result<(), Fail> {
     let mut bags = Bags::new(rt.alloc())?;
-    for _ in 0..16 {
-        call(&mut bags, Record::Spawn)?;
-    }
+    repeat(&mut bags, 16, &[Record::Spawn])?;
     let (is_parallel, probes) = bags.in_p_counted(bags.current());
-    assert_eq!(rt; (bags.active(), is_parallel), (17, false));
+    assert!(rt; bags.active() == 17);
+    assert!(rt; !is_parallel);
     assert!(rt; probes <= 1);
     Ok(())
 }
 
-// A spawned child and then a called one: the root's S-bag holds itself and the called one.
+// A spawned child and then a called one, with their returns.
+const SPAWNED_THEN_CALLED: [Record; 4] = [
+    Record::Spawn,
+    Record::Return,
+    Record::Call,
+    Record::Return,
+];
+
+// The root's S-bag holds itself and the called one.
 #[test]
 fn called_after_spawned(rt: HostRuntime) -> Result<(), Fail> {
     let mut bags = Bags::new(rt.alloc())?;
-    for is_called in [false, true] {
-        enter(&mut bags, is_called)?;
-        call(&mut bags, Record::Return)?;
-    }
-    let (in_p, most) = looked_up(rt.alloc(), &bags)?;
-    assert_eq!(rt; sizes(&bags), (1, 3, 4));
-    assert_eq!(rt; in_p.as_slice(), [1].as_slice());
-    assert!(rt; most <= 2);
+    run(&mut bags, &SPAWNED_THEN_CALLED)?;
+    assert!(rt; has_sizes(&bags, 1, 3, 4));
+    assert!(rt; are_in_p(&bags, &[1], 2));
     Ok(())
 }
 
@@ -190,21 +191,12 @@ fn called_after_spawned(rt: HostRuntime) -> Result<(), Fail> {
 #[test]
 fn calls_between_spawns(rt: HostRuntime) -> Result<(), Fail> {
     let mut bags = Bags::new(rt.alloc())?;
-    for number in 0..1000 {
-        enter(&mut bags, number % 2 == 1)?;
-        call(&mut bags, Record::Return)?;
-    }
-    let (in_p, most) = looked_up(rt.alloc(), &bags)?;
-    let odd: Vec<u64> = (0..500).map(|half| 2 * half + 1).collect(rt.alloc())?;
-    assert_eq!(rt; sizes(&bags), (1, 1001, 1002));
-    assert_eq!(rt; in_p.as_slice(), odd.as_slice());
-    assert!(rt; most <= 10);
-
-    bags.sync();
-    let (in_p, most) = looked_up(rt.alloc(), &bags)?;
-    assert_eq!(rt; sizes(&bags), (1, 1001, 2));
-    assert!(rt; in_p.is_empty());
-    assert!(rt; most <= 1);
+    repeat(&mut bags, 500, &SPAWNED_THEN_CALLED)?;
+    assert!(rt; has_sizes(&bags, 1, 1001, 1002));
+    assert!(rt; steps_are_in_p(&bags, 2, 10));
+    run(&mut bags, &[Record::Sync])?;
+    assert!(rt; has_sizes(&bags, 1, 1001, 2));
+    assert!(rt; are_in_p(&bags, &[], 1));
     Ok(())
 }
 
@@ -212,20 +204,17 @@ fn calls_between_spawns(rt: HostRuntime) -> Result<(), Fail> {
 #[test]
 fn syncs_of_called(rt: HostRuntime) -> Result<(), Fail> {
     let mut bags = Bags::new(rt.alloc())?;
-    enter(&mut bags, false)?;
-    call(&mut bags, Record::Return)?;
-    enter(&mut bags, true)?;
-    call(&mut bags, Record::Sync)?;
-    assert_eq!(rt; looked_up(rt.alloc(), &bags)?.0.as_slice(), [1].as_slice());
-    call(&mut bags, Record::Return)?;
-    assert_eq!(rt; looked_up(rt.alloc(), &bags)?.0.as_slice(), [1].as_slice());
+    let records = [Record::Spawn, Record::Return, Record::Call, Record::Sync];
+    run(&mut bags, &records)?;
+    assert!(rt; are_in_p(&bags, &[1], ANY));
+    run(&mut bags, &[Record::Return])?;
+    assert!(rt; are_in_p(&bags, &[1], ANY));
 
     let mut bags = Bags::new(rt.alloc())?;
-    enter(&mut bags, true)?;
-    enter(&mut bags, false)?;
-    call(&mut bags, Record::Return)?;
-    assert_eq!(rt; looked_up(rt.alloc(), &bags)?.0.as_slice(), [2].as_slice());
-    call(&mut bags, Record::Return)?;
-    assert!(rt; looked_up(rt.alloc(), &bags)?.0.is_empty());
+    let records = [Record::Call, Record::Spawn, Record::Return];
+    run(&mut bags, &records)?;
+    assert!(rt; are_in_p(&bags, &[2], ANY));
+    run(&mut bags, &[Record::Return])?;
+    assert!(rt; are_in_p(&bags, &[], ANY));
     Ok(())
 }
