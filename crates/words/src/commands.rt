@@ -143,118 +143,176 @@ Exit status:
   1  a race; the report stands on standard output
   2  no answer; standard error says why";
 
-/// The program with its commands.
+// What the program can be asked to do.
+#[derive(Clone, Copy)]
+enum Subcommand {
+    Check,
+    Explain,
+    Pairs,
+    Measure,
+    Confirm,
+    Merge,
+}
+
+// What a command can take.
+#[derive(Clone, Copy)]
+enum Argument {
+    Shards,
+    Capacity,
+    Depth,
+    Part,
+    // The trace of a command that reads no other file.
+    File,
+    // The trace and the report of a command that reads both.
+    Trace,
+    Report,
+    // One report or more.
+    Reports,
+    Location,
+}
+
+/// The program with its commands, which stand in its help in this order.
 pub fn program<'a>(alloc: Global) -> Result<Command<'a>, AllocError> {
-    let program = Command::new(alloc, "spbags")
+    let mut program = bare_program(alloc)?;
+    for subcommand in [
+        Subcommand::Check,
+        Subcommand::Explain,
+        Subcommand::Pairs,
+        Subcommand::Measure,
+        Subcommand::Confirm,
+        Subcommand::Merge,
+    ] {
+        program = program.subcommand(command_of(alloc, subcommand)?)?;
+    }
+    Ok(program)
+}
+
+// The program without its commands.
+fn bare_program<'a>(alloc: Global) -> Result<Command<'a>, AllocError> {
+    described(alloc, "spbags", ABOUT, NOTES)
         .no_binary_name(true)
-        .bin_name("spbags")?
         .version(VERSION)
-        .about(ABOUT)
-        .after_help(NOTES)
         .subcommand_required(true)
-        .disable_help_subcommand(true);
-    program
-        .subcommand(check_command(alloc)?)?
-        .subcommand(explain_command(alloc)?)?
-        .subcommand(pairs_command(alloc)?)?
-        .subcommand(measure_command(alloc)?)?
-        .subcommand(confirm_command(alloc)?)?
-        .subcommand(merge_command(alloc)?)
+        .disable_help_subcommand(true)
+        .bin_name("spbags")
 }
 
-fn check_command<'a>(alloc: Global) -> Result<Command<'a>, AllocError> {
-    Command::new(alloc, "check")
-        .about(CHECK_ABOUT)
-        .after_help(CHECK_NOTES)
-        .arg(shards(alloc))?
-        .arg(capacity(alloc))?
-        .arg(depth(alloc))?
-        .arg(part(alloc))?
-        .arg(needed(alloc, "FILE", "The trace; `-` is standard input"))
+fn command_of<'a>(alloc: Global, subcommand: Subcommand) -> Result<Command<'a>, AllocError> {
+    match subcommand {
+        Subcommand::Check => taking(
+            alloc,
+            "check",
+            CHECK_ABOUT,
+            CHECK_NOTES,
+            &[
+                Argument::Shards,
+                Argument::Capacity,
+                Argument::Depth,
+                Argument::Part,
+                Argument::File,
+            ],
+        ),
+        Subcommand::Explain => taking(
+            alloc,
+            "explain",
+            EXPLAIN_ABOUT,
+            EXPLAIN_NOTES,
+            &[Argument::Depth, Argument::File, Argument::Location],
+        ),
+        Subcommand::Pairs => taking(
+            alloc,
+            "pairs",
+            PAIRS_ABOUT,
+            PAIRS_NOTES,
+            &[Argument::Depth, Argument::File, Argument::Location],
+        ),
+        Subcommand::Measure => taking(
+            alloc,
+            "measure",
+            MEASURE_ABOUT,
+            MEASURE_NOTES,
+            &[Argument::Depth, Argument::File],
+        ),
+        Subcommand::Confirm => taking(
+            alloc,
+            "confirm",
+            CONFIRM_ABOUT,
+            CONFIRM_NOTES,
+            &[Argument::Depth, Argument::Trace, Argument::Report],
+        ),
+        Subcommand::Merge => taking(
+            alloc,
+            "merge",
+            MERGE_ABOUT,
+            MERGE_NOTES,
+            &[Argument::Reports],
+        ),
+    }
 }
 
-fn pairs_command<'a>(alloc: Global) -> Result<Command<'a>, AllocError> {
-    Command::new(alloc, "pairs")
-        .about(PAIRS_ABOUT)
-        .after_help(PAIRS_NOTES)
-        .arg(depth(alloc))?
-        .arg(needed(alloc, "FILE", "The trace; `-` is standard input"))?
-        .arg(needed(alloc, "L", "The location: 0 to 18446744073709551615"))
+// A command that takes these arguments. Its help shows them in this order, and it is that of the words without `--`.
+fn taking<'a>(
+    alloc: Global,
+    name: &'a str,
+    about: &'a str,
+    notes: &'a str,
+    arguments: &[Argument],
+) -> Result<Command<'a>, AllocError> {
+    let mut command = described(alloc, name, about, notes);
+    for argument in arguments {
+        command = command.arg(argument_of(alloc, *argument))?;
+    }
+    Ok(command)
 }
 
-fn explain_command<'a>(alloc: Global) -> Result<Command<'a>, AllocError> {
-    Command::new(alloc, "explain")
-        .about(EXPLAIN_ABOUT)
-        .after_help(EXPLAIN_NOTES)
-        .arg(depth(alloc))?
-        .arg(needed(alloc, "FILE", "The trace; `-` is standard input"))?
-        .arg(needed(alloc, "L", "The location: 0 to 18446744073709551615"))
+// A command with the texts of its help, that takes nothing yet.
+fn described<'a>(alloc: Global, name: &'a str, about: &'a str, notes: &'a str) -> Command<'a> {
+    Command::new(alloc, name).about(about).after_help(notes)
 }
 
-fn measure_command<'a>(alloc: Global) -> Result<Command<'a>, AllocError> {
-    Command::new(alloc, "measure")
-        .about(MEASURE_ABOUT)
-        .after_help(MEASURE_NOTES)
-        .arg(depth(alloc))?
-        .arg(needed(alloc, "FILE", "The trace; `-` is standard input"))
-}
-
-fn confirm_command<'a>(alloc: Global) -> Result<Command<'a>, AllocError> {
-    Command::new(alloc, "confirm")
-        .about(CONFIRM_ABOUT)
-        .after_help(CONFIRM_NOTES)
-        .arg(depth(alloc))?
-        .arg(needed(alloc, "TRACE", "The trace; `-` is standard input"))?
-        .arg(needed(alloc, "REPORT", "The report; `-` is standard input"))
-}
-
-fn merge_command<'a>(alloc: Global) -> Result<Command<'a>, AllocError> {
-    let reports = needed(alloc, "REPORT", "A report; `-` is standard input").num_args(1..);
-    Command::new(alloc, "merge")
-        .about(MERGE_ABOUT)
-        .after_help(MERGE_NOTES)
-        .arg(reports)
-}
-
-fn shards<'a>(alloc: Global) -> Arg<'a> {
-    number(
-        alloc,
-        "shards",
-        "How many threads the locations are divided among: 1 to 64, 4 where it is left out",
-    )
-}
-
-fn capacity<'a>(alloc: Global) -> Arg<'a> {
-    number(
-        alloc,
-        "capacity",
-        "How many records may wait for a thread: 1 to 65536, 1024 where it is left out",
-    )
-}
-
-fn depth<'a>(alloc: Global) -> Arg<'a> {
-    number(
-        alloc,
-        "depth",
-        "How deep procedures may nest: 0 to 1000000, 65536 where it is left out",
-    )
-}
-
-fn part<'a>(alloc: Global) -> Arg<'a> {
-    Arg::new(alloc, "part")
-        .long("part")
-        .value_name("K/N")
-        .action(ArgAction::Set)
-        .help(
+fn argument_of<'a>(alloc: Global, argument: Argument) -> Arg<'a> {
+    match argument {
+        Argument::Shards => number(
+            alloc,
+            "shards",
+            "How many threads the locations are divided among: 1 to 64, 4 where it is left out",
+        ),
+        Argument::Capacity => number(
+            alloc,
+            "capacity",
+            "How many records may wait for a thread: 1 to 65536, 1024 where it is left out",
+        ),
+        Argument::Depth => number(
+            alloc,
+            "depth",
+            "How deep procedures may nest: 0 to 1000000, 65536 where it is left out",
+        ),
+        Argument::Part => option(
+            alloc,
+            "part",
+            "K/N",
             "Only the locations that leave the rest K where they are divided by N: N is 1 to 65536, K below N",
-        )
+        ),
+        Argument::File => needed(alloc, "FILE", "The trace; `-` is standard input"),
+        Argument::Trace => needed(alloc, "TRACE", "The trace; `-` is standard input"),
+        Argument::Report => needed(alloc, "REPORT", "The report; `-` is standard input"),
+        Argument::Reports => needed(alloc, "REPORT", "A report; `-` is standard input").num_args(
+            1..,
+        ),
+        Argument::Location => needed(alloc, "L", "The location: 0 to 18446744073709551615"),
+    }
 }
 
-// An option with a number.
+// An option that takes a number.
 fn number<'a>(alloc: Global, name: &'a str, help: &'a str) -> Arg<'a> {
+    option(alloc, name, "N", help)
+}
+
+// An option, and what help calls its value.
+fn option<'a>(alloc: Global, name: &'a str, value: &'a str, help: &'a str) -> Arg<'a> {
     Arg::new(alloc, name)
         .long(name)
-        .value_name("N")
+        .value_name(value)
         .action(ArgAction::Set)
         .help(help)
 }
