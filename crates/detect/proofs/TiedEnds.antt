@@ -17,7 +17,7 @@ use Rattle.detect.specs.Gathered.{given_by, all_given, Gathers}
 use Rattle.detect.specs.declared.jobs.Job.{Job}
 use Rattle.detect.specs.declared.making.Ends.{Ends}
 use Rattle.detect.specs.Workers.{IsFreshJob, AllFresh, to_shards, from_shards}
-use Rattle.detect.specs.Readiness.{IsTied}
+use Rattle.detect.specs.Readiness.{IsBetween, IsTied}
 
 -- what f says of the one list, g says of the other, and of one element more too
 same_more : {X Y Z : Type 0} (f : X → Z) (g : Y → Z) (xs xs' : List X) (x : X) (ys ys' : List Y) (y : Y) → xs' ≡ xs ++ x ∷ [] → ys' ≡ ys ++ y ∷ [] → f x ≡ g y → map f xs ≡ map g ys → map f xs' ≡ map g ys'
@@ -57,9 +57,8 @@ module _ {S H : Type 0} where
 
   pub tied_more : (n : ℕ) (old new : Ends S H) (sender : Sender Placed) (job : Job S H) (back : Taker Back)
       → new.senders.items ≡ old.senders.items ++ sender ∷ [] → new.jobs.items ≡ old.jobs.items ++ job ∷ [] → new.backs.items ≡ old.backs.items ++ back ∷ []
-      → taker_lane job.taker ≡ lane_of sender → lane_of job.back ≡ taker_lane back → IsFreshJob job → put_of sender ≡ [] → taken_of back ≡ []
-      → IsTied n old → IsTied (n + 1) new
-  tied_more n old new sender job back senders jobs backs to from fresh none_put none_taken h =
+      → IsBetween sender back job → IsTied n old → IsTied (n + 1) new
+  tied_more n old new sender job back senders jobs backs between h =
       let P : List (Job S H) → Type 0 = AllFresh in
       let Q : List (Sender Placed) → Type 0 = All (λ s. put_of s ≡ []) in
       let R : List (Taker Back) → Type 0 = AllByRecursion (λ t. taken_of t ≡ []) in
@@ -67,9 +66,9 @@ module _ {S H : Type 0} where
         senders = one_more old.senders.items new.senders.items sender n senders h.senders;
         jobs = one_more old.jobs.items new.jobs.items job n jobs h.jobs;
         backs = one_more old.backs.items new.backs.items back n backs h.backs;
-        to_shards_are = same_more (λ (j : Job S H). taker_lane j.taker) lane_of old.jobs.items new.jobs.items job old.senders.items new.senders.items sender jobs senders to h.to_shards_are;
-        from_shards_are = same_more (λ (j : Job S H). lane_of j.back) taker_lane old.jobs.items new.jobs.items job old.backs.items new.backs.items back jobs backs from h.from_shards_are;
-        new = subst P (sym jobs) (all-push IsFreshJob old.jobs.items job h.new fresh);
-        none_put = subst Q (sym senders) (All-push (λ (s : Sender Placed). put_of s ≡ []) old.senders.items sender h.none_put none_put);
-        none_taken = subst R (sym backs) (all-push (λ (t : Taker Back). taken_of t ≡ []) old.backs.items back h.none_taken none_taken);
+        to_shards_are = same_more (λ (j : Job S H). taker_lane j.taker) lane_of old.jobs.items new.jobs.items job old.senders.items new.senders.items sender jobs senders between.to_shard h.to_shards_are;
+        from_shards_are = same_more (λ (j : Job S H). lane_of j.back) taker_lane old.jobs.items new.jobs.items job old.backs.items new.backs.items back jobs backs between.from_shard h.from_shards_are;
+        new = subst P (sym jobs) (all-push IsFreshJob old.jobs.items job h.new between.new);
+        none_put = subst Q (sym senders) (All-push (λ (s : Sender Placed). put_of s ≡ []) old.senders.items sender h.none_put between.none_put);
+        none_taken = subst R (sym backs) (all-push (λ (t : Taker Back). taken_of t ≡ []) old.backs.items back h.none_taken between.none_taken);
       }

@@ -16,10 +16,11 @@ use crate::making::Lists;
 use crate::settling::{settle_backs, settle_shards};
 use crate::sharded::Run;
 use collect::Report;
+use lane::Taker;
 use route::Router;
 use shard::Worked;
 use std::hash::BuildHasher;
-use trace::Fault;
+use trace::{Fault, Placed};
 
 /// What a run has come to: how reading ended, and what the workers handed back.
 #[derive(Drop)]
@@ -77,12 +78,21 @@ fn run_of<S: BuildHasher + Drop>(report: Report, workers: Vec<Worked<S>>, lists:
         mut lanes,
     } = lists;
     for worked in workers {
-        taken.push_reserved(worked.shard.taken());
-        lanes.push_reserved(worked.taker);
+        let (count, lane) = count_and_lane(worked);
+        taken.push_reserved(count);
+        lanes.push_reserved(lane);
     }
     Run {
         report,
         taken,
         lanes,
     }
+}
+
+// How many records the worker's shard took, and the lane that they came over.
+fn count_and_lane<S: BuildHasher + Drop>(worked: Worked<S>) -> (u64, Taker<Placed>)
+    ensures count { result.0 ≡ worked.shard.taken }
+    ensures lane { result.1 ≡ worked.taker }
+{
+    (worked.shard.taken(), worked.taker)
 }

@@ -1,7 +1,7 @@
 //! What a run needs, all of it made before a worker is started or a byte is read.
 ghost use Rattle.std.specs.Prelude.{◌≡◌, ℕ, ◌+◌, ◌≤◌, vec_len, vec_capacity, IfOk, OnOk};
 ghost use Rattle.trace.specs.Bounds.{IsShardCount, IsCapacity};
-ghost use Rattle.detect.specs.Readiness.{IsReady, IsTied};
+ghost use Rattle.detect.specs.Readiness.{IsBetween, IsReady, IsTied};
 ghost use Rattle.detect.specs.Rooms.{HasRoom};
 ghost use Rattle.lane.specs.declared.sender.TheConstants.{BLOCK};
 
@@ -118,13 +118,29 @@ fn add_shard<S: BuildHasher + Drop>(
     requires shards { 1 ≤ shards }
     ensures { OnOk result ((n : ℕ) → IsTied n ends.old → IsTied (n + 1) ends.new) }
 {
-    let shard = Shard::of_shards(alloc, index, shards, hasher)?;
-    let (sender, taker) = lane(alloc, capacity)?;
-    let (back, gatherer) = lane(alloc, capacity)?;
+    let (sender, job, gatherer) = make_job(alloc, capacity, index, shards, hasher)?;
     ends.senders.push(sender)?;
     ends.backs.push(gatherer)?;
-    ends.jobs.push(Job { shard, taker, back })?;
+    ends.jobs.push(job)?;
     Ok(())
+}
+
+// A new shard with its lanes, between the sender of the lane to it and the taker of the lane back.
+fn make_job<S: BuildHasher + Drop>(
+    alloc: Global,
+    capacity: usize,
+    index: u32,
+    shards: u64,
+    hasher: S,
+) -> Result<(Sender<Placed>, Job<S>, Taker<Back>), NoMemory>
+    requires capacity { IsCapacity capacity }
+    requires shards { 1 ≤ shards }
+    ensures { IfOk result (λ made. IsBetween made.0 made.2 made.1) }
+{
+    let (sender, taker) = lane(alloc, capacity)?;
+    let (back, gatherer) = lane(alloc, capacity)?;
+    let shard = Shard::of_shards(alloc, index, shards, hasher)?;
+    Ok((sender, Job { shard, taker, back }, gatherer))
 }
 
 /// Room for what a run answers of so many shards.

@@ -52,9 +52,10 @@ where
         taker: Snapshot::of(&taker),
         back: Snapshot::of(&back),
     };
-    scope
-        .spawn_with(promise, move || work(rt, shard, taker, back, gate))
-        .map_err(|_| Fault::NoThread)
+    match scope.spawn_with(promise, move || work(rt, shard, taker, back, gate)) {
+        Ok(handle) => Ok(handle),
+        Err(_) => Err(Fault::NoThread),
+    }
 }
 
 /// Joins the workers; what they answer stands in the order of the handles.
