@@ -1,13 +1,16 @@
 -- The workers that have done their work: one more, and what they say lane by lane.
-use Rattle.std.proofs.Common.{◌≡◌, List, [], ◌∷◌, ◌++◌, map, refl, sym, ap, ap₂, subst, ◌∙◌, append_assoc}
+use Rattle.std.proofs.Common.{◌≡◌, ℕ, List, [], ◌∷◌, ◌++◌, map, refl, sym, ap, ap₂, subst, ◌∙◌, append_assoc}
 use Rattle.std.proofs.lemmas.List.{map-append, append-nil}
 use Rattle.std.specs.declared.thread.PromisedHandle.{PromisedHandle}
-use Rattle.lane.specs.Lanes.{LaneId}
+use Rattle.trace.specs.declared.records.Placed.{Placed}
+use Rattle.lane.specs.declared.taker.Taker.{Taker}
+use Rattle.lane.specs.Lanes.{LaneId, taken_of}
 use Rattle.shard.specs.declared.working.Worked.{Worked}
 use Rattle.shard.specs.Worked.{DidWork}
 use Rattle.detect.specs.declared.jobs.Job.{Job}
 use Rattle.detect.specs.declared.jobs.WorkOf.{WorkOf}
 use Rattle.detect.specs.Workers.{job_lanes, handle_lanes, DidOn, AllDid}
+use Rattle.detect.specs.Closing.{taken_by, counts_of}
 
 -- one element more of a list that is gone through
 pub split_more : {X : Type 0} (done : List X) (x : X) (rest before all : List X) → before ≡ x ∷ rest → done ++ before ≡ all → (done ++ x ∷ []) ++ rest ≡ all
@@ -41,3 +44,13 @@ module _ {S H : Type 0} where
   -- a worker was started for each job
   pub started_all : (hs : List (PromisedHandle (Worked S H) WorkOf)) (done rest all : List (Job S H)) → rest ≡ [] → done ++ rest ≡ all → map handle_lanes hs ≡ map job_lanes done → map handle_lanes hs ≡ map job_lanes all
   started_all hs done rest all none split lanes = lanes ∙ ap (map job_lanes) (gone_through done rest all none split)
+
+  -- the count of one worker more
+  pub counts_more : (done : List (Worked S H)) (w : Worked S H) (counts later : List ℕ) (count : ℕ) → later ≡ counts ++ count ∷ [] → count ≡ w.shard.taken → counts ≡ counts_of done → later ≡ counts_of (done ++ w ∷ [])
+  counts_more done w counts later count is one all =
+      is ∙ ap₂ (λ ns n. ns ++ n ∷ []) all one ∙ sym (map-append (λ (x : Worked S H). x.shard.taken) done (w ∷ []))
+
+  -- the lane of one worker more
+  pub lanes_more : (done : List (Worked S H)) (w : Worked S H) (lanes later : List (Taker Placed)) (lane : Taker Placed) → later ≡ lanes ++ lane ∷ [] → lane ≡ w.taker → map taken_of lanes ≡ taken_by done → map taken_of later ≡ taken_by (done ++ w ∷ [])
+  lanes_more done w lanes later lane is one all =
+      ap (map taken_of) is ∙ map-append taken_of lanes (lane ∷ []) ∙ ap₂ (λ ls l. ls ++ l ∷ []) all (ap taken_of one) ∙ sym (map-append (λ (x : Worked S H). taken_of x.taker) done (w ∷ []))

@@ -1,8 +1,21 @@
-use Rattle.std.proofs.Common.{length, sym, ap, ◌∙◌}
+use Rattle.std.proofs.Common.{length, length-append, [], ◌∷◌, sym, ap, ◌∙◌, arith}
 use Rattle.std.proofs.lemmas.List.{nil_from_length}
 use Rattle.detect.specs.Closing.{taken_by, counts_of}
-use Rattle.detect.proofs.WorkersDone.{gone_through}
+use Rattle.detect.proofs.WorkersDone.{split_more, gone_through, counts_more, lanes_more}
 use Rattle.detect.proofs.closing.run_of.Goals as goal
+
+pub loop-worked-preserved : goal.loop-worked-preserved
+loop-worked-preserved g c =
+    let i = c.loop-worked.invariant in
+    record {
+      split = split_more c.loop-worked.yielded c.in-Some.worked c.next.new.self.rest.items _ _ c.in-Some.ensures.steps.0 i.split;
+      taken = counts_more c.loop-worked.yielded c.in-Some.worked c.loop-worked.taken.items _ _ c.push_reserved.ensures.items c.count_and_lane-count.ensures.count i.taken;
+      lanes = lanes_more c.loop-worked.yielded c.in-Some.worked c.loop-worked.lanes.items _ _ c.push_reserved-in-loop-worked.ensures.items c.count_and_lane-count.ensures.lane i.lanes;
+      taken_count = omega (arith, i.taken_count, c.push_reserved.ensures.len, length-append c.loop-worked.yielded (c.in-Some.worked ∷ []));
+      lane_count = omega (arith, i.lane_count, c.push_reserved-in-loop-worked.ensures.len, length-append c.loop-worked.yielded (c.in-Some.worked ∷ []));
+      taken_room = c.push_reserved.ensures.capacity ∙ i.taken_room;
+      lane_room = c.push_reserved-in-loop-worked.ensures.capacity ∙ i.lane_room;
+    }
 
 pub returns-clause-taken : goal.returns-clause-taken
 returns-clause-taken g c =

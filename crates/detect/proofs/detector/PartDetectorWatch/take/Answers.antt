@@ -3,8 +3,13 @@ use Rattle.std.specs.Option.{option_to_list}
 use Rattle.trace.specs.declared.records.Part.{Part}
 use Rattle.trace.specs.Parts.{records_of}
 use Rattle.detect.proofs.PartRecords.{own_place}
-use Rattle.detect.proofs.Detected.{on_ok_both, part_passed, part_followed}
+use Rattle.detect.proofs.Detected.{on_ok_both, part_passed, part_ready_at, part_followed}
 use Rattle.detect.proofs.detector.PartDetectorWatch.take.Goals as goal
+
+pub follow-requires-clause-ready : goal.follow-requires-clause-ready
+follow-requires-clause-ready g c =
+    let place = own_place c.args.self.now.part c.args.placed c.in-Some.own c.take.result c.in-Some.is c.take.ensures in
+    part_ready_at _ c.requires.1 c.args.placed c.in-Some.own _ _ _ place c.requires.2.1 c.requires.3
 
 pub returns-in-None : goal.returns-in-None
 returns-in-None g c first u h after =
