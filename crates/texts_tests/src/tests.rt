@@ -73,36 +73,42 @@ enum Text {
     Line,
 }
 
+const FIRST: Access = Access {
+    kind: Kind::Read,
+    place: 2,
+};
+
+const SECOND: Access = Access {
+    kind: Kind::Write,
+    place: 5,
+};
+
+const NUMBERS: Measure = Measure {
+    work: 8,
+    span: 5,
+    spawns: 2,
+    depth: 1,
+};
+
+const FAULT: Fault = Fault::Text(TextFault {
+    line: u64::MAX,
+    kind: TextKind::TooMany,
+});
+
+const BAD: ReportRefusal = ReportRefusal::Bad { line: 7 };
+
+const LAST_BAD: ReportRefusal = ReportRefusal::Bad { line: u64::MAX - 1 };
+
 /// Writes a text; of those that tell nobody of a failure `Ok` is answered.
 fn write<W: Sink>(text: Text, sink: &mut W) -> Result<(), WriteFault> {
-    let first = Access {
-        kind: Kind::Read,
-        place: 2,
-    };
-    let second = Access {
-        kind: Kind::Write,
-        place: 5,
-    };
-    let numbers = Measure {
-        work: 8,
-        span: 5,
-        spawns: 2,
-        depth: 1,
-    };
-    let fault = Fault::Text(TextFault {
-        line: u64::MAX,
-        kind: TextKind::TooMany,
-    });
     match text {
-        Text::Pairs => return put_pairs(&[(first, second)], sink),
-        Text::Numbers => return put_measure(&numbers, sink),
+        Text::Pairs => return put_pairs(&[(FIRST, SECOND)], sink),
+        Text::Numbers => return put_measure(&NUMBERS, sink),
         Text::Yes => return put_confirm(Confirm::Yes, sink),
         Text::No => return put_confirm(Confirm::No { entry: 3 }, sink),
-        Text::Fault => say_fault(&fault, sink),
-        Text::Refusal => say_refusal(ReportRefusal::Bad { line: 7 }, sink),
-        Text::MergeRefusal => {
-            say_merge_refusal(u64::MAX, ReportRefusal::Bad { line: u64::MAX - 1 }, sink);
-        }
+        Text::Fault => say_fault(&FAULT, sink),
+        Text::Refusal => say_refusal(BAD, sink),
+        Text::MergeRefusal => say_merge_refusal(u64::MAX, LAST_BAD, sink),
         Text::Line => say(b"a line\n", sink),
     }
     Ok(())
@@ -128,30 +134,38 @@ const TEXTS: [(Text, &str, bool); 8] = [
     (Text::Line, "a line\n", false),
 ];
 
+/// Whether a text is written up to the byte that fails, and tells of that failure or doesn't.
+fn is_cut(alloc: Global, text: (Text, &str, bool), most: usize, error: Option<ErrorKind>) -> bool {
+    let (text, want, tells) = text;
+    let mut out = Vec::new(alloc);
+    let mut sink = Counted::new(Drip {
+        held: &mut out,
+        most,
+        error,
+        failed: false,
+    });
+    let failed = write(text, &mut sink).is_err();
+    failed == (tells && most < want.len()) && Some(out.as_slice()) == want.as_bytes().get(..most)
+}
+
 // Each byte fails in turn, and last none.
 #[test]
-fn writes_texts(rt: HostRuntime) -> Result<(), Fail> {
-    for (text, want, tells) in TEXTS {
-        for most in 0..=want.len() {
+fn writes_texts(rt: HostRuntime) {
+    for text in TEXTS {
+        for most in 0..=text.1.len() {
             for error in [Some(ErrorKind::Interrupted), Some(ErrorKind::Other), None] {
-                let mut out = Vec::new(rt.alloc());
-                let mut sink = Counted::new(Drip {
-                    held: &mut out,
-                    most,
-                    error,
-                    failed: false,
-                });
-                let failed = write(text, &mut sink).is_err();
-                assert_eq!(rt; failed, tells && most < want.len(), "{want} after {most}");
-                assert_eq!(rt; out.as_slice(), &want.as_bytes()[..most], "{error:?}");
+                let is_so = is_cut(rt.alloc(), text, most, error);
+                assert!(rt; is_so, "{} after {most}: {error:?}", text.1);
             }
         }
     }
-    Ok(())
 }
 
 /// A race whose accesses meet in the procedure that place 1 opened.
 fn explained(alloc: Global, joined: Option<u64>) -> Result<Explained, AllocError> {
+    let first = Vec::from_slice(alloc, &[opener(Opening::Spawn, 2)])?;
+    let openers = [opener(Opening::Call, 5), opener(Opening::Spawn, 8)];
+    let second = Vec::from_slice(alloc, &openers)?;
     let race = Race {
         location: 7,
         first: Access {
@@ -163,66 +177,82 @@ fn explained(alloc: Global, joined: Option<u64>) -> Result<Explained, AllocError
             place: 9,
         },
     };
-    let spawned = |place: u64| Opener {
-        what: Opening::Spawn,
-        place,
-    };
-    let called = Opener {
-        what: Opening::Call,
-        place: 5,
-    };
     Ok(Explained {
         race,
         meeting: 1,
-        first: Vec::from_slice(alloc, &[spawned(2)])?,
-        second: Vec::from_slice(alloc, &[called, spawned(8)])?,
+        first,
+        second,
         joined,
     })
+}
+
+fn opener(what: Opening, place: u64) -> Opener {
+    Opener { what, place }
+}
+
+/// Whether what is said of a location is written up to the byte that fails, and the failure told.
+fn is_explained(
+    alloc: Global,
+    answer: &Option<Explained>,
+    want: &str,
+    most: usize,
+    error: Option<ErrorKind>,
+) -> bool {
+    let mut out = Vec::new(alloc);
+    let mut sink = Counted::new(Drip {
+        held: &mut out,
+        most,
+        error,
+        failed: false,
+    });
+    let failed = put_explained(answer, &mut sink).is_err();
+    failed == (most < want.len()) && Some(out.as_slice()) == want.as_bytes().get(..most)
 }
 
 // Puts what is said of a location into a sink of which each byte fails in turn, and last none.
 fn assert_explained<R: Abort>(rt: &R, alloc: Global, answer: &Option<Explained>, want: &str) {
     for most in 0..=want.len() {
         for error in [Some(ErrorKind::Interrupted), Some(ErrorKind::Other), None] {
-            let mut out = Vec::new(alloc);
-            let mut sink = Counted::new(Drip {
-                held: &mut out,
-                most,
-                error,
-                failed: false,
-            });
-            let failed = put_explained(answer, &mut sink).is_err();
-            assert_eq!(rt; failed, most < want.len(), "{want} after {most}");
-            assert_eq!(rt; out.as_slice(), &want.as_bytes()[..most], "{error:?}");
+            let is_so = is_explained(alloc, answer, want, most, error);
+            assert!(rt; is_so, "{want} after {most}: {error:?}");
         }
     }
 }
 
+const LINES: &str =
+    "race 7 write 3 read 9\nmeet 1\nfirst spawn 2 write 3\nsecond call 5 spawn 8 read 9\n";
+
+const JOINED: &str = "race 7 write 3 read 9\nmeet 1\nfirst spawn 2 write 3\n\
+    second call 5 spawn 8 read 9\njoined 12\n";
+
 #[test]
 fn writes_explanations(rt: HostRuntime) -> Result<(), Fail> {
-    let lines =
-        "race 7 write 3 read 9\nmeet 1\nfirst spawn 2 write 3\nsecond call 5 spawn 8 read 9\n";
-    let joined = format!(in rt.alloc(); "{lines}joined 12\n")?;
     let with_joined = Some(explained(rt.alloc(), Some(12))?);
-    assert_explained(&rt, rt.alloc(), &with_joined, joined.as_str());
+    assert_explained(&rt, rt.alloc(), &with_joined, JOINED);
     let without = Some(explained(rt.alloc(), None)?);
-    assert_explained(&rt, rt.alloc(), &without, lines);
+    assert_explained(&rt, rt.alloc(), &without, LINES);
     assert_explained(&rt, rt.alloc(), &None, "no race\n");
     Ok(())
 }
 
-#[test]
-fn reads_reports(rt: HostRuntime) -> Result<(), Fail> {
-    let good = b"races 1\nrace 5 write 2 write 4\n";
-    let report = report_from(rt.alloc(), &mut Counted::new(good.as_slice()));
-    assert_eq!(rt; report.map(|report| report.races().len()).ok(), Some(1));
-    let bad = report_from(rt.alloc(), &mut Counted::new(b"races 2\n".as_slice()));
-    assert_eq!(rt; bad.err(), Some(ReportRefusal::Bad { line: 2 }));
-    Ok(())
+/// How many races there are in the report that is read. What else is promised of it isn't needed here.
+fn count_from<R: Read + Drop>(alloc: Global, reader: R) -> Result<usize, ReportRefusal> {
+    match report_from(alloc, &mut Counted::new(reader)) {
+        Ok(report) => Ok(report.races().len()),
+        Err(refusal) => Err(refusal),
+    }
 }
 
 #[test]
-fn limits_the_bytes_of_a_report(rt: HostRuntime) -> Result<(), Fail> {
+fn reads_reports(rt: HostRuntime) {
+    let good: &[u8] = b"races 1\nrace 5 write 2 write 4\n";
+    assert!(rt; count_from(rt.alloc(), good) == Ok(1));
+    let bad: &[u8] = b"races 2\n";
+    assert!(rt; count_from(rt.alloc(), bad) == Err(ReportRefusal::Bad { line: 2 }));
+}
+
+#[test]
+fn limits_the_bytes_of_a_report(rt: HostRuntime) {
     // The reader fails where more is read than tells that the report is too large.
     let table = [
         (MOST_BYTES - 1, true, ReportRefusal::Read),
@@ -232,12 +262,7 @@ fn limits_the_bytes_of_a_report(rt: HostRuntime) -> Result<(), Fail> {
         (MOST_BYTES + 4096, true, ReportRefusal::TooLarge),
     ];
     for (left, fails, want) in table {
-        let mut source = Counted::new(Large { left, fails });
-        assert_eq!(rt;
-            report_from(rt.alloc(), &mut source).err(),
-            Some(want),
-            "{left}"
-        );
+        let told = count_from(rt.alloc(), Large { left, fails });
+        assert!(rt; told == Err(want), "{left}");
     }
-    Ok(())
 }
