@@ -5,7 +5,7 @@ use collect::{Report, read_report};
 use std::alloc::Global;
 use std::test::Fail;
 use trace::{
-    Access, Counted, Fault, Kind, Limits, NestFault, NestKind, Record, Source, WriteFault,
+    Access, Counted, Fault, Kind, Limits, NestFault, NestKind, Race, Record, Source, WriteFault,
     write_header, write_record,
 };
 
@@ -363,17 +363,21 @@ fn are_links(openers: &[Opener], links: &[Link]) -> bool {
             .all(|(opener, link)| (opener.what, opener.place) == *link)
 }
 
+/// Whether the race is that of the location which was told.
+fn is_race(race: Race, location: u64, told: Told) -> bool {
+    let first = (race.first.kind, race.first.place);
+    let second = (race.second.kind, race.second.place);
+    race.location == location && (first, second) == told
+}
+
 /// Whether a location is explained so.
 fn is_why(explained: &Explained, location: u64, why: Why<'_>) -> bool {
-    let (race, (told, meeting, first, second, joined)) = (explained.race, why);
-    let (first_access, second_access) = told;
-    race.location == location
-        && (race.first.kind, race.first.place) == first_access
-        && (race.second.kind, race.second.place) == second_access
-        && explained.meeting == meeting
-        && are_links(&explained.first, first)
-        && are_links(&explained.second, second)
-        && explained.joined == Some(joined)
+    let (told, meeting, first, second, joined) = why;
+    let is_so = is_race(explained.race, location, told);
+    let is_first = are_links(&explained.first, first);
+    let is_second = are_links(&explained.second, second);
+    let is_met = explained.meeting == meeting && explained.joined == Some(joined);
+    is_so && is_first && is_second && is_met
 }
 
 /// Why the race of a location is one, or `None`.
