@@ -1,5 +1,5 @@
 //! The router call by call, and what each lane gave at every point of a run.
-ghost use Rattle.std.specs.Prelude.{◌≡◌, ◌≤◌, [], ◌∷◌, All, map, IfOk, vec_len};
+ghost use Rattle.std.specs.Prelude.{◌≡◌, ◌+◌, ◌≤◌, [], ◌∷◌, All, map, IfOk, OnOk, vec_len};
 ghost use Rattle.trace.specs.Bounds.{IsCapacity};
 ghost use Rattle.lane.specs.Lanes.{lane_of, put_of, taker_lane, end_lane};
 ghost use Rattle.route.specs.Batches.{batch_lanes, IsUnsent};
@@ -271,17 +271,24 @@ impl Watched {
     }
 }
 
-// A lane of one item.
-fn watch(alloc: Global) -> Result<(Sender<Placed>, Watched), NoMemory>
-    ensures { IfOk result (λ r. put_of r.0 ≡ []) }
+// Adds a lane of one item.
+fn add_lane(
+    alloc: Global,
+    senders: &mut Vec<Sender<Placed>>,
+    all: &mut Vec<Watched>,
+) -> Result<(), Fail>
+    ensures count { OnOk result (vec_len senders.new ≡ vec_len senders.old + 1) }
+    ensures empty { OnOk result (All (λ s. put_of s ≡ []) senders.old.items
+        → All (λ s. put_of s ≡ []) senders.new.items) }
 {
     let (sender, taker) = lane::<Placed>(alloc, 1)?;
-    let watched = Watched {
+    senders.push(sender)?;
+    all.push(Watched {
         taker,
         given: Vec::new(alloc),
         marks: 0,
-    };
-    Ok((sender, watched))
+    })?;
+    Ok(())
 }
 
 fn lanes(alloc: Global, count: usize) -> Result<(Vec<Sender<Placed>>, Vec<Watched>), Fail>
@@ -291,9 +298,7 @@ fn lanes(alloc: Global, count: usize) -> Result<(Vec<Sender<Placed>>, Vec<Watche
     let mut senders = Vec::new(alloc);
     let mut all = Vec::new(alloc);
     for _ in 0..count {
-        let (sender, watched) = watch(alloc)?;
-        senders.push(sender)?;
-        all.push(watched)?;
+        add_lane(alloc, &mut senders, &mut all)?;
     }
     Ok((senders, all))
 }
