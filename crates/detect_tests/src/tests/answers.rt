@@ -9,6 +9,7 @@ use detect::{Plan, Run, detect, detect_part, detect_plain};
 use shard::{Gate, Open};
 use std::alloc::Global;
 use std::hash::{BuildHasherDefault, FoldHasher};
+use std::process::Abort;
 use std::sync::Wait;
 use std::thread::Threads;
 use trace::{Counted, Failed, Fault, Limits, NoMemory, Part, Source};
@@ -70,42 +71,66 @@ pub fn run_from<T: Threads + Wait + Sync, R: Source, G: Gate + Sync>(
     )
 }
 
-/// Detects so from a source that hands out one byte at each call.
-pub fn run<T: Threads + Wait + Sync>(
+/// What a run answers: the report's text, and how many records each shard took.
+#[derive(Drop)]
+pub struct Answer {
+    pub text: Vec<u8>,
+    pub taken: Vec<u64>,
+}
+
+/// The answer of a run from the source.
+pub fn answer_from<T: Threads + Wait + Sync + Abort, R: Source, G: Gate + Sync>(
+    rt: &T,
+    alloc: Global,
+    shards: u32,
+    limits: Limits,
+    source: &mut R,
+    gate: &G,
+) -> Result<Answer, Fault> {
+    assert!(rt; 1 <= shards && shards <= 64);
+    let run = run_from(rt, alloc, shards, limits, source, gate)?;
+    let text = text_of(alloc, &run.report)?;
+    let taken = run.taken;
+    Ok(Answer { text, taken })
+}
+
+/// The answer of a run from a source that hands out one byte at each call.
+pub fn answer_of<T: Threads + Wait + Sync + Abort>(
     rt: &T,
     alloc: Global,
     shards: u32,
     limits: Limits,
     bytes: &[u8],
-) -> Result<Run, Fault>
-    requires { (1 ≤ shards) × (shards ≤ 64) }
-{
+) -> Result<Answer, Fault> {
     let mut pieces = Pieces { bytes, size: 1 };
-    run_from(rt, alloc, shards, limits, &mut pieces, &Open)
+    answer_from(rt, alloc, shards, limits, &mut pieces, &Open)
 }
 
-/// Detects a part of the locations so.
-pub fn run_part<T: Threads + Wait + Sync>(
+/// The report of a part of the locations by such a run, and how many records each shard took.
+pub fn answer_of_part<T: Threads + Wait + Sync + Abort>(
     rt: &T,
     alloc: Global,
     shards: u32,
     part: Part,
     limits: Limits,
     bytes: &[u8],
-) -> Result<Run, Fault>
-    requires { (1 ≤ shards) × (shards ≤ 64) }
-{
+) -> Result<(Report, Vec<u64>), Fault> {
+    assert!(rt; 1 <= shards && shards <= 64);
     let hashers = hashers(alloc, shards)?;
+    let plan = Plan::new(shards, 1, limits);
     let mut pieces = Pieces { bytes, size: 1 };
-    detect_part(
-        rt,
-        alloc,
-        Plan::new(shards, 1, limits),
-        part,
-        &mut pieces,
-        &Open,
-        hashers,
-    )
+    let run = detect_part(rt, alloc, plan, part, &mut pieces, &Open, hashers)?;
+    Ok((run.report, run.taken))
+}
+
+/// Asserts the text of the row of this name. The number is that of the shards, 0 for one thread, or the pieces' size.
+pub fn assert_text<R: Abort>(rt: &R, text: &[u8], wanted: &[u8], name: &str, by: usize) {
+    assert_eq!(rt; text, wanted, "{name} by {by}");
+}
+
+/// Asserts the fault of the row so.
+pub fn assert_fault<R: Abort>(rt: &R, fault: Option<Fault>, wanted: Fault, name: &str, by: usize) {
+    assert_eq!(rt; fault, Some(wanted), "{name} by {by}");
 }
 
 fn hashers(alloc: Global, count: u32) -> Result<Vec<Hasher>, NoMemory>

@@ -2,9 +2,9 @@
 //! the pieces.
 ghost use Rattle.std.specs.Prelude.{None};
 
-use super::answers::{Hasher, Pieces, run_from, text_of};
-use super::faulty_rows::FAULTY;
-use super::reported_rows::{LIMITS, REPORTED, WRITE_WRITE};
+use super::answers::{Hasher, Pieces, answer_from, text_of};
+use super::faulty_rows::all_faulty;
+use super::reported_rows::{LIMITS, WRITE_WRITE, all_reported};
 use detect::detect_plain;
 use shard::Open;
 use std::alloc::Global;
@@ -63,7 +63,7 @@ impl<'a> Source for TwoPieces<'a> {
 }
 
 /// The text of the report by so many shards, or by one thread.
-fn text_from<T: Threads + Wait + Sync>(
+fn text_from<T: Threads + Wait + Sync + Abort>(
     rt: &T,
     alloc: Global,
     shards: Option<u32>,
@@ -71,14 +71,28 @@ fn text_from<T: Threads + Wait + Sync>(
     cut: Cut<'_>,
 ) -> Result<Vec<u8>, Fault> {
     let mut pieces = TwoPieces::of(cut);
-    let report = match shards {
-        None => detect_plain(alloc, limits, &mut pieces, Hasher::default())?,
-        Some(shards) => {
-            let shards = shards.clamp(1, 64);
-            run_from(rt, alloc, shards, limits, &mut pieces, &Open)?.report
-        }
+    match shards {
+        None => text_of(
+            alloc,
+            &detect_plain(alloc, limits, &mut pieces, Hasher::default())?,
+        ),
+        Some(shards) => Ok(answer_from(rt, alloc, shards, limits, &mut pieces, &Open)?.text),
+    }
+}
+
+fn assert_answer<R: Abort>(
+    rt: &R,
+    answer: &Result<Vec<u8>, Fault>,
+    wanted: Result<&[u8], Fault>,
+    cut: Cut<'_>,
+    shards: Option<u32>,
+) {
+    let told = match answer {
+        Ok(text) => Ok(text.as_slice()),
+        Err(fault) => Err(*fault),
     };
-    text_of(alloc, &report)
+    let Cut { text, place, .. } = cut;
+    assert_eq!(rt; told, wanted, "{text:?} at {place} by {shards:?}");
 }
 
 /// Asserts what one thread, one shard and three answer.
@@ -90,19 +104,14 @@ fn assert_answers<T: Threads + Wait + Sync + Abort>(
     wanted: Result<&[u8], Fault>,
 ) {
     for shards in [None, Some(1), Some(3)] {
-        let text = text_from(rt, alloc, shards, limits, cut);
-        let told = match &text {
-            Ok(text) => Ok(text.as_slice()),
-            Err(fault) => Err(*fault),
-        };
-        let Cut { text, place, .. } = cut;
-        assert_eq!(rt; told, wanted, "{text:?} at {place} by {shards:?}");
+        let answer = text_from(rt, alloc, shards, limits, cut);
+        assert_answer(rt, &answer, wanted, cut, shards);
     }
 }
 
 #[test]
 fn reports_of_two_pieces(rt: HostRuntime) {
-    for row in REPORTED {
+    for row in all_reported() {
         let text = row.text;
         for place in 0..text.len() {
             let fails = false;
@@ -114,7 +123,7 @@ fn reports_of_two_pieces(rt: HostRuntime) {
 
 #[test]
 fn faults_of_two_pieces(rt: HostRuntime) {
-    for row in FAULTY {
+    for row in all_faulty() {
         let text = row.text;
         for place in 0..text.len() {
             let fails = false;

@@ -12,8 +12,12 @@ pub struct Faulty {
     pub fault: Fault,
 }
 
-/// The texts that have a fault.
-pub const FAULTY: [Faulty; 15] = [
+/// The texts that have a fault. A call, since the proofs of the tests are shorter without the rows.
+pub fn all_faulty() -> [Faulty; 15] {
+    FAULTY
+}
+
+const FAULTY: [Faulty; 15] = [
     Faulty {
         name: "location-range",
         limits: LIMITS,

@@ -1,8 +1,8 @@
 //! The parts of the worked rows: each reports the races of its locations, in one thread and with shards.
 
-use super::answers::{Hasher, Pieces, run_part};
-use super::faulty_rows::FAULTY;
-use super::reported_rows::{LIMITS, REPORTED, Reported, WRITE_WRITE};
+use super::answers::{Hasher, Pieces, answer_of_part, assert_fault};
+use super::faulty_rows::{Faulty, all_faulty};
+use super::reported_rows::{LIMITS, Reported, WRITE_WRITE, all_reported};
 use collect::{Report, read_report};
 use detect::detect_plain_part;
 use std::alloc::Global;
@@ -38,6 +38,29 @@ fn plain(alloc: Global, limits: Limits, part: Part, bytes: &[u8]) -> Result<Repo
     detect_plain_part(alloc, limits, part, &mut pieces, Hasher::default())
 }
 
+/// The report with shards.
+fn sharded<T: Threads + Wait + Sync + Abort>(
+    rt: &T,
+    alloc: Global,
+    shards: u32,
+    part: Part,
+    limits: Limits,
+    bytes: &[u8],
+) -> Result<Report, Fault> {
+    Ok(answer_of_part(rt, alloc, shards, part, limits, bytes)?.0)
+}
+
+/// How many records of the part each shard takes.
+fn taken<T: Threads + Wait + Sync + Abort>(
+    rt: &T,
+    alloc: Global,
+    shards: u32,
+    part: Part,
+    bytes: &[u8],
+) -> Result<Vec<u64>, Fault> {
+    Ok(answer_of_part(rt, alloc, shards, part, LIMITS, bytes)?.1)
+}
+
 /// The races of the part's locations.
 fn races_of(alloc: Global, part: Part, report: &[u8]) -> Result<Vec<Race>, Fail> {
     let whole = read_report(alloc, report)?;
@@ -50,6 +73,18 @@ fn races_of(alloc: Global, part: Part, report: &[u8]) -> Result<Vec<Race>, Fail>
     Ok(races)
 }
 
+/// Asserts the races of a part of the row of this name, with so many shards.
+fn assert_races<R: Abort>(
+    rt: &R,
+    found: &Report,
+    wanted: &[Race],
+    name: &str,
+    part: Part,
+    shards: u32,
+) {
+    assert_eq!(rt; found.races(), wanted, "{name} in {part:?} by {shards}");
+}
+
 // The part of the row has the races of the part's locations, and no other.
 fn judge<T: Threads + Wait + Sync + Abort>(
     rt: &T,
@@ -59,21 +94,22 @@ fn judge<T: Threads + Wait + Sync + Abort>(
 ) -> Result<(), Fail> {
     let wanted = races_of(alloc, part, row.report)?;
     let found = plain(alloc, LIMITS, part, row.text)?;
-    assert_eq!(rt;
-        found.races(),
-        wanted.as_slice(),
-        "{} in {part:?}",
-        row.name
-    );
+    assert_races(rt, &found, &wanted, row.name, part, 0);
     for shards in SHARDS {
-        assert!(rt; 1 <= shards && shards <= 64);
-        let run = run_part(rt, alloc, shards, part, LIMITS, row.text)?;
-        assert_eq!(rt;
-            run.report.races(),
-            wanted.as_slice(),
-            "{} in {part:?} by {shards}",
-            row.name
-        );
+        let found = sharded(rt, alloc, shards, part, LIMITS, row.text)?;
+        assert_races(rt, &found, &wanted, row.name, part, shards);
+    }
+    Ok(())
+}
+
+fn judge_all<T: Threads + Wait + Sync + Abort>(
+    rt: &T,
+    alloc: Global,
+    part: Part,
+) -> Result<(), Fail> {
+    judge(rt, alloc, part, ENDS)?;
+    for row in all_reported() {
+        judge(rt, alloc, part, row)?;
     }
     Ok(())
 }
@@ -82,14 +118,17 @@ fn judge<T: Threads + Wait + Sync + Abort>(
 fn parts_report_their_locations(rt: HostRuntime) -> Result<(), Fail> {
     for count in COUNTS {
         for index in 0..count {
-            let part = part_of(&rt, index, count);
-            judge(&rt, rt.alloc(), part, ENDS)?;
-            for row in REPORTED {
-                judge(&rt, rt.alloc(), part, row)?;
-            }
+            judge_all(&rt, rt.alloc(), part_of(&rt, index, count))?;
         }
     }
     Ok(())
+}
+
+fn judge_fault<T: Threads + Wait + Sync + Abort>(rt: &T, alloc: Global, part: Part, row: Faulty) {
+    let fault = plain(alloc, row.limits, part, row.text).err();
+    assert_fault(rt, fault, row.fault, row.name, 0);
+    let fault = sharded(rt, alloc, 3, part, row.limits, row.text).err();
+    assert_fault(rt, fault, row.fault, row.name, 3);
 }
 
 // A fault is told by each part, also where the part has no access.
@@ -97,11 +136,8 @@ fn parts_report_their_locations(rt: HostRuntime) -> Result<(), Fail> {
 fn parts_tell_faults(rt: HostRuntime) {
     for index in 0..2 {
         let part = part_of(&rt, index, 2);
-        for row in FAULTY {
-            let fault = plain(rt.alloc(), row.limits, part, row.text).err();
-            assert_eq!(rt; fault, Some(row.fault), "{} in {part:?}", row.name);
-            let fault = run_part(&rt, rt.alloc(), 3, part, row.limits, row.text).err();
-            assert_eq!(rt; fault, Some(row.fault), "{} in {part:?} by 3", row.name);
+        for row in all_faulty() {
+            judge_fault(&rt, rt.alloc(), part, row);
         }
     }
 }
@@ -109,18 +145,14 @@ fn parts_tell_faults(rt: HostRuntime) {
 // Location 5 has the number 2 in part 1 of 2, and the number 0 in part 5 of 65536.
 #[test]
 fn shards_of_a_part_take_their_shares(rt: HostRuntime) -> Result<(), Fail> {
-    let odd = run_part(&rt, rt.alloc(), 3, part_of(&rt, 1, 2), LIMITS, WRITE_WRITE)?;
-    assert_eq!(rt; odd.taken.as_slice(), [3, 3, 5].as_slice());
-    let even = run_part(&rt, rt.alloc(), 3, part_of(&rt, 0, 2), LIMITS, WRITE_WRITE)?;
-    assert_eq!(rt; even.taken.as_slice(), [3, 3, 3].as_slice());
-    let alone = run_part(
-        &rt,
-        rt.alloc(),
-        3,
-        part_of(&rt, 5, 65536),
-        LIMITS,
-        WRITE_WRITE,
-    )?;
-    assert_eq!(rt; alone.taken.as_slice(), [5, 3, 3].as_slice());
+    for (index, count, shares) in [
+        (1, 2, [3, 3, 5u64]),
+        (0, 2, [3, 3, 3]),
+        (5, 65536, [5, 3, 3]),
+    ] {
+        let part = part_of(&rt, index, count);
+        let taken = taken(&rt, rt.alloc(), 3, part, WRITE_WRITE)?;
+        assert_eq!(rt; taken.as_slice(), shares.as_slice(), "{part:?}");
+    }
     Ok(())
 }

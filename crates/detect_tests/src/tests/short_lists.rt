@@ -131,6 +131,14 @@ fn told(race: Race) -> Told {
     }
 }
 
+/// What the shard answers to a record that it has to accept.
+fn applied(shard: &mut Shard<Hasher>, placed: Placed) -> Result<Option<Told>, Fail> {
+    if !shard.accepts(placed.place) {
+        return Err("not accepted".into());
+    }
+    Ok(shard.apply(placed)?.map(told))
+}
+
 /// A shard answers the race at its second place, and none elsewhere.
 fn check_shard(
     rt: &impl Abort,
@@ -142,14 +150,37 @@ fn check_shard(
     for (index, what) in records.iter().enumerate() {
         let place = index as u64 + 1;
         let what = *what;
-        if !shard.accepts(place) {
-            return Err("not accepted".into());
-        }
-        let answer = shard.apply(Placed { place, what })?.map(told);
+        let answer = applied(&mut shard, Placed { place, what })?;
         let wanted_here = wanted.filter(|race| race.second.place == place);
-        assert_eq!(rt; answer, wanted_here, "place {place} of {records:?}");
+        assert_answer(rt, answer, wanted_here, place, records);
     }
     Ok(())
+}
+
+fn assert_answer(
+    rt: &impl Abort,
+    answer: Option<Told>,
+    wanted: Option<Told>,
+    place: u64,
+    records: &[Record],
+) {
+    assert_eq!(rt; answer, wanted, "place {place} of {records:?}");
+}
+
+/// Detects a list, whose text it is given.
+fn check_list(
+    rt: &impl Abort,
+    alloc: Global,
+    text: &[u8],
+    depth: u32,
+    wanted: Result<Option<Told>, Fault>,
+    records: &[Record],
+) {
+    let found = match detected(alloc, text, depth) {
+        Ok(report) => Ok(only_race(rt, &report)),
+        Err(fault) => Err(fault),
+    };
+    assert_eq!(rt; found, wanted, "{records:?} within depth {depth}");
 }
 
 /// Detects every list of a version, each after another in the same text.
@@ -172,11 +203,7 @@ fn check_lists(
             let records = &list[..length];
             write_list(version, records, &mut text)?;
             let wanted = expected(rt, records, depth as usize);
-            let found = match detected(alloc, &text, depth) {
-                Ok(report) => Ok(only_race(rt, &report)),
-                Err(fault) => Err(fault),
-            };
-            assert_eq!(rt; found, wanted, "{records:?} within depth {depth}");
+            check_list(rt, alloc, &text, depth, wanted, records);
             if let Ok(race) = wanted {
                 check_shard(rt, alloc, records, race)?;
             }
@@ -186,80 +213,80 @@ fn check_lists(
     Ok(tally)
 }
 
+fn check_tally(
+    rt: &impl Abort,
+    alloc: Global,
+    version: Version,
+    depth: u32,
+    wanted: Tally,
+) -> Result<(), Fail> {
+    let tally = check_lists(rt, alloc, version, depth)?;
+    assert_eq!(rt; tally, wanted);
+    Ok(())
+}
+
 #[test]
 fn within_depth_7(rt: HostRuntime) -> Result<(), Fail> {
-    let tally = check_lists(&rt, rt.alloc(), Version::One, 7)?;
     let wanted = Tally {
         race_free: 2_676,
         racy: 273,
         too_deep: 0,
         otherwise_faulty: 94_706,
     };
-    assert_eq!(rt; tally, wanted);
-    Ok(())
+    check_tally(&rt, rt.alloc(), Version::One, 7, wanted)
 }
 
 #[test]
 fn within_depth_2(rt: HostRuntime) -> Result<(), Fail> {
-    let tally = check_lists(&rt, rt.alloc(), Version::One, 2)?;
     let wanted = Tally {
         race_free: 2_675,
         racy: 273,
         too_deep: 7_210,
         otherwise_faulty: 87_497,
     };
-    assert_eq!(rt; tally, wanted);
-    Ok(())
+    check_tally(&rt, rt.alloc(), Version::One, 2, wanted)
 }
 
 #[test]
 fn within_depth_1(rt: HostRuntime) -> Result<(), Fail> {
-    let tally = check_lists(&rt, rt.alloc(), Version::One, 1)?;
     let wanted = Tally {
         race_free: 2_533,
         racy: 261,
         too_deep: 21_672,
         otherwise_faulty: 73_189,
     };
-    assert_eq!(rt; tally, wanted);
-    Ok(())
+    check_tally(&rt, rt.alloc(), Version::One, 1, wanted)
 }
 
 #[test]
 fn with_calls_within_depth_6(rt: HostRuntime) -> Result<(), Fail> {
-    let tally = check_lists(&rt, rt.alloc(), Version::Two, 6)?;
     let wanted = Tally {
         race_free: 1_125,
         racy: 35,
         too_deep: 0,
         otherwise_faulty: 54_826,
     };
-    assert_eq!(rt; tally, wanted);
-    Ok(())
+    check_tally(&rt, rt.alloc(), Version::Two, 6, wanted)
 }
 
 #[test]
 fn with_calls_within_depth_2(rt: HostRuntime) -> Result<(), Fail> {
-    let tally = check_lists(&rt, rt.alloc(), Version::Two, 2)?;
     let wanted = Tally {
         race_free: 1_125,
         racy: 35,
         too_deep: 11_056,
         otherwise_faulty: 43_770,
     };
-    assert_eq!(rt; tally, wanted);
-    Ok(())
+    check_tally(&rt, rt.alloc(), Version::Two, 2, wanted)
 }
 
 #[test]
 fn with_calls_within_depth_1(rt: HostRuntime) -> Result<(), Fail> {
-    let tally = check_lists(&rt, rt.alloc(), Version::Two, 1)?;
     let wanted = Tally {
         race_free: 1_061,
         racy: 35,
         too_deep: 23_476,
         otherwise_faulty: 31_414,
     };
-    assert_eq!(rt; tally, wanted);
-    Ok(())
+    check_tally(&rt, rt.alloc(), Version::Two, 1, wanted)
 }

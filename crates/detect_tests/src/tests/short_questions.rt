@@ -3,13 +3,13 @@
 
 use super::by_definition::{self, Between, MOST, accesses_at, is_well_nested, paths, race_at};
 use super::short_lists::{counts, list_of, write_list};
-use audit::{Confirm, confirm, measure, pairs};
+use audit::{Confirm, Measure, confirm, measure, pairs};
 use collect::{Collector, Report};
 use shard::Back;
 use std::alloc::Global;
 use std::process::Abort;
 use std::test::Fail;
-use trace::{Access, Counted, Kind, Limits, Race, Record, Version};
+use trace::{Access, Counted, Fault, Kind, Limits, Race, Record, Version};
 
 const LIMITS: Limits = Limits {
     records: 1 << 48,
@@ -49,6 +49,19 @@ fn report_of(alloc: Global, first: Access, second: Access) -> Result<Report, Fai
     Ok(collector.finish()?)
 }
 
+fn confirmed(alloc: Global, text: &[u8], report: &Report) -> Result<Confirm, Fault> {
+    confirm(alloc, LIMITS, &mut Counted::new(text), report)
+}
+
+fn measured(alloc: Global, text: &[u8]) -> Result<Measure, Fault> {
+    measure(alloc, LIMITS, &mut Counted::new(text))
+}
+
+/// The races of location 0 that are told of a text.
+fn listed(alloc: Global, text: &[u8]) -> Result<Vec<(Access, Access)>, Fault> {
+    pairs(alloc, LIMITS, &mut Counted::new(text), 0)
+}
+
 /// Asks whether two accesses race.
 fn check_confirm(
     rt: &impl Abort,
@@ -58,7 +71,7 @@ fn check_confirm(
     wanted: Confirm,
 ) -> Result<(), Fail> {
     let report = report_of(alloc, first, second)?;
-    let answer = confirm(alloc, LIMITS, &mut Counted::new(text), &report);
+    let answer = confirmed(alloc, text, &report);
     assert_eq!(rt; answer, Ok(wanted), "{first:?} {second:?} of {text:?}");
     Ok(())
 }
@@ -85,25 +98,39 @@ fn check_confirms(
     Ok(())
 }
 
-/// Asks about one list.
-fn check_list(rt: &impl Abort, alloc: Global, records: &[Record], text: &[u8]) -> Result<(), Fail> {
-    let measured = measure(alloc, LIMITS, &mut Counted::new(text));
-    let listed = pairs(alloc, LIMITS, &mut Counted::new(text), 0);
-    let well = is_well_nested(records, MOST);
-    assert_eq!(rt; measured.is_ok(), well, "{records:?}");
-    assert_eq!(rt; listed.is_ok(), well, "{records:?}");
-    if well {
-        assert_eq!(rt;
-            measured,
-            Ok(by_definition::measure(records)),
-            "{records:?}"
-        );
-        let paths = paths(records);
-        let races = races(alloc, records, &paths)?;
-        assert_eq!(rt; listed?.as_slice(), races.as_slice(), "{records:?}");
-        check_confirms(rt, alloc, records, &paths, text)?;
-    }
+/// Asks for the races of location 0.
+fn check_races(
+    rt: &impl Abort,
+    alloc: Global,
+    records: &[Record],
+    paths: &Between,
+    text: &[u8],
+) -> Result<(), Fail> {
+    let wanted = races(alloc, records, paths)?;
+    let answer = listed(alloc, text);
+    assert!(rt; answer.is_ok(), "{records:?}");
+    let listed = answer?;
+    assert_eq!(rt; listed.as_slice(), wanted.as_slice(), "{records:?}");
     Ok(())
+}
+
+/// Asks for the measure.
+fn check_measure(rt: &impl Abort, alloc: Global, records: &[Record], text: &[u8]) {
+    let wanted = by_definition::measure(records);
+    assert_eq!(rt; measured(alloc, text), Ok(wanted), "{records:?}");
+}
+
+/// Asks about one list. A list that isn't well nested has neither measure nor races.
+fn check_list(rt: &impl Abort, alloc: Global, records: &[Record], text: &[u8]) -> Result<(), Fail> {
+    if !is_well_nested(records, MOST) {
+        assert!(rt; measured(alloc, text).is_err(), "{records:?}");
+        assert!(rt; listed(alloc, text).is_err(), "{records:?}");
+        return Ok(());
+    }
+    let paths = paths(records);
+    check_measure(rt, alloc, records, text);
+    check_races(rt, alloc, records, &paths, text)?;
+    check_confirms(rt, alloc, records, &paths, text)
 }
 
 /// Asks about every list of a version.

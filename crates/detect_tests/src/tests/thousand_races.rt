@@ -1,7 +1,7 @@
 //! A child and its parent write the same 1,000 locations: the same 1,000 races, in one thread and with shards; and none
 //! where the trace has a fault at its end.
 
-use super::answers::{Pieces, run, run_from, text_of, text_plain};
+use super::answers::{Pieces, answer_from, answer_of, assert_fault, assert_text, text_plain};
 use shard::Gate;
 use std::alloc::{AllocError, Global};
 use std::sync::atomic::{AtomicU64, Ordering};
@@ -13,13 +13,18 @@ pub const LIMITS: Limits = Limits {
     depth: 1,
 };
 
-/// The row's text.
-pub fn trace_text(alloc: Global) -> Result<Vec<u8>, AllocError> {
+fn writes(alloc: Global) -> Result<Vec<u8>, AllocError> {
     let mut writes = Vec::new(alloc);
     for k in 0..1000u64 {
         let line = format!(in alloc; "write {}\n", 2 * k)?;
         writes.extend_from_slice(line.as_bytes())?;
     }
+    Ok(writes)
+}
+
+/// The row's text.
+pub fn trace_text(alloc: Global) -> Result<Vec<u8>, AllocError> {
+    let writes = writes(alloc)?;
     let mut text = Vec::from_slice(alloc, b"trace 1\nspawn\n")?;
     text.extend_from_slice(&writes)?;
     text.extend_from_slice(b"return\n")?;
@@ -44,7 +49,7 @@ fn thousand_races(rt: HostRuntime) -> Result<(), Fail> {
     let report = report_text(rt.alloc())?;
     for size in [1usize, 3, 11, 4096] {
         let text = text_plain(rt.alloc(), LIMITS, &trace, size)?;
-        assert_eq!(rt; text, report, "by {size}");
+        assert_text(&rt, &text, &report, "pieces", size);
     }
     Ok(())
 }
@@ -54,15 +59,11 @@ fn thousand_races_by_shards(rt: HostRuntime) -> Result<(), Fail> {
     let trace = trace_text(rt.alloc())?;
     let report = report_text(rt.alloc())?;
     for (shards, first_took) in [(1, 2003), (2, 2003), (64, 67)] {
-        assert!(rt; 1 <= shards && shards <= 64);
-        let run = run(&rt, rt.alloc(), shards, LIMITS, &trace)?;
-        assert_eq!(rt; text_of(rt.alloc(), &run.report)?, report, "{shards}");
-        assert_eq!(rt; run.taken.first(), Some(&first_took), "{shards}");
-        assert_eq!(rt;
-            run.taken.get(1),
-            if shards == 1 { None } else { Some(&3) },
-            "{shards}"
-        );
+        let answer = answer_of(&rt, rt.alloc(), shards, LIMITS, &trace)?;
+        assert_text(&rt, &answer.text, &report, "shards", shards as usize);
+        let second_took = if shards == 1 { None } else { Some(3) };
+        let taken = (answer.taken.first().copied(), answer.taken.get(1).copied());
+        assert_eq!(rt; taken, (Some(first_took), second_took), "{shards}");
     }
     Ok(())
 }
@@ -90,12 +91,12 @@ fn fault_after_a_flood(rt: HostRuntime) -> Result<(), Fail> {
         bytes: trace.strip_suffix(b"return\n").ok_or("no last record")?,
         size: 4096,
     };
-    let run = run_from(&rt, rt.alloc(), 2, LIMITS, &mut pieces, &gate);
+    let answer = answer_from(&rt, rt.alloc(), 2, LIMITS, &mut pieces, &gate);
     let fault = Fault::Nest(NestFault {
         place: 2003,
         kind: NestKind::Unfinished,
     });
-    assert_eq!(rt; run.err(), Some(fault));
+    assert_fault(&rt, answer.err(), fault, "shards", 2);
     assert_eq!(rt; gate.passed.load(Ordering::SeqCst), 2004);
     Ok(())
 }

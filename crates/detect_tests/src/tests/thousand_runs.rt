@@ -3,7 +3,7 @@
 //! The runs are shared out among twenty tests, since a test's time is limited: with lanes of capacity 1 each record
 //! waits for a thread's turn, and beside eight busy processes a run takes more than fifty times as long.
 
-use super::answers::{Pieces, run_from, text_of};
+use super::answers::{Pieces, answer_from, assert_text};
 use super::thousand_races::{LIMITS, report_text, trace_text};
 use shard::Open;
 use std::alloc::Global;
@@ -12,7 +12,7 @@ use std::sync::Wait;
 use std::test::Fail;
 use std::thread::Threads;
 
-const RUNS: u32 = 50;
+const RUNS: usize = 50;
 
 fn run_often<T: Threads + Wait + Sync + Abort>(rt: &T, alloc: Global) -> Result<(), Fail> {
     let trace = trace_text(alloc)?;
@@ -22,8 +22,8 @@ fn run_often<T: Threads + Wait + Sync + Abort>(rt: &T, alloc: Global) -> Result<
             bytes: &trace,
             size: 4096,
         };
-        let run = run_from(rt, alloc, 64, LIMITS, &mut pieces, &Open)?;
-        assert_eq!(rt; text_of(alloc, &run.report)?, report, "run {count}");
+        let text = answer_from(rt, alloc, 64, LIMITS, &mut pieces, &Open)?.text;
+        assert_text(rt, &text, &report, "run", count);
     }
     Ok(())
 }

@@ -1,7 +1,7 @@
 //! The workers run beside each other, and beside the reading. A body on one thread fails here.
 ghost use Rattle.std.specs.Prelude.{None};
 
-use super::answers::{Pieces, run_from, text_of};
+use super::answers::{Pieces, answer_from};
 use super::reported_rows::{LIMITS, WRITE_WRITE};
 use shard::Gate;
 use std::alloc::{AllocError, Global};
@@ -60,15 +60,14 @@ impl Gate for Meeting {
 #[test]
 fn two_shards_meet(rt: HostRuntime) -> Result<(), Fail> {
     for shards in [2u32, 8] {
-        assert!(rt; 1 <= shards && shards <= 64);
         let gate = Meeting::of(rt.alloc(), shards)?;
         let mut pieces = Pieces {
             bytes: WRITE_WRITE,
             size: 1,
         };
-        let run = run_from(&rt, rt.alloc(), shards, LIMITS, &mut pieces, &gate)?;
+        let text = answer_from(&rt, rt.alloc(), shards, LIMITS, &mut pieces, &gate)?.text;
         assert!(rt; !gate.missed.load(Ordering::SeqCst), "{shards} shards");
-        assert_eq!(rt; text_of(rt.alloc(), &run.report)?.as_slice(), REPORT);
+        assert_eq!(rt; text.as_slice(), REPORT);
     }
     Ok(())
 }
@@ -138,8 +137,8 @@ fn reader_follows_shard(rt: HostRuntime) -> Result<(), Fail> {
         passed: &gate.passed,
         missed: false,
     };
-    let run = run_from(&rt, rt.alloc(), 2, LIMITS, &mut reader, &gate)?;
+    let text = answer_from(&rt, rt.alloc(), 2, LIMITS, &mut reader, &gate)?.text;
     assert!(rt; !reader.missed);
-    assert_eq!(rt; text_of(rt.alloc(), &run.report)?.as_slice(), REPORT);
+    assert_eq!(rt; text.as_slice(), REPORT);
     Ok(())
 }

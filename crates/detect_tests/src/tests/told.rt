@@ -8,13 +8,14 @@ ghost use Rattle.trace.specs.Faults.{IsFaultOfAll};
 ghost use Rattle.trace.specs.Endings.{IsWantOfMemory, IsWantOfMemoryOrThread};
 ghost use Rattle.detect.specs.Reported.{IsReportOf};
 
-use super::answers::{Hasher, run_from, text_of};
-use super::faulty_rows::FAULTY;
-use super::reported_rows::{LIMITS, REPORTED};
+use super::answers::{Hasher, assert_fault, assert_text, run_from, text_of};
+use super::faulty_rows::all_faulty;
+use super::reported_rows::{LIMITS, all_reported};
 use collect::Report;
 use detect::detect_plain;
 use shard::Open;
 use std::alloc::Global;
+use std::process::Abort;
 use std::sync::Wait;
 use std::test::Fail;
 use std::thread::Threads;
@@ -74,17 +75,40 @@ fn report_sharded<T: Threads + Wait + Sync>(
     Ok(run_from(rt, alloc, shards, limits, &mut told, &Open)?.report)
 }
 
+/// The text of that report by one thread, or the fault.
+fn text_plain<R: Abort>(
+    rt: &R,
+    alloc: Global,
+    limits: Limits,
+    bytes: &[u8],
+    size: usize,
+) -> Result<Vec<u8>, Fault> {
+    assert!(rt; 1 <= size);
+    text_of(alloc, &report_plain(alloc, limits, bytes, size)?)
+}
+
+/// The text of that report with shards, or the fault.
+fn text_sharded<T: Threads + Wait + Sync + Abort>(
+    rt: &T,
+    alloc: Global,
+    shards: u32,
+    limits: Limits,
+    bytes: &[u8],
+    size: usize,
+) -> Result<Vec<u8>, Fault> {
+    assert!(rt; 1 <= shards && shards <= 64 && 1 <= size);
+    let report = report_sharded(rt, alloc, shards, limits, bytes, size)?;
+    text_of(alloc, &report)
+}
+
 #[test]
 fn reports_of_told_bytes(rt: HostRuntime) -> Result<(), Fail> {
-    for row in REPORTED {
+    for row in all_reported() {
         for (shards, size) in [(1, 4096), (3, 5)] {
-            assert!(rt; 1 <= shards && shards <= 64 && 1 <= size);
-            let plain = report_plain(rt.alloc(), LIMITS, row.text, size)?;
-            let text = text_of(rt.alloc(), &plain)?;
-            assert_eq!(rt; text.as_slice(), row.report, "{}", row.name);
-            let sharded = report_sharded(&rt, rt.alloc(), shards, LIMITS, row.text, size)?;
-            let text = text_of(rt.alloc(), &sharded)?;
-            assert_eq!(rt; text.as_slice(), row.report, "{} by {shards}", row.name);
+            let text = text_plain(&rt, rt.alloc(), LIMITS, row.text, size)?;
+            assert_text(&rt, &text, row.report, row.name, 0);
+            let text = text_sharded(&rt, rt.alloc(), shards, LIMITS, row.text, size)?;
+            assert_text(&rt, &text, row.report, row.name, shards as usize);
         }
     }
     Ok(())
@@ -92,10 +116,10 @@ fn reports_of_told_bytes(rt: HostRuntime) -> Result<(), Fail> {
 
 #[test]
 fn faults_of_told_bytes(rt: HostRuntime) {
-    for row in FAULTY {
-        let plain = report_plain(rt.alloc(), row.limits, row.text, 1).err();
-        assert_eq!(rt; plain, Some(row.fault), "{}", row.name);
-        let sharded = report_sharded(&rt, rt.alloc(), 2, row.limits, row.text, 1).err();
-        assert_eq!(rt; sharded, Some(row.fault), "{}", row.name);
+    for row in all_faulty() {
+        let plain = text_plain(&rt, rt.alloc(), row.limits, row.text, 1).err();
+        assert_fault(&rt, plain, row.fault, row.name, 0);
+        let sharded = text_sharded(&rt, rt.alloc(), 2, row.limits, row.text, 1).err();
+        assert_fault(&rt, sharded, row.fault, row.name, 2);
     }
 }
