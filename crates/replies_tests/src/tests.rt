@@ -28,6 +28,14 @@ pub struct Ran {
     pub err: Vec<u8>,
 }
 
+/// What a run must leave.
+#[derive(Clone, Copy)]
+pub struct Left<'a> {
+    pub status: u8,
+    pub out: &'a str,
+    pub err: &'a str,
+}
+
 /// Runs the program on a trace, of which each call of its reader hands at most `step` bytes.
 pub fn run<T: Threads + Wait + Sync>(
     rt: &T,
@@ -65,15 +73,32 @@ pub fn run_on<T: Threads + Wait + Sync, R: Source, Q: Source>(
     let mut out = Vec::new(alloc);
     let mut err = Vec::new(alloc);
     let words = words_of(alloc, line)?;
-    let status = {
-        let mut answers = Counted::new(Full::new(&mut out, room));
-        let mut faults = Counted::new(&mut err);
-        match read_words(alloc, words.as_slice()) {
-            Ok(asked) => answer_any(rt, alloc, &asked, trace, report, &mut answers, &mut faults),
-            Err(fault) => refuse(&fault, &mut answers, &mut faults),
-        }
-    };
+    let status = answer_words(
+        rt,
+        alloc,
+        words.as_slice(),
+        trace,
+        report,
+        &mut Counted::new(Full::new(&mut out, room)),
+        &mut Counted::new(&mut err),
+    );
     Ok(Ran { status, out, err })
+}
+
+/// Answers what the words ask, whatever it is.
+fn answer_words<T: Threads + Wait + Sync, R: Source, Q: Source, W: Sink, E: Sink>(
+    rt: &T,
+    alloc: Global,
+    words: &[String],
+    trace: &mut R,
+    report: &mut Q,
+    out: &mut W,
+    err: &mut E,
+) -> u8 {
+    match read_words(alloc, words) {
+        Ok(asked) => answer_any(rt, alloc, &asked, trace, report, out, err),
+        Err(fault) => refuse(&fault, out, err),
+    }
 }
 
 /// Asserts what a run of a case left.
@@ -81,6 +106,30 @@ pub fn assert_left<R: Abort>(rt: &R, ran: &Ran, status: u8, out: &[u8], err: &[u
     assert_eq!(rt; ran.status, status, "{case}");
     assert_eq!(rt; ran.out.as_slice(), out, "{case}");
     assert_eq!(rt; ran.err.as_slice(), err, "{case}");
+}
+
+/// Asserts what a line leaves of a trace and a report, which come a byte at a time and then many.
+pub fn assert_answer<T: Threads + Wait + Sync + Abort>(
+    rt: &T,
+    alloc: Global,
+    line: &str,
+    trace: &[u8],
+    report: &[u8],
+    left: Left,
+    case: &str,
+) -> Result<(), AllocError> {
+    for step in [1, 4096] {
+        let ran = run_with_report(rt, alloc, line, trace, report, step)?;
+        assert_left(
+            rt,
+            &ran,
+            left.status,
+            left.out.as_bytes(),
+            left.err.as_bytes(),
+            case,
+        );
+    }
+    Ok(())
 }
 
 /// Answers what is asked of these sources; the report is read only where it is asked for. The reports that `merge`
@@ -115,12 +164,8 @@ pub fn trace_of(alloc: Global, records: &str) -> Result<Vec<u8>, AllocError> {
     text_of(alloc, b"trace 1\n", records)
 }
 
-/// The text of a trace in version 2.
-pub fn version_2_of(alloc: Global, records: &str) -> Result<Vec<u8>, AllocError> {
-    text_of(alloc, b"trace 2\n", records)
-}
-
-fn text_of(alloc: Global, header: &[u8], records: &str) -> Result<Vec<u8>, AllocError> {
+/// The text of a trace with this header.
+pub fn text_of(alloc: Global, header: &[u8], records: &str) -> Result<Vec<u8>, AllocError> {
     let mut text = Vec::from_slice(alloc, header)?;
     for record in records.split(", ") {
         text.extend_from_slice(record.as_bytes())?;

@@ -1,6 +1,10 @@
 //! Worked rows of `explain`.
-use super::{assert_left, flood, run};
+use super::{Left, assert_answer, assert_left, flood, run};
+use std::alloc::{AllocError, Global};
+use std::process::Abort;
+use std::sync::Wait;
 use std::test::Fail;
+use std::thread::Threads;
 
 // Traces, and what is said of their location 1.
 const EXPLAINED: [(&str, &str); 12] = [
@@ -61,15 +65,27 @@ const EXPLAINED: [(&str, &str); 12] = [
     ("trace 2\nreturn\n", "no race\n"),
 ];
 
+// Asserts what is said of the location 1 of these traces.
+fn explain_rows<T: Threads + Wait + Sync + Abort>(
+    rt: &T,
+    alloc: Global,
+    rows: &[(&str, &str)],
+) -> Result<(), AllocError> {
+    for &(trace, out) in rows {
+        let status = if out == "no race\n" { 0 } else { 1 };
+        let left = Left {
+            status,
+            out,
+            err: "",
+        };
+        assert_answer(rt, alloc, "explain - 1", trace.as_bytes(), b"", left, trace)?;
+    }
+    Ok(())
+}
+
 #[test]
 fn explains_rows(rt: HostRuntime) -> Result<(), Fail> {
-    for (trace, answer) in EXPLAINED {
-        let status = if answer == "no race\n" { 0 } else { 1 };
-        for step in [1, 4096] {
-            let ran = run(&rt, rt.alloc(), "explain - 1", trace.as_bytes(), step)?;
-            assert_left(&rt, &ran, status, answer.as_bytes(), b"", trace);
-        }
-    }
+    explain_rows(&rt, rt.alloc(), &EXPLAINED)?;
     Ok(())
 }
 
@@ -104,11 +120,13 @@ const FAULTS: [(&str, &str, &str); 3] = [
 
 #[test]
 fn explains_nothing_before_a_fault(rt: HostRuntime) -> Result<(), Fail> {
-    for (line, trace, want) in FAULTS {
-        for step in [1, 4096] {
-            let ran = run(&rt, rt.alloc(), line, trace.as_bytes(), step)?;
-            assert_left(&rt, &ran, 2, b"", want.as_bytes(), trace);
-        }
+    for (line, trace, err) in FAULTS {
+        let left = Left {
+            status: 2,
+            out: "",
+            err,
+        };
+        assert_answer(&rt, rt.alloc(), line, trace.as_bytes(), b"", left, trace)?;
     }
     Ok(())
 }

@@ -36,19 +36,51 @@ fn run_halting<T: Threads + Wait + Sync>(
     run_on(rt, alloc, line, &mut trace, &mut report, ENDLESS)
 }
 
+// The kind of error whose turn it is at a call.
+fn kind_of(call: usize) -> ErrorKind {
+    KINDS[call % 41]
+}
+
+// Asserts that a command says that it can't read, whichever call of the trace fails.
+fn halt_trace<T: Threads + Wait + Sync + Abort>(
+    rt: &T,
+    alloc: Global,
+    line: &str,
+    trace: &[u8],
+) -> Result<(), AllocError> {
+    for call in 0..=trace.len() {
+        for kind in [kind_of(call), ErrorKind::Interrupted] {
+            let ran = run_halting(rt, alloc, line, trace, call, kind)?;
+            let case = format!(in alloc; "{line}: {kind:?} at {call}")?;
+            assert_left(rt, &ran, 2, b"", b"spbags: cannot read\n", case.as_str());
+        }
+    }
+    Ok(())
+}
+
 // A call that fails isn't tried again, and no answer comes of what was read before. There are more calls than kinds, so
 // each kind has its turn.
 #[test]
 fn every_call_of_the_trace_fails(rt: HostRuntime) -> Result<(), Fail> {
     let trace = trace_of(rt.alloc(), "spawn, write 5, return, write 5, return")?;
     for line in COMMANDS {
-        for call in 0..=trace.len() {
-            for kind in [KINDS[call % 41], ErrorKind::Interrupted] {
-                let ran = run_halting(&rt, rt.alloc(), line, trace.as_slice(), call, kind)?;
-                let case = format!(in rt.alloc(); "{line}: {kind:?} at {call}")?;
-                assert_left(&rt, &ran, 2, b"", b"spbags: cannot read\n", case.as_str());
-            }
-        }
+        halt_trace(&rt, rt.alloc(), line, trace.as_slice())?;
+    }
+    Ok(())
+}
+
+// Asserts what each command says of a trace whose end can't be read.
+fn judge_front<T: Threads + Wait + Sync + Abort>(
+    rt: &T,
+    alloc: Global,
+    trace: &str,
+    want: &str,
+) -> Result<(), AllocError> {
+    for line in COMMANDS {
+        let text = trace.as_bytes();
+        let ran = run_halting(rt, alloc, line, text, text.len(), ErrorKind::Other)?;
+        let case = format!(in alloc; "{line}: {trace}")?;
+        assert_left(rt, &ran, 2, b"", want.as_bytes(), case.as_str());
     }
     Ok(())
 }
@@ -56,20 +88,31 @@ fn every_call_of_the_trace_fails(rt: HostRuntime) -> Result<(), Fail> {
 // What came before a call that fails is judged first; here all bytes come, and the call fails that would tell the end.
 #[test]
 fn judges_what_came_before(rt: HostRuntime) -> Result<(), Fail> {
-    let table = [
+    for (trace, want) in [
         ("trace 1\nx\n", "spbags: line 2: bad line\n"),
         ("trace 1\nreturn\nsync\n", "spbags: place 2: after end\n"),
         ("trace 1\nretu", "spbags: cannot read\n"),
         ("trace 1\nreturn\n", "spbags: cannot read\n"),
         ("", "spbags: cannot read\n"),
-    ];
-    for (trace, want) in table {
-        for line in COMMANDS {
-            let text = trace.as_bytes();
-            let ran = run_halting(&rt, rt.alloc(), line, text, text.len(), ErrorKind::Other)?;
-            let case = format!(in rt.alloc(); "{line}: {trace}")?;
-            assert_left(&rt, &ran, 2, b"", want.as_bytes(), case.as_str());
-        }
+    ] {
+        judge_front(&rt, rt.alloc(), trace, want)?;
+    }
+    Ok(())
+}
+
+// Asserts that `confirm` says that it can't read, whichever kind of error this call of the report has.
+fn halt_report<T: Threads + Wait + Sync + Abort>(
+    rt: &T,
+    alloc: Global,
+    call: usize,
+    kinds: &[ErrorKind],
+) -> Result<(), AllocError> {
+    for &kind in kinds {
+        let mut trace = Counted::new(Slow::new(b"x\n", 1));
+        let mut report = Counted::new(Halting::new(REPORT, call, kind));
+        let ran = run_on(rt, alloc, "confirm - b", &mut trace, &mut report, ENDLESS)?;
+        let case = format!(in alloc; "{kind:?} at {call}")?;
+        assert_left(rt, &ran, 2, b"", b"spbags: cannot read\n", case.as_str());
     }
     Ok(())
 }
@@ -78,14 +121,7 @@ fn judges_what_came_before(rt: HostRuntime) -> Result<(), Fail> {
 #[test]
 fn every_call_of_the_report_fails(rt: HostRuntime) -> Result<(), Fail> {
     for call in 0..=REPORT.len() {
-        for kind in KINDS {
-            let mut trace = Counted::new(Slow::new(b"x\n", 1));
-            let mut report = Counted::new(Halting::new(REPORT, call, kind));
-            let line = "confirm - b";
-            let ran = run_on(&rt, rt.alloc(), line, &mut trace, &mut report, ENDLESS)?;
-            let case = format!(in rt.alloc(); "{kind:?} at {call}")?;
-            assert_left(&rt, &ran, 2, b"", b"spbags: cannot read\n", case.as_str());
-        }
+        halt_report(&rt, rt.alloc(), call, &KINDS)?;
     }
     Ok(())
 }
@@ -111,10 +147,24 @@ fn assert_front<T: Threads + Wait + Sync + Abort>(
     Ok(())
 }
 
-// Each write fails in turn, and then the flush.
+// Asserts what a command leaves, whichever of its writes fails, and then its flush.
+fn fill_output<T: Threads + Wait + Sync + Abort>(
+    rt: &T,
+    alloc: Global,
+    line: &str,
+    answer: &[u8],
+) -> Result<(), AllocError> {
+    for bytes in 0..=answer.len() {
+        for error in [Some(kind_of(bytes)), Some(ErrorKind::Interrupted), None] {
+            assert_front(rt, alloc, line, answer, Room { bytes, error })?;
+        }
+    }
+    Ok(())
+}
+
 #[test]
 fn tells_a_full_output(rt: HostRuntime) -> Result<(), Fail> {
-    let table = [
+    for (line, answer) in [
         ("check -", "races 1\nrace 3 write 2 write 5\n"),
         (
             "pairs - 3",
@@ -126,16 +176,23 @@ fn tells_a_full_output(rt: HostRuntime) -> Result<(), Fail> {
         ),
         ("measure -", "work 8\nspan 5\nspawns 2\ndepth 1\n"),
         ("confirm - b", "no 1\n"),
-    ];
-    for (line, answer) in table {
-        for bytes in 0..=answer.len() {
-            for error in [Some(KINDS[bytes % 41]), Some(ErrorKind::Interrupted), None] {
-                let room = Room { bytes, error };
-                assert_front(&rt, rt.alloc(), line, answer.as_bytes(), room)?;
-            }
-        }
+    ] {
+        fill_output(&rt, rt.alloc(), line, answer.as_bytes())?;
     }
     Ok(())
+}
+
+// Asserts what a text of help leaves, of which this is the front for which there is room.
+fn fill_with_help<T: Abort>(rt: &T, alloc: Global, fault: &WordsFault, front: &[u8], room: Room) {
+    let mut out = Vec::new(alloc);
+    let mut err = Vec::new(alloc);
+    let status = refuse(
+        fault,
+        &mut Counted::new(Full::new(&mut out, room)),
+        &mut Counted::new(Full::new(&mut err, Room { bytes: 6, ..room })),
+    );
+    let ran = Ran { status, out, err };
+    assert_left(rt, &ran, 2, front, b"spbags", "help");
 }
 
 // A full standard error changes nothing else, and help may fail too.
@@ -143,16 +200,8 @@ fn tells_a_full_output(rt: HostRuntime) -> Result<(), Fail> {
 fn tells_a_full_output_of_help(rt: HostRuntime) -> Result<(), Fail> {
     let fault = WordsFault::Help(String::from_str(rt.alloc(), "a text")?);
     for (bytes, error) in [(3, Some(ErrorKind::StorageFull)), (3, None), (6, None)] {
-        let mut out = Vec::new(rt.alloc());
-        let mut err = Vec::new(rt.alloc());
-        let status = refuse(
-            &fault,
-            &mut Counted::new(Full::new(&mut out, Room { bytes, error })),
-            &mut Counted::new(Full::new(&mut err, Room { bytes: 6, error })),
-        );
-        let ran = Ran { status, out, err };
         let (front, _) = b"a text".split_at(bytes);
-        assert_left(&rt, &ran, 2, front, b"spbags", "help");
+        fill_with_help(&rt, rt.alloc(), &fault, front, Room { bytes, error });
     }
     Ok(())
 }

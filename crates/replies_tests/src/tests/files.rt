@@ -3,10 +3,13 @@ use super::{Ran, assert_left, words_of};
 use replies::answer_asked;
 use std::alloc::{AllocError, Global};
 use std::env::temp_dir;
+use std::process::Abort;
+use std::sync::Wait;
 use std::test::Fail;
+use std::thread::Threads;
 use std::{fs, process};
 use trace::Counted;
-use words::read_words;
+use words::{Asked, read_words};
 
 // The files, by the words that stand for their names: two traces, the report of each and of its parts, reports that
 // have a race of location 5 of their own, one with a faulty line, and one without a race.
@@ -102,49 +105,77 @@ const CASES: [(&str, u8, &str, &str); 33] = [
     ("merge FAULTY NONE", 2, "", "spbags: report 1 line 3: bad\n"),
 ];
 
-// The name of the file that a word stands for, where it stands for one.
-fn name_of(alloc: Global, front: &str, word: &str) -> Result<Option<String>, AllocError> {
-    if word != "NONE" && !FILES.iter().any(|(name, _)| *name == word) {
-        return Ok(None);
+// Whether a word stands for a file.
+fn is_name(word: &str, files: &[(&str, &str)]) -> bool {
+    word == "NONE" || files.iter().any(|(name, _)| *name == word)
+}
+
+// The words of a line, where the names of files stand for what stands for them.
+fn words_with_names(alloc: Global, front: &str, line: &str) -> Result<Vec<String>, AllocError> {
+    let mut words = words_of(alloc, line)?;
+    for word in words.iter_mut() {
+        if is_name(word.as_str(), &FILES) {
+            *word = format!(in alloc; "{front}.{word}")?;
+        }
     }
-    Ok(Some(format!(in alloc; "{front}.{word}")?))
+    Ok(words)
+}
+
+// What the words leave of the files.
+fn ran_of<T: Threads + Wait + Sync>(threads: &T, rt: &HostRuntime, asked: &Asked) -> Ran {
+    let mut out = Vec::new(rt.alloc());
+    let mut err = Vec::new(rt.alloc());
+    let status = answer_asked(
+        threads,
+        rt,
+        asked,
+        &mut Counted::new(&mut out),
+        &mut Counted::new(&mut err),
+    );
+    Ran { status, out, err }
+}
+
+// Asserts what each line leaves of the files whose names have this front.
+fn read_files<T: Threads + Wait + Sync + Abort>(
+    threads: &T,
+    rt: &HostRuntime,
+    front: &str,
+    cases: &[(&str, u8, &str, &str)],
+) -> Result<(), Fail> {
+    for &(line, status, out, err) in cases {
+        let words = words_with_names(rt.alloc(), front, line)?;
+        let Ok(asked) = read_words(rt.alloc(), words.as_slice()) else {
+            return Err(Fail::from(line));
+        };
+        let ran = ran_of(threads, rt, &asked);
+        assert_left(threads, &ran, status, out.as_bytes(), err.as_bytes(), line);
+    }
+    Ok(())
+}
+
+// Writes the files whose names have this front.
+fn write_files(rt: &HostRuntime, front: &str, files: &[(&str, &str)]) -> Result<(), Fail> {
+    for &(name, text) in files {
+        let file = format!(in rt.alloc(); "{front}.{name}")?;
+        fs::write(rt, file.as_str(), text)?;
+    }
+    Ok(())
+}
+
+// Takes the files away whose names have this front.
+fn remove_files(rt: &HostRuntime, front: &str, files: &[(&str, &str)]) -> Result<(), Fail> {
+    for &(name, _) in files {
+        let file = format!(in rt.alloc(); "{front}.{name}")?;
+        fs::remove_file(rt, file.as_str())?;
+    }
+    Ok(())
 }
 
 #[test]
 fn reads_the_files_that_are_named(rt: HostRuntime) -> Result<(), Fail> {
     let folder = temp_dir(&rt)?;
     let front = format!(in rt.alloc(); "{}/spbags-{}", folder.as_str(), process::id(rt.process()))?;
-    for (name, text) in FILES {
-        let file = format!(in rt.alloc(); "{front}.{name}")?;
-        fs::write(&rt, file.as_str(), text)?;
-    }
-    for (line, status, out, err) in CASES {
-        let mut words = words_of(rt.alloc(), line)?;
-        for word in words.iter_mut() {
-            if let Some(name) = name_of(rt.alloc(), front.as_str(), word.as_str())? {
-                *word = name;
-            }
-        }
-        let Ok(asked) = read_words(rt.alloc(), words.as_slice()) else {
-            return Err(Fail::from(line));
-        };
-        let mut ran = Ran {
-            status: 3,
-            out: Vec::new(rt.alloc()),
-            err: Vec::new(rt.alloc()),
-        };
-        ran.status = answer_asked(
-            &rt,
-            &rt,
-            &asked,
-            &mut Counted::new(&mut ran.out),
-            &mut Counted::new(&mut ran.err),
-        );
-        assert_left(&rt, &ran, status, out.as_bytes(), err.as_bytes(), line);
-    }
-    for (name, _) in FILES {
-        let file = format!(in rt.alloc(); "{front}.{name}")?;
-        fs::remove_file(&rt, file.as_str())?;
-    }
-    Ok(())
+    write_files(&rt, front.as_str(), &FILES)?;
+    read_files(&rt, &rt, front.as_str(), &CASES)?;
+    remove_files(&rt, front.as_str(), &FILES)
 }

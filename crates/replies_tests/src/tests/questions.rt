@@ -1,6 +1,6 @@
 //! Worked rows of `pairs`, `measure` and `confirm`.
-use super::{assert_left, flood, run, run_with_report, trace_of, version_2_of};
-use std::alloc::Global;
+use super::{Left, assert_answer, assert_left, flood, run, run_with_report, text_of};
+use std::alloc::{AllocError, Global};
 use std::process::Abort;
 use std::sync::Wait;
 use std::test::Fail;
@@ -154,29 +154,30 @@ const ANSWERS_OF_CALLS: [(&str, &str, &str, u8); 8] = [
     (CALL_SPAWNS, "pairs - 1", "pairs 0\n", 0),
 ];
 
-#[test]
-fn answers_questions(rt: HostRuntime) -> Result<(), Fail> {
-    for (records, line, answer, status) in ANSWERS {
-        let trace = trace_of(rt.alloc(), records)?;
-        for step in [1, 4096] {
-            let ran = run(&rt, rt.alloc(), line, trace.as_slice(), step)?;
-            let case = format!(in rt.alloc(); "{line}: {records}")?;
-            assert_left(&rt, &ran, status, answer.as_bytes(), b"", case.as_str());
-        }
+// Asserts the answers about traces with this header.
+fn ask_rows<T: Threads + Wait + Sync + Abort>(
+    rt: &T,
+    alloc: Global,
+    header: &[u8],
+    rows: &[(&str, &str, &str, u8)],
+) -> Result<(), AllocError> {
+    for &(records, line, out, status) in rows {
+        let trace = text_of(alloc, header, records)?;
+        let case = format!(in alloc; "{line}: {records}")?;
+        let left = Left {
+            status,
+            out,
+            err: "",
+        };
+        assert_answer(rt, alloc, line, trace.as_slice(), b"", left, case.as_str())?;
     }
     Ok(())
 }
 
 #[test]
-fn answers_questions_of_calls(rt: HostRuntime) -> Result<(), Fail> {
-    for (records, line, answer, status) in ANSWERS_OF_CALLS {
-        let trace = version_2_of(rt.alloc(), records)?;
-        for step in [1, 4096] {
-            let ran = run(&rt, rt.alloc(), line, trace.as_slice(), step)?;
-            let case = format!(in rt.alloc(); "{line}: {records}")?;
-            assert_left(&rt, &ran, status, answer.as_bytes(), b"", case.as_str());
-        }
-    }
+fn answers_questions(rt: HostRuntime) -> Result<(), Fail> {
+    ask_rows(&rt, rt.alloc(), b"trace 1\n", &ANSWERS)?;
+    ask_rows(&rt, rt.alloc(), b"trace 2\n", &ANSWERS_OF_CALLS)?;
     Ok(())
 }
 
@@ -189,8 +190,13 @@ fn questions_of_a_thousand_races(rt: HostRuntime) -> Result<(), Fail> {
     let ran = run(&rt, rt.alloc(), "pairs - 1998", text.as_slice(), 4096)?;
     let pairs = b"pairs 1\npair write 1001 write 2002\n";
     assert_left(&rt, &ran, 1, pairs, b"", "pairs");
+    Ok(())
+}
 
-    // A fault at the end leaves nothing of an answer.
+// A fault at the end leaves nothing of an answer.
+#[test]
+fn no_questions_of_a_flood_before_a_fault(rt: HostRuntime) -> Result<(), Fail> {
+    let text = flood(rt.alloc())?;
     let (text, _) = text.split_at(text.len() - b"return\n".len().min(text.len()));
     for line in ["measure -", "pairs - 0", "explain - 0", "confirm - b"] {
         let report = b"races 1\nrace 0 write 2 write 1003\n";
@@ -233,32 +239,39 @@ const CONFIRMED_OF_CALLS: [(&str, &str, &str); 5] = [
     (CALL_SPAWNS, "races 1\nrace 1 write 3 write 6\n", "no 1\n"),
 ];
 
-// Asks about a report of a trace with these records.
-fn confirm_report<T: Threads + Wait + Sync + Abort>(
+// Asserts the answers about reports of traces with this header.
+fn confirm_rows<T: Threads + Wait + Sync + Abort>(
     rt: &T,
     alloc: Global,
-    trace: &[u8],
-    (records, report, answer): (&str, &str, &str),
-) -> Result<(), Fail> {
-    for step in [1, 4096] {
-        let ran = run_with_report(rt, alloc, "confirm - b", trace, report.as_bytes(), step)?;
-        let status = if answer == "yes\n" { 0 } else { 1 };
+    header: &[u8],
+    rows: &[(&str, &str, &str)],
+) -> Result<(), AllocError> {
+    for &(records, report, out) in rows {
+        let trace = text_of(alloc, header, records)?;
         let case = format!(in alloc; "{records}: {report}")?;
-        assert_left(rt, &ran, status, answer.as_bytes(), b"", case.as_str());
+        let left = Left {
+            status: if out == "yes\n" { 0 } else { 1 },
+            out,
+            err: "",
+        };
+        let report = report.as_bytes();
+        assert_answer(
+            rt,
+            alloc,
+            "confirm - b",
+            trace.as_slice(),
+            report,
+            left,
+            case.as_str(),
+        )?;
     }
     Ok(())
 }
 
 #[test]
 fn confirms_reports(rt: HostRuntime) -> Result<(), Fail> {
-    for row in CONFIRMED {
-        let trace = trace_of(rt.alloc(), row.0)?;
-        confirm_report(&rt, rt.alloc(), trace.as_slice(), row)?;
-    }
-    for row in CONFIRMED_OF_CALLS {
-        let trace = version_2_of(rt.alloc(), row.0)?;
-        confirm_report(&rt, rt.alloc(), trace.as_slice(), row)?;
-    }
+    confirm_rows(&rt, rt.alloc(), b"trace 1\n", &CONFIRMED)?;
+    confirm_rows(&rt, rt.alloc(), b"trace 2\n", &CONFIRMED_OF_CALLS)?;
     Ok(())
 }
 
@@ -278,22 +291,26 @@ const BAD_REPORTS: [(&str, u64); 9] = [
     ("races 1\nrace 5 write 2 write 4\nx", 3),
 ];
 
-#[test]
-fn refuses_bad_reports_first(rt: HostRuntime) -> Result<(), Fail> {
-    for (report, fault) in BAD_REPORTS {
-        let want = format!(in rt.alloc(); "spbags: report line {fault}: bad\n")?;
+// Asserts which line of these reports is told, whether or not the trace is one.
+fn refuse_reports<T: Threads + Wait + Sync + Abort>(
+    rt: &T,
+    alloc: Global,
+    rows: &[(&str, u64)],
+) -> Result<(), AllocError> {
+    for &(report, fault) in rows {
+        let want = format!(in alloc; "spbags: report line {fault}: bad\n")?;
         for trace in ["trace 1\nreturn\n", "x\n"] {
-            let ran = run_with_report(
-                &rt,
-                rt.alloc(),
-                "confirm - b",
-                trace.as_bytes(),
-                report.as_bytes(),
-                4096,
-            )?;
-            assert_left(&rt, &ran, 2, b"", want.as_bytes(), report);
+            let (trace, text) = (trace.as_bytes(), report.as_bytes());
+            let ran = run_with_report(rt, alloc, "confirm - b", trace, text, 4096)?;
+            assert_left(rt, &ran, 2, b"", want.as_bytes(), report);
         }
     }
+    Ok(())
+}
+
+#[test]
+fn refuses_bad_reports_first(rt: HostRuntime) -> Result<(), Fail> {
+    refuse_reports(&rt, rt.alloc(), &BAD_REPORTS)?;
     let ran = run_with_report(&rt, rt.alloc(), "confirm - b", b"x\n", b"races 0\n", 4096)?;
     assert_left(&rt, &ran, 2, b"", b"spbags: line 1: header\n", "races 0");
     Ok(())

@@ -1,5 +1,5 @@
 //! Worked rows: traces, and what `check` says of them.
-use super::{assert_left, flood, run, trace_of, version_2_of};
+use super::{Left, assert_left, flood, run, text_of, trace_of};
 use std::alloc::{AllocError, Global};
 use std::process::Abort;
 use std::sync::Wait;
@@ -86,45 +86,61 @@ const WAYS: [(&str, usize); 4] = [
     ("--shards 3", 4096),
 ];
 
-// Checks a trace with these records in each way.
-fn check_row<T: Threads + Wait + Sync + Abort>(
+// Asserts what a line leaves of a trace with these records, in each way.
+fn assert_ways<T: Threads + Wait + Sync + Abort>(
     rt: &T,
     alloc: Global,
-    records: &str,
+    line: &str,
     trace: &[u8],
-    lines: &str,
-) -> Result<(), Fail> {
-    let count = lines.split('\n').count() - 1;
-    let report = format!(in alloc; "races {count}\n{lines}")?;
+    left: Left,
+    records: &str,
+) -> Result<(), AllocError> {
     for (options, step) in WAYS {
-        let line = format!(in alloc; "check - {options}")?;
+        let line = format!(in alloc; "{line} {options}")?;
         let ran = run(rt, alloc, line.as_str(), trace, step)?;
-        let status = if count == 0 { 0 } else { 1 };
         let case = format!(in alloc; "{line}: {records}")?;
-        assert_left(rt, &ran, status, report.as_bytes(), b"", case.as_str());
+        let (out, err) = (left.out.as_bytes(), left.err.as_bytes());
+        assert_left(rt, &ran, left.status, out, err, case.as_str());
+    }
+    Ok(())
+}
+
+// The report with these lines after its head.
+fn report_of(alloc: Global, lines: &str) -> Result<String, AllocError> {
+    let count = lines.split('\n').count() - 1;
+    format!(in alloc; "races {count}\n{lines}")
+}
+
+// Checks traces with this header in each way.
+fn check_rows<T: Threads + Wait + Sync + Abort>(
+    rt: &T,
+    alloc: Global,
+    header: &[u8],
+    rows: &[(&str, &str)],
+) -> Result<(), AllocError> {
+    for &(records, lines) in rows {
+        let trace = text_of(alloc, header, records)?;
+        let report = report_of(alloc, lines)?;
+        let left = Left {
+            status: if lines.is_empty() { 0 } else { 1 },
+            out: report.as_str(),
+            err: "",
+        };
+        assert_ways(rt, alloc, "check -", trace.as_slice(), left, records)?;
     }
     Ok(())
 }
 
 #[test]
 fn checks_rows(rt: HostRuntime) -> Result<(), Fail> {
-    for (records, lines) in ROWS {
-        let trace = trace_of(rt.alloc(), records)?;
-        check_row(&rt, rt.alloc(), records, trace.as_slice(), lines)?;
-    }
+    check_rows(&rt, rt.alloc(), b"trace 1\n", &ROWS)?;
     Ok(())
 }
 
 #[test]
 fn checks_rows_of_version_2(rt: HostRuntime) -> Result<(), Fail> {
-    for (records, lines) in ROWS {
-        let trace = version_2_of(rt.alloc(), records)?;
-        check_row(&rt, rt.alloc(), records, trace.as_slice(), lines)?;
-    }
-    for (records, lines) in CALLS {
-        let trace = version_2_of(rt.alloc(), records)?;
-        check_row(&rt, rt.alloc(), records, trace.as_slice(), lines)?;
-    }
+    check_rows(&rt, rt.alloc(), b"trace 2\n", &ROWS)?;
+    check_rows(&rt, rt.alloc(), b"trace 2\n", &CALLS)?;
     Ok(())
 }
 
@@ -143,20 +159,42 @@ fn lines_of_part(alloc: Global, lines: &str, index: u64, count: u64) -> Result<S
     Ok(own)
 }
 
-#[test]
-fn checks_parts_of_rows(rt: HostRuntime) -> Result<(), Fail> {
-    for (records, lines) in ROWS {
-        let trace = trace_of(rt.alloc(), records)?;
-        for (index, count) in [(0, 1), (0, 2), (1, 2), (0, 3), (1, 3), (2, 3)] {
-            let own = lines_of_part(rt.alloc(), lines, index, count)?;
-            let races = own.as_str().split('\n').count() - 1;
-            let report = format!(in rt.alloc(); "races {races}\n{own}")?;
-            let line = format!(in rt.alloc(); "check --part {index}/{count} -")?;
-            let ran = run(&rt, rt.alloc(), line.as_str(), trace.as_slice(), 4096)?;
-            let status = if races == 0 { 0 } else { 1 };
-            assert_left(&rt, &ran, status, report.as_bytes(), b"", records);
+// Checks the part `index` of `count` of a trace with these records, whose report has these lines.
+fn check_part<T: Threads + Wait + Sync + Abort>(
+    rt: &T,
+    alloc: Global,
+    (records, lines): (&str, &str),
+    (index, count): (u64, u64),
+) -> Result<(), AllocError> {
+    let trace = trace_of(alloc, records)?;
+    let own = lines_of_part(alloc, lines, index, count)?;
+    let report = report_of(alloc, own.as_str())?;
+    let line = format!(in alloc; "check --part {index}/{count} -")?;
+    let ran = run(rt, alloc, line.as_str(), trace.as_slice(), 4096)?;
+    let status = if own.is_empty() { 0 } else { 1 };
+    assert_left(rt, &ran, status, report.as_bytes(), b"", records);
+    Ok(())
+}
+
+// Checks each of these parts of each row.
+fn check_parts<T: Threads + Wait + Sync + Abort>(
+    rt: &T,
+    alloc: Global,
+    rows: &[(&str, &str)],
+    parts: &[(u64, u64)],
+) -> Result<(), AllocError> {
+    for &row in rows {
+        for &part in parts {
+            check_part(rt, alloc, row, part)?;
         }
     }
+    Ok(())
+}
+
+#[test]
+fn checks_parts_of_rows(rt: HostRuntime) -> Result<(), Fail> {
+    let parts = [(0, 1), (0, 2), (1, 2), (0, 3), (1, 3), (2, 3)];
+    check_parts(&rt, rt.alloc(), &ROWS, &parts)?;
     Ok(())
 }
 
@@ -245,17 +283,27 @@ const FAULTS: [(&str, &str, &str); 32] = [
     ),
 ];
 
+// Asserts what is told of these faults, in each way.
+fn name_faults<T: Threads + Wait + Sync + Abort>(
+    rt: &T,
+    alloc: Global,
+    rows: &[(&str, &str, &str)],
+) -> Result<(), AllocError> {
+    for &(line, trace, message) in rows {
+        let want = format!(in alloc; "spbags: {message}\n")?;
+        let left = Left {
+            status: 2,
+            out: "",
+            err: want.as_str(),
+        };
+        assert_ways(rt, alloc, line, trace.as_bytes(), left, trace)?;
+    }
+    Ok(())
+}
+
 #[test]
 fn names_faults(rt: HostRuntime) -> Result<(), Fail> {
-    for (line, trace, message) in FAULTS {
-        let want = format!(in rt.alloc(); "spbags: {message}\n")?;
-        for (options, step) in WAYS {
-            let line = format!(in rt.alloc(); "{line} {options}")?;
-            let ran = run(&rt, rt.alloc(), line.as_str(), trace.as_bytes(), step)?;
-            let case = format!(in rt.alloc(); "{line}: {trace}")?;
-            assert_left(&rt, &ran, 2, b"", want.as_bytes(), case.as_str());
-        }
-    }
+    name_faults(&rt, rt.alloc(), &FAULTS)?;
     let ran = run(&rt, rt.alloc(), "check -", b"trace 1\n\xff\n", 1)?;
     assert_left(&rt, &ran, 2, b"", b"spbags: line 2: bad line\n", "ff");
     Ok(())
@@ -270,19 +318,25 @@ const FLOODED: [&str; 5] = [
     "check --shards 64 --capacity 1 -",
 ];
 
-#[test]
-fn tells_a_thousand_races(rt: HostRuntime) -> Result<(), Fail> {
-    let text = flood(rt.alloc())?;
-    let mut want = String::from_str(rt.alloc(), "races 1000\n")?;
+// The report of the thousand races.
+fn flooded(alloc: Global) -> Result<String, AllocError> {
+    let mut report = String::from_str(alloc, "races 1000\n")?;
     for race in 0..1000u64 {
-        let line = format!(in rt.alloc();
+        let line = format!(in alloc;
             "race {} write {} write {}\n",
             race * 2,
             race + 2,
             race + 1003
         )?;
-        want.push_str(line.as_str())?;
+        report.push_str(line.as_str())?;
     }
+    Ok(report)
+}
+
+#[test]
+fn tells_a_thousand_races(rt: HostRuntime) -> Result<(), Fail> {
+    let text = flood(rt.alloc())?;
+    let want = flooded(rt.alloc())?;
     for line in FLOODED {
         let ran = run(&rt, rt.alloc(), line, text.as_slice(), 4096)?;
         assert_left(&rt, &ran, 1, want.as_bytes(), b"", line);
@@ -314,22 +368,34 @@ fn nested(alloc: Global, depth: u32) -> Result<Vec<u8>, AllocError> {
     Ok(text)
 }
 
+// Asserts what a line says at its depth, and that a trace that is one deeper is refused.
+fn keep_to_depth<T: Threads + Wait + Sync + Abort>(
+    rt: &T,
+    alloc: Global,
+    line: &str,
+    depth: u32,
+    answer: &str,
+) -> Result<(), AllocError> {
+    let text = nested(alloc, depth)?;
+    let ran = run(rt, alloc, line, text.as_slice(), 4096)?;
+    assert_left(rt, &ran, 0, answer.as_bytes(), b"", line);
+    let deeper = depth.saturating_add(1);
+    let text = nested(alloc, deeper)?;
+    let ran = run(rt, alloc, line, text.as_slice(), 4096)?;
+    let want = format!(in alloc; "spbags: place {deeper}: too deep\n")?;
+    assert_left(rt, &ran, 2, b"", want.as_bytes(), line);
+    Ok(())
+}
+
 #[test]
 fn keeps_to_its_depth(rt: HostRuntime) -> Result<(), Fail> {
     let numbers = "work 131073\nspan 131073\nspawns 65536\ndepth 65536\n";
-    let table = [
+    for (line, depth, answer) in [
         ("check -", 65536, "races 0\n"),
         ("measure -", 65536, numbers),
         ("check --depth 0 -", 0, "races 0\n"),
-    ];
-    for (line, depth, answer) in table {
-        let text = nested(rt.alloc(), depth)?;
-        let ran = run(&rt, rt.alloc(), line, text.as_slice(), 4096)?;
-        assert_left(&rt, &ran, 0, answer.as_bytes(), b"", line);
-        let text = nested(rt.alloc(), depth + 1)?;
-        let ran = run(&rt, rt.alloc(), line, text.as_slice(), 4096)?;
-        let want = format!(in rt.alloc(); "spbags: place {}: too deep\n", depth + 1)?;
-        assert_left(&rt, &ran, 2, b"", want.as_bytes(), line);
+    ] {
+        keep_to_depth(&rt, rt.alloc(), line, depth, answer)?;
     }
     Ok(())
 }

@@ -48,6 +48,26 @@ const ANSWERS: [(&str, &str, u8); 4] = [
     ("measure -", "work 8\nspan 5\nspawns 2\ndepth 1\n", 0),
 ];
 
+// What a question leaves of the trace with these bytes.
+fn ran_of<T: Threads + Wait + Sync>(
+    rt: &T,
+    alloc: Global,
+    question: &Question,
+    bytes: &[u8],
+) -> Ran {
+    let mut out = Vec::new(alloc);
+    let mut err = Vec::new(alloc);
+    let status = answer_bytes(
+        rt,
+        alloc,
+        question,
+        bytes,
+        &mut Counted::new(&mut out),
+        &mut Counted::new(&mut err),
+    );
+    Ran { status, out, err }
+}
+
 #[test]
 fn answers_of_told_bytes(rt: HostRuntime) -> Result<(), Fail> {
     let trace = trace_of(rt.alloc(), TRACE)?;
@@ -56,21 +76,7 @@ fn answers_of_told_bytes(rt: HostRuntime) -> Result<(), Fail> {
         let Ok(Asked::Question(question)) = read_words(rt.alloc(), words.as_slice()) else {
             return Err(Fail::from(line));
         };
-        let mut out = Vec::new(rt.alloc());
-        let mut err = Vec::new(rt.alloc());
-        let given = answer_bytes(
-            &rt,
-            rt.alloc(),
-            &question,
-            trace.as_slice(),
-            &mut Counted::new(&mut out),
-            &mut Counted::new(&mut err),
-        );
-        let ran = Ran {
-            status: given,
-            out,
-            err,
-        };
+        let ran = ran_of(&rt, rt.alloc(), &question, trace.as_slice());
         assert_left(&rt, &ran, status, text.as_bytes(), b"", line);
     }
     Ok(())
