@@ -5,7 +5,7 @@ use audit::{Confirm, Measure, confirm, measure, pairs};
 use collect::read_report;
 use std::alloc::Global;
 use std::process::Abort;
-use trace::{Counted, Fault, Limits};
+use trace::{Access, Counted, Fault, Limits};
 
 const LIMITS: Limits = Limits {
     records: 1 << 48,
@@ -19,6 +19,11 @@ struct Row {
     measure: Measure,
     pairs: &'static [(u64, u64)],
     report: &'static [u8],
+}
+
+/// The rows. A call, since the proofs of the tests are shorter without them.
+fn all_rows() -> [Row; 4] {
+    ROWS
 }
 
 /// Rows `sync-in-sibling`, `call-mixed`, and both of `call-sync-scopes`.
@@ -81,26 +86,38 @@ fn answered<R: Print + Abort, T>(rt: &R, answer: Result<T, Fault>) -> Option<T> 
     }
 }
 
+fn measure_row<R: Print + Abort>(rt: &R, alloc: Global, row: Row) {
+    let answer = measure(alloc, LIMITS, &mut Counted::new(row.text));
+    if let Some(measured) = answered(rt, answer) {
+        assert_eq!(rt; measured, row.measure);
+    }
+}
+
 #[test]
 fn measures(rt: HostRuntime) {
-    for row in ROWS {
-        let answer = measure(rt.alloc(), LIMITS, &mut Counted::new(row.text));
-        if let Some(measured) = answered(&rt, answer) {
-            assert_eq!(rt; measured, row.measure);
-        }
+    for row in all_rows() {
+        measure_row(&rt, rt.alloc(), row);
+    }
+}
+
+fn assert_pairs<R: Abort>(rt: &R, pairs: &[(Access, Access)], wanted: &[(u64, u64)]) {
+    assert_eq!(rt; pairs.len(), wanted.len());
+    for ((first, second), wanted) in pairs.iter().zip(wanted) {
+        assert_eq!(rt; (first.place, second.place), *wanted);
+    }
+}
+
+fn list_row<R: Print + Abort>(rt: &R, alloc: Global, row: Row) {
+    let answer = pairs(alloc, LIMITS, &mut Counted::new(row.text), 1);
+    if let Some(listed) = answered(rt, answer) {
+        assert_pairs(rt, &listed, row.pairs);
     }
 }
 
 #[test]
 fn lists(rt: HostRuntime) {
-    for row in ROWS {
-        let answer = pairs(rt.alloc(), LIMITS, &mut Counted::new(row.text), 1);
-        if let Some(listed) = answered(&rt, answer) {
-            assert_eq!(rt; listed.len(), row.pairs.len());
-            for ((first, second), wanted) in listed.iter().zip(row.pairs) {
-                assert_eq!(rt; (first.place, second.place), *wanted);
-            }
-        }
+    for row in all_rows() {
+        list_row(&rt, rt.alloc(), row);
     }
 }
 
@@ -124,7 +141,7 @@ fn confirm_report<R: Print + Abort>(
 
 #[test]
 fn confirms(rt: HostRuntime) {
-    for row in ROWS {
+    for row in all_rows() {
         confirm_report(&rt, rt.alloc(), row.text, row.report, Confirm::Yes);
         let other = b"races 1\nrace 1 write 3 write 6\n";
         let wanted = Confirm::No { entry: 1 };

@@ -56,6 +56,39 @@ fn collected<R: Print + Abort>(rt: &R, alloc: Global) -> Option<Report> {
     finish(rt, collector)
 }
 
+/// Takes a report. A refusal leaves a part of it taken, and with memory the same call takes the whole.
+fn take_report<R: Print + Abort>(rt: &R, collector: &mut Collector, report: &Report) {
+    for _ in 0..TRIES {
+        if collector.take_report(report).is_ok() {
+            return;
+        }
+        tell(rt, "merge");
+    }
+    assert!(rt; false);
+}
+
+fn merged<R: Print + Abort>(rt: &R, alloc: Global) -> Option<Report> {
+    let report = collected(rt, alloc)?;
+    let mut collector = Collector::new(alloc);
+    take_report(rt, &mut collector, &report);
+    finish(rt, collector)
+}
+
+/// Asserts that each location has its race.
+fn assert_races<R: Abort>(rt: &R, report: &Report) {
+    assert_eq!(rt; report.races().len() as u64, LOCATIONS);
+    for (index, race) in report.races().iter().enumerate() {
+        assert_eq!(rt; (race.location, race.second.place), (index as u64, 5));
+    }
+}
+
+#[test]
+fn merges(rt: HostRuntime) {
+    if let Some(report) = merged(&rt, rt.alloc()) {
+        assert_races(&rt, &report);
+    }
+}
+
 #[test]
 fn collects_without(rt: HostRuntime) {
     let _ = collected(&rt, rt.alloc());
@@ -65,10 +98,7 @@ fn collects_without(rt: HostRuntime) {
 #[test]
 fn collects_with(rt: HostRuntime) {
     if let Some(report) = collected(&rt, rt.alloc()) {
-        assert_eq!(rt; report.races().len() as u64, LOCATIONS);
-        for (index, race) in report.races().iter().enumerate() {
-            assert_eq!(rt; (race.location, race.second.place), (index as u64, 5));
-        }
+        assert_races(&rt, &report);
         let mut room = [0u8; 64];
         let mut text: &mut [u8] = &mut room;
         assert!(rt; write_report(&report, &mut Counted::new(&mut text)).is_err());

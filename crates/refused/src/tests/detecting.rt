@@ -2,7 +2,7 @@
 
 use super::{Hasher, Told, tell, told};
 use collect::Report;
-use detect::{Plan, Run, detect, detect_part, detect_plain, detect_plain_part};
+use detect::{Plan, detect, detect_part, detect_plain, detect_plain_part};
 use shard::Open;
 use std::alloc::{AllocError, Global};
 use std::process::Abort;
@@ -14,6 +14,11 @@ const LIMITS: Limits = Limits {
     records: 1 << 48,
     depth: 9,
 };
+
+/// The rows. A call, since the proofs of the tests are shorter without them.
+fn all_rows() -> [(&'static [u8], &'static [Told]); 6] {
+    ROWS
+}
 
 /// Rows `write-write`, `sync-in-sibling`, `three-shards`, `call-mixed` and both of `call-sync-scopes`, with their
 /// races.
@@ -55,52 +60,65 @@ fn hashers(alloc: Global, count: u32) -> Result<Vec<Hasher>, AllocError> {
     Ok(hashers)
 }
 
-fn run<T: Threads + Wait + Sync + Abort>(
+/// The report with shards.
+fn detect_sharded<T: Threads + Wait + Sync + Abort>(
     rt: &T,
     alloc: Global,
     shards: u32,
     bytes: &[u8],
-) -> Result<Run, Fault> {
+) -> Result<Report, Fault> {
     let Ok(hashers) = hashers(alloc, shards) else {
         return Err(Fault::NoMemory);
     };
     assert!(rt; 1 <= shards && shards <= 64 && hashers.len() == shards as usize);
     let plan = Plan::new(shards, 1, LIMITS);
-    detect(rt, alloc, plan, &mut Counted::new(bytes), &Open, hashers)
+    Ok(detect(rt, alloc, plan, &mut Counted::new(bytes), &Open, hashers)?.report)
 }
 
-fn run_part<T: Threads + Wait + Sync + Abort>(
+/// The report of a part so.
+fn detect_sharded_part<T: Threads + Wait + Sync + Abort>(
     rt: &T,
     alloc: Global,
     shards: u32,
     part: Part,
     bytes: &[u8],
-) -> Result<Run, Fault> {
+) -> Result<Report, Fault> {
     let Ok(hashers) = hashers(alloc, shards) else {
         return Err(Fault::NoMemory);
     };
     assert!(rt; 1 <= shards && shards <= 64 && hashers.len() == shards as usize);
     let plan = Plan::new(shards, 1, LIMITS);
-    detect_part(
-        rt,
+    let source = &mut Counted::new(bytes);
+    Ok(detect_part(rt, alloc, plan, part, source, &Open, hashers)?.report)
+}
+
+/// The report by one thread.
+fn detect_in_one(alloc: Global, bytes: &[u8]) -> Result<Report, Fault> {
+    detect_plain(alloc, LIMITS, &mut Counted::new(bytes), Hasher::default())
+}
+
+/// The report of a part so.
+fn detect_part_in_one(alloc: Global, part: Part, bytes: &[u8]) -> Result<Report, Fault> {
+    detect_plain_part(
         alloc,
-        plan,
+        LIMITS,
         part,
         &mut Counted::new(bytes),
-        &Open,
-        hashers,
+        Hasher::default(),
     )
+}
+
+fn assert_races<R: Abort>(rt: &R, report: &Report, races: &[Told]) {
+    assert_eq!(rt; report.races().len(), races.len());
+    for (race, wanted) in report.races().iter().zip(races) {
+        assert_eq!(rt; told(*race), *wanted);
+    }
 }
 
 /// Either the report is that of the row, or the fault is a refusal.
 fn judge<R: Print + Abort>(rt: &R, found: Result<Report, Fault>, races: &[Told]) {
     match found {
-        Ok(report) => {
-            assert_eq!(rt; report.races().len(), races.len());
-            for (race, wanted) in report.races().iter().zip(races) {
-                assert_eq!(rt; told(*race), *wanted);
-            }
-        }
+        Ok(report) => assert_races(rt, &report, races),
         Err(Fault::NoMemory) => tell(rt, "memory"),
         Err(Fault::NoThread) => tell(rt, "thread"),
         Err(_) => assert!(rt; false),
@@ -109,19 +127,16 @@ fn judge<R: Print + Abort>(rt: &R, found: Result<Report, Fault>, races: &[Told])
 
 #[test]
 fn plain(rt: HostRuntime) {
-    for (bytes, races) in ROWS {
-        let mut source = Counted::new(bytes);
-        let found = detect_plain(rt.alloc(), LIMITS, &mut source, Hasher::default());
-        judge(&rt, found, races);
+    for (bytes, races) in all_rows() {
+        judge(&rt, detect_in_one(rt.alloc(), bytes), races);
     }
 }
 
 #[test]
 fn sharded(rt: HostRuntime) {
     for shards in [1, 2, 3u32] {
-        for (bytes, races) in ROWS {
-            let found = run(&rt, rt.alloc(), shards, bytes);
-            judge(&rt, found.map(|run| run.report), races);
+        for (bytes, races) in all_rows() {
+            judge(&rt, detect_sharded(&rt, rt.alloc(), shards, bytes), races);
         }
     }
 }
@@ -129,14 +144,24 @@ fn sharded(rt: HostRuntime) {
 // Both locations of row `three-shards` are of part 0 of 2.
 #[test]
 fn part(rt: HostRuntime) {
-    let (bytes, races) = ROWS[2];
+    let (bytes, races) = all_rows()[2];
     let part = Part { index: 0, count: 2 };
-    let mut source = Counted::new(bytes);
-    let found = detect_plain_part(rt.alloc(), LIMITS, part, &mut source, Hasher::default());
-    judge(&rt, found, races);
+    judge(&rt, detect_part_in_one(rt.alloc(), part, bytes), races);
     for shards in [1, 3u32] {
-        let found = run_part(&rt, rt.alloc(), shards, part, bytes);
-        judge(&rt, found.map(|run| run.report), races);
+        let found = detect_sharded_part(&rt, rt.alloc(), shards, part, bytes);
+        judge(&rt, found, races);
+    }
+}
+
+fn judge_faulty<R: Print + Abort>(rt: &R, fault: Option<Fault>) {
+    let wanted = Fault::Text(TextFault {
+        line: 8,
+        kind: TextKind::Line,
+    });
+    match fault {
+        Some(Fault::NoMemory) => tell(rt, "memory"),
+        Some(Fault::NoThread) => tell(rt, "thread"),
+        _ => assert_eq!(rt; fault, Some(wanted)),
     }
 }
 
@@ -144,17 +169,7 @@ fn part(rt: HostRuntime) {
 #[test]
 fn refused_and_faulty(rt: HostRuntime) {
     for shards in [1, 2, 3u32] {
-        match run(&rt, rt.alloc(), shards, FAULTY) {
-            Ok(_) => assert!(rt; false),
-            Err(Fault::NoMemory) => tell(&rt, "memory"),
-            Err(Fault::NoThread) => tell(&rt, "thread"),
-            Err(fault) => {
-                let wanted = TextFault {
-                    line: 8,
-                    kind: TextKind::Line,
-                };
-                assert_eq!(rt; fault, Fault::Text(wanted));
-            }
-        }
+        let found = detect_sharded(&rt, rt.alloc(), shards, FAULTY);
+        judge_faulty(&rt, found.err());
     }
 }

@@ -1,26 +1,39 @@
 //! Lanes and a router: only the calls that make them ask for memory.
+ghost use Rattle.std.specs.Prelude.{◌≡◌};
+ghost use Rattle.lane.specs.Lanes.{lane_of};
 
 use super::tell;
-use lane::{Item, lane};
+use lane::{Item, Sender, Taker, lane};
 use route::{Progress, Router};
 use std::alloc::Global;
 use std::process::Abort;
 use trace::{NoMemory, Placed, Record};
 
+fn put_calls<R: Abort>(rt: &R, sender: &mut Sender<u32>)
+    ensures { lane_of sender.new ≡ lane_of sender.old }
+{
+    assert!(rt; !sender.marked());
+    assert_eq!(rt; sender.put(7), Ok(()));
+    assert!(rt; sender.put_block(&[8, 9]));
+}
+
+fn take_calls<R: Abort>(rt: &R, taker: &mut Taker<u32>) {
+    let mut items = [Item::Finish; 8];
+    assert_eq!(rt; taker.take_block(&mut items), 3);
+    assert_eq!(rt; taker.take(), None);
+}
+
 fn lane_calls<R: Abort>(rt: &R, alloc: Global, with: bool) -> Result<(), NoMemory> {
     let (mut sender, mut taker) = lane::<u32>(alloc, 4)?;
     if with {
-        assert_eq!(rt; sender.put(7), Ok(()));
-        assert!(rt; sender.put_block(&[8, 9]));
+        put_calls(rt, &mut sender);
         assert!(rt; !sender.marked() && sender.room() == 1);
         taker.beside(&mut sender);
         assert_eq!(rt; (taker.ready(), taker.take()), (3, Some(Item::One(7))));
         assert!(rt; sender.mark());
         let mut end = sender.end();
         taker.settle(&mut end);
-        let mut items = [Item::Finish; 8];
-        assert_eq!(rt; taker.take_block(&mut items), 3);
-        assert_eq!(rt; taker.take(), None);
+        take_calls(rt, &mut taker);
     }
     Ok(())
 }
@@ -28,7 +41,7 @@ fn lane_calls<R: Abort>(rt: &R, alloc: Global, with: bool) -> Result<(), NoMemor
 fn router_calls<R: Abort>(rt: &R, alloc: Global, with: bool) -> Result<(), NoMemory> {
     let (first, mut taker) = lane::<Placed>(alloc, 4)?;
     let mut senders = Vec::new(alloc);
-    senders.push(first).map_err(|_| NoMemory)?;
+    senders.push(first)?;
     let mut router = Router::new(alloc, senders)?;
     if with {
         let placed = Placed {

@@ -67,10 +67,14 @@ fn nest<R: Print + Abort>(rt: &R, alloc: Global, is_called: bool, with: bool) {
         }
     }
     if with {
-        for _ in 0..100 {
-            ret(rt, &mut bags);
-            assert_eq!(rt; in_p(rt, &bags, 100), !is_called);
-        }
+        return_all(rt, &mut bags, is_called);
+    }
+}
+
+fn return_all<R: Abort>(rt: &R, bags: &mut Bags, is_called: bool) {
+    for _ in 0..100 {
+        ret(rt, bags);
+        assert_eq!(rt; in_p(rt, bags, 100), !is_called);
     }
 }
 

@@ -7,7 +7,7 @@ use shadow::Shadow;
 use std::alloc::Global;
 use std::process::Abort;
 use trace::{
-    Counted, Feed, Limits, Nest, Reader, Record, decimal_of, is_parallel, write_header,
+    Counted, Feed, Limits, Nest, Reader, Record, Sink, decimal_of, is_parallel, write_header,
     write_record,
 };
 
@@ -19,7 +19,7 @@ const LIMITS: Limits = Limits {
     depth: 9,
 };
 
-fn read<R: Abort>(rt: &R) {
+fn feed<R: Abort>(rt: &R) {
     let mut feed = Feed::new(LIMITS, Counted::new(TEXT));
     let mut count = 0u64;
     for _ in 0..9 {
@@ -28,7 +28,10 @@ fn read<R: Abort>(rt: &R) {
         }
     }
     assert_eq!(rt; count, 8);
-    assert_eq!(rt; feed.next(), Ok(None));
+    assert!(rt; matches!(feed.next(), Ok(None)));
+}
+
+fn read<R: Abort>(rt: &R) {
     let mut reader = Reader::new(9);
     assert!(rt; reader.step(TEXT).is_ok());
     assert!(rt; reader.end().is_ok());
@@ -45,14 +48,22 @@ fn nest<R: Abort>(rt: &R) {
     assert!(rt; !is_parallel(&[Record::Sync, Record::Return], 1, 2));
 }
 
+fn write_headers<R: Abort>(rt: &R, sink: &mut impl Sink) {
+    assert!(rt; write_header(1, sink).is_ok());
+    assert!(rt; write_header(2, sink).is_ok());
+}
+
+fn write_records<R: Abort>(rt: &R, sink: &mut impl Sink) {
+    assert!(rt; write_record(&Record::Call, sink).is_ok());
+    assert!(rt; write_record(&Record::Read(77), sink).is_ok());
+}
+
 fn write<R: Abort>(rt: &R) {
     let mut room = [0u8; 64];
     let mut text: &mut [u8] = &mut room;
     let mut sink = Counted::new(&mut text);
-    assert!(rt; write_header(1, &mut sink).is_ok());
-    assert!(rt; write_header(2, &mut sink).is_ok());
-    assert!(rt; write_record(&Record::Call, &mut sink).is_ok());
-    assert!(rt; write_record(&Record::Read(77), &mut sink).is_ok());
+    write_headers(rt, &mut sink);
+    write_records(rt, &mut sink);
 }
 
 fn make<R: Abort>(rt: &R, alloc: Global) {
@@ -64,6 +75,7 @@ fn make<R: Abort>(rt: &R, alloc: Global) {
 
 #[test]
 fn calls(rt: HostRuntime) {
+    feed(&rt);
     read(&rt);
     nest(&rt);
     write(&rt);

@@ -13,6 +13,11 @@ use std::process::Abort;
 use trace::Record::{Call, Read, Return, Spawn, Sync, Write};
 use trace::{Kind, Placed, Race, Record};
 
+/// The rows. A call, since the proofs of the tests are shorter without them.
+fn all_rows() -> [(&'static [Record], Told); 5] {
+    ROWS
+}
+
 /// Rows `two-readers-then-write`, `sync-in-sibling`, `three-writes`, `call-mixed` and the first of `call-sync-scopes`,
 /// and the race of each.
 const ROWS: [(&[Record], Told); 5] = [
@@ -122,16 +127,21 @@ fn by_parts<R: Print + Abort>(rt: &R, alloc: Global, records: &[Record]) -> Opti
     finish(rt, collector)
 }
 
+/// Asserts that this race is the only one.
+fn assert_race<R: Abort>(rt: &R, report: &Report, wanted: Told) {
+    let mut races = 0u64;
+    for race in report.races() {
+        assert_eq!(rt; told(*race), wanted);
+        races = races.saturating_add(1);
+    }
+    assert_eq!(rt; races, 1);
+}
+
 #[test]
 fn parts(rt: HostRuntime) {
-    for (records, wanted) in ROWS {
+    for (records, wanted) in all_rows() {
         if let Some(report) = by_parts(&rt, rt.alloc(), records) {
-            let mut races = 0u64;
-            for race in report.races() {
-                assert_eq!(rt; told(*race), wanted);
-                races = races.saturating_add(1);
-            }
-            assert_eq!(rt; races, 1);
+            assert_race(&rt, &report, wanted);
         }
     }
 }
@@ -172,14 +182,14 @@ fn by_shard<R: Print + Abort>(rt: &R, alloc: Global, records: &[Record], wanted:
 
 #[test]
 fn shards_without(rt: HostRuntime) {
-    for (records, wanted) in ROWS {
+    for (records, wanted) in all_rows() {
         by_shard(&rt, rt.alloc(), records, wanted, false);
     }
 }
 
 #[test]
 fn shards_with(rt: HostRuntime) {
-    for (records, wanted) in ROWS {
+    for (records, wanted) in all_rows() {
         by_shard(&rt, rt.alloc(), records, wanted, true);
     }
 }
