@@ -1,4 +1,4 @@
-use Rattle.std.proofs.Common.{◌≡◌, ℕ, ap, ◌+◌}
+use Rattle.std.proofs.Common.{ap, ◌+◌}
 use Rattle.std.specs.Fn.{FnReturnsAt}
 use Rattle.replies.specs.Inputs.{known_bytes}
 use Rattle.replies.proofs.Merged.{taken_more, first_refused}
