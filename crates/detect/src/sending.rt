@@ -6,10 +6,10 @@ ghost use Rattle.trace.specs.Traces.{placed};
 ghost use Rattle.trace.specs.Parts.{records_of};
 ghost use Rattle.trace.specs.Devices.{◌⇝◌};
 ghost use Rattle.trace.specs.Endings.{EndsReading, IsWantOfMemory};
-ghost use Rattle.route.specs.Batches.{batch_lanes, longest_of, most_of, HasStaged, IsUnsent};
+ghost use Rattle.route.specs.Batches.{longest_of, most_of, HasStaged};
 ghost use Rattle.route.specs.Routers.{lane_count, pending_of, marked_of, HasSent, IsOnLanes};
 ghost use Rattle.detect.specs.LanesBack.{IsFurther};
-ghost use Rattle.detect.specs.Sent.{HasSentBut};
+ghost use Rattle.detect.specs.Sent.{MaySend, HasSentBut};
 
 use crate::gathering::Gathering;
 use route::{Batch, Progress, Router};
@@ -26,12 +26,9 @@ pub(crate) fn send_all<T: Wait, R: Source>(
     batch: &mut Batch,
     gathering: &mut Gathering,
 ) -> Result<(), Fault>
-    requires idle { pending_of router.old ≡ None }
-    requires unmarked { marked_of router.old ≡ 0 }
+    requires ready { MaySend batch.old router.old }
     requires none_sent { HasSent [] router.old }
-    requires batch { batch_lanes batch.old ≡ lane_count router.old }
     requires empty { HasStaged [] batch.old }
-    requires unsent { IsUnsent batch.old }
     ensures sent { EndsReading IsWantOfMemory limits.records limits.depth (R.state source.old ⇝ R.state source.new)
         (λ _ w. HasSent (records_of part (placed w)) router.new) result }
     ensures idle { pending_of router.new ≡ None }
@@ -84,16 +81,10 @@ fn send<T: Wait>(
     batch: &mut Batch,
     placed: Placed,
 )
-    requires idle { pending_of router.old ≡ None }
-    requires unmarked { marked_of router.old ≡ 0 }
-    requires batch { batch_lanes batch.old ≡ lane_count router.old }
-    requires unsent { IsUnsent batch.old }
+    requires { MaySend batch.old router.old }
     ensures sent { (w : List Placed) → HasSentBut batch.old (records_of part w) router.old
         → HasSentBut batch.new (records_of part (w ++ placed ∷ [])) router.new }
-    ensures idle { pending_of router.new ≡ None }
-    ensures unmarked { marked_of router.new ≡ 0 }
-    ensures batch { batch_lanes batch.new ≡ lane_count router.new }
-    ensures unsent { IsUnsent batch.new }
+    ensures ready { MaySend batch.new router.new }
     ensures lanes { IsOnLanes router.old router.new }
     ensures further { IsFurther gathering.old gathering.new }
 {
@@ -124,16 +115,10 @@ fn send_own<T: Wait>(
     batch: &mut Batch,
     placed: Placed,
 )
-    requires idle { pending_of router.old ≡ None }
-    requires unmarked { marked_of router.old ≡ 0 }
-    requires batch { batch_lanes batch.old ≡ lane_count router.old }
-    requires unsent { IsUnsent batch.old }
+    requires { MaySend batch.old router.old }
     ensures sent { (w : List Placed) → HasSentBut batch.old w router.old
         → HasSentBut batch.new (w ++ placed ∷ []) router.new }
-    ensures idle { pending_of router.new ≡ None }
-    ensures unmarked { marked_of router.new ≡ 0 }
-    ensures batch { batch_lanes batch.new ≡ lane_count router.new }
-    ensures unsent { IsUnsent batch.new }
+    ensures ready { MaySend batch.new router.new }
     ensures lanes { IsOnLanes router.old router.new }
     ensures further { IsFurther gathering.old gathering.new }
 {
@@ -148,18 +133,12 @@ fn send_own<T: Wait>(
 
 // Sends the records of the batch, after which it is empty.
 fn send_batch<T: Wait>(rt: &T, router: &mut Router, gathering: &mut Gathering, batch: &mut Batch)
-    requires idle { pending_of router.old ≡ None }
-    requires unmarked { marked_of router.old ≡ 0 }
-    requires batch { batch_lanes batch.old ≡ lane_count router.old }
-    requires unsent { IsUnsent batch.old }
+    requires { MaySend batch.old router.old }
     ensures sent { (w : List Placed) → HasSentBut batch.old w router.old → HasSent w router.new }
     ensures empty { HasStaged [] batch.new }
     ensures longest { longest_of batch.new ≡ 0 }
     ensures most { 1 ≤ most_of batch.new }
-    ensures idle { pending_of router.new ≡ None }
-    ensures unmarked { marked_of router.new ≡ 0 }
-    ensures batch { batch_lanes batch.new ≡ lane_count router.new }
-    ensures unsent { IsUnsent batch.new }
+    ensures ready { MaySend batch.new router.new }
     ensures lanes { IsOnLanes router.old router.new }
     ensures further { IsFurther gathering.old gathering.new }
 {

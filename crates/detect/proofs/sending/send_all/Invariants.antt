@@ -1,12 +1,11 @@
-use Rattle.std.proofs.Common.{◌≡◌, ◌-◌, ℕ, List, None}
+use Rattle.std.proofs.Common.{◌≡◌, ◌-◌, ℕ, List}
 use Rattle.trace.specs.declared.records.Record.{Record}
 use Rattle.trace.specs.Traces.{placed}
 use Rattle.trace.specs.Parts.{records_of}
 use Rattle.trace.specs.Devices.{◌⇝◌, Gave, IsSteady}
 use Rattle.trace.specs.Feeding.{HasFed}
-use Rattle.route.specs.Routers.{lane_count, pending_of, marked_of, IsOnLanes}
-use Rattle.route.specs.Batches.{batch_lanes, IsUnsent}
-use Rattle.detect.specs.Sent.{HasSentBut}
+use Rattle.route.specs.Routers.{IsOnLanes}
+use Rattle.detect.specs.Sent.{MaySend, HasSentBut}
 use Rattle.detect.specs.LanesBack.{IsFurther}
 use Rattle.detect.proofs.sending.send_all.Given as goal
 
@@ -17,10 +16,7 @@ invariant-records g l = record {
   gave : Gave (g.R.Source.state l.fn.source ⇝ g.R.Source.state l.source) came;
   fed : HasFed trace came l.intake;
   sent : HasSentBut l.batch (records_of l.fn.part (placed trace)) l.router;
-  batch : batch_lanes l.batch ≡ lane_count l.router;
-  unsent : IsUnsent l.batch;
-  idle : pending_of l.router ≡ None;
-  unmarked : marked_of l.router ≡ 0;
+  ready : MaySend l.batch l.router;
   lanes : IsOnLanes l.fn.router l.router;
   further : IsFurther l.fn.gathering l.gathering;
   steady : IsSteady (g.R.Source.state l.fn.source ⇝ g.R.Source.state l.source);
