@@ -35,7 +35,8 @@ pub(crate) fn run<
 where
     S::Hasher: Send,
     requires { IsReady (vec_len made.jobs) made }
-    ensures { IsDone part (vec_len made.jobs) limits.records limits.depth (R.state source.old ⇝ R.state source.new) result }
+    ensures { IsDone part (vec_len made.jobs) limits.records limits.depth (R.state source.old ⇝ R.state source.new)
+        result }
 {
     let Made {
         mut router,

@@ -75,8 +75,8 @@ fn report_sharded<T: Threads + Wait + Sync>(
     Ok(run_from(rt, alloc, shards, limits, &mut told, &Open)?.report)
 }
 
-/// The text of that report by one thread, or the fault.
-fn text_plain<R: Abort>(
+/// The text of the report on told bytes by one thread, or the fault.
+fn told_plain<R: Abort>(
     rt: &R,
     alloc: Global,
     limits: Limits,
@@ -87,8 +87,8 @@ fn text_plain<R: Abort>(
     text_of(alloc, &report_plain(alloc, limits, bytes, size)?)
 }
 
-/// The text of that report with shards, or the fault.
-fn text_sharded<T: Threads + Wait + Sync + Abort>(
+/// The same with shards.
+fn told_sharded<T: Threads + Wait + Sync + Abort>(
     rt: &T,
     alloc: Global,
     shards: u32,
@@ -105,9 +105,9 @@ fn text_sharded<T: Threads + Wait + Sync + Abort>(
 fn reports_of_told_bytes(rt: HostRuntime) -> Result<(), Fail> {
     for row in all_reported() {
         for (shards, size) in [(1, 4096), (3, 5)] {
-            let text = text_plain(&rt, rt.alloc(), LIMITS, row.text, size)?;
+            let text = told_plain(&rt, rt.alloc(), LIMITS, row.text, size)?;
             assert_text(&rt, &text, row.report, row.name, 0);
-            let text = text_sharded(&rt, rt.alloc(), shards, LIMITS, row.text, size)?;
+            let text = told_sharded(&rt, rt.alloc(), shards, LIMITS, row.text, size)?;
             assert_text(&rt, &text, row.report, row.name, shards as usize);
         }
     }
@@ -117,9 +117,9 @@ fn reports_of_told_bytes(rt: HostRuntime) -> Result<(), Fail> {
 #[test]
 fn faults_of_told_bytes(rt: HostRuntime) {
     for row in all_faulty() {
-        let plain = text_plain(&rt, rt.alloc(), row.limits, row.text, 1).err();
+        let plain = told_plain(&rt, rt.alloc(), row.limits, row.text, 1).err();
         assert_fault(&rt, plain, row.fault, row.name, 0);
-        let sharded = text_sharded(&rt, rt.alloc(), 2, row.limits, row.text, 1).err();
+        let sharded = told_sharded(&rt, rt.alloc(), 2, row.limits, row.text, 1).err();
         assert_fault(&rt, sharded, row.fault, row.name, 2);
     }
 }
