@@ -1,9 +1,11 @@
 //! Values that are put on lanes together.
-ghost use Rattle.std.specs.Prelude.{◌≡◌, ◌-◌, ◌+◌, ◌<◌, ◌≤◌, false, [], ◌∷◌, ◌++◌, length, take, drop, vec_len, vec_capacity, ℕ, IfOk};
+ghost use Rattle.std.specs.Prelude.{◌≡◌, ◌-◌, ◌+◌, ◌<◌, ◌≤◌, [], ◌∷◌, ◌++◌};
+ghost use Rattle.std.specs.Prelude.{length, take, drop, vec_len, vec_capacity, IfOk};
 ghost use Rattle.lane.specs.declared.sender.TheConstants.{BLOCK};
 
 use crate::item::Item;
 use crate::sender::BLOCK;
+use crate::values::Values;
 use std::alloc::Global;
 use std::marker::Model;
 use trace::NoMemory;
@@ -26,24 +28,6 @@ impl<T> Model for Block<T> {
 
     ghost invariant = { λ b. (has_mark b.items.items ≡ false)
         × (vec_len b.items ≤ BLOCK) × (BLOCK ≤ vec_capacity b.items) };
-}
-
-/// Some values of a block that follow one another.
-#[derive(Drop)]
-pub struct Values<'a, T> {
-    pub(crate) items: &'a [Item<T>],
-}
-
-impl<'a, T> Model for Values<'a, T> {
-    ghost use Rattle.std.specs.Prelude.{◌≡◌, ◌≤◌, false, List, length};
-    ghost use Rattle.lane.specs.declared.sender.TheConstants.{BLOCK};
-    ghost use Rattle.lane.specs.Items.{has_mark, records};
-
-    ghost Value = { List T };
-
-    ghost view = { λ v. records v.items.now };
-
-    ghost invariant = { λ v. (has_mark v.items.now ≡ false) × (length v.items.now ≤ BLOCK) };
 }
 
 impl<T: Copy> Block<T> {
@@ -100,17 +84,6 @@ impl<T: Copy> Block<T> {
         ensures { self.new ≡ [] }
     {
         self.items.clear();
-    }
-}
-
-impl<'a, T: Copy> Values<'a, T> {
-    /// How many they are.
-    #[tactic(auto, using(crate::proofs::Marks::length_values))]
-    pub fn len(&self) -> usize
-        ensures len { result ≡ length self.now }
-        ensures most { result ≤ BLOCK }
-    {
-        self.items.len()
     }
 }
 

@@ -6,11 +6,13 @@ mod ends;
 mod item;
 mod sender;
 mod taker;
+mod values;
 mod waiting;
 
-pub use block::{Block, Values};
+pub use block::Block;
 pub use ends::lane;
 pub use item::Item;
 pub use sender::{BLOCK, End, Sender};
 pub use taker::Taker;
+pub use values::Values;
 pub use waiting::Waiting;

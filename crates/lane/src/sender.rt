@@ -1,12 +1,13 @@
 //! The end of a lane that puts, and its receipt.
-ghost use Rattle.std.specs.Prelude.{◌≡◌, ◌+◌, ◌<◌, ◌≤◌, true, false, [], ◌∷◌, ◌++◌, length, map, vec_capacity, IsTrue, IsFalse, IfErr, OnOk, IsOk};
+ghost use Rattle.std.specs.Prelude.{◌≡◌, ◌+◌, ◌<◌, ◌≤◌, true, false, [], ◌∷◌, ◌++◌, length, map, vec_capacity};
+ghost use Rattle.std.specs.Prelude.{IsTrue, IsFalse, IfErr, OnOk};
 ghost use Rattle.rtrb.specs.Ring.{sent};
 ghost use Rattle.lane.specs.declared.sender.TheConstants.{BLOCK};
 ghost use Rattle.lane.specs.declared.item.Item.TheVariants.{One, Finish};
 ghost use Rattle.lane.specs.Items.{has_mark, mark_last};
 
-use crate::block::Values;
 use crate::item::{Item, MarkLast};
+use crate::values::Values;
 use rtrb::Producer;
 use std::alloc::Global;
 

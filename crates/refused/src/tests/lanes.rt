@@ -3,33 +3,38 @@ ghost use Rattle.std.specs.Prelude.{◌≡◌};
 ghost use Rattle.lane.specs.Lanes.{lane_of};
 
 use super::tell;
-use lane::{Item, Sender, Taker, lane};
+use lane::{Block, Item, Sender, Taker, lane};
 use route::{Progress, Router};
 use std::alloc::Global;
 use std::process::Abort;
 use trace::{NoMemory, Placed, Record};
 
-fn put_calls<R: Abort>(rt: &R, sender: &mut Sender<u32>)
+fn put_calls<R: Abort>(rt: &R, sender: &mut Sender<u32>, block: &mut Block<u32>)
     ensures { lane_of sender.new ≡ lane_of sender.old }
 {
     assert!(rt; !sender.marked());
     assert_eq!(rt; sender.put(7), Ok(()));
     assert!(rt; sender.put_block(&[8, 9]));
+    block.clear();
+    block.push(10);
+    block.push(11);
+    assert!(rt; sender.put_values(&block.between(0, 2)));
 }
 
 fn take_calls<R: Abort>(rt: &R, taker: &mut Taker<u32>) {
     let mut items = [Item::Finish; 8];
-    assert_eq!(rt; taker.take_block(&mut items), 3);
+    assert_eq!(rt; taker.take_block(&mut items), 5);
     assert_eq!(rt; taker.take(), None);
 }
 
 fn lane_calls<R: Abort>(rt: &R, alloc: Global, with: bool) -> Result<(), NoMemory> {
-    let (mut sender, mut taker) = lane::<u32>(alloc, 4)?;
+    let (mut sender, mut taker) = lane::<u32>(alloc, 6)?;
+    let mut block = Block::new(alloc)?;
     if with {
-        put_calls(rt, &mut sender);
+        put_calls(rt, &mut sender, &mut block);
         assert!(rt; !sender.marked() && sender.room() == 1);
         taker.beside(&mut sender);
-        assert_eq!(rt; (taker.ready(), taker.take()), (3, Some(Item::One(7))));
+        assert_eq!(rt; (taker.ready(), taker.take()), (5, Some(Item::One(7))));
         assert!(rt; sender.mark());
         let mut end = sender.end();
         taker.settle(&mut end);
