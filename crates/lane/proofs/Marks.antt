@@ -142,3 +142,10 @@ module _ {T : Type 0} where
 
   pub each_allowed : (before xs : List (Item T)) → has_mark before ≡ false → has_mark xs ≡ false → EachAllowed AllowsAfter before xs
   each_allowed before xs h none i d lt = has_mark_block before (take i xs) h (take_values xs i none)
+
+  -- no mark stands in a front either, nor is one the last
+  pub no_mark_in_front : (xs : List (Item T)) (x : Item T) → has_mark (xs ++ x ∷ []) ≡ false → (has_mark xs ≡ false) × (is_finish x ≡ false)
+  no_mark_in_front [] (One x) h = (refl, refl)
+  no_mark_in_front [] Finish h = absurd (true≢false h)
+  no_mark_in_front (One y ∷ ys) x h = no_mark_in_front ys x h
+  no_mark_in_front (Finish ∷ ys) x h = absurd (true≢false h)

@@ -1,2 +1,4 @@
+pub mod Codes
 pub mod Items
 pub mod Lanes
+pub mod Records

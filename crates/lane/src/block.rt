@@ -1,14 +1,16 @@
 //! Values that are put on lanes together.
 ghost use Rattle.std.specs.Prelude.{◌≡◌, ◌-◌, ◌+◌, ◌<◌, ◌≤◌, [], ◌∷◌, ◌++◌};
-ghost use Rattle.std.specs.Prelude.{length, take, drop, vec_len, vec_capacity, IfOk};
+ghost use Rattle.std.specs.Prelude.{ℕ, length, take, drop, vec_len, vec_capacity, IfOk, IsTrue, IsFalse};
 ghost use Rattle.lane.specs.declared.sender.TheConstants.{BLOCK};
+ghost use Rattle.lane.specs.Records.{all_records};
 
 use crate::item::Item;
+use crate::parcel::Parcel;
 use crate::sender::BLOCK;
 use crate::values::Values;
 use std::alloc::Global;
 use std::marker::Model;
-use trace::NoMemory;
+use trace::{NoMemory, Placed};
 
 /// Values in their order, kept as a lane keeps them: so a put of them only copies. It takes memory for 64 when it is
 /// made, and none after that.
@@ -84,6 +86,26 @@ impl<T: Copy> Block<T> {
         ensures { self.new ≡ [] }
     {
         self.items.clear();
+    }
+}
+
+impl Block<Parcel> {
+    /// Has the record join the last parcel; false where it can't, and then nothing changes.
+    #[inline(always)]
+    #[tactic(auto, using(crate::proofs::Marks::length_values, crate::proofs::Marks::has_mark_more, crate::proofs::Marks::records_one, crate::proofs::Marks::no_mark_in_front, crate::proofs::Records::all_records_append))]
+    pub fn join_last(&mut self, placed: Placed) -> bool
+        // from each parcel on
+        ensures joined { IsTrue result → (i : ℕ) → i < length self.old
+            → all_records (drop i self.new) ≡ all_records (drop i self.old) ++ placed ∷ [] }
+        ensures count { length self.new ≡ length self.old }
+        ensures refused { IsFalse result → self.new ≡ self.old }
+    {
+        let Some(Item::One(mut last)) = self.items.pop() else {
+            return false;
+        };
+        let joined = last.join(placed);
+        self.items.push_reserved(Item::One(last));
+        joined
     }
 }
 

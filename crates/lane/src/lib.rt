@@ -4,6 +4,7 @@
 mod block;
 mod ends;
 mod item;
+mod parcel;
 mod sender;
 mod taker;
 mod values;
@@ -12,6 +13,7 @@ mod waiting;
 pub use block::Block;
 pub use ends::lane;
 pub use item::Item;
+pub use parcel::{Parcel, RECORDS};
 pub use sender::{BLOCK, End, Sender};
 pub use taker::Taker;
 pub use values::Values;
