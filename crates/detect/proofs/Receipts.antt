@@ -4,7 +4,8 @@ use Rattle.std.proofs.lemmas.List.{length-map, length-set, get_or-map}
 use Rattle.std.proofs.Math.Seq.{map-set_same}
 use Rattle.lane.specs.declared.item.Item.{Item}
 use Rattle.lane.specs.Items.{has_mark}
-use Rattle.lane.specs.Lanes.{taker_lane, taken_of, end_lane, all_put}
+use Rattle.lane.specs.Lanes.{taker_lane, end_lane, all_put}
+use Rattle.lane.specs.Records.{taken_records}
 use Rattle.shard.specs.declared.working.Worked.{Worked}
 use Rattle.detect.specs.Closing.{IsSameWork, IsSettled}
 
@@ -30,11 +31,11 @@ settled_at taken taken' puts puts' k t t' e e' same_taken same_puts at_t at_e is
 
 module _ {S H : Type 0} where
   -- one worker's ends were compared
-  pub same_set : (all now : List (Worked S H)) (k : ℕ) (w v : Worked S H) → w ≡ get_or now k w → taken_of v.taker ≡ taken_of w.taker → taker_lane v.taker ≡ taker_lane w.taker → all_put v.back ≡ all_put w.back → end_lane v.back ≡ end_lane w.back → v.shard ≡ w.shard
+  pub same_set : (all now : List (Worked S H)) (k : ℕ) (w v : Worked S H) → w ≡ get_or now k w → taken_records v.taker ≡ taken_records w.taker → taker_lane v.taker ≡ taker_lane w.taker → all_put v.back ≡ all_put w.back → end_lane v.back ≡ end_lane w.back → v.shard ≡ w.shard
       → IsSameWork all now → IsSameWork all (set now k v)
   same_set all now k w v at taken taker_lane_is told end_lane_is shard h = record {
     count = length-set now k v ∙ h.count;
-    taken = map-set_same (λ (x : Worked S H). taken_of x.taker) now k v w (taken ∙ ap (λ (x : Worked S H). taken_of x.taker) at) ∙ h.taken;
+    taken = map-set_same (λ (x : Worked S H). taken_records x.taker) now k v w (taken ∙ ap (λ (x : Worked S H). taken_records x.taker) at) ∙ h.taken;
     told = map-set_same (λ (x : Worked S H). all_put x.back) now k v w (told ∙ ap (λ (x : Worked S H). all_put x.back) at) ∙ h.told;
     counts = map-set_same (λ (x : Worked S H). x.shard.taken) now k v w (ap (λ s. s.taken) shard ∙ ap (λ (x : Worked S H). x.shard.taken) at) ∙ h.counts;
     to_shards = map-set_same (λ (x : Worked S H). taker_lane x.taker) now k v w (taker_lane_is ∙ ap (λ (x : Worked S H). taker_lane x.taker) at) ∙ h.to_shards;

@@ -6,7 +6,7 @@ use Rattle.std.proofs.lemmas.List.{length-map}
 use Rattle.shadow.specs.Found.{by_location, found}
 use Rattle.lane.specs.declared.item.Item.{Item}
 use Rattle.lane.specs.declared.item.Item.TheVariants.{One, Finish}
-use Rattle.lane.specs.Lanes.{taken_of}
+use Rattle.lane.specs.Records.{taken_records}
 use Rattle.route.specs.Sending.{put_on, AllSent}
 use Rattle.route.proofs.LaneShares.{put_marked}
 use Rattle.route.specs.Routers.{puts_of, turn_of, pending_of, marked_of}
@@ -51,7 +51,7 @@ module _ {S H : Type 0} where
       }
 
   took : (n : ℕ) (done : Done S H) (u : List Placed) (puts : List (List (Item Placed))) (told : List (List (Item Back))) (run : Run) → IsFinished n done u → IsCompared n done puts told
-      → OrderlyShares n u → run.taken.items ≡ counts_of done.workers.items → map taken_of run.lanes.items ≡ taken_by done.workers.items → length run.lanes.items ≡ n → TookSharesOf n u run
+      → OrderlyShares n u → run.taken.items ≡ counts_of done.workers.items → map taken_records run.lanes.items ≡ taken_by done.workers.items → length run.lanes.items ≡ n → TookSharesOf n u run
   took n done u puts told run f h orders counts lanes count =
       let e = ends n done u puts told f h in
       let P : List (List (Item Placed)) → Type 0 = λ ts. (k : ℕ) → k < n → get_or ts k [] ≡ map One (share k n u) ++ Finish ∷ [] in
@@ -66,7 +66,7 @@ module _ {S H : Type 0} where
   -- what the run has found
   pub run_finds : (n : ℕ) (done : Done S H) (u : List Placed) (puts : List (List (Item Placed))) (told : List (List (Item Back))) (run : Run) → 1 ≤ n → OrderlyShares n u → IsFinished n done u
       → IsCompared n done puts told → done.gathering.refused ≡ false → ((g : List Back) → KeepsBest g done.gathering.collector → IsCollected g run.report)
-      → run.taken.items ≡ counts_of done.workers.items → map taken_of run.lanes.items ≡ taken_by done.workers.items → length run.lanes.items ≡ n → RunFinds n run u
+      → run.taken.items ≡ counts_of done.workers.items → map taken_records run.lanes.items ≡ taken_by done.workers.items → length run.lanes.items ≡ n → RunFinds n run u
   run_finds n done u puts told run some orders f h good collected counts lanes count =
       let e = ends n done u puts told f h in
       let P : Bool → Type 0 = λ b. Gathers (given_by done.gathering.backs.items) b done.gathering.collector in

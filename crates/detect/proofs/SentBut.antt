@@ -7,6 +7,7 @@ use Rattle.route.specs.declared.routing.Router.{Router}
 use Rattle.route.specs.Batches.{portion_of, HasStaged, HasSamePortions}
 use Rattle.route.specs.Routers.{HasSent}
 use Rattle.detect.specs.Sent.{HasSentBut}
+use Rattle.lane.specs.Records.{all_records}
 
 -- nothing is staged
 pub none_but : (b : Batch) (w : List Placed) (r : Router) → HasStaged [] b → HasSent w r → HasSentBut b w r
@@ -26,7 +27,7 @@ one_more_but old new w p r joined h = record {
 pub staged_same : (old new : Batch) (us : List Placed) → HasSamePortions old new → HasStaged us old → HasStaged us new
 staged_same old new us same h k lt =
     let P : ℕ → Type 0 = λ n. portion_of old k ≡ share k n us in
-    same.portions k ∙ subst P (sym same.lanes) (h k (omega (arith, lt, same.lanes)))
+    ap all_records (same.portions k) ∙ subst P (sym same.lanes) (h k (omega (arith, lt, same.lanes)))
 
 pub same_portions_trans : (a b c : Batch) → HasSamePortions a b → HasSamePortions b c → HasSamePortions a c
 same_portions_trans a b c h k = record { lanes = k.lanes ∙ h.lanes; most = k.most ∙ h.most; portions = λ j. k.portions j ∙ h.portions j }

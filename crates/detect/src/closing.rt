@@ -5,7 +5,7 @@ ghost use Rattle.trace.specs.declared.records.Part.{Part};
 ghost use Rattle.trace.specs.declared.faults.Fault.TheVariants.{NoMemory};
 ghost use Rattle.trace.specs.Devices.{Change};
 ghost use Rattle.trace.specs.Endings.{EndsReading, IsWantOfMemoryOrThread};
-ghost use Rattle.lane.specs.Lanes.{taken_of};
+ghost use Rattle.lane.specs.Records.{taken_records};
 ghost use Rattle.detect.specs.Closing.{taken_by, counts_of};
 ghost use Rattle.detect.specs.Finished.{IsClosed, IsDone};
 ghost use Rattle.detect.specs.RunFinds.{RunFindsPart};
@@ -16,11 +16,11 @@ use crate::making::Lists;
 use crate::settling::{settle_backs, settle_shards};
 use crate::sharded::Run;
 use collect::Report;
-use lane::Taker;
+use lane::{Parcel, Taker};
 use route::Router;
 use shard::Worked;
 use std::hash::BuildHasher;
-use trace::{Fault, Placed};
+use trace::Fault;
 
 /// What a run has come to: how reading ended, and what the workers handed back.
 #[derive(Drop)]
@@ -70,7 +70,7 @@ fn run_of<S: BuildHasher + Drop>(report: Report, workers: Vec<Worked<S>>, lists:
     requires room { HasRoom (vec_len workers) lists }
     ensures report { result.report ≡ report }
     ensures taken { result.taken.items ≡ counts_of workers.items }
-    ensures lanes { map taken_of result.lanes.items ≡ taken_by workers.items }
+    ensures lanes { map taken_records result.lanes.items ≡ taken_by workers.items }
     ensures lane_count { vec_len result.lanes ≡ vec_len workers }
 {
     let Lists {
@@ -90,7 +90,7 @@ fn run_of<S: BuildHasher + Drop>(report: Report, workers: Vec<Worked<S>>, lists:
 }
 
 // How many records the worker's shard took, and the lane that they came over.
-fn count_and_lane<S: BuildHasher + Drop>(worked: Worked<S>) -> (u64, Taker<Placed>)
+fn count_and_lane<S: BuildHasher + Drop>(worked: Worked<S>) -> (u64, Taker<Parcel>)
     ensures count { result.0 ≡ worked.shard.taken }
     ensures lane { result.1 ≡ worked.taker }
 {

@@ -8,18 +8,18 @@ ghost use Rattle.lane.specs.declared.sender.TheConstants.{BLOCK};
 use crate::gathering::Gathering;
 use crate::jobs::{Job, WorkOf};
 use collect::Collector;
-use lane::{BLOCK, Sender, Taker, Waiting, lane};
+use lane::{BLOCK, Parcel, Sender, Taker, Waiting, lane};
 use route::{Batch, Router};
 use shard::{Back, Shard, Worked};
 use std::alloc::Global;
 use std::hash::BuildHasher;
 use std::thread::PromisedHandle;
-use trace::{NoMemory, Placed};
+use trace::NoMemory;
 
 /// The ends of the lanes to the shards and back.
 #[derive(Drop)]
 pub(crate) struct Ends<S: BuildHasher + Drop> {
-    pub(crate) senders: Vec<Sender<Placed>>,
+    pub(crate) senders: Vec<Sender<Parcel>>,
     pub(crate) jobs: Vec<Job<S>>,
     pub(crate) backs: Vec<Taker<Back>>,
 }
@@ -39,7 +39,7 @@ pub(crate) struct Made<S: BuildHasher + Drop> {
 #[derive(Drop)]
 pub(crate) struct Lists {
     pub(crate) taken: Vec<u64>,
-    pub(crate) lanes: Vec<Taker<Placed>>,
+    pub(crate) lanes: Vec<Taker<Parcel>>,
 }
 
 /// Makes the lanes, the router and its batch, the shards, and room for what comes of the workers.
@@ -132,7 +132,7 @@ fn make_job<S: BuildHasher + Drop>(
     index: u32,
     shards: u64,
     hasher: S,
-) -> Result<(Sender<Placed>, Job<S>, Taker<Back>), NoMemory>
+) -> Result<(Sender<Parcel>, Job<S>, Taker<Back>), NoMemory>
     requires capacity { IsCapacity capacity }
     requires shards { 1 ≤ shards }
     ensures { IfOk result (λ made. IsBetween made.0 made.2 made.1) }

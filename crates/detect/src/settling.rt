@@ -1,23 +1,23 @@
 //! The receipts: what was taken is compared with what was put.
 ghost use Rattle.std.specs.Prelude.{◌≡◌, ◌<◌, ℕ, map, vec_len};
-ghost use Rattle.lane.specs.Lanes.{end_lane, taker_lane, all_put};
+ghost use Rattle.lane.specs.Lanes.{end_lane, taker_lane};
+ghost use Rattle.lane.specs.Records.{all_put_records};
 ghost use Rattle.detect.specs.Gathered.{given_by};
 ghost use Rattle.detect.specs.Closing.{taken_by, told_by, taker_lanes, told_lanes, IsSameWork, IsSettled};
 
-use lane::{End, Taker};
+use lane::{End, Parcel, Taker};
 use shard::{Back, Worked};
 use std::hash::BuildHasher;
-use trace::Placed;
 
 /// Compares what each worker took with the router's receipt of its lane.
 pub(crate) fn settle_shards<S: BuildHasher + Drop>(
     workers: &mut Vec<Worked<S>>,
-    ends: &mut Vec<End<Placed>>,
+    ends: &mut Vec<End<Parcel>>,
 )
     requires { taker_lanes workers.old.items ≡ map end_lane ends.old.items }
     ensures same { IsSameWork workers.old.items workers.new.items }
     ensures settled { (k : ℕ) → k < vec_len workers.old
-        → IsSettled (taken_by workers.old.items) (map all_put ends.old.items) k }
+        → IsSettled (taken_by workers.old.items) (map all_put_records ends.old.items) k }
 {
     for shard in 0..workers.len() {
         workers[shard].taker.settle(&mut ends[shard]);

@@ -11,14 +11,14 @@ use crate::making::{make, make_lists};
 use crate::plan::Plan;
 use crate::running::run;
 use collect::Report;
-use lane::Taker;
+use lane::{Parcel, Taker};
 use shard::Gate;
 use std::alloc::Global;
 use std::hash::BuildHasher;
 use std::sync::Wait;
 use std::thread;
 use std::thread::Threads;
-use trace::{Fault, Part, Placed, Source};
+use trace::{Fault, Part, Source};
 
 /// What a run with shards answers.
 #[derive(Drop)]
@@ -28,7 +28,7 @@ pub struct Run {
     /// How many records each shard took, the mark not counted.
     pub taken: Vec<u64>,
     /// The lane to each shard, taken to its mark.
-    pub lanes: Vec<Taker<Placed>>,
+    pub lanes: Vec<Taker<Parcel>>,
 }
 
 /// Reads a trace to its end and reports its races, with a thread for each shard of the locations: the

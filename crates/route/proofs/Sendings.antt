@@ -1,6 +1,5 @@
 -- A router in the middle of a batch.
 use Rattle.std.proofs.Common.{◌≡◌, ℕ, ◌<◌, false, true≢false, inl, inr, List, [], ◌∷◌, ◌++◌, map, refl, sym, ap, subst, ◌∙◌, append-nil, append_assoc, arith}
-use Rattle.std.proofs.lemmas.List.{take-append-drop}
 use Rattle.lane.specs.declared.item.Item.{Item}
 use Rattle.lane.specs.declared.item.Item.TheVariants.{One}
 use Rattle.lane.specs.Items.{has_mark, records, IsBeginning}
@@ -13,8 +12,9 @@ use Rattle.route.specs.declared.routing.Router.{Router}
 use Rattle.route.specs.Sending.{put_on}
 use Rattle.route.specs.Routers.{puts_of, lane_count}
 use Rattle.route.specs.Routed.{IsRising, TakesShare}
-use Rattle.route.specs.Batches.{batch_lanes, portion_of, sent_count, sent_portion, unsent_portion, HasStaged, IsSending}
+use Rattle.route.specs.Batches.{batch_lanes, portion_of, sent_portion, unsent_portion, HasStaged, IsSending}
 use Rattle.route.specs.BatchRuns.{all_of, HasBatchShare}
+use Rattle.route.proofs.BatchSent.{both_parts}
 use Rattle.route.proofs.Headline.{takes}
 
 records-map : (xs : List Placed) → records (map One xs) ≡ xs
@@ -30,7 +30,7 @@ module _ (b : Batch) (r : Router) (us : List Placed) (staged : HasStaged us b) (
   cut : share k (lane_count r) us ≡ sent_portion b k ++ unsent_portion b k
   cut =
       let P : ℕ → Type 0 = λ n. portion_of b k ≡ share k n us in
-      sym (subst P lanes (staged k (omega (arith, within, lanes)))) ∙ sym (take-append-drop (sent_count b k) (portion_of b k))
+      sym (subst P lanes (staged k (omega (arith, within, lanes)))) ∙ sym (both_parts b k)
 
   has : (w : List Placed) → IsSending w b r → records (put_on (puts_of r) k) ≡ share k (lane_count r) w ++ sent_portion b k
   has w sending = ap records (sending k within) ∙ records-map (share k (lane_count r) w ++ sent_portion b k)

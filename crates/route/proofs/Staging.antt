@@ -1,9 +1,13 @@
 -- The records of a batch after one more.
-use Rattle.std.proofs.Common.{◌≡◌, ℕ, ◌<◌, ◌%◌, ◌==◌, Bool, true, false, cond, List, [], ◌∷◌, ◌++◌, Some, None, ⊎_elim, refl, sym, ap, subst, ◌∙◌, append-nil}
+use Rattle.std.proofs.Common.{◌≡◌, ℕ, ◌<◌, ◌%◌, ◌==◌, Bool, true, false, cond, List, [], ◌∷◌, ◌++◌, Some, None, ⊎_elim, refl, sym, ap, subst, ◌∙◌, append-nil, append_assoc, length, drop, ◌+◌, arith}
+use Rattle.std.proofs.lemmas.List.{length-append, length-drop}
 use Rattle.std.proofs.lemmas.Bool.{cases_eq, eq-eqb, ne_eqb}
 use Rattle.trace.specs.declared.records.Record.{Record}
 use Rattle.trace.specs.declared.records.Record.TheVariants.{Spawn, Call, Return, Sync, Read, Write}
 use Rattle.trace.specs.declared.records.Placed.{Placed}
+use Rattle.lane.specs.declared.parcel.Parcel.{Parcel}
+use Rattle.lane.specs.Records.{records_in, all_records}
+use Rattle.lane.proofs.Records.{all_records_append}
 use Rattle.trace.specs.Shares.{goes, goes_placed, share}
 use Rattle.trace.proofs.ShareLemmas.{share-push}
 use Rattle.route.specs.Sending.{location_of}
@@ -44,3 +48,19 @@ staged_one n old new us p j within goes here others h k lt =
 pub staged_all : (n : ℕ) (old new : ℕ → List Placed) (us : List Placed) (p : Placed) → ((k : ℕ) → goes_placed k n p ≡ true)
     → ((k : ℕ) → k < n → new k ≡ old k ++ p ∷ []) → ((k : ℕ) → k < n → old k ≡ share k n us) → (k : ℕ) → k < n → new k ≡ share k n (us ++ p ∷ [])
 staged_all n old new us p goes each h k lt = each k lt ∙ ap (λ (l : List Placed). l ++ p ∷ []) (h k lt) ∙ share_with k n us p (goes k)
+
+-- a portion with a parcel more, which has one record
+pub a_record_more : (old new : List Parcel) (p : Parcel) (u : Placed) → new ≡ old ++ p ∷ [] → records_in p ≡ u ∷ [] → all_records new ≡ all_records old ++ u ∷ []
+a_record_more old new p u more is = ap all_records more ∙ all_records_append old (p ∷ []) ∙ ap (λ (l : List Placed). all_records old ++ l) (append-nil (records_in p) ∙ is)
+
+pub a_parcel_more : (old new : List Parcel) (p : Parcel) → new ≡ old ++ p ∷ [] → length new ≡ length old + 1
+a_parcel_more old new p more = ap length more ∙ length-append old (p ∷ [])
+
+-- and with one more record in its last parcel
+pub joined_behind : (own old new : List Parcel) (u : Placed) → all_records new ≡ all_records old ++ u ∷ [] → all_records (own ++ new) ≡ all_records (own ++ old) ++ u ∷ []
+joined_behind own old new u more =
+    all_records_append own new ∙ ap (λ (l : List Placed). all_records own ++ l) more ∙ sym (append_assoc (all_records own) (all_records old) (u ∷ []))
+    ∙ ap (λ (l : List Placed). l ++ u ∷ []) (sym (all_records_append own old))
+
+pub as_many_behind : (own old new : List Parcel) (j : ℕ) → length new ≡ length old → length (own ++ drop j new) ≡ length (own ++ drop j old)
+as_many_behind own old new j same = omega (arith, length-append own (drop j new), length-append own (drop j old), length-drop j new, length-drop j old, same)

@@ -5,7 +5,9 @@ use Rattle.trace.specs.declared.records.Placed.{Placed}
 use Rattle.trace.specs.Shares.{share}
 use Rattle.route.specs.declared.batch.Batch.{Batch}
 use Rattle.route.specs.declared.routing.Router.{Router}
-use Rattle.route.specs.Portions.{lanes_in, portion_at}
+use Rattle.lane.specs.declared.parcel.Parcel.{Parcel}
+use Rattle.lane.specs.Records.{all_records}
+use Rattle.route.specs.Portions.{lanes_in, portion_at, parcels_at}
 use Rattle.route.specs.Sending.{put_on, with_puts}
 use Rattle.route.specs.Routers.{puts_of, lane_count, capacity_on, room_on}
 
@@ -13,15 +15,18 @@ use Rattle.route.specs.Routers.{puts_of, lane_count, capacity_on, room_on}
 abbrev pub batch_lanes : Batch → ℕ
 batch_lanes b = lanes_in b.portions
 
--- the records for lane k
+-- the parcels for lane k, and their records
+abbrev pub parcels_of : Batch → ℕ → List Parcel
+parcels_of b k = parcels_at b.portions k
+
 abbrev pub portion_of : Batch → ℕ → List Placed
 portion_of b k = portion_at b.portions k
 
--- no lane has more of them
+-- no lane has more parcels
 abbrev pub longest_of : Batch → ℕ
 longest_of b = b.longest
 
--- and never will a lane have more than these
+-- and never will a lane have more than so many
 abbrev pub most_of : Batch → ℕ
 most_of b = b.most
 
@@ -29,16 +34,19 @@ most_of b = b.most
 abbrev pub batch_turn : Batch → ℕ
 batch_turn b = b.turn
 
--- how many of the records for lane k were sent: all before the turn, and none after it
+-- how many of the parcels for lane k were sent: all before the turn, and none after it
 abbrev pub sent_count : Batch → ℕ → ℕ
-sent_count b k = if nat_lt k b.turn then length (portion_of b k) else (if k == b.turn then b.sent else 0)
+sent_count b k = if nat_lt k b.turn then length (parcels_of b k) else (if k == b.turn then b.sent else 0)
 
 -- these were sent to lane k, and those weren't
 abbrev pub sent_portion : Batch → ℕ → List Placed
-sent_portion b k = take (sent_count b k) (portion_of b k)
+sent_portion b k = all_records (take (sent_count b k) (parcels_of b k))
+
+abbrev pub unsent_parcels : Batch → ℕ → List Parcel
+unsent_parcels b k = drop (sent_count b k) (parcels_of b k)
 
 abbrev pub unsent_portion : Batch → ℕ → List Placed
-unsent_portion b k = drop (sent_count b k) (portion_of b k)
+unsent_portion b k = all_records (unsent_parcels b k)
 
 -- the records us are staged, each for the lanes whose share has it
 abbrev pub HasStaged : List Placed → Batch → Type 0
@@ -53,13 +61,13 @@ pub record IsUnsent (b : Batch) : Type 0 where
 abbrev pub IsSentWhole : Batch → Type 0
 IsSentWhole b = (k : ℕ) → k < batch_lanes b → unsent_portion b k ≡ []
 
--- the records are the same, for the same lanes
+-- the parcels are the same, for the same lanes
 pub record HasSamePortions (old new : Batch) : Type 0 where
   pub lanes : batch_lanes new ≡ batch_lanes old
   pub most : most_of new ≡ most_of old
-  pub portions : (k : ℕ) → portion_of new k ≡ portion_of old k
+  pub portions : (k : ℕ) → parcels_of new k ≡ parcels_of old k
 
--- of each lane's records as many were sent
+-- of each lane's parcels as many were sent
 abbrev pub IsAsFarSent : Batch → Batch → Type 0
 IsAsFarSent old new = (k : ℕ) → sent_count new k ≡ sent_count old k
 

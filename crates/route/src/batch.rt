@@ -3,11 +3,12 @@ ghost use Rattle.std.specs.Prelude.{◌≡◌, ◌≢◌, ◌+◌, ◌<◌, ◌�
 ghost use Rattle.std.specs.Prelude.{ℕ, List, [], length, take, vec_len, IfOk, IsTrue, IsFalse};
 ghost use Rattle.lane.specs.declared.sender.TheConstants.{BLOCK};
 ghost use Rattle.trace.specs.declared.records.Placed.{Placed};
-ghost use Rattle.route.specs.Portions.{lanes_in, portion_at, common_of, AreNoLonger};
+ghost use Rattle.lane.specs.Records.{all_records};
+ghost use Rattle.route.specs.Portions.{lanes_in, parcels_at, common_of, AreNoLonger};
 
 use crate::portions::Portions;
 use crate::turns::{lane_of, location_of};
-use lane::{BLOCK, Values};
+use lane::{BLOCK, Parcel, Values};
 use std::alloc::Global;
 use trace::{NoMemory, Placed};
 
@@ -16,11 +17,11 @@ use trace::{NoMemory, Placed};
 #[derive(Drop)]
 pub struct Batch {
     portions: Portions,
-    // no portion is longer
+    // no portion has more parcels
     longest: usize,
     // nor ever longer than this
     most: usize,
-    // the lane whose portion is being sent, and how many records of that portion were sent
+    // the lane whose portion is being sent, and how many parcels of that portion were sent
     turn: usize,
     sent: usize,
     ghost some: { 1 ≤ lanes_in portions },
@@ -29,14 +30,15 @@ pub struct Batch {
     ghost no_longer: { AreNoLonger longest portions },
     ghost common_within: { length (common_of portions) ≤ longest },
     ghost turn_within: { turn ≤ lanes_in portions },
-    ghost sent_within: { sent ≤ length (portion_at portions turn) },
+    ghost sent_within: { sent ≤ length (parcels_at portions turn) },
 }
 
 impl Batch {
-    ghost use Rattle.route.specs.Batches.{batch_lanes, longest_of, most_of, portion_of, batch_turn, sent_count, unsent_portion};
+    ghost use Rattle.route.specs.Batches.{batch_lanes, longest_of, most_of, portion_of, batch_turn};
+    ghost use Rattle.route.specs.Batches.{sent_count, unsent_portion, unsent_parcels};
     ghost use Rattle.route.specs.Batches.{HasStaged, HasSamePortions, IsUnsent, IsSentWhole};
 
-    /// Nothing yet, for so many lanes, and for at most so many records on each. It takes memory for all that it may
+    /// Nothing yet, for so many lanes, and for at most so many parcels on each. It takes memory for all that it may
     /// have, and none after that.
     pub fn new(alloc: Global, lanes: usize, most: usize) -> Result<Batch, NoMemory>
         requires lanes { 1 ≤ lanes }
@@ -109,18 +111,19 @@ impl Batch {
         if self.longest == self.most {
             return false;
         }
-        self.portions.push_on_all(placed);
-        self.longest += 1;
+        if self.portions.push_on_all(placed) {
+            self.longest += 1;
+        }
         true
     }
 
     /// Turns to the next lane that lacks records of the batch, or behind the last lane.
-    #[tactic(auto, unfolding(crate::specs::Portions::portion_at))]
+    #[tactic(auto, unfolding(crate::specs::Portions::parcels_at))]
     pub(crate) fn turn_on(&mut self)
         ensures portions { HasSamePortions self.old self.new }
         ensures sent { (k : ℕ) → sent_count self.new k ≡ sent_count self.old k }
         ensures lacks { batch_turn self.new < batch_lanes self.new
-            → unsent_portion self.new (batch_turn self.new) ≢ [] }
+            → unsent_parcels self.new (batch_turn self.new) ≢ [] }
         ensures whole { batch_turn self.new ≡ batch_lanes self.new → IsSentWhole self.new }
     {
         for lane in self.turn..self.portions.lanes() {
@@ -139,21 +142,21 @@ impl Batch {
         self.turn
     }
 
-    /// Records of that lane that weren't sent, from the first of them on: at most so many, and at least one where that
+    /// Parcels of that lane that weren't sent, from the first of them on: at most so many, and at least one where that
     /// is allowed and there are any.
-    pub(crate) fn next(&self, most: usize) -> Values<Placed>
+    pub(crate) fn next(&self, most: usize) -> Values<Parcel>
         requires { batch_turn self.now < batch_lanes self.now }
-        ensures next { result ≡ take (length result) (unsent_portion self.now (batch_turn self.now)) }
+        ensures next { result ≡ take (length result) (unsent_parcels self.now (batch_turn self.now)) }
         ensures most { length result ≤ most }
-        ensures some { unsent_portion self.now (batch_turn self.now) ≢ [] → 1 ≤ most → 1 ≤ length result }
+        ensures some { unsent_parcels self.now (batch_turn self.now) ≢ [] → 1 ≤ most → 1 ≤ length result }
     {
         self.portions.next(self.turn, self.sent, most)
     }
 
-    /// Counts so many records more for that lane as sent.
-    #[tactic(auto, unfolding(crate::specs::Portions::portion_at))]
+    /// Counts so many parcels more for that lane as sent.
+    #[tactic(auto, unfolding(crate::specs::Portions::parcels_at))]
     pub(crate) fn count_sent(&mut self, count: usize)
-        requires { count ≤ length (unsent_portion self.old (batch_turn self.old)) }
+        requires { count ≤ length (unsent_parcels self.old (batch_turn self.old)) }
         ensures portions { HasSamePortions self.old self.new }
         ensures turn { batch_turn self.new ≡ batch_turn self.old }
         ensures here { sent_count self.new (batch_turn self.old) ≡ sent_count self.old (batch_turn self.old) + count }

@@ -1,11 +1,12 @@
 //! The router call by call, and what each lane gave at every point of a run.
 ghost use Rattle.std.specs.Prelude.{◌≡◌, ◌+◌, ◌≤◌, [], ◌∷◌, All, map, IfOk, OnOk, vec_len};
 ghost use Rattle.trace.specs.Bounds.{IsCapacity};
-ghost use Rattle.lane.specs.Lanes.{lane_of, put_of, taker_lane, end_lane};
+ghost use Rattle.lane.specs.Lanes.{lane_of, taker_lane, end_lane};
+ghost use Rattle.lane.specs.Records.{put_records};
 ghost use Rattle.route.specs.Batches.{batch_lanes, IsUnsent};
 ghost use Rattle.route.specs.Routers.{lanes_of, lane_count, pending_of, marked_of};
 
-use lane::{BLOCK, End, Item, Sender, Taker, lane};
+use lane::{BLOCK, End, Item, Parcel, RECORDS, Sender, Taker, lane};
 use route::Progress::{self, Blocked, Idle, Moved};
 use route::{Batch, Router};
 use std::alloc::Global;
@@ -18,8 +19,8 @@ fn at(place: u64, what: Record) -> Placed {
     Placed { place, what }
 }
 
-fn one(place: u64, what: Record) -> Item<Placed> {
-    Item::One(at(place, what))
+fn one(place: u64, what: Record) -> Item<Parcel> {
+    Item::One(Parcel::new(at(place, what)))
 }
 
 // A router over two lanes of these capacities, and the takers. What the calls below promise to their callers is no more
@@ -28,24 +29,24 @@ fn over_two(
     alloc: Global,
     first: usize,
     second: usize,
-) -> Result<(Router, Taker<Placed>, Taker<Placed>), NoMemory>
+) -> Result<(Router, Taker<Parcel>, Taker<Parcel>), NoMemory>
     requires { IsCapacity first × IsCapacity second }
     ensures lanes { IfOk result (λ r. lanes_of r.0 ≡ taker_lane r.1 ∷ taker_lane r.2 ∷ []) }
     ensures count { IfOk result (λ r. lane_count r.0 ≡ 2) }
     ensures idle { IfOk result (λ r. pending_of r.0 ≡ None) }
     ensures unmarked { IfOk result (λ r. marked_of r.0 ≡ 0) }
 {
-    let (sender, taker) = lane::<Placed>(alloc, first)?;
-    let (other_sender, other) = lane::<Placed>(alloc, second)?;
+    let (sender, taker) = lane::<Parcel>(alloc, first)?;
+    let (other_sender, other) = lane::<Parcel>(alloc, second)?;
     Ok((router_of(alloc, sender, other_sender)?, taker, other))
 }
 
 fn router_of(
     alloc: Global,
-    first: Sender<Placed>,
-    second: Sender<Placed>,
+    first: Sender<Parcel>,
+    second: Sender<Parcel>,
 ) -> Result<Router, NoMemory>
-    requires { (put_of first ≡ []) × (put_of second ≡ []) }
+    requires { (put_records first ≡ []) × (put_records second ≡ []) }
     ensures lanes { IfOk result (λ r. lanes_of r ≡ lane_of first ∷ lane_of second ∷ []) }
     ensures count { IfOk result (λ r. lane_count r ≡ 2) }
     ensures idle { IfOk result (λ r. pending_of r ≡ None) }
@@ -91,7 +92,7 @@ fn mark_steps<R: Abort>(rt: &R, router: &mut Router, wanted: &[Progress])
 }
 
 // What a lane gives next.
-fn gives<R: Abort>(rt: &R, taker: &mut Taker<Placed>, wanted: Item<Placed>)
+fn gives<R: Abort>(rt: &R, taker: &mut Taker<Parcel>, wanted: Item<Parcel>)
     ensures { taker_lane taker.new ≡ taker_lane taker.old }
 {
     assert!(rt; taker.take() == Some(wanted), "{wanted:?}");
@@ -108,8 +109,8 @@ fn two_lanes(rt: HostRuntime) -> Result<(), Fail> {
 fn send_two<R: Abort>(
     rt: &R,
     mut router: Router,
-    mut taker: Taker<Placed>,
-    mut other: Taker<Placed>,
+    mut taker: Taker<Parcel>,
+    mut other: Taker<Parcel>,
 )
     requires unmarked { marked_of router ≡ 0 }
     requires lanes { lanes_of router ≡ taker_lane taker ∷ taker_lane other ∷ [] }
@@ -133,8 +134,8 @@ fn send_two<R: Abort>(
 fn mark_two<R: Abort>(
     rt: &R,
     mut router: Router,
-    mut taker: Taker<Placed>,
-    mut other: Taker<Placed>,
+    mut taker: Taker<Parcel>,
+    mut other: Taker<Parcel>,
 )
     requires lanes { lanes_of router ≡ taker_lane taker ∷ taker_lane other ∷ [] }
 {
@@ -151,7 +152,7 @@ fn mark_two<R: Abort>(
 }
 
 // The receipts of a router whose lanes have their marks.
-fn ends_of<R: Abort>(rt: &R, mut router: Router) -> Vec<End<Placed>>
+fn ends_of<R: Abort>(rt: &R, mut router: Router) -> Vec<End<Parcel>>
     requires { pending_of router ≡ None }
     ensures { map end_lane result.items ≡ lanes_of router }
 {
@@ -160,7 +161,7 @@ fn ends_of<R: Abort>(rt: &R, mut router: Router) -> Vec<End<Placed>>
 }
 
 // The receipts are those of the two lanes, in their order.
-fn settle_two(mut ends: Vec<End<Placed>>, mut taker: Taker<Placed>, mut other: Taker<Placed>)
+fn settle_two(mut ends: Vec<End<Parcel>>, mut taker: Taker<Parcel>, mut other: Taker<Parcel>)
     requires { map end_lane ends.items ≡ taker_lane taker ∷ taker_lane other ∷ [] }
 {
     taker.settle(&mut ends[0]);
@@ -251,10 +252,70 @@ fn batch_of_two_is_full(rt: HostRuntime) -> Result<(), Fail> {
     Ok(())
 }
 
+// Adds the records of the parcel.
+fn add_records(given: &mut Vec<Placed>, parcel: Parcel) -> Result<(), Fail> {
+    let mut records = [at(0, Record::Sync); RECORDS];
+    let count = parcel.open(&mut records);
+    for placed in &records[..count] {
+        given.push(*placed)?;
+    }
+    Ok(())
+}
+
+// How many items a lane gives of a batch, and of which places.
+fn gives_places<R: Abort>(
+    rt: &R,
+    alloc: Global,
+    taker: &mut Taker<Parcel>,
+    items: u64,
+    places: &[u64],
+) -> Result<(), Fail> {
+    let mut given = Vec::new(alloc);
+    for _ in 0..items {
+        match taker.take() {
+            Some(Item::One(parcel)) => add_records(&mut given, parcel)?,
+            _ => return Err("no parcel".into()),
+        }
+    }
+    assert!(rt; taker.take().is_none());
+    assert!(rt;
+        given
+            .iter()
+            .map(|placed| placed.place)
+            .eq(places.iter().copied())
+    );
+    Ok(())
+}
+
+// Records for both lanes share an item up to a lane's own access.
+#[test]
+fn records_share_items(rt: HostRuntime) -> Result<(), Fail> {
+    let (mut router, mut even, mut odd) = over_two(rt.alloc(), 2, 3)?;
+    let mut batch = Batch::new(rt.alloc(), 2, 4)?;
+    let records = [
+        Record::Spawn,
+        Record::Return,
+        Record::Spawn,
+        Record::Write(5),
+        Record::Return,
+        Record::Sync,
+    ];
+    stage(&rt, &mut batch, &records);
+    send_steps(
+        &rt,
+        &mut router,
+        &mut batch,
+        &[Moved, Moved, Moved, Moved, Moved, Idle],
+    );
+    gives_places(&rt, rt.alloc(), &mut even, 2, &[1, 2, 3, 5, 6])?;
+    gives_places(&rt, rt.alloc(), &mut odd, 3, &[1, 2, 3, 4, 5, 6])?;
+    Ok(())
+}
+
 // A lane's taker, and what it gave.
 #[derive(Drop)]
 struct Watched {
-    taker: Taker<Placed>,
+    taker: Taker<Parcel>,
     given: Vec<Placed>,
     marks: u64,
 }
@@ -263,7 +324,7 @@ impl Watched {
     // Takes the item that is there, and tells whether there was one.
     fn take(&mut self) -> Result<bool, Fail> {
         match self.taker.take() {
-            Some(Item::One(placed)) => self.given.push(placed)?,
+            Some(Item::One(parcel)) => add_records(&mut self.given, parcel)?,
             Some(Item::Finish) => self.marks = self.marks.saturating_add(1),
             None => return Ok(false),
         }
@@ -274,14 +335,14 @@ impl Watched {
 // Adds a lane of one item.
 fn add_lane(
     alloc: Global,
-    senders: &mut Vec<Sender<Placed>>,
+    senders: &mut Vec<Sender<Parcel>>,
     all: &mut Vec<Watched>,
 ) -> Result<(), Fail>
     ensures count { OnOk result (vec_len senders.new ≡ vec_len senders.old + 1) }
-    ensures empty { OnOk result (All (λ s. put_of s ≡ []) senders.old.items
-        → All (λ s. put_of s ≡ []) senders.new.items) }
+    ensures empty { OnOk result (All (λ s. put_records s ≡ []) senders.old.items
+        → All (λ s. put_records s ≡ []) senders.new.items) }
 {
-    let (sender, taker) = lane::<Placed>(alloc, 1)?;
+    let (sender, taker) = lane::<Parcel>(alloc, 1)?;
     senders.push(sender)?;
     all.push(Watched {
         taker,
@@ -291,9 +352,9 @@ fn add_lane(
     Ok(())
 }
 
-fn lanes(alloc: Global, count: usize) -> Result<(Vec<Sender<Placed>>, Vec<Watched>), Fail>
+fn lanes(alloc: Global, count: usize) -> Result<(Vec<Sender<Parcel>>, Vec<Watched>), Fail>
     ensures count { IfOk result (λ r. vec_len r.0 ≡ count) }
-    ensures empty { IfOk result (λ r. All (λ s. put_of s ≡ []) r.0.items) }
+    ensures empty { IfOk result (λ r. All (λ s. put_records s ≡ []) r.0.items) }
 {
     let mut senders = Vec::new(alloc);
     let mut all = Vec::new(alloc);

@@ -1,6 +1,7 @@
 //! The worker's loop.
 ghost use Rattle.std.specs.Prelude.{◌≡◌, []};
-ghost use Rattle.lane.specs.Lanes.{put_of, taken_of};
+ghost use Rattle.lane.specs.Lanes.{put_of};
+ghost use Rattle.lane.specs.Records.{taken_records};
 ghost use Rattle.shard.specs.Shards.{IsFresh};
 ghost use Rattle.shard.specs.Worked.{DidWork};
 
@@ -9,15 +10,14 @@ use crate::gate::Gate;
 use crate::state::Shard;
 use crate::telling::Telling;
 use crate::worker::Worker;
-use lane::{BLOCK, End, Item, Sender, Taker, Waiting};
+use lane::{BLOCK, End, Item, Parcel, Sender, Taker, Waiting};
 use std::hash::BuildHasher;
 use std::sync::Wait;
-use trace::Placed;
 
 /// What a worker answers: its taker, the receipt of its lane back, and its shard.
 #[derive(Drop)]
 pub struct Worked<S: BuildHasher + Drop> {
-    pub taker: Taker<Placed>,
+    pub taker: Taker<Parcel>,
     pub back: End<Back>,
     pub shard: Shard<S>,
 }
@@ -32,12 +32,12 @@ pub struct Worked<S: BuildHasher + Drop> {
 pub fn work<R: Wait, S: BuildHasher + Drop, G: Gate>(
     rt: &R,
     shard: Shard<S>,
-    mut taker: Taker<Placed>,
+    mut taker: Taker<Parcel>,
     back: Sender<Back>,
     gate: &G,
 ) -> Worked<S>
     requires new { IsFresh shard }
-    requires none_taken { taken_of taker ≡ [] }
+    requires none_taken { taken_records taker ≡ [] }
     requires none_put { put_of back ≡ [] }
     ensures { DidWork taker back result }
 {

@@ -2,9 +2,10 @@
 ghost use Rattle.std.specs.Prelude.{◌≡◌, false, [], IfOk};
 ghost use Rattle.trace.specs.Bounds.{IsCapacity};
 ghost use Rattle.lane.specs.Items.{has_mark};
-ghost use Rattle.lane.specs.Lanes.{end_lane, lane_of, put_of, taken_of, taker_lane};
+ghost use Rattle.lane.specs.Lanes.{end_lane, lane_of, put_of, taker_lane};
+ghost use Rattle.lane.specs.Records.{taken_records};
 
-use lane::{Item, Sender, Taker, lane};
+use lane::{Item, Parcel, Sender, Taker, lane};
 use shard::{Back, Gate, Open, Shard, Worked, work};
 use std::alloc::Global;
 use std::hash::{BuildHasherDefault, FoldHasher};
@@ -287,13 +288,16 @@ fn after_the_roots_return(rt: HostRuntime) -> Result<(), Fail> {
 }
 
 /// Puts the records with the places from 1 on, and the mark.
-fn fill<R: Abort>(rt: &R, mut sender: Sender<Placed>, records: &[Record])
+fn fill<R: Abort>(rt: &R, mut sender: Sender<Parcel>, records: &[Record])
     requires { has_mark (put_of sender) ≡ false }
 {
     for (index, what) in records.iter().enumerate() {
         let place = index as u64 + 1;
         let what = *what;
-        assert!(rt; sender.put(Placed { place, what }).is_ok(), "{place}");
+        assert!(rt;
+            sender.put(Parcel::new(Placed { place, what })).is_ok(),
+            "{place}"
+        );
     }
     assert!(rt; sender.mark());
 }
@@ -349,14 +353,14 @@ fn take_all(alloc: Global, taker: &mut Taker<Back>) -> Result<Vec<Item<Back>>, F
 fn lanes(
     alloc: Global,
     capacity: usize,
-) -> Result<(Sender<Placed>, Taker<Placed>, Sender<Back>, Taker<Back>), NoMemory>
+) -> Result<(Sender<Parcel>, Taker<Parcel>, Sender<Back>, Taker<Back>), NoMemory>
     requires { IsCapacity capacity }
     ensures to { IfOk result (λ r. lane_of r.0 ≡ taker_lane r.1) }
     ensures back { IfOk result (λ r. lane_of r.2 ≡ taker_lane r.3) }
     ensures none_put { IfOk result (λ r. (put_of r.0 ≡ []) × (put_of r.2 ≡ [])) }
-    ensures none_taken { IfOk result (λ r. taken_of r.1 ≡ []) }
+    ensures none_taken { IfOk result (λ r. taken_records r.1 ≡ []) }
 {
-    let (sender, taker) = lane::<Placed>(alloc, capacity)?;
+    let (sender, taker) = lane::<Parcel>(alloc, capacity)?;
     let (back, back_taker) = lane::<Back>(alloc, capacity)?;
     Ok((sender, taker, back, back_taker))
 }
@@ -418,7 +422,7 @@ fn work_past_the_end(rt: HostRuntime) -> Result<(), Fail> {
 /// What a worker does with the ends that are handed to its thread.
 #[derive(Drop)]
 struct WorkOf {
-    taker: Snapshot<Taker<Placed>>,
+    taker: Snapshot<Taker<Parcel>>,
     back: Snapshot<Sender<Back>>,
 }
 
@@ -429,7 +433,7 @@ impl Promise<Worked<Hasher>> for WorkOf {
 }
 
 /// Puts the next of the records, or else the mark, where the lane has room, and tells which record is then the next.
-fn put_next(sender: &mut Sender<Placed>, records: &[Record], next: usize) -> usize
+fn put_next(sender: &mut Sender<Parcel>, records: &[Record], next: usize) -> usize
     ensures { lane_of sender.new ≡ lane_of sender.old }
 {
     if sender.marked() {
@@ -441,7 +445,7 @@ fn put_next(sender: &mut Sender<Placed>, records: &[Record], next: usize) -> usi
     }
     let place = next as u64 + 1;
     let what = records[next];
-    match sender.put(Placed { place, what }) {
+    match sender.put(Parcel::new(Placed { place, what })) {
         Ok(()) => next + 1,
         Err(_) => next,
     }
@@ -450,7 +454,7 @@ fn put_next(sender: &mut Sender<Placed>, records: &[Record], next: usize) -> usi
 /// Puts the records and the mark, while it takes what comes back up to the mark: how many races those are.
 fn exchange<R: Wait>(
     rt: &R,
-    sender: &mut Sender<Placed>,
+    sender: &mut Sender<Parcel>,
     back: &mut Taker<Back>,
     records: &[Record],
 ) -> u64
@@ -488,7 +492,7 @@ fn work_in_a_thread(rt: HostRuntime) -> Result<(), Fail> {
 }
 
 /// Settles both lanes of a worker that has ended, and tells its count.
-fn settle(mut worked: Worked<Hasher>, sender: Sender<Placed>, mut back_taker: Taker<Back>) -> u64
+fn settle(mut worked: Worked<Hasher>, sender: Sender<Parcel>, mut back_taker: Taker<Back>) -> u64
     requires to { lane_of sender ≡ taker_lane worked.taker }
     requires back { end_lane worked.back ≡ taker_lane back_taker }
 {

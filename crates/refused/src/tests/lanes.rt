@@ -3,7 +3,7 @@ ghost use Rattle.std.specs.Prelude.{◌≡◌};
 ghost use Rattle.lane.specs.Lanes.{lane_of};
 
 use super::tell;
-use lane::{Block, Item, Sender, Taker, lane};
+use lane::{Block, Item, Parcel, Sender, Taker, lane};
 use route::{Progress, Router};
 use std::alloc::Global;
 use std::process::Abort;
@@ -44,7 +44,7 @@ fn lane_calls<R: Abort>(rt: &R, alloc: Global, with: bool) -> Result<(), NoMemor
 }
 
 fn router_calls<R: Abort>(rt: &R, alloc: Global, with: bool) -> Result<(), NoMemory> {
-    let (first, mut taker) = lane::<Placed>(alloc, 4)?;
+    let (first, mut taker) = lane::<Parcel>(alloc, 4)?;
     let mut senders = Vec::new(alloc);
     senders.push(first)?;
     let mut router = Router::new(alloc, senders)?;
@@ -57,7 +57,7 @@ fn router_calls<R: Abort>(rt: &R, alloc: Global, with: bool) -> Result<(), NoMem
         assert!(rt; router.pending());
         assert_eq!(rt; router.step(), Progress::Moved);
         assert_eq!(rt; router.step(), Progress::Idle);
-        assert_eq!(rt; taker.take(), Some(Item::One(placed)));
+        assert_eq!(rt; taker.take(), Some(Item::One(Parcel::new(placed))));
         assert_eq!(rt; router.mark_all_step(), Progress::Moved);
         assert_eq!(rt; router.mark_all_step(), Progress::Idle);
         assert_eq!(rt; router.into_ends().len(), 1);

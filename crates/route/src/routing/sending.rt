@@ -3,8 +3,9 @@ ghost use Rattle.std.specs.Prelude.{◌≡◌, ◌<◌, ◌≤◌, ◌+◌, ◌+
 ghost use Rattle.std.specs.Prelude.{ℕ, List, [], length, take, map, is_some, IsTrue, IsFalse, IfSome, IfNone};
 ghost use Rattle.lane.specs.declared.item.Item.TheVariants.{One, Finish};
 ghost use Rattle.trace.specs.declared.records.Placed.{Placed};
+ghost use Rattle.lane.specs.Records.{all_records};
 ghost use Rattle.route.specs.Sending.{first_lane, with_put, with_puts, sent_whole, HaveMarks};
-ghost use Rattle.route.specs.Batches.{batch_lanes, batch_turn, unsent_portion, HasStaged, HasSamePortions};
+ghost use Rattle.route.specs.Batches.{batch_lanes, batch_turn, unsent_parcels, HasStaged, HasSamePortions};
 ghost use Rattle.route.specs.Batches.{IsUnsent, IsSentWhole, IsAsFarSent, IsSending, LacksRoom, SendsNext};
 ghost use Rattle.route.specs.Progresses.{OnIdle, OnMoved, IfBlocked};
 ghost use Rattle.route.specs.Routers.{puts_of, lane_count, pending_of, turn_of, marked_of, capacity_on, room_on};
@@ -25,7 +26,7 @@ impl Router {
         self.pending.is_some()
     }
 
-    /// For how many records more the sender of the lane knows to have room; 0 where there is no such lane.
+    /// For how many items more the sender of the lane knows to have room; 0 where there is no such lane.
     pub fn room(&self, lane: usize) -> usize
         ensures { result ≡ room_on self.now lane }
     {
@@ -35,7 +36,7 @@ impl Router {
         }
     }
 
-    /// How many records the lane holds at most; 0 where there is no such lane.
+    /// How many items the lane holds at most; 0 where there is no such lane.
     pub fn capacity(&self, lane: usize) -> usize
         ensures { result ≡ capacity_on self.now lane }
     {
@@ -148,21 +149,21 @@ impl Router {
         }
     }
 
-    // Puts the next records of the lane whose turn it is, and tells how many; none where that lane had no room for
+    // Puts the next parcels of the lane whose turn it is, and tells how many; none where that lane had no room for
     // them.
     fn put_records(&mut self, batch: &Batch) -> Option<usize>
         requires idle { pending_of self.old ≡ None }
         requires unmarked { marked_of self.old ≡ 0 }
         requires lanes { batch_lanes batch.now ≡ lane_count self.old }
-        requires lacks { unsent_portion batch.now (batch_turn batch.now) ≢ [] }
+        requires lacks { unsent_parcels batch.now (batch_turn batch.now) ≢ [] }
         requires within { batch_turn batch.now < batch_lanes batch.now }
         ensures put { IfSome result (λ count. puts_of self.new ≡ with_puts (puts_of self.old) (batch_turn batch.now)
-            (map One (take count (unsent_portion batch.now (batch_turn batch.now))))) }
+            (map One (all_records (take count (unsent_parcels batch.now (batch_turn batch.now)))))) }
         ensures count { IfSome result (λ count. (1 ≤ count)
-            × (count ≤ length (unsent_portion batch.now (batch_turn batch.now)))) }
+            × (count ≤ length (unsent_parcels batch.now (batch_turn batch.now)))) }
         ensures refused { IfNone result (IsUnchanged self.old self.new) }
         ensures few { IfNone result
-            (room_on self.new (batch_turn batch.now) < length (unsent_portion batch.now (batch_turn batch.now))) }
+            (room_on self.new (batch_turn batch.now) < length (unsent_parcels batch.now (batch_turn batch.now))) }
         ensures held { IfNone result (1 ≤ capacity_on self.old (batch_turn batch.now)
             → room_on self.new (batch_turn batch.now) < capacity_on self.old (batch_turn batch.now)) }
         ensures pending { pending_of self.new ≡ pending_of self.old }
@@ -172,9 +173,9 @@ impl Router {
         let lane = batch.turn();
         // half of the lane at most, so that one half is filled while the other is taken
         let most = (self.senders[lane].capacity() / 2).max(1);
-        let records = batch.next(most);
-        if put_values_on(&mut self.senders, lane, &records) {
-            Some(records.len())
+        let parcels = batch.next(most);
+        if put_values_on(&mut self.senders, lane, &parcels) {
+            Some(parcels.len())
         } else {
             None
         }

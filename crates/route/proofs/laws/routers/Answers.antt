@@ -1,6 +1,6 @@
 use Rattle.std.proofs.Common.{◌≡◌, ℕ, [], List, ⊎_elim, sym, ap, subst, ◌∙◌, append-nil, vec_len, true, arith}
 use Rattle.std.proofs.lemmas.List.{length-map}
-use Rattle.lane.specs.Lanes.{put_of}
+use Rattle.lane.specs.Records.{put_records}
 use Rattle.trace.specs.declared.records.Placed.{Placed}
 use Rattle.trace.specs.Shares.{goes_placed}
 use Rattle.route.specs.declared.routing.Router.{Router}
@@ -12,7 +12,7 @@ use Rattle.route.proofs.LaneShares.{IsUnderWay, Outcome, outcome, routes_of, has
 use Rattle.route.proofs.laws.routers.Goals as goal
 
 counted : (r : Router) → vec_len r.senders ≡ lane_count r
-counted r = omega (arith, length-map r.senders.items put_of, r.senders.ok.0)
+counted r = omega (arith, length-map r.senders.items put_records, r.senders.ok.0)
 
 under_way : (r : Router) (w : List Placed) → HasSent w r → IsRising (in_hand w (pending_of r)) → IsUnderWay (lane_count r) (put_on (puts_of r)) w (turn_of r) (pending_of r) (marked_of r)
 under_way r w sent rising = record {
