@@ -94,58 +94,33 @@ module _ {T : Type 0} where
   mark_last_values (One x ∷ xs) h = mark_last_values xs h
   mark_last_values (Finish ∷ xs) h = absurd (true≢false h)
 
-  -- such a block is its values
-  pub all_values : (xs : List (Item T)) → has_mark xs ≡ false → xs ≡ map One (records xs)
-  all_values [] h = refl
-  all_values (One x ∷ xs) h = ap (λ l. One x ∷ l) (all_values xs h)
-  all_values (Finish ∷ xs) h = absurd (true≢false h)
-
   pub no_mark_in : (xs : List T) → has_mark (map One xs) ≡ false
   no_mark_in [] = refl
   no_mark_in (x ∷ xs) = no_mark_in xs
 
-  pub length_values : (xs : List (Item T)) → has_mark xs ≡ false → length (records xs) ≡ length xs
-  length_values [] h = refl
-  length_values (One x ∷ xs) h = ap (λ n. suc n) (length_values xs h)
-  length_values (Finish ∷ xs) h = absurd (true≢false h)
-
-  -- and so are a front of it and what is behind that
+  -- and so is a front of it
   take_values : (xs : List (Item T)) (i : ℕ) → has_mark xs ≡ false → has_mark (take i xs) ≡ false
   take_values xs zero h = refl
   take_values [] (suc i) h = refl
   take_values (One x ∷ xs) (suc i) h = take_values xs i h
   take_values (Finish ∷ xs) (suc i) h = absurd (true≢false h)
 
-  drop_values : (xs : List (Item T)) (i : ℕ) → has_mark xs ≡ false → has_mark (drop i xs) ≡ false
-  drop_values xs zero h = h
-  drop_values [] (suc i) h = refl
-  drop_values (One x ∷ xs) (suc i) h = drop_values xs i h
-  drop_values (Finish ∷ xs) (suc i) h = absurd (true≢false h)
-
-  records_take : (xs : List (Item T)) (i : ℕ) → has_mark xs ≡ false → records (take i xs) ≡ take i (records xs)
-  records_take xs zero h = refl
-  records_take [] (suc i) h = refl
-  records_take (One x ∷ xs) (suc i) h = ap (λ l. x ∷ l) (records_take xs i h)
-  records_take (Finish ∷ xs) (suc i) h = absurd (true≢false h)
-
-  records_drop : (xs : List (Item T)) (i : ℕ) → has_mark xs ≡ false → records (drop i xs) ≡ drop i (records xs)
-  records_drop xs zero h = refl
-  records_drop [] (suc i) h = refl
-  records_drop (One x ∷ xs) (suc i) h = records_drop xs i h
-  records_drop (Finish ∷ xs) (suc i) h = absurd (true≢false h)
-
-  pub between_values : (xs : List (Item T)) (i n : ℕ) → has_mark xs ≡ false → has_mark (take n (drop i xs)) ≡ false
-  between_values xs i n h = take_values (drop i xs) n (drop_values xs i h)
-
-  pub records_between : (xs : List (Item T)) (i n : ℕ) → has_mark xs ≡ false → records (take n (drop i xs)) ≡ take n (drop i (records xs))
-  records_between xs i n h = records_take (drop i xs) n (drop_values xs i h) ∙ ap (λ l. take n l) (records_drop xs i h)
-
   pub each_allowed : (before xs : List (Item T)) → has_mark before ≡ false → has_mark xs ≡ false → EachAllowed AllowsAfter before xs
   each_allowed before xs h none i d lt = has_mark_block before (take i xs) h (take_values xs i none)
 
-  -- no mark stands in a front either, nor is one the last
-  pub no_mark_in_front : (xs : List (Item T)) (x : Item T) → has_mark (xs ++ x ∷ []) ≡ false → (has_mark xs ≡ false) × (is_finish x ≡ false)
-  no_mark_in_front [] (One x) h = (refl, refl)
-  no_mark_in_front [] Finish h = absurd (true≢false h)
-  no_mark_in_front (One y ∷ ys) x h = no_mark_in_front ys x h
-  no_mark_in_front (Finish ∷ ys) x h = absurd (true≢false h)
+  -- what stands in front of an item that may stand there has no mark
+  pub each_allowed_last : (before xs : List (Item T)) → mark_last (before ++ xs) ≡ true → EachAllowed AllowsAfter before xs
+  each_allowed_last before [] h i d lt = absurd (omega (arith, lt))
+  each_allowed_last before (y ∷ ys) h zero d lt = ap has_mark (append-nil before) ∙ no_mark_before before y ys h
+  each_allowed_last before (y ∷ ys) h (suc i) d lt =
+      ap has_mark (sym (append_assoc before (y ∷ []) (take i ys))) ∙ each_allowed_last (before ++ y ∷ []) ys (ap mark_last (append_assoc before (y ∷ []) ys) ∙ h) i d (omega (arith, lt))
+
+  -- of two lists, one behind the other: an item more on the second, and the second empty
+  pub has_mark_staged : (xs ys : List (Item T)) (x : Item T) → has_mark (xs ++ ys) ≡ false → has_mark (xs ++ (ys ++ x ∷ [])) ≡ is_finish x
+  has_mark_staged xs ys x h = ap has_mark (sym (append_assoc xs ys (x ∷ []))) ∙ has_mark_more (xs ++ ys) x h
+
+  pub mark_last_staged : (xs ys : List (Item T)) (x : Item T) → has_mark (xs ++ ys) ≡ false → mark_last (xs ++ (ys ++ x ∷ [])) ≡ true
+  mark_last_staged xs ys x h = ap mark_last (sym (append_assoc xs ys (x ∷ []))) ∙ mark_last_more (xs ++ ys) x h
+
+  pub none_staged : (xs ys : List (Item T)) → ys ≡ [] → xs ++ ys ≡ xs
+  none_staged xs ys none = ap (λ l. xs ++ l) none ∙ append-nil xs

@@ -1,5 +1,5 @@
 -- Promised: what the ends of a lane say: which lane they are of, what was put, and what was taken.
-use Rattle.std.specs.Prelude.{ℕ, List}
+use Rattle.std.specs.Prelude.{ℕ, ◌-◌, List, ◌++◌, length}
 use Rattle.std.specs.declared.alloc.Global.{Global}
 use Rattle.rtrb.specs.Shared.{Names}
 use Rattle.rtrb.specs.Ring.{sent, received, producer_capacity, consumer_capacity, known_free, known_items}
@@ -23,9 +23,17 @@ module _ {T : Type 0} where
   abbrev pub end_lane : End T → LaneId
   end_lane e = lane_of e.sender
 
+  -- what the taker is shown, the mark included
+  abbrev pub shown_of : Sender T → List (Item T)
+  shown_of s = sent s.ring
+
+  -- what is put and not shown yet
+  abbrev pub staged_of : Sender T → List (Item T)
+  staged_of s = s.staged.items
+
   -- what was put, the mark included
   abbrev pub put_of : Sender T → List (Item T)
-  put_of s = sent s.ring
+  put_of s = shown_of s ++ staged_of s
 
   -- what was put in all
   abbrev pub all_put : End T → List (Item T)
@@ -35,9 +43,9 @@ module _ {T : Type 0} where
   abbrev pub taken_of : Taker T → List (Item T)
   taken_of t = received t.ring
 
-  -- how many items the sender knows to have room
+  -- for how many items more the sender knows to have room
   abbrev pub room_of : Sender T → ℕ
-  room_of s = known_free s.ring
+  room_of s = known_free s.ring - length (staged_of s)
 
   -- the items that the taker knows to wait
   abbrev pub waiting_of : Taker T → List (Item T)

@@ -1,4 +1,3 @@
-pub mod Codes
 pub mod Items
 pub mod Lanes
-pub mod Records
+pub mod Staging

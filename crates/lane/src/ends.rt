@@ -4,7 +4,7 @@ ghost use Rattle.trace.specs.Bounds.{IsCapacity};
 ghost use Rattle.lane.specs.Lanes.{lane_of, taker_lane, put_of, taken_of, capacity_of, taker_capacity};
 
 use crate::item::MarkLast;
-use crate::sender::{BLOCK, Sender};
+use crate::sender::{BLOCK, Sender, most_staged};
 use crate::taker::Taker;
 use rtrb::RingBuffer;
 use std::alloc::Global;
@@ -20,7 +20,7 @@ pub fn lane<T: Copy + Send>(
     ensures empty { IfOk result (λ r. (put_of r.0 ≡ []) × (taken_of r.1 ≡ [])) }
     ensures capacity { IfOk result (λ r. (capacity_of r.0 ≡ capacity) × (taker_capacity r.1 ≡ capacity)) }
 {
-    let block = Vec::with_capacity(alloc, BLOCK)?;
+    let staged = Vec::with_capacity(alloc, BLOCK)?;
     let Ok((sending, taking)) = RingBuffer::with_protocol::<Global, MarkLast>(alloc, capacity)
     else {
         return Err(NoMemory);
@@ -28,7 +28,9 @@ pub fn lane<T: Copy + Send>(
     let sender = Sender {
         ring: sending,
         marked: false,
-        block,
+        staged,
+        most: most_staged(capacity),
+        limit: 0,
     };
     let taker = Taker {
         ring: taking,

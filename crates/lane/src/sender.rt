@@ -1,29 +1,38 @@
 //! The end of a lane that puts, and its receipt.
-ghost use Rattle.std.specs.Prelude.{◌≡◌, ◌+◌, ◌<◌, ◌≤◌, true, false, [], ◌∷◌, ◌++◌, length, map, vec_capacity};
+ghost use Rattle.std.specs.Prelude.{◌≡◌, ◌+◌, ◌<◌, ◌≤◌, true, false, [], ◌∷◌, ◌++◌, length, map, vec_len, vec_capacity};
 ghost use Rattle.std.specs.Prelude.{IsTrue, IsFalse, IfErr, OnOk};
-ghost use Rattle.rtrb.specs.Ring.{sent};
+ghost use Rattle.rtrb.specs.Ring.{sent, known_free, producer_capacity, SameProducer, ProducerLooked};
 ghost use Rattle.lane.specs.declared.sender.TheConstants.{BLOCK};
 ghost use Rattle.lane.specs.declared.item.Item.TheVariants.{One, Finish};
 ghost use Rattle.lane.specs.Items.{has_mark, mark_last};
+ghost use Rattle.lane.specs.Staging.{most_staged};
 
 use crate::item::{Item, MarkLast};
-use crate::values::Values;
 use rtrb::Producer;
 use std::alloc::Global;
 
 /// How many values a block has at most.
 pub const BLOCK: usize = 64;
 
-/// The end that puts.
+/// The end that puts. It stages items in memory of its own and shows them to the taker together, since a look of one
+/// processor at what another one has just written takes longer than all else that a put does.
 #[derive(Drop)]
 pub struct Sender<T> {
     pub(crate) ring: Producer<Item<T>, Global, MarkLast>,
     pub(crate) marked: bool,
-    // the items of a block, while it is put
-    pub(crate) block: Vec<Item<T>>,
-    ghost room: { BLOCK ≤ vec_capacity block },
-    ghost known: { has_mark (sent ring) ≡ marked },
-    ghost last: { mark_last (sent ring) ≡ true },
+    // what is put and not shown yet
+    pub(crate) staged: Vec<Item<T>>,
+    // how many items are staged at most
+    pub(crate) most: usize,
+    // how many this time: all that `most` and the known room allow; 0 where the other end is to be looked at first
+    pub(crate) limit: usize,
+    ghost memory: { BLOCK ≤ vec_capacity staged },
+    ghost most_is: { most ≡ most_staged (producer_capacity ring) },
+    ghost limit_within: { (limit ≤ most) × (limit ≤ known_free ring) },
+    ghost staged_within: { vec_len staged ≤ limit },
+    ghost below: { 1 ≤ limit → vec_len staged < limit },
+    ghost known: { has_mark (sent ring ++ staged.items) ≡ marked },
+    ghost last: { mark_last (sent ring ++ staged.items) ≡ true },
 }
 
 /// The receipt of a sender that puts nothing more: what was put in all.
@@ -33,10 +42,12 @@ pub struct End<T> {
 }
 
 impl<T: Copy + Send> Sender<T> {
-    ghost use Rattle.lane.specs.Lanes.{lane_of, end_lane, put_of, all_put, capacity_of, room_of};
+    ghost use Rattle.lane.specs.Lanes.{lane_of, end_lane, put_of, shown_of, staged_of, all_put, capacity_of, room_of};
 
-    /// Adds the value at the end of what was put, or hands it back because the lane was full.
-    #[tactic(auto, using(crate::proofs::Marks::has_mark_more, crate::proofs::Marks::mark_last_more))]
+    /// Adds the value at the end of what was put, or hands it back because the lane was full. The taker is shown it
+    /// with those put after it: at the latest when as many are staged as `most_staged` says, or by `flush`.
+    #[inline(always)]
+    #[tactic(auto, using(crate::proofs::Marks::has_mark_more))]
     pub fn put(&mut self, value: T) -> Result<(), T>
         requires { has_mark (put_of self.old) ≡ false }
         ensures lane { (lane_of self.new ≡ lane_of self.old) × (capacity_of self.new ≡ capacity_of self.old) }
@@ -45,17 +56,66 @@ impl<T: Copy + Send> Sender<T> {
             × (capacity_of self.old ≤ length (put_of self.old))) }
         ensures no_room { IfErr result (λ _. (room_of self.old ≡ 0) × (room_of self.new ≡ 0)) }
         ensures room { room_of self.old ≤ room_of self.new + 1 }
+        ensures staged { length (staged_of self.new) < most_staged (capacity_of self.new) }
         ensures unmarked { has_mark (put_of self.new) ≡ false }
     {
-        if self.ring.is_full() {
+        if self.limit == 0 && !self.look() {
             return Err(value);
         }
-        self.ring.push_reserved(Item::One(value));
+        self.stage(value);
         Ok(())
     }
 
-    /// Adds a block of up to 64 values, or none of them because the lane had no room for all.
-    #[tactic(auto, using(crate::proofs::Marks::has_mark_block, crate::proofs::Marks::mark_last_values, crate::proofs::Marks::no_mark_in))]
+    // Looks at the other end, where nothing is staged; false where the lane is full.
+    #[cold]
+    #[inline(never)]
+    fn look(&mut self) -> bool
+        requires { vec_len self.old.staged ≡ 0 }
+        ensures lane { (lane_of self.new ≡ lane_of self.old) × (capacity_of self.new ≡ capacity_of self.old) }
+        ensures put { put_of self.new ≡ put_of self.old }
+        ensures room { room_of self.old ≤ room_of self.new }
+        ensures none_staged { staged_of self.new ≡ [] }
+        ensures some { IsTrue result → 1 ≤ self.new.limit }
+        ensures full { IsFalse result → (room_of self.new ≡ 0) × (capacity_of self.old ≤ length (put_of self.old)) }
+    {
+        let full = self.ring.is_full();
+        self.limit = self.ring.cached_slots().min(self.most);
+        !full
+    }
+
+    // Stages the value, and shows all where the limit is reached.
+    #[inline(always)]
+    #[tactic(auto, using(crate::proofs::Marks::has_mark_staged, crate::proofs::Marks::mark_last_staged, crate::proofs::Marks::none_staged))]
+    fn stage(&mut self, value: T)
+        requires room { 1 ≤ self.old.limit }
+        requires unmarked { has_mark (put_of self.old) ≡ false }
+        ensures lane { (lane_of self.new ≡ lane_of self.old) × (capacity_of self.new ≡ capacity_of self.old) }
+        ensures put { put_of self.new ≡ put_of self.old ++ One value ∷ [] }
+        ensures room { room_of self.old ≤ room_of self.new + 1 }
+        ensures staged { length (staged_of self.new) < most_staged (capacity_of self.new) }
+    {
+        self.staged.push_reserved(Item::One(value));
+        if self.staged.len() == self.limit {
+            self.limit = publish(&mut self.ring, &mut self.staged, self.most);
+        }
+    }
+
+    /// Shows the taker all that was put.
+    pub fn flush(&mut self)
+        ensures lane { (lane_of self.new ≡ lane_of self.old) × (capacity_of self.new ≡ capacity_of self.old) }
+        ensures put { put_of self.new ≡ put_of self.old }
+        ensures shown { shown_of self.new ≡ put_of self.old }
+        ensures none_staged { staged_of self.new ≡ [] }
+        ensures room { room_of self.old ≤ room_of self.new }
+    {
+        if !self.staged.is_empty() {
+            self.limit = publish(&mut self.ring, &mut self.staged, self.most);
+        }
+    }
+
+    /// Adds a block of up to 64 values, or none of them because the lane had no room for all. The taker is shown all
+    /// that was put.
+    #[tactic(auto, using(crate::proofs::Marks::has_mark_block, crate::proofs::Marks::mark_last_values, crate::proofs::Marks::no_mark_in, crate::proofs::Marks::none_staged))]
     pub fn put_block(&mut self, values: &[T]) -> bool
         requires unmarked { has_mark (put_of self.old) ≡ false }
         requires most { length values.now ≤ BLOCK }
@@ -64,26 +124,18 @@ impl<T: Copy + Send> Sender<T> {
         ensures full { IsFalse result → (put_of self.new ≡ put_of self.old) × (room_of self.new < length values.now) }
         ensures succeeds { length values.now ≤ room_of self.old → IsTrue result }
         ensures unmarked { has_mark (put_of self.new) ≡ false }
+        ensures shown { staged_of self.new ≡ [] }
     {
-        wrap(&mut self.block, values);
-        self.ring.push_entire_slice(&self.block).is_ok()
+        self.flush();
+        wrap(&mut self.staged, values);
+        let put = self.ring.push_entire_slice(&self.staged).is_ok();
+        self.staged.clear();
+        self.limit = 0;
+        put
     }
 
-    /// Adds values of a block, or none of them because the lane had no room for all.
-    #[tactic(auto, using(crate::proofs::Marks::has_mark_block, crate::proofs::Marks::mark_last_values, crate::proofs::Marks::all_values, crate::proofs::Marks::length_values))]
-    pub fn put_values(&mut self, values: &Values<T>) -> bool
-        requires unmarked { has_mark (put_of self.old) ≡ false }
-        ensures lane { (lane_of self.new ≡ lane_of self.old) × (capacity_of self.new ≡ capacity_of self.old) }
-        ensures put { IsTrue result → put_of self.new ≡ put_of self.old ++ map One values.now }
-        ensures full { IsFalse result → (put_of self.new ≡ put_of self.old) × (room_of self.new < length values.now) }
-        ensures succeeds { length values.now ≤ room_of self.old → IsTrue result }
-        ensures unmarked { has_mark (put_of self.new) ≡ false }
-    {
-        self.ring.push_entire_slice(values.items).is_ok()
-    }
-
-    /// Puts the mark, which takes a place too; false where the lane was full.
-    #[tactic(auto, using(crate::proofs::Marks::has_mark_more, crate::proofs::Marks::mark_last_more))]
+    /// Puts the mark, which takes a place too; false where the lane was full. The taker is shown all that was put.
+    #[tactic(auto, using(crate::proofs::Marks::has_mark_more, crate::proofs::Marks::mark_last_more, crate::proofs::Marks::none_staged))]
     pub fn mark(&mut self) -> bool
         requires { has_mark (put_of self.old) ≡ false }
         ensures lane { (lane_of self.new ≡ lane_of self.old) × (capacity_of self.new ≡ capacity_of self.old) }
@@ -92,21 +144,24 @@ impl<T: Copy + Send> Sender<T> {
             × (capacity_of self.old ≤ length (put_of self.old)) }
         ensures no_room { IsFalse result → (room_of self.old ≡ 0) × (room_of self.new ≡ 0) }
         ensures marked { has_mark (put_of self.new) ≡ result }
+        ensures shown { staged_of self.new ≡ [] }
     {
+        self.flush();
         if self.ring.is_full() {
             return false;
         }
         self.ring.push_reserved(Item::Finish);
+        self.limit = 0;
         self.marked = true;
         true
     }
 
-    /// How many items the sender knows to have room, without a look at the other end. While that is above 0 neither
-    /// `put` nor `mark` is refused.
+    /// For how many items more the sender knows to have room, without a look at the other end. While that is above 0
+    /// neither `put` nor `mark` is refused.
     pub fn room(&self) -> usize
         ensures { result ≡ room_of self.now }
     {
-        self.ring.cached_slots()
+        self.ring.cached_slots() - self.staged.len()
     }
 
     /// How many items the lane holds at most.
@@ -123,13 +178,43 @@ impl<T: Copy + Send> Sender<T> {
         self.marked
     }
 
-    /// The receipt, which holds the sender.
-    pub fn end(self) -> End<T>
+    /// The receipt, which holds the sender. The taker is shown all that was put.
+    pub fn end(mut self) -> End<T>
         ensures lane { end_lane result ≡ lane_of self }
         ensures put { all_put result ≡ put_of self }
     {
+        self.flush();
         End { sender: self }
     }
+}
+
+// How many items a sender of a lane of this capacity stages at most.
+pub(crate) fn most_staged(capacity: usize) -> usize
+    ensures { result ≡ most_staged capacity }
+{
+    (capacity / 2).min(BLOCK).max(1)
+}
+
+// Shows the taker what is staged, after which nothing is, and says how many items may be staged next.
+fn publish<T: Copy + Send>(
+    ring: &mut Producer<Item<T>, Global, MarkLast>,
+    staged: &mut Vec<Item<T>>,
+    most: usize,
+) -> usize
+    requires room { vec_len staged.old ≤ known_free ring.old }
+    requires last { mark_last (sent ring.old ++ staged.old.items) ≡ true }
+    ensures ring { SameProducer ring.old ring.new }
+    ensures sent { sent ring.new ≡ sent ring.old ++ staged.old.items }
+    ensures room { known_free ring.old ≤ known_free ring.new + vec_len staged.old }
+    ensures staged { staged.new.items ≡ [] }
+    ensures memory { vec_capacity staged.new ≡ vec_capacity staged.old }
+    ensures within { (result ≤ most) × (result ≤ known_free ring.new) }
+{
+    if ring.push_entire_slice(staged).is_err() {
+        unreachable!()
+    }
+    staged.clear();
+    ring.cached_slots().min(most)
 }
 
 // Makes items of the values, and keeps nothing else.

@@ -94,6 +94,7 @@ impl<T: Copy + Send> Taker<T> {
         ensures waiting { taken_of self.new ++ waiting_of self.new ≡ put_of sender.new }
         ensures last { mark_last (put_of sender.new) ≡ true }
     {
+        sender.flush();
         self.ring.slots_beside(&mut sender.ring);
     }
 
@@ -111,6 +112,7 @@ impl<T: Copy + Send> Taker<T> {
         ensures last { mark_last (all_put end.new) ≡ true }
         ensures whole { has_mark (taken_of self.new) ≡ true → taken_of self.new ≡ all_put end.new }
     {
+        end.sender.flush();
         self.ring.slots_beside(&mut end.sender.ring);
     }
 }

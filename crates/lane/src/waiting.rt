@@ -41,11 +41,11 @@ enum Rest {
 }
 
 // How often the processor pauses before other threads run and the next look comes.
-const PAUSES: u32 = 64;
+const PAUSES: u32 = 16;
 
 const FEWEST_LOOKS: u32 = 4;
 
-const MOST_LOOKS: u32 = 64;
+const MOST_LOOKS: u32 = 256;
 
 // In microseconds. The system adds some fifty.
 const SHORTEST_NAP: u64 = 3;

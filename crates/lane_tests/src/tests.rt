@@ -1,11 +1,11 @@
 //! The ends in one thread and in two, the least and the greatest capacity, what an end knows of the other, blocks, and
-//! which records stand in one parcel.
+//! what a flush shows.
 ghost use Rattle.std.specs.Prelude.{◌≡◌, ◌≤◌, false, length};
 ghost use Rattle.lane.specs.declared.sender.TheConstants.{BLOCK};
 ghost use Rattle.lane.specs.Items.{has_mark};
 ghost use Rattle.lane.specs.Lanes.{lane_of, end_lane, put_of, taker_lane};
 
-use lane::{BLOCK, Block, End, Item, Parcel, RECORDS, Sender, Taker, lane};
+use lane::{BLOCK, End, Item, Sender, Taker, lane};
 use std::alloc::Global;
 use std::process::Abort;
 use std::snapshot::Snapshot;
@@ -13,7 +13,7 @@ use std::sync::Wait;
 use std::test::*;
 use std::thread;
 use std::thread::Promise;
-use trace::{NoMemory, Placed, Record};
+use trace::NoMemory;
 
 // What a call of the sender answers. The callers know of the ends no more than they need, or their proofs take long.
 fn puts<R: Abort>(rt: &R, sender: &mut Sender<u32>, value: u32, wanted: Result<(), u32>)
@@ -164,6 +164,31 @@ fn blocks(rt: HostRuntime) -> Result<(), Fail> {
 }
 
 #[test]
+fn flush_shows_all(rt: HostRuntime) -> Result<(), Fail> {
+    let (mut sender, mut taker) = lane::<u32>(rt.alloc(), 8)?;
+    puts(&rt, &mut sender, 1, Ok(()));
+    puts(&rt, &mut sender, 2, Ok(()));
+    puts(&rt, &mut sender, 3, Ok(()));
+    has_room(&rt, &sender, 5);
+    sender.flush();
+    let mut many = [Item::Finish; 64];
+    let all = [Item::One(1), Item::One(2), Item::One(3)];
+    takes_block(&rt, &mut taker, &mut many, &all);
+    Ok(())
+}
+
+#[test]
+fn half_of_a_lane_is_shown_without_a_flush(rt: HostRuntime) -> Result<(), Fail> {
+    let (mut sender, mut taker) = lane::<u32>(rt.alloc(), 8)?;
+    puts(&rt, &mut sender, 1, Ok(()));
+    puts(&rt, &mut sender, 2, Ok(()));
+    puts(&rt, &mut sender, 3, Ok(()));
+    puts(&rt, &mut sender, 4, Ok(()));
+    takes(&rt, &mut taker, Some(Item::One(1)));
+    Ok(())
+}
+
+#[test]
 fn capacities(rt: HostRuntime) -> Result<(), Fail> {
     fill(&rt, rt.alloc(), 1)?;
     fill(&rt, rt.alloc(), 65536)?;
@@ -250,69 +275,5 @@ fn two_threads(rt: HostRuntime) -> Result<(), Fail> {
     assert!(rt; last == 10_000, "{last}");
     settles(&mut taker, child.join(&rt));
     takes(&rt, &mut taker, None);
-    Ok(())
-}
-
-// Whether a record joins those of the parcel.
-fn joins<R: Abort>(rt: &R, parcel: &mut Parcel, place: u64, what: Record, wanted: bool) {
-    assert!(rt;
-        parcel.join(Placed { place, what }) == wanted,
-        "{place} {what:?}"
-    );
-}
-
-#[test]
-fn twelve_records_in_a_parcel(rt: HostRuntime) {
-    let mut parcel = Parcel::new(Placed {
-        place: 1,
-        what: Record::Spawn,
-    });
-    for place in 2..13 {
-        joins(&rt, &mut parcel, place, Record::Return, true);
-    }
-    joins(&rt, &mut parcel, 13, Record::Return, false);
-    let mut records = [Placed {
-        place: 0,
-        what: Record::Sync,
-    }; RECORDS];
-    assert!(rt; parcel.open(&mut records) == 12);
-    assert!(rt; records[11].place == 12);
-}
-
-#[test]
-fn records_that_join(rt: HostRuntime) {
-    let mut parcel = Parcel::new(Placed {
-        place: 281_474_976_710_640,
-        what: Record::Call,
-    });
-    joins(&rt, &mut parcel, 281_474_976_710_639, Record::Sync, false);
-    joins(&rt, &mut parcel, 281_474_976_710_648, Record::Sync, false);
-    joins(
-        &rt,
-        &mut parcel,
-        281_474_976_710_641,
-        Record::Read(7),
-        false,
-    );
-    joins(&rt, &mut parcel, 281_474_976_710_647, Record::Sync, true);
-    joins(&rt, &mut parcel, 281_474_976_710_654, Record::Return, true);
-    let mut access = Parcel::new(Placed {
-        place: 1,
-        what: Record::Write(0),
-    });
-    joins(&rt, &mut access, 2, Record::Sync, false);
-}
-
-#[test]
-fn nothing_joins_an_empty_block(rt: HostRuntime) -> Result<(), Fail> {
-    let mut block = Block::new(rt.alloc())?;
-    let placed = Placed {
-        place: 1,
-        what: Record::Sync,
-    };
-    assert!(rt; !block.join_last(placed));
-    block.push(Parcel::new(placed));
-    assert!(rt; block.join_last(Placed { place: 2, ..placed }));
-    assert!(rt; block.len() == 1);
     Ok(())
 }

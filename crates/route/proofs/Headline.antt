@@ -44,7 +44,7 @@ mark_within [] rest h = absurd (cc)
 mark_within (One x ∷ xs) rest h = mark_within xs rest h
 mark_within (Finish ∷ xs) rest h = refl
 
-mark_of_front : (taken put : List (Item Placed)) → IsBeginning taken put → has_mark taken ≡ true → has_mark put ≡ true
+pub mark_of_front : (taken put : List (Item Placed)) → IsBeginning taken put → has_mark taken ≡ true → has_mark put ≡ true
 mark_of_front taken put (r, e) h = ap has_mark e ∙ mark_within taken r h
 
 -- a lane has a beginning of its share of u, and with the mark that share whole

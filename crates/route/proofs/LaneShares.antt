@@ -220,7 +220,3 @@ pub list_of : (n : ℕ) (on : ℕ → List (Item Placed)) (w u : List Placed) (p
 list_of n on w u pending o iu =
     let same : u ≡ o.list = only_one n on o.list u o.routes.routed iu in
     ⊎_elim (λ (h : o.list ≡ w). inl (same ∙ h)) (λ (h : o.list ≡ in_hand w pending). inr (same ∙ h)) o.either
-
--- a lane with the mark, where nothing is pending
-pub put_marked : (n : ℕ) (on : ℕ → List (Item Placed)) (w : List Placed) (turn marked k : ℕ) → AllSent n w turn None marked on → k < n → k < marked → on k ≡ map One (share k n w) ++ Finish ∷ []
-put_marked n on w turn marked k all l h = whole_marked n on w turn marked all k l (has_mark-sent n on w turn None marked all k l ∙ lt-ltb k marked h)

@@ -4,12 +4,7 @@ pub mod Rising
 pub mod LaneShares
 pub mod RunFronts
 pub mod MarksLast
+pub mod SentSoFar
 pub mod Headline
-pub mod Staging
-pub mod BatchPortions
-pub mod BatchSent
 pub mod RunLists
-pub mod BatchFronts
-pub mod Batches
-pub mod OneByOne
-pub mod Sendings
+pub mod RouterRuns

@@ -9,8 +9,6 @@ use Rattle.lane.specs.declared.item.Item.TheVariants.{One, Finish}
 use Rattle.lane.specs.Items.{has_mark}
 use Rattle.trace.specs.declared.records.Placed.{Placed}
 use Rattle.route.specs.Runs.{of_lane, lanes_for, sending_of}
-use Rattle.route.specs.BatchRuns.{batch_sending}
-use Rattle.trace.specs.Shares.{share}
 use Rattle.route.proofs.RunFronts.{Sends, of_lane-append, split_front, cut_front, on_cut}
 
 either_one : (b : Bool) (p : Placed) (l : List (Item Placed)) → has_mark l ≡ false → has_mark (cond b (One p ∷ l) l) ≡ false
@@ -21,10 +19,6 @@ either_one false p l h = h
 ones_alone : (p : Placed) (k : ℕ) (js : List ℕ) → has_mark (of_lane k (map (λ j. (j, One p)) js)) ≡ false
 ones_alone p k [] = refl
 ones_alone p k (j ∷ js) = either_one (j == k) p (of_lane k (map (λ i. (i, One p)) js)) (ones_alone p k js)
-
-records_alone : (j k : ℕ) (u : List Placed) → has_mark (of_lane k (map (λ p. (j, One p)) u)) ≡ false
-records_alone j k [] = refl
-records_alone j k (p ∷ u) = either_one (j == k) p (of_lane k (map (λ q. (j, One q)) u)) (records_alone j k u)
 
 no_mark-append : (xs ys : List (Item Placed)) → has_mark xs ≡ false → has_mark (xs ++ ys) ≡ has_mark ys
 no_mark-append [] ys h = refl
@@ -72,6 +66,3 @@ never_marked n k x a s r none e =
 -- the records that are sent carry no mark
 pub unmarked_sending : (n : ℕ) (w : List Placed) → Unmarked (flat_map (sending_of n) w)
 unmarked_sending n w = unmarked-portions (sending_of n) (λ p k. ones_alone p k (lanes_for n p.what)) w
-
-pub unmarked_batches : (n : ℕ) (bs : List (List Placed)) → Unmarked (flat_map (batch_sending n) bs)
-unmarked_batches n bs = unmarked-portions (batch_sending n) (λ u. unmarked-portions (λ j. map (λ p. (j, One p)) (share j n u)) (λ j k. records_alone j k (share j n u)) (range_with_len 0 n)) bs

@@ -37,7 +37,7 @@ on_range x k a (suc m) = ap (λ (l : List (Item Placed)). cond (a == k) (x ∷ l
 from_zero : (x : Item Placed) (k m : ℕ) → cond (nat_le 0 k && nat_lt k (0 + m)) (x ∷ []) [] ≡ cond (nat_lt k m) (x ∷ []) []
 from_zero x k m = grind (arith, nat_tests)
 
-on_first : (x : Item Placed) (k m : ℕ) → of_lane k (map (λ j. (j, x)) (range_with_len 0 m)) ≡ cond (nat_lt k m) (x ∷ []) []
+pub on_first : (x : Item Placed) (k m : ℕ) → of_lane k (map (λ j. (j, x)) (range_with_len 0 m)) ≡ cond (nat_lt k m) (x ∷ []) []
 on_first x k m = on_range x k 0 m ∙ from_zero x k m
 
 -- where a list is cut: within the first list, or behind it
@@ -54,7 +54,7 @@ pub on_cut : (x : Item Placed) (k n : ℕ) (s : Sends) → s ≡ take (length s)
 on_cut x k n s e l = ap (of_lane k) (e ∙ take-map-range_with_len (λ j. (j, x)) 0 n (length s) l) ∙ on_first x k (length s)
 
 -- a whole record on a lane
-of_sending : (n k : ℕ) (place : ℕ) (r : Record) → k < n → of_lane k (sending_of n (record { place = place; what = r })) ≡ cond (goes k n r) (One (record { place = place; what = r }) ∷ []) []
+pub of_sending : (n k : ℕ) (place : ℕ) (r : Record) → k < n → of_lane k (sending_of n (record { place = place; what = r })) ≡ cond (goes k n r) (One (record { place = place; what = r }) ∷ []) []
 of_sending n k place Spawn l = on_first (One (record { place = place; what = Spawn })) k n ∙ cond-true (nat_lt k n) (One (record { place = place; what = Spawn }) ∷ []) [] (lt-ltb k n l)
 of_sending n k place Call l = on_first (One (record { place = place; what = Call })) k n ∙ cond-true (nat_lt k n) (One (record { place = place; what = Call }) ∷ []) [] (lt-ltb k n l)
 of_sending n k place Return l = on_first (One (record { place = place; what = Return })) k n ∙ cond-true (nat_lt k n) (One (record { place = place; what = Return }) ∷ []) [] (lt-ltb k n l)
@@ -119,6 +119,7 @@ pub record Front (n : ℕ) (w : List Placed) (s : Sends) : Type 0 where
   pub within : (p : Placed) → pending ≡ Some p → turn < n
   pub aimed : (p : Placed) → pending ≡ Some p → goes_placed turn n p ≡ true
   pub unmarked : (p : Placed) → pending ≡ Some p → marked ≡ 0
+  pub ended : 0 < marked → rest ≡ []
   pub sent : AllSent n v turn pending marked (λ k. of_lane k s)
 
 pub mark_of-none : (k : ℕ) → mark_of k 0 ≡ []
@@ -140,6 +141,7 @@ front_marks n s r e =
       within = λ p e. absurd (cc);
       aimed = λ p e. absurd (cc);
       unmarked = λ p e. absurd (cc);
+      ended = λ h. refl;
       sent = λ k l. on_cut Finish k n s cut.0 cut.1;
     }
 
@@ -155,6 +157,7 @@ front_portion n p w s h = record {
   within = λ q e. h.within;
   aimed = λ q e. let P : Placed → Type 0 = λ x. goes_placed h.turn n x ≡ true in let same : p ≡ q = cc in subst P same h.aimed;
   unmarked = λ q e. refl;
+  ended = λ h. absurd (omega arith);
   sent = λ k l. h.on k ∙ sym (ap (λ (ms : List (Item Placed)). map One (portion k n h.turn (Some p)) ++ ms) (mark_of-none k) ∙ append-nil (map One (portion k n h.turn (Some p))));
 }
 
@@ -174,6 +177,7 @@ front_more n p w t h = record {
   within = h.within;
   aimed = h.aimed;
   unmarked = h.unmarked;
+  ended = h.ended;
   sent = λ k l.
       of_lane-append k (sending_of n p) t ∙ ap₂ (λ (a b : List (Item Placed)). a ++ b) (of_sending n k p.place p.what l) (h.sent k l)
       ∙ with_one (goes_placed k n p) p (share k n h.v) (portion k n h.turn h.pending) (mark_of k h.marked);

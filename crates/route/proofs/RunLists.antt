@@ -3,7 +3,7 @@ use Rattle.std.proofs.Common.{◌≡◌, ℕ, ◌==◌, Bool, true, false, cond,
 use Rattle.std.specs.List.{range_with_len, flat_map}
 use Rattle.std.proofs.lemmas.List.Sums.{fold-append}
 use Rattle.std.proofs.lemmas.Bool.{eqb-true}
-use Rattle.std.proofs.lemmas.List.{length-append}
+use Rattle.std.proofs.lemmas.List.{length-append, map-append}
 use Rattle.lane.specs.declared.item.Item.{Item}
 use Rattle.lane.specs.declared.item.Item.TheVariants.{Finish}
 use Rattle.lane.specs.Items.{has_mark, IsBeginning}
@@ -98,7 +98,7 @@ outcome_of n w es run f =
     (record { some = run.some; rising = rising_front _ f.rest (subst IsRising f.whole run.rising); within = f.within; aimed = f.aimed; unmarked = f.unmarked; sent = f.sent })
 
 -- the puts, one event each
-puts_in-events : (s : List (ℕ × Item Placed)) → puts_in (map put_event s) ≡ s
+pub puts_in-events : (s : List (ℕ × Item Placed)) → puts_in (map put_event s) ≡ s
 puts_in-events [] = refl
 puts_in-events (e ∷ s) = ap (λ (l : List (ℕ × Item Placed)). e ∷ l) (puts_in-events s)
 
@@ -128,3 +128,7 @@ whole_run n w some rising = record {
   allowed = allowed_puts n (flat_map (sending_of n) w) (unmarked_sending n w);
   in_order = order_puts (sending n w);
 }
+
+-- and so is a beginning of it
+pub front_run : (n : ℕ) (w : List Placed) (s : Sends) → 0 < n → IsRising w → IsBeginning s (sending n w) → IsRun n w (map put_event s)
+front_run n w s some rising (rest, e) = earlier n w (map put_event s) (map put_event rest) (subst (IsRun n w) (ap (map put_event) e ∙ map-append put_event s rest) (whole_run n w some rising))

@@ -5,11 +5,11 @@ use Rattle.std.proofs.lemmas.List.{length-set, get_or-set_same, get_or-set_other
 use Rattle.lane.specs.declared.item.Item.{Item}
 use Rattle.lane.specs.declared.item.Item.TheVariants.{One, Finish}
 use Rattle.lane.specs.Items.{has_mark}
-use Rattle.lane.proofs.Marks.{has_mark_more, has_mark_block, no_mark_in}
+use Rattle.lane.proofs.Marks.{has_mark_more}
 use Rattle.trace.specs.declared.records.Placed.{Placed}
 use Rattle.trace.specs.Shares.{goes_placed, share}
 use Rattle.trace.proofs.ShareLemmas.{share-push}
-use Rattle.route.specs.Sending.{put_on, with_put, with_puts, portion, mark_of, AllSent, sent_whole, HaveMarks}
+use Rattle.route.specs.Sending.{put_on, with_put, portion, mark_of, AllSent, sent_whole, HaveMarks}
 
 abbrev pub Items : Type 0
 Items = List (Item Placed)
@@ -22,15 +22,15 @@ OnPuts w turn pending marked puts = AllSent (length puts) w turn pending marked 
 apart : (k i : ℕ) → (k ≡ i → ⊥) → (k < i) ⊎ (i < k)
 apart k i e = ⊎_elim (λ (x : k ≡ i). absurd (e x)) (λ (x : (k < i) ⊎ (i < k)). x) (cases_order k i)
 
--- every lane holds some fact after more items on one of them
-pub each_after : (P : ℕ → Items → Type 0) (puts : List Items) (i : ℕ) (xs : Items) → i < length puts → P i (put_on puts i ++ xs)
-    → ((k : ℕ) → (k ≡ i → ⊥) → k < length puts → P k (put_on puts k)) → (k : ℕ) → k < length (with_puts puts i xs) → P k (put_on (with_puts puts i xs) k)
-each_after P puts i xs h here others k l =
-    let within : k < length puts = omega (arith, length-set puts i (put_on puts i ++ xs)) in
+-- every lane holds some fact after one more item on one of them
+pub each_after : (P : ℕ → Items → Type 0) (puts : List Items) (i : ℕ) (x : Item Placed) → i < length puts → P i (put_on puts i ++ x ∷ [])
+    → ((k : ℕ) → (k ≡ i → ⊥) → k < length puts → P k (put_on puts k)) → (k : ℕ) → k < length (with_put puts i x) → P k (put_on (with_put puts i x) k)
+each_after P puts i x h here others k l =
+    let within : k < length puts = omega (arith, length-set puts i (put_on puts i ++ x ∷ [])) in
     ⊎_elim
-    (λ (e : k ≡ i). let Q : ℕ → Type 0 = λ j. P j (put_on (with_puts puts i xs) j) in
-    subst Q (sym e) (subst (P i) (sym (get_or-set_same puts i (put_on puts i ++ xs) [] h)) here))
-    (λ (e : k ≡ i → ⊥). subst (P k) (sym (get_or-set_other puts i k (put_on puts i ++ xs) [] e)) (others k e within)) (cases_eq k i)
+    (λ (e : k ≡ i). let Q : ℕ → Type 0 = λ j. P j (put_on (with_put puts i x) j) in
+    subst Q (sym e) (subst (P i) (sym (get_or-set_same puts i (put_on puts i ++ x ∷ []) [] h)) here))
+    (λ (e : k ≡ i → ⊥). subst (P k) (sym (get_or-set_other puts i k (put_on puts i ++ x ∷ []) [] e)) (others k e within)) (cases_eq k i)
 
 -- what a lane has of the pending record
 portion-before : (k n i : ℕ) (p : Placed) → k < i → portion k n i (Some p) ≡ cond (goes_placed k n p) (p ∷ []) []
@@ -65,7 +65,7 @@ sent-next puts w i p m none h goes all =
     λ k e l. same_records _ _ _ _ (all k l) (ap (λ (x : List Placed). share k n w ++ x) (⊎_elim (λ (x : k < i). portion-before k n i p x ∙ sym (portion-before k n (i + 1) p (omega arith)))
     (λ (x : i < k). portion-from k n i p (omega arith) ∙ sym (portion-from k n (i + 1) p (omega arith))) (apart k i e))) in
     let Q : ℕ → Type 0 = λ j. (k : ℕ) → k < length (with_put puts i (One p)) → put_on (with_put puts i (One p)) k ≡ map One (share k j w ++ portion k j (i + 1) (Some p)) ++ mark_of k m in
-    subst Q (sym (length-set puts i (put_on puts i ++ One p ∷ []))) (each_after P puts i (One p ∷ []) h here others)
+    subst Q (sym (length-set puts i (put_on puts i ++ One p ∷ []))) (each_after P puts i (One p) h here others)
 
 -- it was put on the last lane that it goes to
 pub sent-last : (puts : List Items) (w : List Placed) (i : ℕ) (p : Placed) (m : ℕ) → m ≡ 0 → i < length puts → goes_placed i (length puts) p ≡ true → ((k : ℕ) → i < k → k < length puts → goes_placed k (length puts) p ≡ false)
@@ -83,27 +83,22 @@ sent-last puts w i p m none h goes last all =
     λ k e l. same_records _ _ _ _ (all k l) (ap (λ (x : List Placed). share k n w ++ x) (⊎_elim (λ (x : k < i). portion-before k n i p x)
     (λ (x : i < k). portion-from k n i p (omega arith) ∙ sym (cond-false (goes_placed k n p) (p ∷ []) [] (last k x l))) (apart k i e)) ∙ whole k) in
     let Q : ℕ → Type 0 = λ j. (k : ℕ) → k < length (with_put puts i (One p)) → put_on (with_put puts i (One p)) k ≡ map One (share k j (w ++ p ∷ []) ++ []) ++ mark_of k m in
-    subst Q (sym (length-set puts i (put_on puts i ++ One p ∷ []))) (each_after P puts i (One p ∷ []) h here others)
-
-marks_block : (puts : List Items) (j m : ℕ) (us : List Placed) → j < length puts → has_mark (put_on puts j) ≡ false → HaveMarks m puts → HaveMarks m (with_puts puts j (map One us))
-marks_block puts j m us h none all =
-    let P : ℕ → Items → Type 0 = λ k l. has_mark l ≡ nat_lt k m in
-    each_after P puts j (map One us) h (has_mark_block (put_on puts j) (map One us) none (no_mark_in us) ∙ sym none ∙ all j h) (λ k e l. all k l)
-
-pub marks_either : (b : Bool) (old new : List Items) (j m : ℕ) (us : List Placed) → new ≡ cond b (with_puts old j (map One us)) old → j < length old → has_mark (put_on old j) ≡ false → HaveMarks m old → HaveMarks m new
-marks_either true old new j m us e h none all = subst (HaveMarks m) (sym e) (marks_block old j m us h none all)
-marks_either false old new j m us e h none all = subst (HaveMarks m) (sym e) all
+    subst Q (sym (length-set puts i (put_on puts i ++ One p ∷ []))) (each_after P puts i (One p) h here others)
 
 -- the marks after a record was put, and after a mark was
 pub marks-one : (puts : List Items) (i : ℕ) (p : Placed) (m : ℕ) → i < length puts → has_mark (put_on puts i) ≡ false → HaveMarks m puts → HaveMarks m (with_put puts i (One p))
 marks-one puts i p m h none all =
     let P : ℕ → Items → Type 0 = λ k l. has_mark l ≡ nat_lt k m in
-    each_after P puts i (One p ∷ []) h (has_mark_more (put_on puts i) (One p) none ∙ sym none ∙ all i h) (λ k e l. all k l)
+    each_after P puts i (One p) h (has_mark_more (put_on puts i) (One p) none ∙ sym none ∙ all i h) (λ k e l. all k l)
+
+pub marks_either : (b : Bool) (old new : List Items) (i : ℕ) (p : Placed) (m : ℕ) → new ≡ cond b (with_put old i (One p)) old → i < length old → has_mark (put_on old i) ≡ false → HaveMarks m old → HaveMarks m new
+marks_either true old new i p m e h none all = subst (HaveMarks m) (sym e) (marks-one old i p m h none all)
+marks_either false old new i p m e h none all = subst (HaveMarks m) (sym e) all
 
 pub marks-finish : (puts : List Items) (m : ℕ) → m < length puts → HaveMarks m puts → HaveMarks (m + 1) (with_put puts m Finish)
 marks-finish puts m h all =
     let P : ℕ → Items → Type 0 = λ k l. has_mark l ≡ nat_lt k (m + 1) in
-    each_after P puts m (Finish ∷ []) h (has_mark_more (put_on puts m) Finish (all m h ∙ le-ltb m m (omega arith)) ∙ sym (lt-ltb m (m + 1) (omega arith)))
+    each_after P puts m Finish h (has_mark_more (put_on puts m) Finish (all m h ∙ le-ltb m m (omega arith)) ∙ sym (lt-ltb m (m + 1) (omega arith)))
     (λ k e l. all k l ∙ ⊎_elim (λ (x : k < m). lt-ltb k m x ∙ sym (lt-ltb k (m + 1) (omega arith))) (λ (x : m < k). le-ltb k m (omega arith) ∙ sym (le-ltb k (m + 1) (omega arith))) (apart k m e))
 
 pub unmarked_at : (puts : List Items) (m k : ℕ) → m ≤ k → k < length puts → HaveMarks m puts → has_mark (put_on puts k) ≡ false

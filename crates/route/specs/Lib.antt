@@ -1,9 +1,7 @@
 pub mod Senders
-pub mod Portions
 pub mod Sending
 pub mod Progresses
 pub mod Routers
 pub mod Routed
 pub mod Runs
-pub mod Batches
-pub mod BatchRuns
+pub mod RouterRuns

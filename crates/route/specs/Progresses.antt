@@ -1,4 +1,4 @@
--- Private: a fact for one answer of a step.
+-- Promised: a fact for one answer of a step.
 use Rattle.std.specs.Prelude.{ℕ, ⊤}
 use Rattle.route.specs.declared.progress.Progress.{Progress}
 use Rattle.route.specs.declared.progress.Progress.TheVariants.{Idle, Moved, Blocked}

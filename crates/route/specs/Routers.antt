@@ -1,11 +1,11 @@
 -- Promised: what a router says: its lanes, what was put on them, the pending record, and the marks.
-use Rattle.std.specs.Prelude.{◌≡◌, ℕ, ◌<◌, ◌≤◌, false, List, length, slice_index_or, Option}
+use Rattle.std.specs.Prelude.{◌≡◌, ℕ, ◌<◌, ◌≤◌, false, List, [], length, slice_index_or, Option}
 use Rattle.lane.specs.declared.item.Item.{Item}
 use Rattle.lane.specs.Lanes.{LaneId}
 use Rattle.trace.specs.declared.records.Placed.{Placed}
 use Rattle.trace.specs.Shares.{goes_placed}
 use Rattle.route.specs.declared.routing.Router.{Router}
-use Rattle.route.specs.Senders.{lanes, puts, capacities, rooms}
+use Rattle.route.specs.Senders.{lanes, puts, shown, capacities, rooms}
 use Rattle.route.specs.Sending.{put_on, AllSent}
 
 abbrev pub lanes_of : Router → List LaneId
@@ -53,6 +53,10 @@ pub record IsUnchanged (old new : Router) : Type 0 where
 abbrev pub IsLastLane : ℕ → ℕ → Placed → Type 0
 IsLastLane n k p = (j : ℕ) → k < j → j < n → goes_placed j n p ≡ false
 
+-- what the taker of lane k is shown
+abbrev pub shown_on : Router → ℕ → List (Item Placed)
+shown_on r k = slice_index_or (shown r.senders.items) k []
+
 -- how many items lane k can hold
 abbrev pub capacity_on : Router → ℕ → ℕ
 capacity_on r k = slice_index_or (capacities_of r) k 0
@@ -72,3 +76,9 @@ pub record HasRefused (old new : Router) (k : ℕ) : Type 0 where
   pub knows_of_none : room_on new k ≡ 0
   pub full : IsFull old k
   pub unchanged : IsUnchanged old new
+
+-- lane k is full, and its sender knows of no room
+pub record IsStuck (r : Router) (k : ℕ) : Type 0 where
+  pub within : k < lane_count r
+  pub no_room : room_on r k ≡ 0
+  pub full : IsFull r k

@@ -1,4 +1,4 @@
--- Private: what stands on each lane while records are sent, and the lanes that a record goes to.
+-- Promised: what stands on each lane while records are sent, and the lanes that a record goes to.
 use Rattle.std.specs.Prelude.{◌≡◌, ℕ, ◌<◌, ◌%◌, ◌&&◌, nat_lt, if◌then◌else◌, List, [], ◌∷◌, ◌++◌, length, map, slice_index_or, slice_set, Option, Some, None}
 use Rattle.lane.specs.declared.item.Item.{Item}
 use Rattle.lane.specs.declared.item.Item.TheVariants.{One, Finish}
@@ -12,22 +12,9 @@ use Rattle.trace.specs.Shares.{goes_placed, share}
 abbrev pub put_on : List (List (Item Placed)) → ℕ → List (Item Placed)
 put_on puts k = slice_index_or puts k []
 
--- more items on lane k
-abbrev pub with_puts : List (List (Item Placed)) → ℕ → List (Item Placed) → List (List (Item Placed))
-with_puts puts k xs = slice_set puts k (put_on puts k ++ xs)
-
--- one more
+-- one more item on lane k
 abbrev pub with_put : List (List (Item Placed)) → ℕ → Item Placed → List (List (Item Placed))
-with_put puts k x = with_puts puts k (x ∷ [])
-
--- the location of an access
-abbrev pub location_of : Record → Option ℕ
-location_of Spawn = None
-location_of Call = None
-location_of Return = None
-location_of Sync = None
-location_of (Read l) = Some l
-location_of (Write l) = Some l
+with_put puts k x = slice_set puts k (put_on puts k ++ x ∷ [])
 
 -- the first lane of n that a record goes to
 abbrev pub first_lane : ℕ → Record → ℕ

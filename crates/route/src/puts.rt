@@ -1,16 +1,16 @@
-//! A put on one of many lanes.
-ghost use Rattle.std.specs.Prelude.{◌≡◌, ◌<◌, ◌≤◌, false, length, map, slice_index_or, vec_len, if◌then◌else◌, IsFalse};
+//! A put on one of many lanes, and all that was put shown.
+ghost use Rattle.std.specs.Prelude.{◌≡◌, ℕ, ◌<◌, ◌≤◌, false, [], length, slice_index_or, vec_len, if◌then◌else◌, IsFalse};
 ghost use Rattle.lane.specs.declared.item.Item.TheVariants.{One, Finish};
 ghost use Rattle.lane.specs.Items.{has_mark};
-ghost use Rattle.lane.specs.Records.{all_records};
-ghost use Rattle.route.specs.Senders.{lanes, puts, capacities, rooms};
-ghost use Rattle.route.specs.Sending.{put_on, with_put, with_puts};
+ghost use Rattle.route.specs.Senders.{lanes, puts, shown, capacities, rooms};
+ghost use Rattle.route.specs.Sending.{put_on, with_put};
 
-use lane::{Parcel, Sender, Values};
+use lane::Sender;
 use trace::Placed;
 
 /// Puts the record on the lane; false where the lane was full.
-pub fn put_on(senders: &mut Vec<Sender<Parcel>>, lane: usize, placed: Placed) -> bool
+#[inline(always)]
+pub fn put_on(senders: &mut Vec<Sender<Placed>>, lane: usize, placed: Placed) -> bool
     requires within { lane < vec_len senders.old }
     requires unmarked { has_mark (put_on (puts senders.old.items) lane) ≡ false }
     ensures puts { puts senders.new.items
@@ -24,30 +24,11 @@ pub fn put_on(senders: &mut Vec<Sender<Parcel>>, lane: usize, placed: Placed) ->
     ensures no_room { IsFalse result → (slice_index_or (rooms senders.old.items) lane 0 ≡ 0)
         × (slice_index_or (rooms senders.new.items) lane 0 ≡ 0) }
 {
-    senders[lane].put(Parcel::new(placed)).is_ok()
-}
-
-/// Puts the parcels on the lane; false where it hadn't room for all.
-pub fn put_values_on(
-    senders: &mut Vec<Sender<Parcel>>,
-    lane: usize,
-    parcels: &Values<Parcel>,
-) -> bool
-    requires within { lane < vec_len senders.old }
-    requires unmarked { has_mark (put_on (puts senders.old.items) lane) ≡ false }
-    ensures puts { puts senders.new.items
-        ≡ (if result then with_puts (puts senders.old.items) lane (map One (all_records parcels.now))
-        else puts senders.old.items) }
-    ensures lanes { lanes senders.new.items ≡ lanes senders.old.items }
-    ensures capacities { capacities senders.new.items ≡ capacities senders.old.items }
-    ensures len { vec_len senders.new ≡ vec_len senders.old }
-    ensures full { IsFalse result → slice_index_or (rooms senders.new.items) lane 0 < length parcels.now }
-{
-    senders[lane].put_values(parcels)
+    senders[lane].put(placed).is_ok()
 }
 
 /// Puts the mark on the lane; false where the lane was full.
-pub fn mark_on(senders: &mut Vec<Sender<Parcel>>, lane: usize) -> bool
+pub fn mark_on(senders: &mut Vec<Sender<Placed>>, lane: usize) -> bool
     requires within { lane < vec_len senders.old }
     requires unmarked { has_mark (put_on (puts senders.old.items) lane) ≡ false }
     ensures puts { puts senders.new.items
@@ -62,4 +43,32 @@ pub fn mark_on(senders: &mut Vec<Sender<Parcel>>, lane: usize) -> bool
         × (slice_index_or (rooms senders.new.items) lane 0 ≡ 0) }
 {
     senders[lane].mark()
+}
+
+/// Shows each taker all that was put on its lane.
+pub fn flush_all(senders: &mut Vec<Sender<Placed>>)
+    ensures puts { puts senders.new.items ≡ puts senders.old.items }
+    ensures lanes { lanes senders.new.items ≡ lanes senders.old.items }
+    ensures capacities { capacities senders.new.items ≡ capacities senders.old.items }
+    ensures len { vec_len senders.new ≡ vec_len senders.old }
+    ensures shown { (k : ℕ) → k < vec_len senders.old
+        → slice_index_or (shown senders.new.items) k [] ≡ put_on (puts senders.new.items) k }
+{
+    for lane in 0..senders.len() {
+        flush_on(senders, lane);
+    }
+}
+
+// Shows the taker of the lane all that was put on it.
+fn flush_on(senders: &mut Vec<Sender<Placed>>, lane: usize)
+    requires within { lane < vec_len senders.old }
+    ensures puts { puts senders.new.items ≡ puts senders.old.items }
+    ensures lanes { lanes senders.new.items ≡ lanes senders.old.items }
+    ensures capacities { capacities senders.new.items ≡ capacities senders.old.items }
+    ensures len { vec_len senders.new ≡ vec_len senders.old }
+    ensures here { slice_index_or (shown senders.new.items) lane [] ≡ put_on (puts senders.new.items) lane }
+    ensures others { (k : ℕ) → (k ≡ lane → ⊥)
+        → slice_index_or (shown senders.new.items) k [] ≡ slice_index_or (shown senders.old.items) k [] }
+{
+    senders[lane].flush();
 }

@@ -3,23 +3,22 @@ ghost use Rattle.std.specs.Prelude.{◌≡◌, ◌<◌, ◌≤◌, [], All, IfOk
 ghost use Rattle.std.specs.Option.{ForSome};
 ghost use Rattle.trace.specs.Bounds.{most_shards};
 ghost use Rattle.trace.specs.Shares.{goes_placed};
-ghost use Rattle.lane.specs.Lanes.{end_lane};
-ghost use Rattle.lane.specs.Records.{all_put_records, put_records};
+ghost use Rattle.lane.specs.Lanes.{end_lane, all_put, put_of};
 ghost use Rattle.route.specs.Senders.{lanes, capacities, puts};
 ghost use Rattle.route.specs.Sending.{HaveMarks};
 
 mod sending;
 
-use lane::{End, Parcel, Sender};
+use lane::{End, Sender};
 use std::alloc::Global;
 use trace::{NoMemory, Placed};
 
 /// Sends records to lanes, each to those whose share has it, in the order of the lanes.
 #[derive(Drop)]
 pub struct Router {
-    senders: Vec<Sender<Parcel>>,
+    senders: Vec<Sender<Placed>>,
     // room for the receipts
-    ends: Vec<End<Parcel>>,
+    ends: Vec<End<Placed>>,
     pending: Option<Placed>,
     // the lane whose turn it is
     next: usize,
@@ -41,10 +40,10 @@ impl Router {
 
     /// A router over lanes on which nothing was put. It takes memory for the receipts, and none after
     /// that; a refusal drops the senders.
-    pub fn new(alloc: Global, senders: Vec<Sender<Parcel>>) -> Result<Router, NoMemory>
+    pub fn new(alloc: Global, senders: Vec<Sender<Placed>>) -> Result<Router, NoMemory>
         requires some { 1 ≤ vec_len senders }
         requires within { vec_len senders ≤ most_shards }
-        requires empty { All (λ s. put_records s ≡ []) senders.items }
+        requires empty { All (λ s. put_of s ≡ []) senders.items }
         ensures lanes { IfOk result (λ r. lanes_of r ≡ lanes senders.items) }
         ensures capacities { IfOk result (λ r. capacities_of r ≡ capacities senders.items) }
         ensures count { IfOk result (λ r. lane_count r ≡ vec_len senders) }
@@ -63,10 +62,10 @@ impl Router {
     }
 
     /// The receipts of the senders, in their order.
-    pub fn into_ends(self) -> Vec<End<Parcel>>
+    pub fn into_ends(self) -> Vec<End<Placed>>
         requires { marked_of self ≡ lane_count self }
         ensures lanes { map end_lane result.items ≡ lanes_of self }
-        ensures puts { map all_put_records result.items ≡ puts_of self }
+        ensures puts { map all_put result.items ≡ puts_of self }
         ensures count { vec_len result ≡ lane_count self }
     {
         let mut ends = self.ends;

@@ -2,11 +2,12 @@
 ghost use Rattle.std.specs.Prelude.{◌≡◌, ℕ, ◌<◌, ◌≤◌, ◌+◌, ◌%◌, true, false, IfSome, IfNone};
 ghost use Rattle.trace.specs.Bounds.{most_shards};
 ghost use Rattle.trace.specs.Shares.{goes};
-ghost use Rattle.route.specs.Sending.{first_lane, location_of};
+ghost use Rattle.route.specs.Sending.{first_lane};
 
 use trace::Record;
 
 /// The first of `count` lanes that the record goes to.
+#[inline(always)]
 pub fn first_lane(what: Record, count: usize) -> usize
     requires { 1 ≤ count }
     ensures value { result ≡ first_lane count what }
@@ -45,6 +46,7 @@ pub fn lane_of(location: u64, count: usize) -> usize
 }
 
 /// The next lane after this one that the record goes to.
+#[inline(always)]
 pub fn lane_after(what: Record, lane: usize, count: usize) -> Option<usize>
     requires within { lane < count }
     requires most { count ≤ most_shards }
@@ -57,16 +59,5 @@ pub fn lane_after(what: Record, lane: usize, count: usize) -> Option<usize>
             lane + 1,
         ),
         _ => None,
-    }
-}
-
-/// The location of an access.
-#[inline(always)]
-pub fn location_of(what: Record) -> Option<u64>
-    ensures { result ≡ location_of what }
-{
-    match what {
-        Record::Read(location) | Record::Write(location) => Some(location),
-        Record::Spawn | Record::Call | Record::Return | Record::Sync => None,
     }
 }

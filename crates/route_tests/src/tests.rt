@@ -1,14 +1,12 @@
 //! The router call by call, and what each lane gave at every point of a run.
 ghost use Rattle.std.specs.Prelude.{◌≡◌, ◌+◌, ◌≤◌, [], ◌∷◌, All, map, IfOk, OnOk, vec_len};
 ghost use Rattle.trace.specs.Bounds.{IsCapacity};
-ghost use Rattle.lane.specs.Lanes.{lane_of, taker_lane, end_lane};
-ghost use Rattle.lane.specs.Records.{put_records};
-ghost use Rattle.route.specs.Batches.{batch_lanes, IsUnsent};
+ghost use Rattle.lane.specs.Lanes.{lane_of, put_of, taker_lane, end_lane};
 ghost use Rattle.route.specs.Routers.{lanes_of, lane_count, pending_of, marked_of};
 
-use lane::{BLOCK, End, Item, Parcel, RECORDS, Sender, Taker, lane};
+use lane::{End, Item, Sender, Taker, lane};
 use route::Progress::{self, Blocked, Idle, Moved};
-use route::{Batch, Router};
+use route::Router;
 use std::alloc::Global;
 use std::process::Abort;
 use std::sync::Wait;
@@ -19,8 +17,8 @@ fn at(place: u64, what: Record) -> Placed {
     Placed { place, what }
 }
 
-fn one(place: u64, what: Record) -> Item<Parcel> {
-    Item::One(Parcel::new(at(place, what)))
+fn one(place: u64, what: Record) -> Item<Placed> {
+    Item::One(at(place, what))
 }
 
 // A router over two lanes of these capacities, and the takers. What the calls below promise to their callers is no more
@@ -29,24 +27,24 @@ fn over_two(
     alloc: Global,
     first: usize,
     second: usize,
-) -> Result<(Router, Taker<Parcel>, Taker<Parcel>), NoMemory>
+) -> Result<(Router, Taker<Placed>, Taker<Placed>), NoMemory>
     requires { IsCapacity first × IsCapacity second }
     ensures lanes { IfOk result (λ r. lanes_of r.0 ≡ taker_lane r.1 ∷ taker_lane r.2 ∷ []) }
     ensures count { IfOk result (λ r. lane_count r.0 ≡ 2) }
     ensures idle { IfOk result (λ r. pending_of r.0 ≡ None) }
     ensures unmarked { IfOk result (λ r. marked_of r.0 ≡ 0) }
 {
-    let (sender, taker) = lane::<Parcel>(alloc, first)?;
-    let (other_sender, other) = lane::<Parcel>(alloc, second)?;
+    let (sender, taker) = lane::<Placed>(alloc, first)?;
+    let (other_sender, other) = lane::<Placed>(alloc, second)?;
     Ok((router_of(alloc, sender, other_sender)?, taker, other))
 }
 
 fn router_of(
     alloc: Global,
-    first: Sender<Parcel>,
-    second: Sender<Parcel>,
+    first: Sender<Placed>,
+    second: Sender<Placed>,
 ) -> Result<Router, NoMemory>
-    requires { (put_records first ≡ []) × (put_records second ≡ []) }
+    requires { (put_of first ≡ []) × (put_of second ≡ []) }
     ensures lanes { IfOk result (λ r. lanes_of r ≡ lane_of first ∷ lane_of second ∷ []) }
     ensures count { IfOk result (λ r. lane_count r ≡ 2) }
     ensures idle { IfOk result (λ r. pending_of r ≡ None) }
@@ -92,7 +90,7 @@ fn mark_steps<R: Abort>(rt: &R, router: &mut Router, wanted: &[Progress])
 }
 
 // What a lane gives next.
-fn gives<R: Abort>(rt: &R, taker: &mut Taker<Parcel>, wanted: Item<Parcel>)
+fn gives<R: Abort>(rt: &R, taker: &mut Taker<Placed>, wanted: Item<Placed>)
     ensures { taker_lane taker.new ≡ taker_lane taker.old }
 {
     assert!(rt; taker.take() == Some(wanted), "{wanted:?}");
@@ -109,8 +107,8 @@ fn two_lanes(rt: HostRuntime) -> Result<(), Fail> {
 fn send_two<R: Abort>(
     rt: &R,
     mut router: Router,
-    mut taker: Taker<Parcel>,
-    mut other: Taker<Parcel>,
+    mut taker: Taker<Placed>,
+    mut other: Taker<Placed>,
 )
     requires unmarked { marked_of router ≡ 0 }
     requires lanes { lanes_of router ≡ taker_lane taker ∷ taker_lane other ∷ [] }
@@ -134,8 +132,8 @@ fn send_two<R: Abort>(
 fn mark_two<R: Abort>(
     rt: &R,
     mut router: Router,
-    mut taker: Taker<Parcel>,
-    mut other: Taker<Parcel>,
+    mut taker: Taker<Placed>,
+    mut other: Taker<Placed>,
 )
     requires lanes { lanes_of router ≡ taker_lane taker ∷ taker_lane other ∷ [] }
 {
@@ -152,7 +150,7 @@ fn mark_two<R: Abort>(
 }
 
 // The receipts of a router whose lanes have their marks.
-fn ends_of<R: Abort>(rt: &R, mut router: Router) -> Vec<End<Parcel>>
+fn ends_of<R: Abort>(rt: &R, mut router: Router) -> Vec<End<Placed>>
     requires { pending_of router ≡ None }
     ensures { map end_lane result.items ≡ lanes_of router }
 {
@@ -161,161 +159,56 @@ fn ends_of<R: Abort>(rt: &R, mut router: Router) -> Vec<End<Parcel>>
 }
 
 // The receipts are those of the two lanes, in their order.
-fn settle_two(mut ends: Vec<End<Parcel>>, mut taker: Taker<Parcel>, mut other: Taker<Parcel>)
+fn settle_two(mut ends: Vec<End<Placed>>, mut taker: Taker<Placed>, mut other: Taker<Placed>)
     requires { map end_lane ends.items ≡ taker_lane taker ∷ taker_lane other ∷ [] }
 {
     taker.settle(&mut ends[0]);
     other.settle(&mut ends[1]);
 }
 
-// Adds a record to the batch, or finds it full.
-fn adds<R: Abort>(rt: &R, batch: &mut Batch, place: u64, what: Record, fits: bool)
-    requires { IsUnsent batch.old }
-    ensures unsent { IsUnsent batch.new }
-    ensures lanes { batch_lanes batch.new ≡ batch_lanes batch.old }
-{
-    assert!(rt; batch.add(at(place, what)) == fits, "{place}");
-}
-
-// Stages the records with the places from 1 on, and nothing else.
-fn stage<R: Abort>(rt: &R, batch: &mut Batch, records: &[Record])
-    ensures { batch_lanes batch.new ≡ batch_lanes batch.old }
-{
-    batch.clear();
-    let mut place = 0u64;
-    for what in records {
-        place = place.saturating_add(1);
-        adds(rt, batch, place, *what, true);
-    }
-}
-
-// What the next steps come to that send of the batch.
-fn send_steps<R: Abort>(rt: &R, router: &mut Router, batch: &mut Batch, wanted: &[Progress])
-    requires idle { pending_of router.old ≡ None }
-    requires unmarked { marked_of router.old ≡ 0 }
-    requires lanes { batch_lanes batch.old ≡ lane_count router.old }
-    ensures idle { pending_of router.new ≡ None }
+// What a record's send comes to.
+fn sends<R: Abort>(rt: &R, router: &mut Router, place: u64, what: Record, wanted: Progress)
+    requires { marked_of router.old ≡ 0 }
+    ensures lanes { lanes_of router.new ≡ lanes_of router.old }
     ensures unmarked { marked_of router.new ≡ 0 }
-    ensures lanes { batch_lanes batch.new ≡ lane_count router.new }
 {
-    for progress in wanted {
-        assert!(rt; router.send_step(batch) == *progress, "{progress:?}");
-    }
+    assert!(rt; !router.pending());
+    assert!(rt; router.send(at(place, what)) == wanted, "{wanted:?}");
+    assert!(rt; router.pending() == (wanted != Idle));
 }
 
 #[test]
-fn batch_on_two_lanes(rt: HostRuntime) -> Result<(), Fail> {
-    let (mut router, mut even, mut odd) = over_two(rt.alloc(), 3, 2)?;
-    let mut batch = Batch::new(rt.alloc(), 2, BLOCK)?;
-    send_steps(&rt, &mut router, &mut batch, &[Idle]);
-    let records = [
-        Record::Spawn,
-        Record::Write(5),
-        Record::Read(4),
-        Record::Read(7),
-    ];
-    stage(&rt, &mut batch, &records);
-    let progress = [Moved, Moved, Moved, Moved, Blocked(1)];
-    send_steps(&rt, &mut router, &mut batch, &progress);
-    gives(&rt, &mut even, one(1, Record::Spawn));
-    gives(&rt, &mut even, one(3, Record::Read(4)));
-    gives(&rt, &mut odd, one(1, Record::Spawn));
-    send_steps(&rt, &mut router, &mut batch, &[Moved, Idle]);
-    gives(&rt, &mut odd, one(2, Record::Write(5)));
-    gives(&rt, &mut odd, one(4, Record::Read(7)));
-    stage(&rt, &mut batch, &[]);
-    send_steps(&rt, &mut router, &mut batch, &[Idle]);
+fn sends_up_to_a_full_lane(rt: HostRuntime) -> Result<(), Fail> {
+    let (mut router, mut taker, mut other) = over_two(rt.alloc(), 2, 1)?;
+    sends(&rt, &mut router, 1, Record::Spawn, Idle);
+    gives(&rt, &mut other, one(1, Record::Spawn));
+    sends(&rt, &mut router, 2, Record::Write(5), Idle);
+    sends(&rt, &mut router, 3, Record::Return, Blocked(1));
+    steps(&rt, &mut router, &[Blocked(1)]);
+    gives(&rt, &mut other, one(2, Record::Write(5)));
+    steps(&rt, &mut router, &[Moved, Idle]);
+    sends(&rt, &mut router, 4, Record::Read(4), Blocked(0));
+    gives(&rt, &mut taker, one(1, Record::Spawn));
+    gives(&rt, &mut taker, one(3, Record::Return));
+    gives(&rt, &mut other, one(3, Record::Return));
     Ok(())
 }
 
 #[test]
-fn batch_is_full(rt: HostRuntime) -> Result<(), Fail> {
-    let mut batch = Batch::new(rt.alloc(), 3, BLOCK)?;
-    for place in 1..65 {
-        adds(&rt, &mut batch, place, Record::Write(3 * place), true);
-    }
-    adds(&rt, &mut batch, 65, Record::Read(0), false);
-    adds(&rt, &mut batch, 65, Record::Sync, false);
-    adds(&rt, &mut batch, 65, Record::Read(1), true);
-    stage(&rt, &mut batch, &[Record::Sync]);
-    Ok(())
-}
-
-#[test]
-fn batch_of_two_is_full(rt: HostRuntime) -> Result<(), Fail> {
-    let mut batch = Batch::new(rt.alloc(), 3, 2)?;
-    adds(&rt, &mut batch, 1, Record::Spawn, true);
-    adds(&rt, &mut batch, 2, Record::Read(4), true);
-    adds(&rt, &mut batch, 3, Record::Read(1), false);
-    adds(&rt, &mut batch, 3, Record::Read(2), true);
-    adds(&rt, &mut batch, 4, Record::Sync, false);
-    Ok(())
-}
-
-// Adds the records of the parcel.
-fn add_records(given: &mut Vec<Placed>, parcel: Parcel) -> Result<(), Fail> {
-    let mut records = [at(0, Record::Sync); RECORDS];
-    let count = parcel.open(&mut records);
-    for placed in &records[..count] {
-        given.push(*placed)?;
-    }
-    Ok(())
-}
-
-// How many items a lane gives of a batch, and of which places.
-fn gives_places<R: Abort>(
-    rt: &R,
-    alloc: Global,
-    taker: &mut Taker<Parcel>,
-    items: u64,
-    places: &[u64],
-) -> Result<(), Fail> {
-    let mut given = Vec::new(alloc);
-    for _ in 0..items {
-        match taker.take() {
-            Some(Item::One(parcel)) => add_records(&mut given, parcel)?,
-            _ => return Err("no parcel".into()),
-        }
-    }
-    assert!(rt; taker.take().is_none());
-    assert!(rt;
-        given
-            .iter()
-            .map(|placed| placed.place)
-            .eq(places.iter().copied())
-    );
-    Ok(())
-}
-
-// Records for both lanes share an item up to a lane's own access.
-#[test]
-fn records_share_items(rt: HostRuntime) -> Result<(), Fail> {
-    let (mut router, mut even, mut odd) = over_two(rt.alloc(), 2, 3)?;
-    let mut batch = Batch::new(rt.alloc(), 2, 4)?;
-    let records = [
-        Record::Spawn,
-        Record::Return,
-        Record::Spawn,
-        Record::Write(5),
-        Record::Return,
-        Record::Sync,
-    ];
-    stage(&rt, &mut batch, &records);
-    send_steps(
-        &rt,
-        &mut router,
-        &mut batch,
-        &[Moved, Moved, Moved, Moved, Moved, Idle],
-    );
-    gives_places(&rt, rt.alloc(), &mut even, 2, &[1, 2, 3, 5, 6])?;
-    gives_places(&rt, rt.alloc(), &mut odd, 3, &[1, 2, 3, 4, 5, 6])?;
+fn flush_shows_each_lane(rt: HostRuntime) -> Result<(), Fail> {
+    let (mut router, mut taker, mut other) = over_two(rt.alloc(), 8, 8)?;
+    offers(&rt, &mut router, 1, Record::Spawn);
+    steps(&rt, &mut router, &[Moved, Moved, Idle]);
+    router.flush();
+    gives(&rt, &mut taker, one(1, Record::Spawn));
+    gives(&rt, &mut other, one(1, Record::Spawn));
     Ok(())
 }
 
 // A lane's taker, and what it gave.
 #[derive(Drop)]
 struct Watched {
-    taker: Taker<Parcel>,
+    taker: Taker<Placed>,
     given: Vec<Placed>,
     marks: u64,
 }
@@ -324,7 +217,7 @@ impl Watched {
     // Takes the item that is there, and tells whether there was one.
     fn take(&mut self) -> Result<bool, Fail> {
         match self.taker.take() {
-            Some(Item::One(parcel)) => add_records(&mut self.given, parcel)?,
+            Some(Item::One(placed)) => self.given.push(placed)?,
             Some(Item::Finish) => self.marks = self.marks.saturating_add(1),
             None => return Ok(false),
         }
@@ -335,14 +228,14 @@ impl Watched {
 // Adds a lane of one item.
 fn add_lane(
     alloc: Global,
-    senders: &mut Vec<Sender<Parcel>>,
+    senders: &mut Vec<Sender<Placed>>,
     all: &mut Vec<Watched>,
 ) -> Result<(), Fail>
     ensures count { OnOk result (vec_len senders.new ≡ vec_len senders.old + 1) }
-    ensures empty { OnOk result (All (λ s. put_records s ≡ []) senders.old.items
-        → All (λ s. put_records s ≡ []) senders.new.items) }
+    ensures empty { OnOk result (All (λ s. put_of s ≡ []) senders.old.items
+        → All (λ s. put_of s ≡ []) senders.new.items) }
 {
-    let (sender, taker) = lane::<Parcel>(alloc, 1)?;
+    let (sender, taker) = lane::<Placed>(alloc, 1)?;
     senders.push(sender)?;
     all.push(Watched {
         taker,
@@ -352,9 +245,9 @@ fn add_lane(
     Ok(())
 }
 
-fn lanes(alloc: Global, count: usize) -> Result<(Vec<Sender<Parcel>>, Vec<Watched>), Fail>
+fn lanes(alloc: Global, count: usize) -> Result<(Vec<Sender<Placed>>, Vec<Watched>), Fail>
     ensures count { IfOk result (λ r. vec_len r.0 ≡ count) }
-    ensures empty { IfOk result (λ r. All (λ s. put_records s ≡ []) r.0.items) }
+    ensures empty { IfOk result (λ r. All (λ s. put_of s ≡ []) r.0.items) }
 {
     let mut senders = Vec::new(alloc);
     let mut all = Vec::new(alloc);

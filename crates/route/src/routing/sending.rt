@@ -1,20 +1,18 @@
 //! What a router does.
-ghost use Rattle.std.specs.Prelude.{◌≡◌, ◌<◌, ◌≤◌, ◌+◌, ◌++◌, ◌↔◌, ◌≢◌};
-ghost use Rattle.std.specs.Prelude.{ℕ, List, [], length, take, map, is_some, IsTrue, IsFalse, IfSome, IfNone};
+ghost use Rattle.std.specs.Prelude.{◌≡◌, ◌<◌, ◌+◌, ◌↔◌, ◌≢◌, ℕ, List, [], ◌∷◌, ◌++◌, map, is_some};
+ghost use Rattle.std.specs.Prelude.{IsFalse, if◌then◌else◌};
 ghost use Rattle.lane.specs.declared.item.Item.TheVariants.{One, Finish};
 ghost use Rattle.trace.specs.declared.records.Placed.{Placed};
-ghost use Rattle.lane.specs.Records.{all_records};
-ghost use Rattle.route.specs.Sending.{first_lane, with_put, with_puts, sent_whole, HaveMarks};
-ghost use Rattle.route.specs.Batches.{batch_lanes, batch_turn, unsent_parcels, HasStaged, HasSamePortions};
-ghost use Rattle.route.specs.Batches.{IsUnsent, IsSentWhole, IsAsFarSent, IsSending, LacksRoom, SendsNext};
+ghost use Rattle.route.specs.Sending.{first_lane, put_on, with_put, sent_whole, HaveMarks};
 ghost use Rattle.route.specs.Progresses.{OnIdle, OnMoved, IfBlocked};
-ghost use Rattle.route.specs.Routers.{puts_of, lane_count, pending_of, turn_of, marked_of, capacity_on, room_on};
-ghost use Rattle.route.specs.Routers.{HasSent, IsOnLanes, IsUnchanged, IsLastLane, HasRefused};
+ghost use Rattle.route.specs.Routers.{puts_of, shown_on, lane_count, pending_of, turn_of, marked_of, capacity_on, room_on};
+ghost use Rattle.route.specs.Routers.{HasSent, IsOnLanes, IsUnchanged, IsLastLane, HasRefused, IsStuck};
+ghost use Rattle.route.specs.Runs.{put, put_event, sending_of};
+ghost use Rattle.route.specs.RouterRuns.{begun, run_of};
 
 use super::Router;
-use crate::batch::Batch;
 use crate::progress::Progress;
-use crate::puts::{mark_on, put_on, put_values_on};
+use crate::puts::{flush_all, mark_on, put_on};
 use crate::turns::{first_lane, lane_after};
 use trace::Placed;
 
@@ -26,7 +24,7 @@ impl Router {
         self.pending.is_some()
     }
 
-    /// For how many items more the sender of the lane knows to have room; 0 where there is no such lane.
+    /// For how many records more the sender of the lane knows to have room; 0 where there is no such lane.
     pub fn room(&self, lane: usize) -> usize
         ensures { result ≡ room_on self.now lane }
     {
@@ -36,7 +34,7 @@ impl Router {
         }
     }
 
-    /// How many items the lane holds at most; 0 where there is no such lane.
+    /// How many records the lane holds at most; 0 where there is no such lane.
     pub fn capacity(&self, lane: usize) -> usize
         ensures { result ≡ capacity_on self.now lane }
     {
@@ -47,6 +45,7 @@ impl Router {
     }
 
     /// Takes a record to be sent. It is put by the next steps.
+    #[inline(always)]
     pub fn offer(&mut self, placed: Placed)
         requires idle { pending_of self.old ≡ None }
         requires unmarked { marked_of self.old ≡ 0 }
@@ -56,6 +55,8 @@ impl Router {
         ensures puts { puts_of self.new ≡ puts_of self.old }
         ensures marked { marked_of self.new ≡ 0 }
         ensures lanes { IsOnLanes self.old self.new }
+        // nothing was put
+        ensures run { (w : List Placed) → run_of w self.new ≡ run_of w self.old }
     {
         self.next = first_lane(placed.what, self.senders.len());
         self.pending = Some(placed);
@@ -63,6 +64,7 @@ impl Router {
 
     /// Puts the pending record on the next lane that it goes to: a spawn, a call, a return or a sync
     /// on all lanes in their order, an access of location l on lane l mod n.
+    #[inline(always)]
     pub fn step(&mut self) -> Progress
         // w is what was sent whole before
         ensures sent { (w : List Placed) → HasSent w self.old
@@ -81,6 +83,10 @@ impl Router {
         ensures last { OnMoved result ((p : Placed) → pending_of self.old ≡ Some p
             → ((pending_of self.new ≡ None)
             ↔ IsLastLane (lane_count self.old) (turn_of self.old) p)) }
+        // That put is one event at the end of the run.
+        ensures event { OnMoved result ((w : List Placed) (p : Placed) → pending_of self.old ≡ Some p
+            → run_of (sent_whole w (pending_of self.old) (pending_of self.new)) self.new
+            ≡ run_of w self.old ++ put (turn_of self.old) (One p) ∷ []) }
 
         ensures blocked { IfBlocked result (λ k. (k ≡ turn_of self.old) × HasRefused self.old self.new k) }
     {
@@ -90,6 +96,7 @@ impl Router {
         }
     }
 
+    #[inline(always)]
     fn put_pending(&mut self, placed: Placed) -> Progress
         requires { pending_of self.old ≡ Some placed }
         ensures sent { (w : List Placed) → HasSent w self.old
@@ -103,6 +110,9 @@ impl Router {
             → (placed ≡ p) × (turn_of self.new ≡ turn_of self.old + 1)) }
         ensures last { OnMoved result ((pending_of self.new ≡ None)
             ↔ IsLastLane (lane_count self.old) (turn_of self.old) placed) }
+        ensures event { OnMoved result ((w : List Placed)
+            → run_of (sent_whole w (pending_of self.old) (pending_of self.new)) self.new
+            ≡ run_of w self.old ++ put (turn_of self.old) (One placed) ∷ []) }
         ensures blocked { IfBlocked result (λ k. (k ≡ turn_of self.old) × HasRefused self.old self.new k) }
     {
         if !put_on(&mut self.senders, self.next, placed) {
@@ -115,70 +125,67 @@ impl Router {
         Progress::Moved
     }
 
-    /// Puts records of the batch on the first lane that lacks some: the next of those that it lacks, and on a small
-    /// lane no more than it has half the room for.
-    pub fn send_step(&mut self, batch: &mut Batch) -> Progress
+    /// Offers a record and takes its steps, until it was sent whole or a lane is full. `Idle` and `Blocked` are what the
+    /// last of these steps answers.
+    #[inline(always)]
+    pub fn send(&mut self, placed: Placed) -> Progress
         requires idle { pending_of self.old ≡ None }
         requires unmarked { marked_of self.old ≡ 0 }
-        requires lanes { batch_lanes batch.old ≡ lane_count self.old }
-        // w is what was sent whole before the batch
-        ensures sending { (w : List Placed) → IsSending w batch.old self.old → IsSending w batch.new self.new }
-        ensures begun { (w : List Placed) → IsUnsent batch.old → HasSent w self.old → IsSending w batch.old self.old }
-        ensures sent { OnIdle result ((w us : List Placed) → HasStaged us batch.old → IsSending w batch.old self.old
-            → HasSent (w ++ us) self.new) }
-        ensures portions { HasSamePortions batch.old batch.new }
-        ensures pending { pending_of self.new ≡ None }
-        ensures marked { marked_of self.new ≡ 0 }
+        // w is what was sent whole before
+        ensures sent { (w : List Placed) → HasSent w self.old
+            → HasSent (sent_whole w (Some placed) (pending_of self.new)) self.new }
         ensures lanes { IsOnLanes self.old self.new }
+        ensures marked { marked_of self.new ≡ 0 }
 
-        ensures idle { (result ≡ Progress.Idle) ↔ IsSentWhole batch.old }
-        ensures put { OnMoved result (SendsNext batch.old batch.new self.old self.new) }
-        ensures blocked { IfBlocked result (λ k. LacksRoom batch.old self.old self.new k) }
-        ensures keeps { result ≢ Progress.Moved → IsUnchanged self.old self.new × IsAsFarSent batch.old batch.new }
+        ensures stopped { result ≢ Progress.Moved }
+        ensures idle { OnIdle result (pending_of self.new ≡ None) }
+        ensures all_events { OnIdle result ((w : List Placed) → run_of (w ++ placed ∷ []) self.new
+            ≡ run_of w self.old ++ map put_event (sending_of (lane_count self.old) placed)) }
+
+        ensures pending { IfBlocked result (λ _. pending_of self.new ≡ Some placed) }
+        ensures turn { IfBlocked result (λ k. (k ≡ turn_of self.new) × IsStuck self.new k) }
+        ensures first_events { IfBlocked result (λ k. (w : List Placed) → run_of w self.new
+            ≡ run_of w self.old ++ map put_event (begun (lane_count self.old) (Some placed) k)) }
     {
-        batch.turn_on();
-        if batch.turn() == self.senders.len() {
-            return Progress::Idle;
-        }
-        match self.put_records(batch) {
-            Some(count) => {
-                batch.count_sent(count);
-                Progress::Moved
+        let count = self.senders.len();
+        let mut lane = first_lane(placed.what, count);
+        'lanes: loop {
+            if !self.put_on_lane(lane, placed) {
+                self.pending = Some(placed);
+                self.next = lane;
+                return Progress::Blocked(lane as u32);
             }
-            None => Progress::Blocked(batch.turn() as u32),
+            match lane_after(placed.what, lane, count) {
+                Some(next) => lane = next,
+                None => return Progress::Idle,
+            }
         }
     }
 
-    // Puts the next parcels of the lane whose turn it is, and tells how many; none where that lane had no room for
-    // them.
-    fn put_records(&mut self, batch: &Batch) -> Option<usize>
-        requires idle { pending_of self.old ≡ None }
+    // Puts the record on the lane; false where the lane was full.
+    #[inline(always)]
+    fn put_on_lane(&mut self, lane: usize, placed: Placed) -> bool
+        requires within { lane < lane_count self.old }
         requires unmarked { marked_of self.old ≡ 0 }
-        requires lanes { batch_lanes batch.now ≡ lane_count self.old }
-        requires lacks { unsent_parcels batch.now (batch_turn batch.now) ≢ [] }
-        requires within { batch_turn batch.now < batch_lanes batch.now }
-        ensures put { IfSome result (λ count. puts_of self.new ≡ with_puts (puts_of self.old) (batch_turn batch.now)
-            (map One (all_records (take count (unsent_parcels batch.now (batch_turn batch.now)))))) }
-        ensures count { IfSome result (λ count. (1 ≤ count)
-            × (count ≤ length (unsent_parcels batch.now (batch_turn batch.now)))) }
-        ensures refused { IfNone result (IsUnchanged self.old self.new) }
-        ensures few { IfNone result
-            (room_on self.new (batch_turn batch.now) < length (unsent_parcels batch.now (batch_turn batch.now))) }
-        ensures held { IfNone result (1 ≤ capacity_on self.old (batch_turn batch.now)
-            → room_on self.new (batch_turn batch.now) < capacity_on self.old (batch_turn batch.now)) }
-        ensures pending { pending_of self.new ≡ pending_of self.old }
-        ensures marked { marked_of self.new ≡ 0 }
+        ensures puts { puts_of self.new
+            ≡ (if result then with_put (puts_of self.old) lane (One placed) else puts_of self.old) }
         ensures lanes { IsOnLanes self.old self.new }
+        ensures pending { pending_of self.new ≡ pending_of self.old }
+        ensures turn { turn_of self.new ≡ turn_of self.old }
+        ensures marked { marked_of self.new ≡ 0 }
+        ensures stuck { IsFalse result → IsStuck self.new lane }
     {
-        let lane = batch.turn();
-        // half of the lane at most, so that one half is filled while the other is taken
-        let most = (self.senders[lane].capacity() / 2).max(1);
-        let parcels = batch.next(most);
-        if put_values_on(&mut self.senders, lane, &parcels) {
-            Some(parcels.len())
-        } else {
-            None
-        }
+        put_on(&mut self.senders, lane, placed)
+    }
+
+    /// Shows each taker all that was put on its lane.
+    pub fn flush(&mut self)
+        ensures shown { (k : ℕ) → k < lane_count self.new → shown_on self.new k ≡ put_on (puts_of self.new) k }
+        ensures unchanged { IsUnchanged self.old self.new }
+        ensures lanes { IsOnLanes self.old self.new }
+        ensures sent { (w : List Placed) → HasSent w self.old → HasSent w self.new }
+    {
+        flush_all(&mut self.senders);
     }
 
     /// Puts the mark on the next lane that has none.
@@ -194,6 +201,9 @@ impl Router {
         ensures put { OnMoved result (puts_of self.new
             ≡ with_put (puts_of self.old) (marked_of self.old) Finish) }
         ensures marked { OnMoved result (marked_of self.new ≡ marked_of self.old + 1) }
+        // That put is one event at the end of the run.
+        ensures event { OnMoved result ((w : List Placed)
+            → run_of w self.new ≡ run_of w self.old ++ put (marked_of self.old) Finish ∷ []) }
         ensures blocked { IfBlocked result (λ k. (k ≡ marked_of self.old) × HasRefused self.old self.new k) }
     {
         if self.marked == self.senders.len() {

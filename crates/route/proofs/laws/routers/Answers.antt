@@ -1,6 +1,4 @@
-use Rattle.std.proofs.Common.{◌≡◌, ℕ, [], List, ⊎_elim, sym, ap, subst, ◌∙◌, append-nil, vec_len, true, arith}
-use Rattle.std.proofs.lemmas.List.{length-map}
-use Rattle.lane.specs.Records.{put_records}
+use Rattle.std.proofs.Common.{◌≡◌, ℕ, [], List, ⊎_elim, sym, ap, subst, ◌∙◌, append-nil, true, arith}
 use Rattle.trace.specs.declared.records.Placed.{Placed}
 use Rattle.trace.specs.Shares.{goes_placed}
 use Rattle.route.specs.declared.routing.Router.{Router}
@@ -9,10 +7,8 @@ use Rattle.route.specs.Routed.{IsRising, in_hand}
 use Rattle.route.specs.Routers.{puts_of, lane_count, pending_of, turn_of, marked_of, HasSent}
 use Rattle.route.proofs.Headline.{takes_share}
 use Rattle.route.proofs.LaneShares.{IsUnderWay, Outcome, outcome, routes_of, has_routed, list_of}
+use Rattle.route.proofs.RouterRuns.{counted, router_run, router_puts, router_still}
 use Rattle.route.proofs.laws.routers.Goals as goal
-
-counted : (r : Router) → vec_len r.senders ≡ lane_count r
-counted r = omega (arith, length-map r.senders.items put_records, r.senders.ok.0)
 
 under_way : (r : Router) (w : List Placed) → HasSent w r → IsRising (in_hand w (pending_of r)) → IsUnderWay (lane_count r) (put_on (puts_of r)) w (turn_of r) (pending_of r) (marked_of r)
 under_way r w sent rising = record {
@@ -47,3 +43,12 @@ returns-clause-headline c = λ r k w u taken sent rising routed l front. takes_s
 
 pub returns-clause-marks : goal.returns-clause-marks
 returns-clause-marks c = λ r k w u sent rising routed l h. (routes_of (lane_count r) (put_on (puts_of r)) w u (pending_of r) (of_router r w sent rising) routed).marks k l h
+
+pub returns-clause-run : goal.returns-clause-run
+returns-clause-run c = router_run
+
+pub returns-clause-puts : goal.returns-clause-puts
+returns-clause-puts c = router_puts
+
+pub returns-clause-still : goal.returns-clause-still
+returns-clause-still c = router_still

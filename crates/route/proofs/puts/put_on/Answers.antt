@@ -1,16 +1,14 @@
-use Rattle.std.proofs.Common.{rules, [], ◌∷◌, ap}
+use Rattle.std.proofs.Common.{rules}
 use Rattle.lane.specs.declared.item.Item.TheVariants.{One}
-use Rattle.lane.specs.Lanes.{lane_of, put_of, capacity_of}
-use Rattle.lane.specs.Records.{opened}
-use Rattle.lane.proofs.Records.{opened_one_more}
-use Rattle.route.proofs.Lists.{map-set_like, puts_after, no_room, on_true, on_false, unmarked_lane, full_lane}
+use Rattle.lane.specs.Lanes.{lane_of, capacity_of}
+use Rattle.route.proofs.Lists.{map-set_like, puts_after, no_room, on_true, on_false}
 use Rattle.route.proofs.puts.put_on.Goals as goal
 
 pub returns-clause-puts : goal.returns-clause-puts
 returns-clause-puts c =
-    puts_after c.args.senders.now.items c.args.lane _ c.put.new.self (One c.args.placed ∷ []) c.is_ok.result (search rules) c.index_mut.ensures.value
-    (λ t. opened_one_more (put_of c.index_mut.result.now) (put_of c.put.new.self) c.new.result c.args.placed c.new.ensures (on_true _ c.put.result c.is_ok.result c.is_ok.ensures.value c.put.ensures.ok t))
-    (λ f. ap opened (on_false _ _ c.put.result c.is_ok.result c.is_ok.ensures.value c.put.ensures.full (λ x h. h.1) f))
+    puts_after c.args.senders.now.items c.args.lane _ c.put.new.self (One c.args.placed) c.is_ok.result (search rules) c.index_mut.ensures.value
+    (on_true _ c.put.result c.is_ok.result c.is_ok.ensures.value c.put.ensures.ok)
+    (on_false _ _ c.put.result c.is_ok.result c.is_ok.ensures.value c.put.ensures.full (λ x h. h.1))
 
 pub returns-clause-lanes : goal.returns-clause-lanes
 returns-clause-lanes c = map-set_like lane_of _ _ _ _ c.index_mut.ensures.value c.put.ensures.lane.0
@@ -20,9 +18,3 @@ returns-clause-capacities c = map-set_like capacity_of _ _ _ _ c.index_mut.ensur
 
 pub returns-clause-no_room : goal.returns-clause-no_room
 returns-clause-no_room c h = no_room c.args.senders.now.items c.args.lane _ c.put.new.self (search rules) c.index_mut.ensures.value (on_false _ _ c.put.result c.is_ok.result c.is_ok.ensures.value c.put.ensures.no_room (λ x e. e) h)
-
-pub put-requires-after_bounds : goal.put-requires-after_bounds
-put-requires-after_bounds c lifetimes = unmarked_lane c.args.senders.now.items c.args.lane _ (search rules) c.index_mut.ensures.value c.requires.unmarked
-
-pub returns-clause-full : goal.returns-clause-full
-returns-clause-full c h = full_lane c.args.senders.now.items c.args.lane _ (search rules) c.index_mut.ensures.value (on_false _ _ c.put.result c.is_ok.result c.is_ok.ensures.value c.put.ensures.full (λ x e. e.2) h)
