@@ -10,9 +10,8 @@ use Rattle.trace.specs.Accesses.{RaceAt}
 use Rattle.trace.specs.Shares.{goes, goes_placed, share}
 use Rattle.trace.specs.Parts.{numbered, numbered_at, records_of, races_of_part}
 use Rattle.trace.proofs.ShareLemmas.{share-append}
-use Rattle.route.specs.declared.batch.Batch.{Batch}
 use Rattle.route.specs.declared.routing.Router.{Router}
-use Rattle.detect.specs.Sent.{HasSentBut}
+use Rattle.route.specs.Routers.{HasSent}
 
 -- one record more, of which the part has this
 pub records_of-push : (part : Part) (u : List Placed) (p : Placed) (o : Option Placed) → option_to_list o ≡ records_of part (p ∷ []) → records_of part (u ++ p ∷ []) ≡ records_of part u ++ option_to_list o
@@ -80,8 +79,8 @@ races_of-whole part (r ∷ rs) one =
 
 -- ---- what was sent
 
-pub sent_none : (part : Part) (b : Batch) (r : Router) (w : List Placed) (p : Placed) (o : Option Placed) → o ≡ None → option_to_list o ≡ records_of part (p ∷ []) → HasSentBut b (records_of part w) r → HasSentBut b (records_of part (w ++ p ∷ [])) r
-sent_none part b r w p o none e h = let P : List Placed → Type 0 = λ l. HasSentBut b l r in subst P (sym (records_of-none part w p o none e)) h
+pub sent_none : (part : Part) (r : Router) (w : List Placed) (p : Placed) (o : Option Placed) → o ≡ None → option_to_list o ≡ records_of part (p ∷ []) → HasSent (records_of part w) r → HasSent (records_of part (w ++ p ∷ [])) r
+sent_none part r w p o none e h = let P : List Placed → Type 0 = λ l. HasSent l r in subst P (sym (records_of-none part w p o none e)) h
 
-pub sent_some : (part : Part) (b : Batch) (r : Router) (w : List Placed) (p q : Placed) (o : Option Placed) → o ≡ Some q → option_to_list o ≡ records_of part (p ∷ []) → HasSentBut b (records_of part w ++ q ∷ []) r → HasSentBut b (records_of part (w ++ p ∷ [])) r
-sent_some part b r w p q o some e h = let P : List Placed → Type 0 = λ l. HasSentBut b l r in subst P (sym (records_of-some part w p q o some e)) h
+pub sent_some : (part : Part) (r : Router) (w : List Placed) (p q : Placed) (o : Option Placed) → o ≡ Some q → option_to_list o ≡ records_of part (p ∷ []) → HasSent (records_of part w ++ q ∷ []) r → HasSent (records_of part (w ++ p ∷ [])) r
+sent_some part r w p q o some e h = let P : List Placed → Type 0 = λ l. HasSent l r in subst P (sym (records_of-some part w p q o some e)) h

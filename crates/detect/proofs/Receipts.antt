@@ -1,24 +1,30 @@
 -- One lane's receipt compared.
-use Rattle.std.proofs.Common.{◌≡◌, ℕ, ◌<◌, true, List, [], length, map, set, get_or, sym, ap, ◌∙◌, arith}
-use Rattle.std.proofs.lemmas.List.{length-map, length-set, get_or-map}
+use Rattle.std.proofs.Common.{◌≡◌, ℕ, zero, suc, ◌<◌, true, List, [], ◌∷◌, ◌++◌, length, length-append, map, set, get_or, sym, ap, ◌∙◌, arith}
+use Rattle.std.proofs.lemmas.List.{length-map, length-set, get_or-map, map-append}
 use Rattle.std.proofs.Math.Seq.{map-set_same}
 use Rattle.lane.specs.declared.item.Item.{Item}
-use Rattle.lane.specs.Items.{has_mark}
-use Rattle.lane.specs.Lanes.{taker_lane, end_lane, all_put}
-use Rattle.lane.specs.Records.{taken_records}
+use Rattle.lane.specs.Items.{has_mark, IsBeginning}
+use Rattle.lane.specs.Lanes.{taker_lane, taken_of, end_lane, all_put}
 use Rattle.shard.specs.declared.working.Worked.{Worked}
 use Rattle.detect.specs.Closing.{IsSameWork, IsSettled}
 
--- what f says of an element of the one list, g says of the element of the other at its place
-pub at_same : {X Y Z : Type 0} (f : X → Z) (g : Y → Z) (xs : List X) (ys : List Y) (k : ℕ) (x : X) (y : Y) → map f xs ≡ map g ys → k < length xs → x ≡ get_or xs k x → y ≡ get_or ys k y → f x ≡ g y
-at_same f g xs ys k x y same lt at_x at_y =
-    let count : length xs ≡ length ys = sym (length-map xs f) ∙ ap length same ∙ length-map ys g in
-    ap f at_x ∙ sym (get_or-map f xs k x (f x) lt) ∙ ap (λ zs. get_or zs k (f x)) same ∙ get_or-map g ys k y (f x) (omega (arith, lt, count)) ∙ sym (ap g at_y)
+-- a list in front of another, which are the same as others, or are mapped
+pub front_same : {X : Type 0} (front whole front' whole' : List X) → front' ≡ front → whole' ≡ whole → IsBeginning front whole → IsBeginning front' whole'
+front_same front whole front' whole' is is' (rest, e) = (rest, is' ∙ e ∙ ap (λ l. l ++ rest) (sym is))
 
-pub within_same : {X Y Z : Type 0} (f : X → Z) (g : Y → Z) (xs : List X) (ys : List Y) (k : ℕ) → map f xs ≡ map g ys → k < length ys → k < length xs
-within_same f g xs ys k same lt =
-    let count : length xs ≡ length ys = sym (length-map xs f) ∙ ap length same ∙ length-map ys g in
-    omega (arith, lt, count)
+pub front_map : {X Y : Type 0} (f : X → Y) (front whole : List X) → IsBeginning front whole → IsBeginning (map f front) (map f whole)
+front_map f front whole (rest, e) = (map f rest, ap (map f) e ∙ map-append f front rest)
+
+-- what f says of an element of the one list, g says of the element of the other at its place
+pub at_front : {X Y Z : Type 0} (f : X → Z) (g : Y → Z) (xs : List X) (ys : List Y) (k : ℕ) (x : X) (y : Y) → IsBeginning (map f xs) (map g ys) → k < length xs → x ≡ get_or xs k x → y ≡ get_or ys k y → f x ≡ g y
+at_front f g [] ys k x y h lt at_x at_y = absurd (omega (arith, lt))
+at_front f g (a ∷ xs) [] k x y (rest, e) lt at_x at_y = absurd cc
+at_front {Z} f g (a ∷ xs) (b ∷ ys) zero x y (rest, e) lt at_x at_y = let head : g b ≡ f a = cc in ap f at_x ∙ sym head ∙ sym (ap g at_y)
+at_front {Z} f g (a ∷ xs) (b ∷ ys) (suc k) x y (rest, e) lt at_x at_y =
+    let tail : map g ys ≡ map f xs ++ rest = cc in at_front f g xs ys k x y (rest, tail) (omega (arith, lt)) at_x at_y
+
+pub within_front : {X Y Z : Type 0} (f : X → Z) (g : Y → Z) (xs : List X) (ys : List Y) (k : ℕ) → IsBeginning (map f xs) (map g ys) → k < length xs → k < length ys
+within_front f g xs ys k (rest, e) lt = omega (arith, lt, length-map xs f, length-map ys g, ap length e, length-append (map f xs) rest)
 
 pub at_map : {X Z : Type 0} (f : X → Z) (xs : List X) (k : ℕ) (x : X) (e : Z) → k < length xs → x ≡ get_or xs k x → get_or (map f xs) k e ≡ f x
 at_map f xs k x e lt at = get_or-map f xs k x e lt ∙ sym (ap f at)
@@ -31,11 +37,11 @@ settled_at taken taken' puts puts' k t t' e e' same_taken same_puts at_t at_e is
 
 module _ {S H : Type 0} where
   -- one worker's ends were compared
-  pub same_set : (all now : List (Worked S H)) (k : ℕ) (w v : Worked S H) → w ≡ get_or now k w → taken_records v.taker ≡ taken_records w.taker → taker_lane v.taker ≡ taker_lane w.taker → all_put v.back ≡ all_put w.back → end_lane v.back ≡ end_lane w.back → v.shard ≡ w.shard
+  pub same_set : (all now : List (Worked S H)) (k : ℕ) (w v : Worked S H) → w ≡ get_or now k w → taken_of v.taker ≡ taken_of w.taker → taker_lane v.taker ≡ taker_lane w.taker → all_put v.back ≡ all_put w.back → end_lane v.back ≡ end_lane w.back → v.shard ≡ w.shard
       → IsSameWork all now → IsSameWork all (set now k v)
   same_set all now k w v at taken taker_lane_is told end_lane_is shard h = record {
     count = length-set now k v ∙ h.count;
-    taken = map-set_same (λ (x : Worked S H). taken_records x.taker) now k v w (taken ∙ ap (λ (x : Worked S H). taken_records x.taker) at) ∙ h.taken;
+    taken = map-set_same (λ (x : Worked S H). taken_of x.taker) now k v w (taken ∙ ap (λ (x : Worked S H). taken_of x.taker) at) ∙ h.taken;
     told = map-set_same (λ (x : Worked S H). all_put x.back) now k v w (told ∙ ap (λ (x : Worked S H). all_put x.back) at) ∙ h.told;
     counts = map-set_same (λ (x : Worked S H). x.shard.taken) now k v w (ap (λ s. s.taken) shard ∙ ap (λ (x : Worked S H). x.shard.taken) at) ∙ h.counts;
     to_shards = map-set_same (λ (x : Worked S H). taker_lane x.taker) now k v w (taker_lane_is ∙ ap (λ (x : Worked S H). taker_lane x.taker) at) ∙ h.to_shards;

@@ -1,10 +1,61 @@
 -- Sending one record, step by step.
-use Rattle.std.proofs.Common.{refl, ◌∙◌}
+use Rattle.std.proofs.Common.{◌≡◌, List, [], ◌∷◌, ◌++◌, Option, Some, None, refl, sym, subst, ◌∙◌}
+use Rattle.trace.specs.declared.records.Placed.{Placed}
+use Rattle.trace.specs.declared.records.Part.{Part}
+use Rattle.trace.specs.Parts.{records_of}
 use Rattle.route.specs.declared.routing.Router.{Router}
-use Rattle.route.specs.Routers.{IsOnLanes}
+use Rattle.route.specs.Sending.{sent_whole}
+use Rattle.route.specs.Routers.{HasSent, IsOnLanes}
+use Rattle.detect.specs.declared.gathering.Gathering.{Gathering}
+use Rattle.detect.specs.declared.sending.Sending.{Sending}
+use Rattle.detect.specs.LanesBack.{IsFurther}
+use Rattle.detect.specs.Sent.{GoesOn}
+use Rattle.detect.proofs.LanesBack.{further_refl, further_trans}
 
 pub on_lanes_refl : (r : Router) → IsOnLanes r r
 on_lanes_refl r = record { lanes = refl; capacities = refl; count = refl }
 
 pub on_lanes_trans : (a b c : Router) → IsOnLanes a b → IsOnLanes b c → IsOnLanes a c
 on_lanes_trans a b c h k = record { lanes = k.lanes ∙ h.lanes; capacities = k.capacities ∙ h.capacities; count = k.count ∙ h.count }
+
+pub goes_on_refl : (s : Sending) → GoesOn s s
+goes_on_refl s = record { part = refl; lanes = on_lanes_refl s.router; further = further_refl s.gathering }
+
+pub goes_on_trans : (a b c : Sending) → GoesOn a b → GoesOn b c → GoesOn a c
+goes_on_trans a b c h k = record {
+  part = k.part ∙ h.part;
+  lanes = on_lanes_trans a.router b.router c.router h.lanes k.lanes;
+  further = further_trans a.gathering b.gathering c.gathering h.further k.further;
+}
+
+-- the router alone did something
+pub goes_on_router : (s : Sending) (r : Router) → IsOnLanes s.router r → GoesOn s (record s { router = r })
+goes_on_router s r on = record { part = refl; lanes = on; further = further_refl s.gathering }
+
+-- while the record is pending, a step more sends it whole or leaves it pending
+pub sent_step : (p : Placed) (w : List Placed) (first before after : Option Placed) (r : Router) → first ≡ Some p → ((q : Placed) → before ≡ Some q → first ≡ Some q) → (before ≡ None → ⊥)
+    → HasSent (sent_whole (sent_whole w (Some p) before) before after) r → HasSent (sent_whole w (Some p) after) r
+sent_step p w first None after r is same pending h = absurd (pending refl)
+sent_step p w first (Some q) after r is same pending h =
+    let one : q ≡ p = let e = sym (same q refl) ∙ is in cc in
+    let P : Placed → Type 0 = λ x. HasSent (sent_whole w (Some x) after) r in
+    subst P one h
+
+-- where nothing is left to put, the record was sent whole
+pub sent_idle : (p : Placed) (w : List Placed) (before after : Option Placed) (r : Router) → before ≡ None → HasSent (sent_whole (sent_whole w (Some p) before) before after) r → HasSent (w ++ p ∷ []) r
+sent_idle p w None after r idle h = h
+sent_idle p w (Some q) after r idle h = absurd cc
+
+-- the record was sent whole, or is pending still
+pub sent_whole-all : (w : List Placed) (p : Placed) (after : Option Placed) (r : Router) → after ≡ None → HasSent (sent_whole w (Some p) after) r → HasSent (w ++ p ∷ []) r
+sent_whole-all w p after r none h = let P : Option Placed → Type 0 = λ o. HasSent (sent_whole w (Some p) o) r in subst P none h
+
+pub sent_whole-none : (w : List Placed) (p : Placed) (after : Option Placed) (r : Router) → after ≡ Some p → HasSent (sent_whole w (Some p) after) r → HasSent w r
+sent_whole-none w p after r some h = let P : Option Placed → Type 0 = λ o. HasSent (sent_whole w (Some p) o) r in subst P some h
+
+-- a record more of the part, which is the same
+pub same_part : (old now : Sending) (r : Router) (w : List Placed) (p : Placed) → GoesOn old now
+    → (HasSent (records_of now.part w) now.router → HasSent (records_of now.part (w ++ p ∷ [])) r) → HasSent (records_of old.part w) now.router → HasSent (records_of old.part (w ++ p ∷ [])) r
+same_part old now r w p on sent h =
+    let P : Part → Type 0 = λ x. HasSent (records_of x w) now.router → HasSent (records_of x (w ++ p ∷ [])) r in
+    subst P on.part sent h

@@ -3,12 +3,11 @@ use Rattle.std.proofs.Common.{◌≡◌, ℕ, ◌+◌, false, List, [], ◌∷�
 use Rattle.std.specs.List.{All, AllByRecursion}
 use Rattle.std.proofs.lemmas.List.{map-append}
 use Rattle.std.proofs.lemmas.List.Elements.{All-push, All-nil}
+use Rattle.trace.specs.declared.records.Placed.{Placed}
 use Rattle.trace.proofs.Lists.{all-push}
 use Rattle.lane.specs.declared.sender.Sender.{Sender}
 use Rattle.lane.specs.declared.taker.Taker.{Taker}
-use Rattle.lane.specs.declared.parcel.Parcel.{Parcel}
-use Rattle.lane.specs.Lanes.{lane_of, taker_lane, taken_of}
-use Rattle.lane.specs.Records.{put_records}
+use Rattle.lane.specs.Lanes.{lane_of, put_of, taker_lane, taken_of}
 use Rattle.lane.specs.declared.item.Item.{Item}
 use Rattle.lane.specs.Items.{records}
 use Rattle.shard.specs.declared.Back.{Back}
@@ -43,7 +42,7 @@ module _ {S H : Type 0} where
   pub tied_none : (ends : Ends S H) → ends.senders.items ≡ [] → ends.jobs.items ≡ [] → ends.backs.items ≡ [] → IsTied 0 ends
   tied_none ends senders jobs backs =
       let P : List (Job S H) → Type 0 = AllFresh in
-      let Q : List (Sender Parcel) → Type 0 = All (λ s. put_records s ≡ []) in
+      let Q : List (Sender Placed) → Type 0 = All (λ s. put_of s ≡ []) in
       let R : List (Taker Back) → Type 0 = AllByRecursion (λ t. taken_of t ≡ []) in
       record {
         senders = ap length senders;
@@ -52,16 +51,16 @@ module _ {S H : Type 0} where
         to_shards_are = ap to_shards jobs ∙ sym (ap (map lane_of) senders);
         from_shards_are = ap from_shards jobs ∙ sym (ap (map taker_lane) backs);
         new = subst P (sym jobs) tt;
-        none_put = subst Q (sym senders) (All-nil (λ (s : Sender Parcel). put_records s ≡ []));
+        none_put = subst Q (sym senders) (All-nil (λ (s : Sender Placed). put_of s ≡ []));
         none_taken = subst R (sym backs) tt;
       }
 
-  pub tied_more : (n : ℕ) (old new : Ends S H) (sender : Sender Parcel) (job : Job S H) (back : Taker Back)
+  pub tied_more : (n : ℕ) (old new : Ends S H) (sender : Sender Placed) (job : Job S H) (back : Taker Back)
       → new.senders.items ≡ old.senders.items ++ sender ∷ [] → new.jobs.items ≡ old.jobs.items ++ job ∷ [] → new.backs.items ≡ old.backs.items ++ back ∷ []
       → IsBetween sender back job → IsTied n old → IsTied (n + 1) new
   tied_more n old new sender job back senders jobs backs between h =
       let P : List (Job S H) → Type 0 = AllFresh in
-      let Q : List (Sender Parcel) → Type 0 = All (λ s. put_records s ≡ []) in
+      let Q : List (Sender Placed) → Type 0 = All (λ s. put_of s ≡ []) in
       let R : List (Taker Back) → Type 0 = AllByRecursion (λ t. taken_of t ≡ []) in
       record {
         senders = one_more old.senders.items new.senders.items sender n senders h.senders;
@@ -70,6 +69,6 @@ module _ {S H : Type 0} where
         to_shards_are = same_more (λ (j : Job S H). taker_lane j.taker) lane_of old.jobs.items new.jobs.items job old.senders.items new.senders.items sender jobs senders between.to_shard h.to_shards_are;
         from_shards_are = same_more (λ (j : Job S H). lane_of j.back) taker_lane old.jobs.items new.jobs.items job old.backs.items new.backs.items back jobs backs between.from_shard h.from_shards_are;
         new = subst P (sym jobs) (all-push IsFreshJob old.jobs.items job h.new between.new);
-        none_put = subst Q (sym senders) (All-push (λ (s : Sender Parcel). put_records s ≡ []) old.senders.items sender h.none_put between.none_put);
+        none_put = subst Q (sym senders) (All-push (λ (s : Sender Placed). put_of s ≡ []) old.senders.items sender h.none_put between.none_put);
         none_taken = subst R (sym backs) (all-push (λ (t : Taker Back). taken_of t ≡ []) old.backs.items back h.none_taken between.none_taken);
       }

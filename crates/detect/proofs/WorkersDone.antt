@@ -2,10 +2,10 @@
 use Rattle.std.proofs.Common.{◌≡◌, ℕ, List, [], ◌∷◌, ◌++◌, map, refl, sym, ap, ap₂, subst, ◌∙◌, append_assoc}
 use Rattle.std.proofs.lemmas.List.{map-append, append-nil}
 use Rattle.std.specs.declared.thread.PromisedHandle.{PromisedHandle}
+use Rattle.trace.specs.declared.records.Placed.{Placed}
 use Rattle.lane.specs.declared.taker.Taker.{Taker}
-use Rattle.lane.specs.declared.parcel.Parcel.{Parcel}
-use Rattle.lane.specs.Lanes.{LaneId}
-use Rattle.lane.specs.Records.{taken_records}
+use Rattle.lane.specs.Items.{IsBeginning}
+use Rattle.lane.specs.Lanes.{LaneId, taken_of}
 use Rattle.shard.specs.declared.working.Worked.{Worked}
 use Rattle.shard.specs.Worked.{DidWork}
 use Rattle.detect.specs.declared.jobs.Job.{Job}
@@ -52,6 +52,11 @@ module _ {S H : Type 0} where
       is ∙ ap₂ (λ ns n. ns ++ n ∷ []) all one ∙ sym (map-append (λ (x : Worked S H). x.shard.taken) done (w ∷ []))
 
   -- the lane of one worker more
-  pub lanes_more : (done : List (Worked S H)) (w : Worked S H) (lanes later : List (Taker Parcel)) (lane : Taker Parcel) → later ≡ lanes ++ lane ∷ [] → lane ≡ w.taker → map taken_records lanes ≡ taken_by done → map taken_records later ≡ taken_by (done ++ w ∷ [])
+  pub lanes_more : (done : List (Worked S H)) (w : Worked S H) (lanes later : List (Taker Placed)) (lane : Taker Placed) → later ≡ lanes ++ lane ∷ [] → lane ≡ w.taker → map taken_of lanes ≡ taken_by done → map taken_of later ≡ taken_by (done ++ w ∷ [])
   lanes_more done w lanes later lane is one all =
-      ap (map taken_records) is ∙ map-append taken_records lanes (lane ∷ []) ∙ ap₂ (λ ls l. ls ++ l ∷ []) all (ap taken_records one) ∙ sym (map-append (λ (x : Worked S H). taken_records x.taker) done (w ∷ []))
+      ap (map taken_of) is ∙ map-append taken_of lanes (lane ∷ []) ∙ ap₂ (λ ls l. ls ++ l ∷ []) all (ap taken_of one) ∙ sym (map-append (λ (x : Worked S H). taken_of x.taker) done (w ∷ []))
+
+  -- workers were started for the first jobs
+  pub started_first : (hs : List (PromisedHandle (Worked S H) WorkOf)) (done rest all : List (Job S H)) → done ++ rest ≡ all → map handle_lanes hs ≡ map job_lanes done → IsBeginning (map handle_lanes hs) (map job_lanes all)
+  started_first hs done rest all split lanes =
+      (map job_lanes rest, ap (map job_lanes) (sym split) ∙ map-append job_lanes done rest ∙ ap (λ l. l ++ map job_lanes rest) (sym lanes))

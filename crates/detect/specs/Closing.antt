@@ -3,15 +3,14 @@ use Rattle.std.specs.Prelude.{◌≡◌, ℕ, true, List, [], length, map, slice
 use Rattle.trace.specs.declared.records.Placed.{Placed}
 use Rattle.lane.specs.declared.item.Item.{Item}
 use Rattle.lane.specs.Items.{has_mark}
-use Rattle.lane.specs.Lanes.{LaneId, taker_lane, end_lane, all_put}
-use Rattle.lane.specs.Records.{taken_records}
+use Rattle.lane.specs.Lanes.{LaneId, taker_lane, taken_of, end_lane, all_put}
 use Rattle.shard.specs.declared.Back.{Back}
 use Rattle.shard.specs.declared.working.Worked.{Worked}
 
 module _ {S H : Type 0} where
   -- what the workers took
   abbrev pub taken_by : List (Worked S H) → List (List (Item Placed))
-  taken_by workers = map (λ w. taken_records w.taker) workers
+  taken_by workers = map (λ w. taken_of w.taker) workers
 
   -- what they put on the lanes back
   abbrev pub told_by : List (Worked S H) → List (List (Item Back))

@@ -6,6 +6,7 @@ use Rattle.trace.specs.Traces.{placed}
 use Rattle.trace.specs.Parts.{records_of}
 use Rattle.trace.specs.Devices.{Change}
 use Rattle.trace.specs.Endings.{EndsReading, IsWantOfMemoryOrThread}
+use Rattle.lane.specs.Items.{IsBeginning}
 use Rattle.lane.specs.Lanes.{LaneId}
 use Rattle.route.specs.Routers.{lanes_of, lane_count, pending_of, marked_of, HasSent}
 use Rattle.detect.specs.declared.closing.Done.{Done}
@@ -17,24 +18,24 @@ use Rattle.detect.specs.Closing.{taker_lanes, told_lanes}
 module _ {S H : Type 0} where
   -- the records u were sent and the marks after them; n workers have done their work, and all they told came
   pub record IsFinished (n : ℕ) (done : Done S H) (u : List Placed) : Type 0 where
-    pub sent : HasSent u done.router
-    pub count : lane_count done.router ≡ n
-    pub idle : pending_of done.router ≡ None
-    pub marked : marked_of done.router ≡ n
+    pub sent : HasSent u done.sending.router
+    pub count : lane_count done.sending.router ≡ n
+    pub idle : pending_of done.sending.router ≡ None
+    pub marked : marked_of done.sending.router ≡ n
     pub lanes : List (LaneId × LaneId)
-    pub to_shards : map (λ l. l.0) lanes ≡ lanes_of done.router
-    pub from_shards : map (λ l. l.1) lanes ≡ back_lanes done.gathering
+    pub to_shards : map (λ l. l.0) lanes ≡ lanes_of done.sending.router
+    pub from_shards : map (λ l. l.1) lanes ≡ back_lanes done.sending.gathering
     pub did : AllDid lanes done.workers.items
     pub workers : length done.workers.items ≡ n
-    pub ended : (k : ℕ) → k < n → HasBackMark done.gathering k
-    pub backs : length (given_by done.gathering.backs.items) ≡ n
-    pub gathered : IsGathered done.gathering
+    pub ended : (k : ℕ) → k < n → HasBackMark done.sending.gathering k
+    pub backs : length (given_by done.sending.gathering.backs.items) ≡ n
+    pub gathered : IsGathered done.sending.gathering
 
-  -- the receipts may be compared: all lanes have their marks, and the workers' ends are those of the lanes
+  -- the receipts may be compared: all lanes have their marks, and the workers' ends are those of the first lanes
   pub record IsClosed (done : Done S H) : Type 0 where
-    pub marked : marked_of done.router ≡ lane_count done.router
-    pub to_shards : taker_lanes done.workers.items ≡ lanes_of done.router
-    pub from_shards : told_lanes done.workers.items ≡ back_lanes done.gathering
+    pub marked : marked_of done.sending.router ≡ lane_count done.sending.router
+    pub to_shards : IsBeginning (taker_lanes done.workers.items) (lanes_of done.sending.router)
+    pub from_shards : IsBeginning (told_lanes done.workers.items) (back_lanes done.sending.gathering)
 
   -- reading ended well, what the part has of the trace was sent, and all n workers ended; or the fault is why it didn't
   abbrev pub IsDone : Part → ℕ → ℕ → ℕ → Change → Done S H → Type 0

@@ -1,13 +1,11 @@
 -- Private: what a run begins with.
 use Rattle.std.specs.Prelude.{◌≡◌, ℕ, ◌≤◌, [], length, map, None, vec_len, vec_capacity}
 use Rattle.std.specs.List.{All, AllByRecursion}
-use Rattle.lane.specs.declared.parcel.Parcel.{Parcel}
+use Rattle.trace.specs.declared.records.Placed.{Placed}
 use Rattle.lane.specs.declared.sender.Sender.{Sender}
 use Rattle.lane.specs.declared.taker.Taker.{Taker}
-use Rattle.lane.specs.Lanes.{lane_of, taken_of, taker_lane}
-use Rattle.lane.specs.Records.{put_records}
+use Rattle.lane.specs.Lanes.{lane_of, put_of, taken_of, taker_lane}
 use Rattle.shard.specs.declared.Back.{Back}
-use Rattle.route.specs.Batches.{batch_lanes, HasStaged, IsUnsent}
 use Rattle.route.specs.Routers.{lanes_of, lane_count, pending_of, marked_of, HasSent}
 use Rattle.detect.specs.declared.jobs.Job.{Job}
 use Rattle.detect.specs.declared.making.Ends.{Ends}
@@ -17,11 +15,11 @@ use Rattle.detect.specs.Workers.{IsFreshJob, AllFresh, to_shards, from_shards}
 
 module _ {S H : Type 0} where
   -- a new job stands between the sender of the lane to it and the taker of the lane back, on which nothing was put
-  pub record IsBetween (sender : Sender Parcel) (gatherer : Taker Back) (job : Job S H) : Type 0 where
+  pub record IsBetween (sender : Sender Placed) (gatherer : Taker Back) (job : Job S H) : Type 0 where
     pub to_shard : taker_lane job.taker ≡ lane_of sender
     pub from_shard : lane_of job.back ≡ taker_lane gatherer
     pub new : IsFreshJob job
-    pub none_put : put_records sender ≡ []
+    pub none_put : put_of sender ≡ []
     pub none_taken : taken_of gatherer ≡ []
 
   -- the ends of the lanes of n shards, on which nothing was put
@@ -32,24 +30,21 @@ module _ {S H : Type 0} where
     pub to_shards_are : to_shards ends.jobs.items ≡ map lane_of ends.senders.items
     pub from_shards_are : from_shards ends.jobs.items ≡ map taker_lane ends.backs.items
     pub new : AllFresh ends.jobs.items
-    pub none_put : All (λ s. put_records s ≡ []) ends.senders.items
+    pub none_put : All (λ s. put_of s ≡ []) ends.senders.items
     pub none_taken : AllByRecursion (λ t. taken_of t ≡ []) ends.backs.items
 
   -- a router and n workers on its lanes, before the first record, and room for what comes of the workers
   pub record IsReady (n : ℕ) (made : Made S H) : Type 0 where
-    pub count : lane_count made.router ≡ n
+    pub count : lane_count made.sending.router ≡ n
     pub jobs : length made.jobs.items ≡ n
-    pub backs : length made.gathering.backs.items ≡ n
-    pub idle : pending_of made.router ≡ None
-    pub unmarked : marked_of made.router ≡ 0
-    pub none_sent : HasSent [] made.router
-    pub batch_lanes_are : batch_lanes made.batch ≡ n
-    pub none_staged : HasStaged [] made.batch
-    pub unsent : IsUnsent made.batch
-    pub to_shards_are : to_shards made.jobs.items ≡ lanes_of made.router
-    pub from_shards_are : from_shards made.jobs.items ≡ back_lanes made.gathering
+    pub backs : length made.sending.gathering.backs.items ≡ n
+    pub idle : pending_of made.sending.router ≡ None
+    pub unmarked : marked_of made.sending.router ≡ 0
+    pub none_sent : HasSent [] made.sending.router
+    pub to_shards_are : to_shards made.jobs.items ≡ lanes_of made.sending.router
+    pub from_shards_are : from_shards made.jobs.items ≡ back_lanes made.sending.gathering
     pub new : AllFresh made.jobs.items
-    pub gathered : IsGathered made.gathering
+    pub gathered : IsGathered made.sending.gathering
     pub no_handles : vec_len made.handles ≡ 0
     pub handle_room : n ≤ vec_capacity made.handles
     pub no_workers : vec_len made.workers ≡ 0

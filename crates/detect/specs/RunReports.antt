@@ -7,7 +7,7 @@ use Rattle.trace.specs.Traces.{placed}
 use Rattle.trace.specs.Shares.{share}
 use Rattle.trace.specs.Parts.{records_of}
 use Rattle.lane.specs.declared.item.Item.TheVariants.{One, Finish}
-use Rattle.lane.specs.Records.{taken_records}
+use Rattle.lane.specs.Lanes.{taken_of}
 use Rattle.detect.specs.declared.sharded.Run.{Run}
 use Rattle.detect.specs.Reported.{IsReportOf, IsPartReportOf}
 
@@ -15,8 +15,7 @@ use Rattle.detect.specs.Reported.{IsReportOf, IsPartReportOf}
 pub record TookSharesOf (n : ℕ) (u : List Placed) (run : Run) : Type 0 where
   pub lanes : length run.lanes.items ≡ n
   pub counts : length run.taken.items ≡ n
-  pub shares : (k : ℕ) → k < n → slice_index_or (map taken_records run.lanes.items) k []
-      ≡ map One (share k n u) ++ Finish ∷ []
+  pub shares : (k : ℕ) → k < n → slice_index_or (map taken_of run.lanes.items) k [] ≡ map One (share k n u) ++ Finish ∷ []
   pub taken : (k : ℕ) → k < n → slice_index run.taken.items k ≡ length (share k n u)
 
 -- of n shards each took its share of the trace, each record once and in trace order, and then the mark

@@ -1,23 +1,16 @@
--- Private: records that are sent in batches, and what was sent but for those in the batch.
-use Rattle.std.specs.Prelude.{◌≡◌, ◌++◌, List, None}
-use Rattle.trace.specs.declared.records.Placed.{Placed}
-use Rattle.route.specs.declared.batch.Batch.{Batch}
-use Rattle.route.specs.declared.routing.Router.{Router}
-use Rattle.route.specs.Batches.{batch_lanes, HasStaged, IsUnsent}
-use Rattle.route.specs.Routers.{lane_count, pending_of, marked_of, HasSent}
+-- Private: what sends records goes on.
+use Rattle.std.specs.Prelude.{◌≡◌, None}
+use Rattle.route.specs.Routers.{pending_of, marked_of, IsOnLanes}
+use Rattle.detect.specs.declared.sending.Sending.{Sending}
+use Rattle.detect.specs.LanesBack.{IsFurther}
 
--- a batch may be filled and sent: it is for the router's lanes, nothing of it was sent, no record is pending besides, and
--- no lane has its mark
-pub record MaySend (batch : Batch) (router : Router) : Type 0 where
-  pub lanes : batch_lanes batch ≡ lane_count router
-  pub unsent : IsUnsent batch
-  pub idle : pending_of router ≡ None
-  pub unmarked : marked_of router ≡ 0
+-- a record may be sent: none is pending, and no lane has its mark
+pub record MaySend (s : Sending) : Type 0 where
+  pub idle : pending_of s.router ≡ None
+  pub unmarked : marked_of s.router ≡ 0
 
--- all of w was sent but the records that are staged in the batch, which are its last
-pub record HasSentBut (batch : Batch) (w : List Placed) (router : Router) : Type 0 where
-  pub front : List Placed
-  pub last : List Placed
-  pub whole : w ≡ front ++ last
-  pub sent : HasSent front router
-  pub staged : HasStaged last batch
+-- the same part is sent on the same lanes, and more was taken of the lanes back
+pub record GoesOn (old new : Sending) : Type 0 where
+  pub part : new.part ≡ old.part
+  pub lanes : IsOnLanes old.router new.router
+  pub further : IsFurther old.gathering new.gathering

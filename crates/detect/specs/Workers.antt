@@ -1,11 +1,10 @@
 -- Private: what the workers are given, and what they have done.
 use Rattle.std.specs.Prelude.{◌≡◌, List, [], ◌∷◌, map, ⊤}
 use Rattle.std.specs.List.{AllByRecursion}
-use Rattle.lane.specs.declared.parcel.Parcel.{Parcel}
+use Rattle.trace.specs.declared.records.Placed.{Placed}
 use Rattle.lane.specs.declared.sender.Sender.{Sender}
 use Rattle.lane.specs.declared.taker.Taker.{Taker}
-use Rattle.lane.specs.Lanes.{LaneId, taker_lane, lane_of, put_of}
-use Rattle.lane.specs.Records.{taken_records}
+use Rattle.lane.specs.Lanes.{LaneId, taker_lane, taken_of, lane_of, put_of}
 use Rattle.std.specs.declared.thread.PromisedHandle.{PromisedHandle}
 use Rattle.shard.specs.declared.Back.{Back}
 use Rattle.shard.specs.declared.working.Worked.{Worked}
@@ -18,7 +17,7 @@ module _ {S H : Type 0} where
   -- the shard is new, and nothing was taken or put
   pub record IsFreshJob (job : Job S H) : Type 0 where
     pub shard : IsFresh job.shard
-    pub none_taken : taken_records job.taker ≡ []
+    pub none_taken : taken_of job.taker ≡ []
     pub none_put : put_of job.back ≡ []
 
   abbrev pub AllFresh : List (Job S H) → Type 0
@@ -40,7 +39,7 @@ module _ {S H : Type 0} where
 
   -- a worker that was given these lanes has done its work
   pub record DidOn (lanes : LaneId × LaneId) (worked : Worked S H) : Type 0 where
-    pub taker : Taker Parcel
+    pub taker : Taker Placed
     pub back : Sender Back
     pub lanes_are : lanes ≡ (taker_lane taker, lane_of back)
     pub did : DidWork taker back worked

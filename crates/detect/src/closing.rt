@@ -5,50 +5,52 @@ ghost use Rattle.trace.specs.declared.records.Part.{Part};
 ghost use Rattle.trace.specs.declared.faults.Fault.TheVariants.{NoMemory};
 ghost use Rattle.trace.specs.Devices.{Change};
 ghost use Rattle.trace.specs.Endings.{EndsReading, IsWantOfMemoryOrThread};
-ghost use Rattle.lane.specs.Records.{taken_records};
+ghost use Rattle.lane.specs.Lanes.{taken_of};
 ghost use Rattle.detect.specs.Closing.{taken_by, counts_of};
 ghost use Rattle.detect.specs.Finished.{IsClosed, IsDone};
 ghost use Rattle.detect.specs.RunFinds.{RunFindsPart};
 ghost use Rattle.detect.specs.Rooms.{HasRoom};
 
-use crate::gathering::Gathering;
 use crate::making::Lists;
+use crate::sending::Sending;
 use crate::settling::{settle_backs, settle_shards};
 use crate::sharded::Run;
 use collect::Report;
-use lane::{Parcel, Taker};
-use route::Router;
+use lane::Taker;
 use shard::Worked;
 use std::hash::BuildHasher;
-use trace::Fault;
+use trace::{Fault, Placed};
 
 /// What a run has come to: how reading ended, and what the workers handed back.
 #[derive(Drop)]
 pub(crate) struct Done<S: BuildHasher + Drop> {
     pub(crate) outcome: Result<(), Fault>,
-    pub(crate) router: Router,
-    pub(crate) gathering: Gathering,
+    pub(crate) sending: Sending,
     pub(crate) workers: Vec<Worked<S>>,
 }
 
-/// Compares the receipts of a run, and reports what was found in the records that were sent.
+/// Compares the receipts of a run, whatever came of it, and reports what was found in the records that were sent.
 pub(crate) fn close<S: BuildHasher + Drop>(done: Done<S>, lists: Lists) -> Result<Run, Fault>
     requires room { OnOk done.outcome (HasRoom (vec_len done.workers) lists) }
-    requires closed { OnOk done.outcome (IsClosed done) }
+    requires closed { IsClosed done }
     ensures { (part : Part) (n records depths : ℕ) (change : Change) → 1 ≤ n → records ≤ most_records
         → IsDone part n records depths change done
         → EndsReading IsWantOfMemoryOrThread records depths change (RunFindsPart part n) result }
 {
     let Done {
         outcome,
-        router,
-        mut gathering,
+        sending,
         mut workers,
     } = done;
-    first_trouble(gathering.refused, outcome)?;
+    let Sending {
+        part: _,
+        router,
+        mut gathering,
+    } = sending;
     let mut ends = router.into_ends();
     settle_shards(&mut workers, &mut ends);
     settle_backs(&mut workers, &mut gathering.backs);
+    first_trouble(gathering.refused, outcome)?;
     let report = gathering.collector.finish()?;
     Ok(run_of(report, workers, lists))
 }
@@ -70,7 +72,7 @@ fn run_of<S: BuildHasher + Drop>(report: Report, workers: Vec<Worked<S>>, lists:
     requires room { HasRoom (vec_len workers) lists }
     ensures report { result.report ≡ report }
     ensures taken { result.taken.items ≡ counts_of workers.items }
-    ensures lanes { map taken_records result.lanes.items ≡ taken_by workers.items }
+    ensures lanes { map taken_of result.lanes.items ≡ taken_by workers.items }
     ensures lane_count { vec_len result.lanes ≡ vec_len workers }
 {
     let Lists {
@@ -90,7 +92,7 @@ fn run_of<S: BuildHasher + Drop>(report: Report, workers: Vec<Worked<S>>, lists:
 }
 
 // How many records the worker's shard took, and the lane that they came over.
-fn count_and_lane<S: BuildHasher + Drop>(worked: Worked<S>) -> (u64, Taker<Parcel>)
+fn count_and_lane<S: BuildHasher + Drop>(worked: Worked<S>) -> (u64, Taker<Placed>)
     ensures count { result.0 ≡ worked.shard.taken }
     ensures lane { result.1 ≡ worked.taker }
 {

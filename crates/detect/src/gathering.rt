@@ -9,6 +9,7 @@ ghost use Rattle.detect.specs.LanesBack.{IsFurther, HasBackMark};
 
 use collect::Collector;
 use lane::{BLOCK, Item, Taker, Waiting};
+use route::Router;
 use shard::Back;
 use std::sync::Wait;
 
@@ -41,12 +42,13 @@ impl Gathering {
         self.waiting.wait(rt);
     }
 
-    /// Learns how much room there is on the lane that was full, of as much as it has.
-    #[inline(always)]
-    pub(crate) fn learn(&mut self, room: usize, capacity: usize)
+    /// Learns from how much room there is on the lane that was full.
+    #[cold]
+    #[inline(never)]
+    pub(crate) fn learn(&mut self, router: &Router, lane: usize)
         ensures { IsFurther self.old self.new }
     {
-        self.waiting.learn(room, capacity);
+        self.waiting.learn(router.room(lane), router.capacity(lane));
     }
 
     /// Takes from the first so many lanes until each has given its mark.

@@ -1,24 +1,25 @@
 //! What a worker is given, and what it promises.
 ghost use Rattle.shard.specs.Worked.{DidWork};
 
-use lane::{Parcel, Sender, Taker};
+use lane::{Sender, Taker};
 use shard::{Back, Shard, Worked};
 use std::hash::BuildHasher;
 use std::snapshot::Snapshot;
 use std::thread::Promise;
+use trace::Placed;
 
 /// A shard, the lane to it, and the lane back.
 #[derive(Drop)]
 pub(crate) struct Job<S: BuildHasher + Drop> {
     pub(crate) shard: Shard<S>,
-    pub(crate) taker: Taker<Parcel>,
+    pub(crate) taker: Taker<Placed>,
     pub(crate) back: Sender<Back>,
 }
 
 /// The promise of a worker: it has done its work on the lanes that it was given.
 #[derive(Drop)]
 pub(crate) struct WorkOf {
-    pub(crate) taker: Snapshot<Taker<Parcel>>,
+    pub(crate) taker: Snapshot<Taker<Placed>>,
     pub(crate) back: Snapshot<Sender<Back>>,
 }
 

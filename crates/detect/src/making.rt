@@ -3,23 +3,23 @@ ghost use Rattle.std.specs.Prelude.{◌≡◌, ℕ, ◌+◌, ◌≤◌, vec_len,
 ghost use Rattle.trace.specs.Bounds.{IsShardCount, IsCapacity};
 ghost use Rattle.detect.specs.Readiness.{IsBetween, IsReady, IsTied};
 ghost use Rattle.detect.specs.Rooms.{HasRoom};
-ghost use Rattle.lane.specs.declared.sender.TheConstants.{BLOCK};
 
 use crate::gathering::Gathering;
 use crate::jobs::{Job, WorkOf};
+use crate::sending::Sending;
 use collect::Collector;
-use lane::{BLOCK, Parcel, Sender, Taker, Waiting, lane};
-use route::{Batch, Router};
+use lane::{Sender, Taker, Waiting, lane};
+use route::Router;
 use shard::{Back, Shard, Worked};
 use std::alloc::Global;
 use std::hash::BuildHasher;
 use std::thread::PromisedHandle;
-use trace::NoMemory;
+use trace::{NoMemory, Part, Placed};
 
 /// The ends of the lanes to the shards and back.
 #[derive(Drop)]
 pub(crate) struct Ends<S: BuildHasher + Drop> {
-    pub(crate) senders: Vec<Sender<Parcel>>,
+    pub(crate) senders: Vec<Sender<Placed>>,
     pub(crate) jobs: Vec<Job<S>>,
     pub(crate) backs: Vec<Taker<Back>>,
 }
@@ -27,9 +27,7 @@ pub(crate) struct Ends<S: BuildHasher + Drop> {
 /// What a run begins with. There is room for a handle and for an answer of each worker.
 #[derive(Drop)]
 pub(crate) struct Made<S: BuildHasher + Drop> {
-    pub(crate) router: Router,
-    pub(crate) batch: Batch,
-    pub(crate) gathering: Gathering,
+    pub(crate) sending: Sending,
     pub(crate) jobs: Vec<Job<S>>,
     pub(crate) handles: Vec<PromisedHandle<Worked<S>, WorkOf>>,
     pub(crate) workers: Vec<Worked<S>>,
@@ -39,18 +37,20 @@ pub(crate) struct Made<S: BuildHasher + Drop> {
 #[derive(Drop)]
 pub(crate) struct Lists {
     pub(crate) taken: Vec<u64>,
-    pub(crate) lanes: Vec<Taker<Parcel>>,
+    pub(crate) lanes: Vec<Taker<Placed>>,
 }
 
-/// Makes the lanes, the router and its batch, the shards, and room for what comes of the workers.
+/// Makes the lanes, the router of the part's records, the shards, and room for what comes of the workers.
 pub(crate) fn make<S: BuildHasher + Drop>(
     alloc: Global,
     capacity: u32,
+    part: Part,
     hashers: Vec<S>,
 ) -> Result<Made<S>, NoMemory>
     requires capacity { IsCapacity capacity }
     requires shards { IsShardCount (vec_len hashers) }
-    ensures { IfOk result (IsReady (vec_len hashers)) }
+    ensures ready { IfOk result (IsReady (vec_len hashers)) }
+    ensures part { IfOk result (λ made. made.sending.part ≡ part) }
 {
     let count = hashers.len();
     let ends = make_ends(alloc, capacity as usize, hashers)?;
@@ -60,26 +60,20 @@ pub(crate) fn make<S: BuildHasher + Drop>(
         backs,
     } = ends;
     Ok(Made {
-        router: Router::new(alloc, senders)?,
-        batch: Batch::new(alloc, count, most_at_once(capacity as usize))?,
-        gathering: Gathering {
-            backs,
-            collector: Collector::new(alloc),
-            refused: false,
-            waiting: Waiting::new(),
+        sending: Sending {
+            part,
+            router: Router::new(alloc, senders)?,
+            gathering: Gathering {
+                backs,
+                collector: Collector::new(alloc),
+                refused: false,
+                waiting: Waiting::new(),
+            },
         },
         jobs,
         handles: with_room(alloc, count)?,
         workers: with_room(alloc, count)?,
     })
-}
-
-// How many records are sent at once on a lane that holds so many: half of them, so that one half is filled while the
-// other is taken, and no more than a block.
-fn most_at_once(capacity: usize) -> usize
-    ensures { (1 ≤ result) × (result ≤ BLOCK) }
-{
-    (capacity / 2).min(BLOCK).max(1)
 }
 
 // A shard for each hasher, with a lane to it and a lane back.
@@ -132,7 +126,7 @@ fn make_job<S: BuildHasher + Drop>(
     index: u32,
     shards: u64,
     hasher: S,
-) -> Result<(Sender<Parcel>, Job<S>, Taker<Back>), NoMemory>
+) -> Result<(Sender<Placed>, Job<S>, Taker<Back>), NoMemory>
     requires capacity { IsCapacity capacity }
     requires shards { 1 ≤ shards }
     ensures { IfOk result (λ made. IsBetween made.0 made.2 made.1) }

@@ -2,17 +2,16 @@
 ghost use Rattle.std.specs.Prelude.{vec_len};
 ghost use Rattle.trace.specs.Devices.{◌⇝◌};
 ghost use Rattle.detect.specs.Readiness.{IsReady};
-ghost use Rattle.detect.specs.Finished.{IsDone};
+ghost use Rattle.detect.specs.Finished.{IsClosed, IsDone};
 
 use crate::closing::Done;
 use crate::making::Made;
-use crate::sending::{mark_all, send_all};
 use crate::workers::{join_all, start_all};
 use shard::Gate;
 use std::hash::BuildHasher;
 use std::sync::Wait;
 use std::thread::{Scope, Threads};
-use trace::{Limits, Part, Source};
+use trace::{Limits, Source};
 
 /// Starts the workers, reads the trace and sends what the part has of it, and joins all workers that were started.
 /// After a refused start nothing is read. Nothing here takes memory but the collector.
@@ -27,7 +26,6 @@ pub(crate) fn run<
     rt: &'s T,
     scope: &Scope<'s, E>,
     limits: Limits,
-    part: Part,
     source: &mut R,
     gate: &'s G,
     made: Made<S>,
@@ -35,36 +33,26 @@ pub(crate) fn run<
 where
     S::Hasher: Send,
     requires { IsReady (vec_len made.jobs) made }
-    ensures { IsDone part (vec_len made.jobs) limits.records limits.depth (R.state source.old ⇝ R.state source.new)
-        result }
+    ensures done { IsDone made.sending.part (vec_len made.jobs) limits.records limits.depth
+        (R.state source.old ⇝ R.state source.new) result }
+    ensures closed { IsClosed result }
 {
     let Made {
-        mut router,
-        mut batch,
-        mut gathering,
+        mut sending,
         jobs,
         mut handles,
         mut workers,
     } = made;
     let outcome = match start_all(rt, scope, gate, jobs, &mut handles) {
-        Ok(()) => send_all(
-            rt,
-            limits,
-            part,
-            source,
-            &mut router,
-            &mut batch,
-            &mut gathering,
-        ),
+        Ok(()) => sending.send_all(rt, limits, source),
         Err(refused) => Err(refused),
     };
-    mark_all(rt, &mut router, &mut gathering);
-    gathering.finish_lanes(rt, handles.len());
+    sending.mark_all(rt);
+    sending.gathering.finish_lanes(rt, handles.len());
     join_all(rt, handles, &mut workers);
     Done {
         outcome,
-        router,
-        gathering,
+        sending,
         workers,
     }
 }

@@ -3,7 +3,7 @@ ghost use Rattle.std.specs.Prelude.{◌≡◌, vec_len};
 ghost use Rattle.trace.specs.Devices.{◌⇝◌};
 ghost use Rattle.trace.specs.Endings.{EndsReading, IsWantOfMemoryOrThread};
 ghost use Rattle.detect.specs.Readiness.{IsReady};
-ghost use Rattle.detect.specs.Finished.{IsDone};
+ghost use Rattle.detect.specs.Finished.{IsClosed, IsDone};
 ghost use Rattle.detect.specs.RunReports.{RunAnswers, RunAnswersPart};
 
 use crate::closing::{Done, close};
@@ -11,14 +11,14 @@ use crate::making::{make, make_lists};
 use crate::plan::Plan;
 use crate::running::run;
 use collect::Report;
-use lane::{Parcel, Taker};
+use lane::Taker;
 use shard::Gate;
 use std::alloc::Global;
 use std::hash::BuildHasher;
 use std::sync::Wait;
 use std::thread;
 use std::thread::Threads;
-use trace::{Fault, Part, Source};
+use trace::{Fault, Part, Placed, Source};
 
 /// What a run with shards answers.
 #[derive(Drop)]
@@ -28,7 +28,7 @@ pub struct Run {
     /// How many records each shard took, the mark not counted.
     pub taken: Vec<u64>,
     /// The lane to each shard, taken to its mark.
-    pub lanes: Vec<Taker<Parcel>>,
+    pub lanes: Vec<Taker<Placed>>,
 }
 
 /// Reads a trace to its end and reports its races, with a thread for each shard of the locations: the
@@ -87,17 +87,18 @@ where
         (RunAnswersPart part plan.shards) result }
 {
     let lists = make_lists(alloc, hashers.len())?;
-    let made = make(alloc, plan.capacity, hashers)?;
+    let made = make(alloc, plan.capacity, part, hashers)?;
     let (done, _read) = thread::scope(
         thread::scope_env(),
         rt,
         move |scope| -> (Done<S>, &mut R)
             requires { IsReady (vec_len made.jobs) made }
-            ensures done { IsDone part (vec_len made.jobs) plan.limits.records plan.limits.depth
+            ensures done { IsDone made.sending.part (vec_len made.jobs) plan.limits.records plan.limits.depth
                 (R.state source.entry.now ⇝ R.state result.1.now) result.0 }
+            ensures closed { IsClosed result.0 }
             ensures source { result.1.ghost_name ≡ source.entry.ghost_name }
         {
-            let done = run(rt, scope, plan.limits, part, &mut *source, gate, made);
+            let done = run(rt, scope, plan.limits, &mut *source, gate, made);
             (done, source)
         },
     );

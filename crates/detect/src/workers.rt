@@ -1,6 +1,7 @@
 //! The workers: each is started in the scope of the run, and joined at its end.
 ghost use Rattle.std.specs.Prelude.{◌≡◌, ◌≤◌, ℕ, map, vec_len, vec_capacity, IfErr, OnOk, MatchResult};
 ghost use Rattle.trace.specs.declared.faults.Fault.TheVariants.{NoThread};
+ghost use Rattle.lane.specs.Items.{IsBeginning};
 ghost use Rattle.detect.specs.Workers.{IsFreshJob, AllFresh, job_lanes, handle_lanes, DidOn, AllDid};
 
 use crate::jobs::{Job, WorkOf};
@@ -26,6 +27,7 @@ where
     requires none { vec_len handles.old ≡ 0 }
     requires room { vec_len jobs ≤ vec_capacity handles.old }
     ensures started { OnOk result (map handle_lanes handles.new.items ≡ map job_lanes jobs.items) }
+    ensures first_ones { IsBeginning (map handle_lanes handles.new.items) (map job_lanes jobs.items) }
     ensures refused { IfErr result (λ fault. fault ≡ NoThread) }
     ensures most { vec_len handles.new ≤ vec_len jobs }
 {

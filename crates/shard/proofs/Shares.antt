@@ -83,7 +83,13 @@ Follow-numbered n m active (p ∷ u) h =
     let Q : ℕ → Type 0 = λ a. Follow p.place a (map (numbered_at n) u) in
     (h.0, h.1, (λ is one. ap (map (numbered_at n)) (h.2 (a_return n p.what is) one)), subst Q depth (Follow-numbered n p.place _ u h.3))
 
--- so a shard accepts each record of a share of a part's records
+follow-part : (part : Part) (w : List Record) {limit depths : ℕ} → limit ≤ 2 ^ 48 → IsWellNested w limit depths → Follow 0 1 (records_of part (placed w))
+follow-part part w le h = Follow-numbered part.count 0 1 _ (Follow-share part.index part.count 0 1 (placed w) (follow-placed w le h))
+
+-- the places of a part's records rise
+pub rise-part : (part : Part) (w : List Record) {limit depths : ℕ} → limit ≤ 2 ^ 48 → IsWellNested w limit depths → RiseFrom 0 (records_of part (placed w))
+rise-part part w le h = ((following _).1 (follow-part part w le h)).rising
+
+-- and a shard accepts each record of a share of them
 pub in_order_of_part : (k n : ℕ) (part : Part) (w : List Record) {limit depths : ℕ} → limit ≤ 2 ^ 48 → IsWellNested w limit depths → AreInOrder (share k n (records_of part (placed w)))
-in_order_of_part k n part w le h =
-    (following _).1 (Follow-share k n 0 1 _ (Follow-numbered part.count 0 1 _ (Follow-share part.index part.count 0 1 (placed w) (follow-placed w le h))))
+in_order_of_part k n part w le h = (following _).1 (Follow-share k n 0 1 _ (follow-part part w le h))

@@ -1,27 +1,24 @@
 -- Promised: what a worker has done when it answers.
 use Rattle.std.specs.Prelude.{◌≡◌, List, [], ◌∷◌, ◌++◌, length, map}
-use Rattle.lane.specs.declared.parcel.Parcel.{Parcel}
+use Rattle.trace.specs.declared.records.Placed.{Placed}
 use Rattle.lane.specs.declared.item.Item.{Item}
 use Rattle.lane.specs.declared.item.Item.TheVariants.{One, Finish}
 use Rattle.lane.specs.declared.sender.Sender.{Sender}
 use Rattle.lane.specs.declared.taker.Taker.{Taker}
 use Rattle.lane.specs.Items.{records}
-use Rattle.lane.specs.Lanes.{taker_lane, lane_of, end_lane, all_put}
-use Rattle.lane.specs.Records.{taken_records}
+use Rattle.lane.specs.Lanes.{taker_lane, taken_of, lane_of, end_lane, all_put}
 use Rattle.shard.specs.declared.Back.{Back}
 use Rattle.shard.specs.declared.working.Worked.{Worked}
 use Rattle.shard.specs.Shards.{capped_count}
 use Rattle.shard.specs.Working.{HasHandedBack, IsOfShare, TellsFound}
 
 -- The worker took up to the mark, and marked its own lane. What it put are the answers to what it took.
-pub record DidWork {S H : Type 0} (taker : Taker Parcel) (back : Sender Back) (worked : Worked S H) : Type 0 where
+pub record DidWork {S H : Type 0} (taker : Taker Placed) (back : Sender Back) (worked : Worked S H) : Type 0 where
   pub same_taker : taker_lane worked.taker ≡ taker_lane taker
   pub same_back : end_lane worked.back ≡ lane_of back
-  pub to_mark : taken_records worked.taker ≡ map One (records (taken_records worked.taker)) ++ Finish ∷ []
-  pub count : worked.shard.taken ≡ capped_count (length (records (taken_records worked.taker)))
-  pub answers : (put : List (Item Back)) × (all_put worked.back ≡ put ++ Finish ∷ [])
-      × HasHandedBack (records (taken_records worked.taker)) put
+  pub to_mark : taken_of worked.taker ≡ map One (records (taken_of worked.taker)) ++ Finish ∷ []
+  pub count : worked.shard.taken ≡ capped_count (length (records (taken_of worked.taker)))
+  pub answers : (put : List (Item Back)) × (all_put worked.back ≡ put ++ Finish ∷ []) × HasHandedBack (records (taken_of worked.taker)) put
   -- of a share of a well nested trace: the count is their number, and the answers are the races found
-  pub of_share : IsOfShare (records (taken_records worked.taker))
-      → (worked.shard.taken ≡ length (records (taken_records worked.taker)))
-      × TellsFound (records (taken_records worked.taker)) (all_put worked.back)
+  pub of_share : IsOfShare (records (taken_of worked.taker)) → (worked.shard.taken ≡ length (records (taken_of worked.taker)))
+      × TellsFound (records (taken_of worked.taker)) (all_put worked.back)

@@ -1,89 +1,63 @@
 //! A worker: a shard, and its lane back.
-ghost use Rattle.std.specs.Prelude.{◌≡◌, ◌≤◌, List, [], ◌∷◌, ◌++◌, length};
+ghost use Rattle.std.specs.Prelude.{◌≡◌, false, List, [], ◌∷◌, ◌++◌};
 ghost use Rattle.trace.specs.declared.records.Placed.{Placed};
-ghost use Rattle.lane.specs.Items.{records};
-ghost use Rattle.lane.specs.Records.{opened};
-ghost use Rattle.lane.specs.declared.parcel.TheConstants.{RECORDS};
-ghost use Rattle.shard.specs.Tellings.{told_of, back_lane};
+ghost use Rattle.lane.specs.declared.item.Item.{Item};
+ghost use Rattle.lane.specs.Items.{has_mark, records};
+ghost use Rattle.lane.specs.Lanes.{lane_of, put_of};
 ghost use Rattle.shard.specs.Working.{HasWorked};
 
+use crate::Back;
 use crate::gate::Gate;
 use crate::state::Shard;
-use crate::telling::Telling;
-use lane::{Item, Parcel, RECORDS};
+use crate::telling::put;
+use lane::{Item, Sender};
 use std::hash::BuildHasher;
 use std::sync::Wait;
-use trace::{Placed, Record};
-
-// What stands where no record was opened.
-const NO_RECORD: Placed = Placed {
-    place: 0,
-    what: Record::Sync,
-};
+use trace::Placed;
 
 /// A shard, its lane back, and whether it applies no more: a growth was refused, or a record was out of order.
 #[derive(Drop)]
 pub struct Worker<S: BuildHasher + Drop> {
     pub shard: Shard<S>,
-    pub telling: Telling,
+    pub back: Sender<Back>,
     pub stopped: bool,
+    ghost unmarked: { has_mark (put_of back) ≡ false },
 }
 
 impl<S: BuildHasher + Drop> Worker<S> {
-    /// Takes each record of a block, once it has passed the gate, and puts the races that these tell.
-    pub fn take_block<R: Wait, G: Gate>(&mut self, rt: &R, gate: &G, block: &[Item<Parcel>])
-        ensures worked { (u : List Placed) → HasWorked u self.old.shard (told_of self.old.telling) self.old.stopped →
-            HasWorked (u ++ records (opened block.now)) self.new.shard (told_of self.new.telling) self.new.stopped }
-        ensures lane { back_lane self.new.telling ≡ back_lane self.old.telling }
+    /// Takes each record of a block, once it has passed the gate, and shows the races that these tell to the taker of
+    /// the lane back.
+    pub fn take_block<R: Wait, G: Gate>(&mut self, rt: &R, gate: &G, block: &[Item<Placed>])
+        ensures worked { (u : List Placed) → HasWorked u self.old.shard (put_of self.old.back) self.old.stopped →
+            HasWorked (u ++ records block.now) self.new.shard (put_of self.new.back) self.new.stopped }
+        ensures lane { lane_of self.new.back ≡ lane_of self.old.back }
     {
-        let mut room = [NO_RECORD; RECORDS];
         for item in block {
-            self.take_item(rt, gate, *item, &mut room);
+            self.take_item(rt, gate, *item);
         }
-        self.telling.put_gathered(rt);
+        self.back.flush();
     }
 
-    // Takes the records of an item, for which there is room.
-    fn take_item<R: Wait, G: Gate>(
-        &mut self,
-        rt: &R,
-        gate: &G,
-        item: Item<Parcel>,
-        room: &mut [Placed],
-    )
-        requires { RECORDS ≤ length room.old }
-        ensures room { length room.new ≡ length room.old }
-        ensures worked { (u : List Placed) → HasWorked u self.old.shard (told_of self.old.telling) self.old.stopped →
-            HasWorked (u ++ records (opened (item ∷ []))) self.new.shard (told_of self.new.telling) self.new.stopped }
-        ensures lane { back_lane self.new.telling ≡ back_lane self.old.telling }
+    fn take_item<R: Wait, G: Gate>(&mut self, rt: &R, gate: &G, item: Item<Placed>)
+        ensures worked { (u : List Placed) → HasWorked u self.old.shard (put_of self.old.back) self.old.stopped →
+            HasWorked (u ++ records (item ∷ [])) self.new.shard (put_of self.new.back) self.new.stopped }
+        ensures lane { lane_of self.new.back ≡ lane_of self.old.back }
     {
         match item {
-            Item::One(parcel) => {
-                let count = parcel.open(room);
-                self.take_records(rt, gate, &room[..count]);
+            Item::One(placed) => {
+                gate.pass(self.shard.index(), placed.place);
+                self.take(rt, placed);
             }
             Item::Finish => {}
-        }
-    }
-
-    // Takes each of the records, once it has passed the gate.
-    fn take_records<R: Wait, G: Gate>(&mut self, rt: &R, gate: &G, records: &[Placed])
-        ensures worked { (u : List Placed) → HasWorked u self.old.shard (told_of self.old.telling) self.old.stopped →
-            HasWorked (u ++ records.now) self.new.shard (told_of self.new.telling) self.new.stopped }
-        ensures lane { back_lane self.new.telling ≡ back_lane self.old.telling }
-    {
-        for placed in records {
-            gate.pass(self.shard.index(), placed.place);
-            self.take(rt, *placed);
         }
     }
 
     /// Takes a record: applies it and tells its race. After a refused growth, which is told once, and after
     /// a record out of order it only counts.
     pub fn take<R: Wait>(&mut self, rt: &R, placed: Placed)
-        ensures worked { (u : List Placed) → HasWorked u self.old.shard (told_of self.old.telling) self.old.stopped →
-            HasWorked (u ++ placed ∷ []) self.new.shard (told_of self.new.telling) self.new.stopped }
-        ensures lane { back_lane self.new.telling ≡ back_lane self.old.telling }
+        ensures worked { (u : List Placed) → HasWorked u self.old.shard (put_of self.old.back) self.old.stopped →
+            HasWorked (u ++ placed ∷ []) self.new.shard (put_of self.new.back) self.new.stopped }
+        ensures lane { lane_of self.new.back ≡ lane_of self.old.back }
     {
         if self.stopped || !self.shard.accepts(placed.place) {
             self.stopped = true;
@@ -92,11 +66,11 @@ impl<S: BuildHasher + Drop> Worker<S> {
         }
         match self.shard.apply(placed) {
             Ok(None) => {}
-            Ok(Some(race)) => self.telling.tell_race(rt, race),
+            Ok(Some(race)) => put(rt, &mut self.back, Back::Race(race)),
             Err(_) => {
                 self.stopped = true;
                 self.shard.count_one();
-                self.telling.tell_refusal(rt);
+                put(rt, &mut self.back, Back::NoMemory);
             }
         }
     }

@@ -2,10 +2,9 @@
 ghost use Rattle.std.specs.Prelude.{◌≡◌, false, [], IfOk};
 ghost use Rattle.trace.specs.Bounds.{IsCapacity};
 ghost use Rattle.lane.specs.Items.{has_mark};
-ghost use Rattle.lane.specs.Lanes.{end_lane, lane_of, put_of, taker_lane};
-ghost use Rattle.lane.specs.Records.{taken_records};
+ghost use Rattle.lane.specs.Lanes.{end_lane, lane_of, put_of, taken_of, taker_lane};
 
-use lane::{Item, Parcel, Sender, Taker, lane};
+use lane::{Item, Sender, Taker, lane};
 use shard::{Back, Gate, Open, Shard, Worked, work};
 use std::alloc::Global;
 use std::hash::{BuildHasherDefault, FoldHasher};
@@ -288,16 +287,13 @@ fn after_the_roots_return(rt: HostRuntime) -> Result<(), Fail> {
 }
 
 /// Puts the records with the places from 1 on, and the mark.
-fn fill<R: Abort>(rt: &R, mut sender: Sender<Parcel>, records: &[Record])
+fn fill<R: Abort>(rt: &R, mut sender: Sender<Placed>, records: &[Record])
     requires { has_mark (put_of sender) ≡ false }
 {
     for (index, what) in records.iter().enumerate() {
         let place = index as u64 + 1;
         let what = *what;
-        assert!(rt;
-            sender.put(Parcel::new(Placed { place, what })).is_ok(),
-            "{place}"
-        );
+        assert!(rt; sender.put(Placed { place, what }).is_ok(), "{place}");
     }
     assert!(rt; sender.mark());
 }
@@ -353,14 +349,14 @@ fn take_all(alloc: Global, taker: &mut Taker<Back>) -> Result<Vec<Item<Back>>, F
 fn lanes(
     alloc: Global,
     capacity: usize,
-) -> Result<(Sender<Parcel>, Taker<Parcel>, Sender<Back>, Taker<Back>), NoMemory>
+) -> Result<(Sender<Placed>, Taker<Placed>, Sender<Back>, Taker<Back>), NoMemory>
     requires { IsCapacity capacity }
     ensures to { IfOk result (λ r. lane_of r.0 ≡ taker_lane r.1) }
     ensures back { IfOk result (λ r. lane_of r.2 ≡ taker_lane r.3) }
     ensures none_put { IfOk result (λ r. (put_of r.0 ≡ []) × (put_of r.2 ≡ [])) }
-    ensures none_taken { IfOk result (λ r. taken_records r.1 ≡ []) }
+    ensures none_taken { IfOk result (λ r. taken_of r.1 ≡ []) }
 {
-    let (sender, taker) = lane::<Parcel>(alloc, capacity)?;
+    let (sender, taker) = lane::<Placed>(alloc, capacity)?;
     let (back, back_taker) = lane::<Back>(alloc, capacity)?;
     Ok((sender, taker, back, back_taker))
 }
@@ -422,7 +418,7 @@ fn work_past_the_end(rt: HostRuntime) -> Result<(), Fail> {
 /// What a worker does with the ends that are handed to its thread.
 #[derive(Drop)]
 struct WorkOf {
-    taker: Snapshot<Taker<Parcel>>,
+    taker: Snapshot<Taker<Placed>>,
     back: Snapshot<Sender<Back>>,
 }
 
@@ -433,7 +429,7 @@ impl Promise<Worked<Hasher>> for WorkOf {
 }
 
 /// Puts the next of the records, or else the mark, where the lane has room, and tells which record is then the next.
-fn put_next(sender: &mut Sender<Parcel>, records: &[Record], next: usize) -> usize
+fn put_next(sender: &mut Sender<Placed>, records: &[Record], next: usize) -> usize
     ensures { lane_of sender.new ≡ lane_of sender.old }
 {
     if sender.marked() {
@@ -445,7 +441,7 @@ fn put_next(sender: &mut Sender<Parcel>, records: &[Record], next: usize) -> usi
     }
     let place = next as u64 + 1;
     let what = records[next];
-    match sender.put(Parcel::new(Placed { place, what })) {
+    match sender.put(Placed { place, what }) {
         Ok(()) => next + 1,
         Err(_) => next,
     }
@@ -454,7 +450,7 @@ fn put_next(sender: &mut Sender<Parcel>, records: &[Record], next: usize) -> usi
 /// Puts the records and the mark, while it takes what comes back up to the mark: how many races those are.
 fn exchange<R: Wait>(
     rt: &R,
-    sender: &mut Sender<Parcel>,
+    sender: &mut Sender<Placed>,
     back: &mut Taker<Back>,
     records: &[Record],
 ) -> u64
@@ -491,8 +487,49 @@ fn work_in_a_thread(rt: HostRuntime) -> Result<(), Fail> {
     Ok(())
 }
 
+/// Whether a race comes while the lane to the shard has no mark.
+fn race_comes(back: &mut Taker<Back>) -> bool
+    ensures { taker_lane back.new ≡ taker_lane back.old }
+{
+    for _ in 0..1_000_000 {
+        if let Some(Item::One(Back::Race(_))) = back.take() {
+            return true;
+        }
+        thread::yield_now();
+    }
+    false
+}
+
+// The lanes hold 64 items each, of which up to 32 are shown together where nothing has them shown sooner.
+#[test]
+fn races_come_before_the_mark(rt: HostRuntime) -> Result<(), Fail> {
+    let shard = Shard::new(rt.alloc(), 0, Hasher::default())?;
+    let (mut sender, taker, back, mut back_taker) = lanes(rt.alloc(), 64)?;
+    let promise = WorkOf {
+        taker: Snapshot::of(&taker),
+        back: Snapshot::of(&back),
+    };
+    let child = thread::spawn_with(&rt, promise, move || work(&rt, shard, taker, back, &Open))?;
+    put_all(&mut sender, &THREE_SHARDS);
+    assert!(rt; race_comes(&mut back_taker));
+    let count = exchange(&rt, &mut sender, &mut back_taker, &[]);
+    assert!(rt; count <= 1);
+    settle(child.join(&rt), sender, back_taker);
+    Ok(())
+}
+
+/// Puts the records on a lane that has room for them, and shows them.
+fn put_all(sender: &mut Sender<Placed>, records: &[Record])
+    ensures { lane_of sender.new ≡ lane_of sender.old }
+{
+    for next in 0..records.len() {
+        put_next(sender, records, next);
+    }
+    sender.flush();
+}
+
 /// Settles both lanes of a worker that has ended, and tells its count.
-fn settle(mut worked: Worked<Hasher>, sender: Sender<Parcel>, mut back_taker: Taker<Back>) -> u64
+fn settle(mut worked: Worked<Hasher>, sender: Sender<Placed>, mut back_taker: Taker<Back>) -> u64
     requires to { lane_of sender ≡ taker_lane worked.taker }
     requires back { end_lane worked.back ≡ taker_lane back_taker }
 {

@@ -47,16 +47,18 @@ pub fn text_plain(
     text_of(alloc, &report)
 }
 
-/// Detects with a thread for each shard, over lanes that hold one item.
+/// Detects with a thread for each shard, over lanes that hold so many items.
 pub fn run_from<T: Threads + Wait + Sync, R: Source, G: Gate + Sync>(
     rt: &T,
     alloc: Global,
     shards: u32,
+    capacity: u32,
     limits: Limits,
     source: &mut R,
     gate: &G,
 ) -> Result<Run, Fault>
-    requires { (1 ≤ shards) × (shards ≤ 64) }
+    requires shards { (1 ≤ shards) × (shards ≤ 64) }
+    requires capacity { (1 ≤ capacity) × (capacity ≤ 65536) }
     ensures { EndsReading IsWantOfMemoryOrThread limits.records limits.depth (R.state source.old ⇝ R.state source.new)
         (RunAnswers shards) result }
 {
@@ -64,7 +66,7 @@ pub fn run_from<T: Threads + Wait + Sync, R: Source, G: Gate + Sync>(
     detect(
         rt,
         alloc,
-        Plan::new(shards, 1, limits),
+        Plan::new(shards, capacity, limits),
         source,
         gate,
         hashers,
@@ -78,17 +80,21 @@ pub struct Answer {
     pub taken: Vec<u64>,
 }
 
-/// The answer of a run from the source.
+/// The answer of a run from the source. The lanes to its shards have the capacity that was asked for.
 pub fn answer_from<T: Threads + Wait + Sync + Abort, R: Source, G: Gate + Sync>(
     rt: &T,
     alloc: Global,
     shards: u32,
+    capacity: u32,
     limits: Limits,
     source: &mut R,
     gate: &G,
 ) -> Result<Answer, Fault> {
-    assert!(rt; 1 <= shards && shards <= 64);
-    let run = run_from(rt, alloc, shards, limits, source, gate)?;
+    assert!(rt; 1 <= shards && shards <= 64 && 1 <= capacity && capacity <= 65536);
+    let run = run_from(rt, alloc, shards, capacity, limits, source, gate)?;
+    for lane in &run.lanes {
+        assert_eq!(rt; lane.capacity(), capacity as usize);
+    }
     let text = text_of(alloc, &run.report)?;
     let taken = run.taken;
     Ok(Answer { text, taken })
@@ -99,11 +105,12 @@ pub fn answer_of<T: Threads + Wait + Sync + Abort>(
     rt: &T,
     alloc: Global,
     shards: u32,
+    capacity: u32,
     limits: Limits,
     bytes: &[u8],
 ) -> Result<Answer, Fault> {
     let mut pieces = Pieces { bytes, size: 1 };
-    answer_from(rt, alloc, shards, limits, &mut pieces, &Open)
+    answer_from(rt, alloc, shards, capacity, limits, &mut pieces, &Open)
 }
 
 /// The report of a part of the locations by such a run, and how many records each shard took.

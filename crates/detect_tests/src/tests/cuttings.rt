@@ -76,7 +76,7 @@ fn text_from<T: Threads + Wait + Sync + Abort>(
             alloc,
             &detect_plain(alloc, limits, &mut pieces, Hasher::default())?,
         ),
-        Some(shards) => Ok(answer_from(rt, alloc, shards, limits, &mut pieces, &Open)?.text),
+        Some(shards) => Ok(answer_from(rt, alloc, shards, 1, limits, &mut pieces, &Open)?.text),
     }
 }
 

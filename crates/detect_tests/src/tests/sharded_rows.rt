@@ -9,16 +9,25 @@ use std::sync::Wait;
 use std::test::Fail;
 use std::thread::Threads;
 
-/// How many shards each row is run with.
-const SHARDS: [u32; 4] = [1, 2, 3, 64];
+/// How many shards each row is run with, and how many items each lane holds then.
+const SHARDS: [(u32, u32); 8] = [
+    (1, 1),
+    (2, 1),
+    (3, 1),
+    (64, 1),
+    (1, 65536),
+    (2, 2),
+    (3, 1024),
+    (64, 5),
+];
 
 #[test]
 fn same_reports(rt: HostRuntime) -> Result<(), Fail> {
     for row in all_reported() {
         let plain = text_plain(rt.alloc(), LIMITS, row.text, 1)?;
         assert_text(&rt, &plain, row.report, row.name, 0);
-        for shards in SHARDS {
-            let text = answer_of(&rt, rt.alloc(), shards, LIMITS, row.text)?.text;
+        for (shards, capacity) in SHARDS {
+            let text = answer_of(&rt, rt.alloc(), shards, capacity, LIMITS, row.text)?.text;
             assert_text(&rt, &text, &plain, row.name, shards as usize);
         }
     }
@@ -30,8 +39,8 @@ fn same_faults(rt: HostRuntime) {
     for row in all_faulty() {
         let plain = text_plain(rt.alloc(), row.limits, row.text, 1).err();
         assert_fault(&rt, plain, row.fault, row.name, 0);
-        for shards in SHARDS {
-            let fault = answer_of(&rt, rt.alloc(), shards, row.limits, row.text).err();
+        for (shards, capacity) in SHARDS {
+            let fault = answer_of(&rt, rt.alloc(), shards, capacity, row.limits, row.text).err();
             assert_fault(&rt, fault, row.fault, row.name, shards as usize);
         }
     }
@@ -44,7 +53,7 @@ fn check_shares<T: Threads + Wait + Sync + Abort>(
     text: &[u8],
     shares: &[u64],
 ) -> Result<(), Fail> {
-    let taken = answer_of(rt, alloc, shards, LIMITS, text)?.taken;
+    let taken = answer_of(rt, alloc, shards, 1, LIMITS, text)?.taken;
     assert_eq!(rt; taken.as_slice(), shares, "{shards} shards");
     Ok(())
 }

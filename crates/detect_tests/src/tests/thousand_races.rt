@@ -58,8 +58,15 @@ fn thousand_races(rt: HostRuntime) -> Result<(), Fail> {
 fn thousand_races_by_shards(rt: HostRuntime) -> Result<(), Fail> {
     let trace = trace_text(rt.alloc())?;
     let report = report_text(rt.alloc())?;
-    for (shards, first_took) in [(1, 2003), (2, 2003), (64, 67)] {
-        let answer = answer_of(&rt, rt.alloc(), shards, LIMITS, &trace)?;
+    for (shards, capacity, first_took) in [
+        (1, 1, 2003),
+        (2, 1, 2003),
+        (64, 1, 67),
+        (1, 65536, 2003),
+        (2, 100, 2003),
+        (64, 3, 67),
+    ] {
+        let answer = answer_of(&rt, rt.alloc(), shards, capacity, LIMITS, &trace)?;
         assert_text(&rt, &answer.text, &report, "shards", shards as usize);
         let second_took = if shards == 1 { None } else { Some(3) };
         let taken = (answer.taken.first().copied(), answer.taken.get(1).copied());
@@ -91,7 +98,7 @@ fn fault_after_a_flood(rt: HostRuntime) -> Result<(), Fail> {
         bytes: trace.strip_suffix(b"return\n").ok_or("no last record")?,
         size: 4096,
     };
-    let answer = answer_from(&rt, rt.alloc(), 2, LIMITS, &mut pieces, &gate);
+    let answer = answer_from(&rt, rt.alloc(), 2, 1, LIMITS, &mut pieces, &gate);
     let fault = Fault::Nest(NestFault {
         place: 2003,
         kind: NestKind::Unfinished,

@@ -22,7 +22,7 @@ fn run_often<T: Threads + Wait + Sync + Abort>(rt: &T, alloc: Global) -> Result<
             bytes: &trace,
             size: 4096,
         };
-        let text = answer_from(rt, alloc, 64, LIMITS, &mut pieces, &Open)?.text;
+        let text = answer_from(rt, alloc, 64, 1, LIMITS, &mut pieces, &Open)?.text;
         assert_text(rt, &text, &report, "run", count);
     }
     Ok(())

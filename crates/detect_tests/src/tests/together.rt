@@ -65,7 +65,7 @@ fn two_shards_meet(rt: HostRuntime) -> Result<(), Fail> {
             bytes: WRITE_WRITE,
             size: 1,
         };
-        let text = answer_from(&rt, rt.alloc(), shards, LIMITS, &mut pieces, &gate)?.text;
+        let text = answer_from(&rt, rt.alloc(), shards, 1, LIMITS, &mut pieces, &gate)?.text;
         assert!(rt; !gate.missed.load(Ordering::SeqCst), "{shards} shards");
         assert_eq!(rt; text.as_slice(), REPORT);
     }
@@ -137,7 +137,7 @@ fn reader_follows_shard(rt: HostRuntime) -> Result<(), Fail> {
         passed: &gate.passed,
         missed: false,
     };
-    let text = answer_from(&rt, rt.alloc(), 2, LIMITS, &mut reader, &gate)?.text;
+    let text = answer_from(&rt, rt.alloc(), 2, 1, LIMITS, &mut reader, &gate)?.text;
     assert!(rt; !reader.missed);
     assert_eq!(rt; text.as_slice(), REPORT);
     Ok(())

@@ -72,7 +72,7 @@ fn report_sharded<T: Threads + Wait + Sync>(
         ⊎ IsFaultOfAll limits.records limits.depth bytes.now fault) }
 {
     let mut told = Told { bytes, size };
-    Ok(run_from(rt, alloc, shards, limits, &mut told, &Open)?.report)
+    Ok(run_from(rt, alloc, shards, 1, limits, &mut told, &Open)?.report)
 }
 
 /// The text of the report on told bytes by one thread, or the fault.

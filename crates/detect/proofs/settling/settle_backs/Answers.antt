@@ -1,18 +1,17 @@
-use Rattle.std.proofs.Common.{rules, refl, sym, ap, ◌∙◌}
+use Rattle.std.proofs.Common.{rules, map, refl, sym, ap, ◌∙◌}
 use Rattle.std.proofs.Math.Seq.{map-set_same}
 use Rattle.lane.specs.Lanes.{end_lane, taker_lane, taken_of, all_put}
 use Rattle.shard.specs.declared.working.Worked.{Worked}
 use Rattle.detect.specs.Gathered.{given_by}
 use Rattle.detect.specs.Closing.{told_by, IsSettled}
 use Rattle.detect.proofs.LanesBack.{ended_to}
-use Rattle.detect.proofs.Receipts.{at_same, within_same, at_map, settled_at, same_set}
+use Rattle.detect.proofs.Receipts.{front_same, at_front, within_front, at_map, settled_at, same_set}
 use Rattle.detect.proofs.settling.settle_backs.Goals as goal
 
 pub settle-requires-after_bounds : goal.settle-requires-after_bounds
 settle-requires-after_bounds g c κs =
-    let i = c.loop-shard.invariant in
-    at_same (λ (w : Worked g.row.S.Denot g.row.S-Hasher.Denot). end_lane w.back) taker_lane c.loop-shard.workers.items c.loop-shard.backs.items c.loop-shard.shard _ _
-    (i.same.from_shards ∙ c.requires ∙ sym i.lanes) (search rules) c.index_mut-in-loop-shard.ensures.value c.index_mut.ensures.value
+    at_front (λ (w : Worked g.row.S.Denot g.row.S-Hasher.Denot). end_lane w.back) taker_lane c.loop-shard.workers.items c.loop-shard.backs.items c.loop-shard.shard _ _
+    (front_same _ _ _ _ c.loop-shard.invariant.same.from_shards c.loop-shard.invariant.lanes c.requires) (search rules) c.index_mut-in-loop-shard.ensures.value c.index_mut.ensures.value
 
 pub loop-shard-preserved : goal.loop-shard-preserved
 loop-shard-preserved g c =
@@ -27,7 +26,7 @@ loop-shard-preserved g c =
           (settled_at (given_by c.loop-shard.backs.items) (given_by c.args.backs.now.items) (told_by c.loop-shard.workers.items) (told_by c.args.workers.now.items) c.loop-shard.shard
           (taken_of t) (taken_of c.settle.new.self) (all_put w.back) (all_put c.settle.new.end) i.taken i.same.told
           (at_map taken_of c.loop-shard.backs.items c.loop-shard.shard t _
-          (within_same taker_lane (λ (x : Worked g.row.S.Denot g.row.S-Hasher.Denot). end_lane x.back) c.loop-shard.backs.items c.loop-shard.workers.items c.loop-shard.shard (i.lanes ∙ sym c.requires ∙ sym i.same.from_shards) (search rules)) c.index_mut.ensures.value)
+          (within_front (λ (x : Worked g.row.S.Denot g.row.S-Hasher.Denot). end_lane x.back) taker_lane c.loop-shard.workers.items c.loop-shard.backs.items c.loop-shard.shard (front_same _ _ _ _ c.loop-shard.invariant.same.from_shards c.loop-shard.invariant.lanes c.requires) (search rules)) c.index_mut.ensures.value)
           (at_map (λ (x : Worked g.row.S.Denot g.row.S-Hasher.Denot). all_put x.back) c.loop-shard.workers.items c.loop-shard.shard w _ (search rules) c.index_mut-in-loop-shard.ensures.value)
           c.settle.ensures.taken c.settle.ensures.put c.settle.ensures.whole)
           i.settled k lt;

@@ -2,7 +2,7 @@ use Rattle.std.proofs.Common.{List, length, sym, ap, subst, arith, ◌∙◌}
 use Rattle.std.proofs.lemmas.List.{nil_from_length}
 use Rattle.detect.specs.declared.jobs.Job.{Job}
 use Rattle.detect.specs.Workers.{AllFresh}
-use Rattle.detect.proofs.WorkersDone.{started_more, started_all, split_more}
+use Rattle.detect.proofs.WorkersDone.{started_more, started_all, started_first, split_more}
 use Rattle.detect.proofs.workers.start_all.Goals as goal
 
 pub start-requires-after_bounds : goal.start-requires-after_bounds
@@ -29,3 +29,9 @@ loop-job-preserved g c =
 
 pub returns-clause-started : goal.returns-clause-started
 returns-clause-started g c = started_all c.loop-job.handles.items c.loop-job.yielded _ _ (nil_from_length _ (sym c.loop-job.job-iterator.rest.ok.0 ∙ c.in-None.ensures.steps.0)) c.loop-job.invariant.split c.loop-job.invariant.lanes
+
+pub returns-clause-first_ones : goal.returns-clause-first_ones
+returns-clause-first_ones g c = let i = c.loop-job.invariant in started_first c.loop-job.handles.items c.loop-job.yielded _ _ i.split i.lanes
+
+pub returns-in_err-handle-clause-first_ones : goal.returns-in_err-handle-clause-first_ones
+returns-in_err-handle-clause-first_ones g c = let i = c.loop-job.invariant in started_first c.loop-job.handles.items c.loop-job.yielded _ _ i.split i.lanes

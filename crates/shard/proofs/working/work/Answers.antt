@@ -2,57 +2,50 @@ use Rattle.std.proofs.Common.{rules, ◌≡◌, List, [], ◌++◌, length, take
 use Rattle.trace.specs.declared.records.Placed.{Placed}
 use Rattle.lane.specs.declared.item.Item.{Item}
 use Rattle.lane.specs.Items.{has_mark, records}
-use Rattle.lane.specs.Lanes.{taken_of}
-use Rattle.shard.specs.Tellings.{told_of}
-use Rattle.lane.specs.declared.parcel.Parcel.{Parcel}
-use Rattle.lane.specs.Records.{opened, taken_records}
+use Rattle.lane.specs.Lanes.{taken_of, put_of}
 use Rattle.lane.proofs.Marks.{records_append, all_to_mark}
-use Rattle.lane.proofs.Records.{opened_append, has_mark_opened, mark_last_opened}
 use Rattle.shard.specs.declared.Back.{Back}
 use Rattle.shard.specs.Working.{HasWorked, IsOfShare, TellsFound}
 use Rattle.shard.proofs.Works.{worked_new, answers, tells_share}
 use Rattle.shard.proofs.working.work.Goals as goal
 
-taken_more : (old new more : List (Item Parcel)) → new ≡ old ++ more → records (opened new) ≡ records (opened old) ++ records (opened more)
-taken_more old new more e = ap (λ (l : List (Item Parcel)). records (opened l)) e ∙ ap records (opened_append old more) ∙ records_append (opened old) (opened more)
-
 pub loop-init : goal.loop-init
 loop-init g c =
-    let P : List (Item Placed) → Type 0 = λ x. HasWorked (records x) c.args.shard (told_of c.new.result) false in
+    let P : List (Item Placed) → Type 0 = λ x. HasWorked (records x) c.args.shard (put_of c.args.back) false in
     let Q : List (Item Back) → Type 0 = λ y. HasWorked [] c.args.shard y false in
     record {
       same_taker = refl;
-      same_back = c.new.ensures.lane;
+      same_back = refl;
       before_mark = ap has_mark c.requires.none_taken;
-      worked = subst P (sym c.requires.none_taken) (subst Q (sym (c.new.ensures.told ∙ c.requires.none_put)) (worked_new c.args.shard c.requires.new));
+      worked = subst P (sym c.requires.none_taken) (subst Q (sym c.requires.none_put) (worked_new c.args.shard c.requires.new));
     }
 
 pub loop-preserved : goal.loop-preserved
 loop-preserved g c =
     let i = c.loop.invariant in
-    let same : records (taken_records c.take_block-count.new.self) ≡ records (taken_records c.loop.taker) ++ records (opened (take c.take_block-count.result c.take_block-count.new.items)) = taken_more (taken_of c.loop.taker) _ _ c.take_block-count.ensures.taken in
-    let P : List Placed → Type 0 = λ u. HasWorked u c.take_block.new.self.shard (told_of c.take_block.new.self.telling) c.take_block.new.self.stopped in
+    let same : records (taken_of c.take_block-count.new.self) ≡ records (taken_of c.loop.taker) ++ records (take c.take_block-count.result c.take_block-count.new.items) = ap records c.take_block-count.ensures.taken ∙ records_append (taken_of c.loop.taker) _ in
+    let P : List Placed → Type 0 = λ u. HasWorked u c.take_block.new.self.shard (put_of c.take_block.new.self.back) c.take_block.new.self.stopped in
     record {
       same_taker = c.take_block-count.ensures.lane ∙ i.same_taker;
       same_back = c.take_block.ensures.lane ∙ i.same_back;
-      before_mark = has_mark_opened (taken_of c.take_block-count.new.self) ∙ search rules;
-      worked = subst P (sym same) (c.take_block.ensures.worked (records (taken_records c.loop.taker)) i.worked);
+      before_mark = search rules;
+      worked = subst P (sym same) (c.take_block.ensures.worked (records (taken_of c.loop.taker)) i.worked);
     }
 
 pub returns-then-ended : goal.returns-then-ended
 returns-then-ended g c =
     let i = c.loop.invariant in
-    let taken = taken_records c.take_block-count.new.self in
-    let put = told_of c.take_block.new.self.telling in
-    let same : records taken ≡ records (taken_records c.loop.taker) ++ records (opened (take c.take_block-count.result c.take_block-count.new.items)) = taken_more (taken_of c.loop.taker) _ _ c.take_block-count.ensures.taken in
+    let taken = taken_of c.take_block-count.new.self in
+    let put = put_of c.take_block.new.self.back in
+    let same : records taken ≡ records (taken_of c.loop.taker) ++ records (take c.take_block-count.result c.take_block-count.new.items) = ap records c.take_block-count.ensures.taken ∙ records_append (taken_of c.loop.taker) _ in
     let P : List Placed → Type 0 = λ u. HasWorked u c.take_block.new.self.shard put c.take_block.new.self.stopped in
-    let worked = subst P (sym same) (c.take_block.ensures.worked (records (taken_records c.loop.taker)) i.worked) in
+    let worked = subst P (sym same) (c.take_block.ensures.worked (records (taken_of c.loop.taker)) i.worked) in
     let Q : List (Item Back) → Type 0 = λ all. IsOfShare (records taken) → (c.take_block.new.self.shard.taken ≡ length (records taken)) × TellsFound (records taken) all in
     record {
       same_taker = c.take_block-count.ensures.lane ∙ i.same_taker;
-      same_back = c.close.ensures.lane ∙ c.take_block.ensures.lane ∙ i.same_back;
-      to_mark = all_to_mark taken (mark_last_opened (taken_of c.take_block-count.new.self) c.take_block-count.ensures.last) (has_mark_opened (taken_of c.take_block-count.new.self) ∙ search rules);
+      same_back = c.mark.ensures.lane ∙ c.take_block.ensures.lane ∙ i.same_back;
+      to_mark = all_to_mark taken c.take_block-count.ensures.last (search rules);
       count = worked.taken;
-      answers = (put, c.close.ensures.put, answers _ _ put _ worked);
-      of_share = subst Q (sym c.close.ensures.put) (tells_share _ _ put _ worked);
+      answers = (put, c.mark.ensures.put, answers _ _ put _ worked);
+      of_share = subst Q (sym c.mark.ensures.put) (tells_share _ _ put _ worked);
     }

@@ -26,10 +26,10 @@ returns-in-Ok-None-clause-worked g c u h =
 pub returns-in-Ok-Some-clause-worked : goal.returns-in-Ok-Some-clause-worked
 returns-in-Ok-Some-clause-worked g c u h =
     let P : Option RaceAt → Type 0 = λ o. (u : List Placed) → HaveSeen u c.args.self.now.shard.bags c.args.self.now.shard.memory → found (u ++ c.args.placed ∷ []) ≡ found u ++ option_to_list o in
-    worked_applied u c.args.placed c.args.self.now.shard c.apply.new.self _ _ (Some c.in-Ok-Some.race) c.args.self.now.stopped c.tell_race.ensures.told c.if-self.false (c.accepts.ensures.0 c.if-not-accepts.false)
+    worked_applied u c.args.placed c.args.self.now.shard c.apply.new.self _ _ (Some c.in-Ok-Some.race) c.args.self.now.stopped c.put.ensures.put c.if-self.false (c.accepts.ensures.0 c.if-not-accepts.false)
     c.in-Ok-Some.ensures.last_place c.in-Ok-Some.ensures.ended c.in-Ok-Some.ensures.taken c.in-Ok-Some.ensures.applied (subst P c.in-Ok-Some.field-0-is c.in-Ok-Some.ensures.found) h
 
 pub returns-in-Err-clause-worked : goal.returns-in-Err-clause-worked
 returns-in-Err-clause-worked g c u h =
-    worked_refused u c.args.placed c.args.self.now.shard c.count_one-in-Err.new.self _ _ c.args.self.now.stopped c.tell_refusal.ensures.told c.if-self.false (c.accepts.ensures.0 c.if-not-accepts.false)
+    worked_refused u c.args.placed c.args.self.now.shard c.count_one-in-Err.new.self _ _ c.args.self.now.stopped c.put-in-Err.ensures.put c.if-self.false (c.accepts.ensures.0 c.if-not-accepts.false)
     (ap (λ (s : ShardState). s.taken) c.count_one-in-Err.ensures ∙ ap (λ n. capped_count (n + 1)) c.in-Err.ensures.refused.taken) h

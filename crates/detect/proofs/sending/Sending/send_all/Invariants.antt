@@ -4,10 +4,9 @@ use Rattle.trace.specs.Traces.{placed}
 use Rattle.trace.specs.Parts.{records_of}
 use Rattle.trace.specs.Devices.{◌⇝◌, Gave, IsSteady}
 use Rattle.trace.specs.Feeding.{HasFed}
-use Rattle.route.specs.Routers.{IsOnLanes}
-use Rattle.detect.specs.Sent.{MaySend, HasSentBut}
-use Rattle.detect.specs.LanesBack.{IsFurther}
-use Rattle.detect.proofs.sending.send_all.Given as goal
+use Rattle.route.specs.Routers.{HasSent}
+use Rattle.detect.specs.Sent.{MaySend, GoesOn}
+use Rattle.detect.proofs.sending.Sending.send_all.Given as goal
 
 abbrev pub invariant-records : goal.invariant-records
 invariant-records g l = record {
@@ -15,10 +14,9 @@ invariant-records g l = record {
   came : List ℕ;
   gave : Gave (g.R.Source.state l.fn.source ⇝ g.R.Source.state l.source) came;
   fed : HasFed trace came l.intake;
-  sent : HasSentBut l.batch (records_of l.fn.part (placed trace)) l.router;
-  ready : MaySend l.batch l.router;
-  lanes : IsOnLanes l.fn.router l.router;
-  further : IsFurther l.fn.gathering l.gathering;
+  sent : HasSent (records_of l.fn.self.part (placed trace)) l.self.router;
+  ready : MaySend l.self;
+  goes_on : GoesOn l.fn.self l.self;
   steady : IsSteady (g.R.Source.state l.fn.source ⇝ g.R.Source.state l.source);
   records : l.intake.reading.limit ≡ l.fn.limits.records;
   depths : l.intake.nesting.max_depth ≡ l.fn.limits.depth;

@@ -1,7 +1,7 @@
 use Rattle.std.proofs.Common.{◌≡◌, false}
 use Rattle.lane.specs.Items.{has_mark}
 use Rattle.lane.specs.Lanes.{lane_of, put_of}
-use Rattle.shard.proofs.telling.put_one.Given as goal
+use Rattle.shard.proofs.telling.put.Given as goal
 
 abbrev pub invariant-loop : goal.invariant-loop
 invariant-loop g l = record {

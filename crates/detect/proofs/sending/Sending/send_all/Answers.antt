@@ -8,11 +8,10 @@ use Rattle.trace.specs.Feeding.{Feeding, HasFed, IsWhole}
 use Rattle.trace.proofs.Feedings.{consumes_none, consumes_more, fed_none, at_limits}
 use Rattle.trace.proofs.Endings.{ends_refused, refused_by_fault, given_next, given_end}
 use Rattle.detect.proofs.Detected.{placed-next}
-use Rattle.detect.proofs.Sendings.{on_lanes_refl, on_lanes_trans}
-use Rattle.detect.specs.Sent.{HasSentBut}
-use Rattle.detect.proofs.SentBut.{none_but}
-use Rattle.detect.proofs.LanesBack.{further_refl, further_trans}
-use Rattle.detect.proofs.sending.send_all.Goals as goal
+use Rattle.route.specs.declared.routing.Router.{Router}
+use Rattle.route.specs.Routers.{HasSent}
+use Rattle.detect.proofs.Sendings.{goes_on_refl, goes_on_trans, goes_on_router, same_part}
+use Rattle.detect.proofs.sending.Sending.send_all.Goals as goal
 
 pub records-init : goal.records-init
 records-init g c =
@@ -22,10 +21,9 @@ records-init g c =
       came = [];
       gave = consumes_none _;
       fed = subst P (sym c.new-intake.ensures) (fed_none c.args.limits.records c.args.limits.depth);
-      sent = none_but c.args.batch.now [] c.args.router.now c.requires.empty c.requires.none_sent;
+      sent = c.requires.none_sent;
       ready = c.requires.ready;
-      lanes = on_lanes_refl _;
-      further = further_refl _;
+      goes_on = goes_on_refl _;
       steady = refl;
       records = ap (λ (s : Feeding). s.reading.limit) c.new-intake.ensures;
       depths = ap (λ (s : Feeding). s.nesting.max_depth) c.new-intake.ensures;
@@ -41,16 +39,16 @@ pub records-preserved-in-Some : goal.records-preserved-in-Some
 records-preserved-in-Some g c =
     let i = c.records.invariant in
     let next = c.in-Some.ensures.fed i.trace i.came i.fed in
-    let P : List Placed → Type 0 = λ u. HasSentBut c.send.new.batch (records_of c.args.part u) c.send.new.router in
+    let P : List Placed → Type 0 = λ u. HasSent (records_of c.args.self.now.part u) c.send.new.self.router in
+    let sent = same_part c.args.self.now c.records.self c.send.new.self.router (placed i.trace) c.in-Some.placed i.goes_on (c.send.ensures.sent (placed i.trace)) i.sent in
     record {
       trace = i.trace ++ c.in-Some.placed.what ∷ [];
       came = i.came;
       gave = i.gave;
       fed = next.1;
-      sent = subst P (sym (placed-next i.trace c.in-Some.placed next.0)) (c.send.ensures.sent (placed i.trace) i.sent);
+      sent = subst P (sym (placed-next i.trace c.in-Some.placed next.0)) sent;
       ready = c.send.ensures.ready;
-      lanes = on_lanes_trans _ _ _ i.lanes c.send.ensures.lanes;
-      further = further_trans _ _ _ i.further c.send.ensures.further;
+      goes_on = goes_on_trans _ _ _ i.goes_on c.send.ensures.goes_on;
       steady = i.steady;
       records = c.next_known.ensures.limits.records ∙ i.records;
       depths = c.next_known.ensures.limits.depths ∙ i.depths;
@@ -82,7 +80,7 @@ returns-in-None-2-clause-sent g c =
         gave = consumes_more _ _ _ i.came fed.0 i.gave fed.1;
         whole = at_limits P _ _ _ _ (c.next_known.ensures.limits.records ∙ i.records) (c.next_known.ensures.limits.depths ∙ i.depths) end;
       };
-      says = c.send_batch.ensures.sent (records_of c.args.part (placed i.trace)) i.sent;
+      says = c.flush.ensures.sent (records_of c.args.self.now.part (placed i.trace)) i.sent;
     }
 
 pub records-smaller : goal.records-smaller
@@ -102,30 +100,25 @@ records-preserved g c =
     let fed = c.in_ok-next_from-in-None.ensures.fed i.trace i.came kept in
     let change : Change = g.R.Source.state c.records.source ⇝ g.R.Source.state c.next_from.new.source in
     let next = given_next _ _ _ _ change _ _ _ c.in-Some-2.is fed.2 in
-    let P : List Placed → Type 0 = λ u. HasSentBut c.send-in-Some-2.new.batch (records_of c.args.part u) c.send-in-Some-2.new.router in
-    let sent = none_but c.send_batch.new.batch (records_of c.args.part (placed i.trace)) c.send_batch.new.router c.send_batch.ensures.empty (c.send_batch.ensures.sent (records_of c.args.part (placed i.trace)) i.sent) in
+    let P : List Placed → Type 0 = λ u. HasSent (records_of c.args.self.now.part u) c.send-in-Some-2.new.self.router in
+    let flushed = goes_on_trans _ _ _ i.goes_on (goes_on_router c.records.self c.flush.new.self c.flush.ensures.lanes) in
+    let before = c.flush.ensures.sent (records_of c.args.self.now.part (placed i.trace)) i.sent in
+    let sent = same_part c.args.self.now (record c.records.self { router = c.flush.new.self }) c.send-in-Some-2.new.self.router (placed i.trace) c.in-Some-2.placed flushed (c.send-in-Some-2.ensures.sent (placed i.trace)) before in
     record {
       trace = i.trace ++ c.in-Some-2.placed.what ∷ [];
       came = i.came ++ fed.0;
       gave = consumes_more _ _ _ i.came fed.0 i.gave fed.1;
       fed = next.1;
-      sent = subst P (sym (placed-next i.trace c.in-Some-2.placed next.0)) (c.send-in-Some-2.ensures.sent (placed i.trace) sent);
+      sent = subst P (sym (placed-next i.trace c.in-Some-2.placed next.0)) sent;
       ready = c.send-in-Some-2.ensures.ready;
-      lanes = on_lanes_trans _ _ _ i.lanes (on_lanes_trans _ _ _ c.send_batch.ensures.lanes c.send-in-Some-2.ensures.lanes);
-      further = further_trans _ _ _ i.further (further_trans _ _ _ c.send_batch.ensures.further c.send-in-Some-2.ensures.further);
+      goes_on = goes_on_trans _ _ _ flushed c.send-in-Some-2.ensures.goes_on;
       steady = next.2 ∙ i.steady;
       records = c.next_from.ensures.limits.records ∙ c.next_known.ensures.limits.records ∙ i.records;
       depths = c.next_from.ensures.limits.depths ∙ c.next_known.ensures.limits.depths ∙ i.depths;
     }
 
-pub returns-in_err-next_from-in-None-clause-lanes : goal.returns-in_err-next_from-in-None-clause-lanes
-returns-in_err-next_from-in-None-clause-lanes g c = on_lanes_trans _ _ _ c.records.invariant.lanes c.send_batch.ensures.lanes
+pub returns-in_err-next_from-in-None-clause-goes_on : goal.returns-in_err-next_from-in-None-clause-goes_on
+returns-in_err-next_from-in-None-clause-goes_on g c = goes_on_trans _ _ _ c.records.invariant.goes_on (goes_on_router c.records.self c.flush.new.self c.flush.ensures.lanes)
 
-pub returns-in_err-next_from-in-None-clause-further : goal.returns-in_err-next_from-in-None-clause-further
-returns-in_err-next_from-in-None-clause-further g c = further_trans _ _ _ c.records.invariant.further c.send_batch.ensures.further
-
-pub returns-in-None-2-clause-lanes : goal.returns-in-None-2-clause-lanes
-returns-in-None-2-clause-lanes g c = on_lanes_trans _ _ _ c.records.invariant.lanes c.send_batch.ensures.lanes
-
-pub returns-in-None-2-clause-further : goal.returns-in-None-2-clause-further
-returns-in-None-2-clause-further g c = further_trans _ _ _ c.records.invariant.further c.send_batch.ensures.further
+pub returns-in-None-2-clause-goes_on : goal.returns-in-None-2-clause-goes_on
+returns-in-None-2-clause-goes_on g c = goes_on_trans _ _ _ c.records.invariant.goes_on (goes_on_router c.records.self c.flush.new.self c.flush.ensures.lanes)

@@ -1,0 +1,40 @@
+use Rattle.std.proofs.Common.{Option, Some, refl, sym, subst, ◌∙◌}
+use Rattle.trace.specs.declared.records.Placed.{Placed}
+use Rattle.route.specs.Sending.{sent_whole}
+use Rattle.route.specs.Routers.{HasSent}
+use Rattle.detect.proofs.Sendings.{goes_on_router, goes_on_trans, sent_step, sent_idle}
+use Rattle.detect.proofs.sending.Sending.send_rest.Goals as goal
+
+pub loop-init : goal.loop-init
+loop-init g c = record {
+  sent = λ w p is h.
+      let P : Option Placed → Type 0 = λ o. HasSent (sent_whole w (Some p) o) c.wait.new.self.router in
+      subst P (sym (c.wait.ensures.unchanged.pending ∙ is)) (c.wait.ensures.sent w h);
+  pending = λ p is. sym c.wait.ensures.unchanged.pending ∙ is;
+  unmarked = c.wait.ensures.unchanged.marked ∙ c.requires;
+  goes_on = c.wait.ensures.goes_on;
+}
+
+pub returns-in-Idle-clause-sent : goal.returns-in-Idle-clause-sent
+returns-in-Idle-clause-sent g c w p is h =
+    sent_idle p w _ _ c.step.new.self (c.in-Idle.ensures.idle.0 refl) (c.step.ensures.sent _ (c.loop.invariant.sent w p is h))
+
+pub loop-preserved-in_default : goal.loop-preserved-in_default
+loop-preserved-in_default g c =
+    let i = c.loop.invariant in
+    record {
+      sent = λ w p is h. sent_step p w _ _ _ c.step.new.self is i.pending (λ e. let same = c.in-Moved.ensures.idle.1 e in absurd cc) (c.step.ensures.sent _ (i.sent w p is h));
+      pending = λ p e. i.pending p (c.in-Moved.ensures.turn p e).0;
+      unmarked = c.step.ensures.marked ∙ i.unmarked;
+      goes_on = goes_on_trans _ _ _ i.goes_on (goes_on_router c.loop.self c.step.new.self c.step.ensures.lanes);
+    }
+
+pub loop-preserved-in-Some-take : goal.loop-preserved-in-Some-take
+loop-preserved-in-Some-take g c =
+    let i = c.loop.invariant in
+    record {
+      sent = λ w p is h. sent_step p w _ _ _ c.step.new.self is i.pending (λ e. let same = c.in-Moved.ensures.idle.1 e in absurd cc) (c.step.ensures.sent _ (i.sent w p is h));
+      pending = λ p e. i.pending p (c.in-Moved.ensures.turn p e).0;
+      unmarked = c.step.ensures.marked ∙ i.unmarked;
+      goes_on = goes_on_trans _ _ _ i.goes_on (record { part = refl; lanes = c.step.ensures.lanes; further = c.learn.ensures });
+    }
