@@ -1,9 +1,12 @@
 -- How many stretches the bags make up: as many as are held.
-use Rattle.std.proofs.Common.{◌≡◌, ℕ, zero, suc, ◌<◌, ◌≤◌, Bool, true, false, not, ◌||◌, ◌&&◌, eqb, ltb, if◌then◌else◌, List, [], ◌∷◌, ◌++◌, reverse, length, inl, inr, refl, sym, ap, ◌∙◌, ◌⊎◌, arith}
+use Rattle.std.proofs.Common.{◌≡◌, ℕ, zero, suc, ◌<◌, ◌≤◌, Bool, true, false, not, ◌||◌, ◌&&◌, eqb, ltb, if◌then◌else◌, List, [], ◌∷◌, ◌++◌, reverse, length, take, drop, ◌+◌, inl, inr, refl, sym, ap, ◌∙◌, ◌⊎◌, arith}
 use Rattle.std.proofs.lemmas.Bool.{cases_eq, cases_lt, lt-ltb, le-ltb, eq-eqb, ne_eqb}
 use Rattle.std.specs.List.{list_any}
 use Rattle.std.specs.FinSet as bag
+use Rattle.std.proofs.lemmas.List.{length-take-le, length-reverse}
+use Rattle.trace.specs.Bounds.{most_records}
 use Rattle.bags.specs.Nested.{Nested}
+use Rattle.bags.specs.Procedures.{Active}
 use Rattle.bags.specs.Stretch.{Stretch}
 use Rattle.bags.specs.Held.{start, active_of, actives_of, procedures_of, AreTurns, AreCut, AreHeld}
 use Rattle.bags.specs.Stretches.{in_one_bag, stretches_of, stretches}
@@ -218,3 +221,28 @@ pub length-stretches : (count : ℕ) (ss : List Stretch) (nested : List Nested) 
 length-stretches count ss nested held =
     sym (counted count ss (reverse nested) count held.cut (first_root count ss (reverse nested) held.cut) (stretch_some count ss nested held) (omega arith)
     ∙ all_begun count ss count (all_ascend count ss (reverse nested) held.cut) (omega arith))
+
+-- there are no more stretches than procedures, and no more active procedures than stretches
+stretches_most : (fs : List Active) (n : ℕ) → stretches_of fs n ≤ n
+stretches_most fs zero = omega arith
+stretches_most fs (suc zero) = omega arith
+stretches_most fs (suc (suc p)) = by_bag (in_one_bag fs p (suc p)) (stretches_of fs (suc p)) (stretches_most fs (suc p))
+  where
+    by_bag : (b : Bool) (n : ℕ) → n ≤ suc p → (if b then n else suc n) ≤ suc (suc p)
+    by_bag true n l = omega arith
+    by_bag false n l = omega arith
+
+fewer_nested : (next : ℕ) (ss : List Stretch) (fs : List Nested) → AreCut next ss fs → length fs ≤ length ss
+fewer_nested next ss [] h = omega arith
+fewer_nested next ss (f ∷ fs) h = omega (arith, h.0, fewer_nested (start next (drop f.begins ss)) (take f.begins ss) fs h.2, length-take-le f.begins ss (omega (arith, h.0)))
+
+-- so all that is held fits a word
+pub record AreFew (ss : List Stretch) (nested : List Nested) : Type 0 where
+  pub of_all : length ss ≤ most_records + 1
+  pub of_active : length nested ≤ length ss
+
+pub are_few : (count : ℕ) (ss : List Stretch) (nested : List Nested) → AreHeld count ss nested → AreFew ss nested
+are_few count ss nested held = record {
+  of_all = omega (arith, length-stretches count ss nested held, stretches_most (procedures_of count ss nested).active count, held.most);
+  of_active = omega (arith, fewer_nested count ss (reverse nested) held.cut, length-reverse nested);
+}

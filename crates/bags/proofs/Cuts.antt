@@ -1,7 +1,7 @@
 -- Active procedures by their stretches: what a spawn, a call, a sync, a return and a look-up do to them.
 use Rattle.std.proofs.Common.{◌≡◌, ℕ, suc, ◌+◌, ◌-◌, ◌<◌, ◌≤◌, Bool, true, false, not, ◌||◌, List, [], ◌∷◌, ◌++◌, reverse, length, take, drop, get_or, Option, Some, refl, sym, ap, subst, ◌∙◌, arith}
 use Rattle.std.proofs.lemmas.List.{take-append-drop, length-take-le, length-drop, length-append, length-reverse, reverse-append, get_or-reverse, get_or-append-add, append_assoc}
-use Rattle.std.proofs.Math.Seq.{take-append_seam, drop-append_seam, take-append-add}
+use Rattle.std.proofs.Math.Seq.{take-append_seam, drop-append_seam, take-append-add, get_or-append_seam}
 use Rattle.std.proofs.Math.ListN.{get_or-append}
 use Rattle.std.specs.Bool.{beq}
 use Rattle.std.specs.Option.{option_to_list}
@@ -12,7 +12,7 @@ use Rattle.bags.specs.Stretch.{Stretch}
 use Rattle.trace.specs.Bounds.{most_records}
 use Rattle.bags.specs.Search.{first_at}
 use Rattle.bags.specs.Held.{start, active_of, actives_of, procedures_of, AreTurns, AreCut, AreHeld}
-use Rattle.bags.proofs.Segments.{Ascends, AreGrown, any_of, after, turns_ascend, start_most, contains-bag_of, opened_is, synced_is, adopted, grown_wider, grown_longer, last_kind, first_at-start, start-both, at_keeper, any_of-append, ascends-append}
+use Rattle.bags.proofs.Segments.{Ascends, AreGrown, any_of, after, turns_ascend, start_most, contains-bag_of, opened_is, synced_is, adopted, grown_wider, grown_longer, last_kind, first_at-start, start-both, at_keeper, first_at_is, first_at-drop, any_of-append, ascends-append}
 
 -- the executing procedure's stretches follow those of all others
 pub actives-cut : (next : ℕ) (low ss : List Stretch) (f : Nested) (fs : List Nested) → f.begins ≡ length low
@@ -347,3 +347,19 @@ at_first ss nested s f is ns first kind begins number is_called =
       record { some = omega arith; most = omega arith; cut = subst (λ fs. AreCut 1 ss (reverse fs)) (sym ns) (subst (λ xs. AreCut 1 xs (f ∷ [])) (sym is) cut) },
       λ i. record { count = 1; active = ((λ j. actives_of 1 (is j) (reverse (ns j))) ∙ active) i },
     )
+
+-- which stands in no P-bag
+pub executing_serial : (count : ℕ) (ss : List Stretch) (nested : List Nested) (f : Nested) → AreHeld count ss nested → Executing count ss nested f
+    → in_p (procedures_of count ss nested).active f.number ≡ false
+executing_serial count ss nested f held x =
+    let p : Parts count ss f x.last.others = x.parts in
+    let within : f.begins < length ss = begins_within count ss nested f x in
+    let at : get_or ss f.begins p.first ≡ p.first = (λ i. get_or (p.whole i) (p.from i) p.first) ∙ get_or-append_seam p.low p.first p.rest p.first in
+    let first : first_at ss f.begins ≡ f.number = sym (first_at_is ss f.begins p.first within) ∙ ap (λ (s : Stretch). s.first) at ∙ sym p.number in
+    let back : drop f.begins ss ≡ p.first ∷ p.rest = (λ i. drop (p.from i) (p.whole i)) ∙ drop-append_seam p.low (p.first ∷ p.rest) in
+    let second : first_at ss (f.begins + 1) ≡ first_at p.rest 0 = sym (first_at-drop f.begins 1 ss) ∙ ap (λ xs. first_at xs 1) back in
+    let more : length ss - f.begins ≡ suc (length p.rest) = sym (length-drop f.begins ss) ∙ ap length back in
+    sym (in_p-keeper count ss nested f.begins f.number p.first held within (executes count ss nested f x).1 (omega arith)
+    (λ low. omega (arith, second, first_at-start count p.rest (omega arith), p.turns.1, p.number)))
+    ∙ ap (λ (s : Stretch). s.is_parallel) at
+    ∙ p.turns.0

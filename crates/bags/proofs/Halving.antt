@@ -1,11 +1,11 @@
 -- A search by steps that are powers of two: what it knows after so many probes, and how many it makes.
-use Rattle.std.proofs.Common.{◌≡◌, ◌∙◌, ℕ, zero, suc, ◌+◌, ◌-◌, ◌*◌, ◌/◌, ◌^◌, ◌<◌, ◌≤◌, List, drop, get_or, length, refl, ap, subst, arith}
+use Rattle.std.proofs.Common.{◌≡◌, ◌∙◌, ℕ, zero, suc, ◌+◌, ◌-◌, ◌*◌, ◌/◌, ◌^◌, ◌<◌, ◌≤◌, List, drop, get_or, length, refl, ap, sym, subst, arith}
 use Rattle.std.proofs.Math.Nat.{pow-zero, two-pow-succ, lt_of_not-le}
 use Rattle.std.proofs.lemmas.List.{drop-drop, get_or-drop, length-drop}
 use Rattle.std.proofs.lemmas.Nat.{pow_pos}
 use Rattle.std.proofs.lemmas.Int.Digits.{length-digits_of_step, length-digits_of-le}
 use Rattle.bags.specs.Stretch.{Stretch}
-use Rattle.bags.specs.Search.{first_at, IsAscending, IsKeeper}
+use Rattle.bags.specs.Search.{first_at, IsAscending, IsKeeper, Start, IsStart}
 use Rattle.bags.proofs.Segments.{first_at-drop}
 use Rattle.bags.specs.Numbers.{digits}
 
@@ -113,6 +113,60 @@ at_older stretches step procedure some twice root above up =
       counted = omega (arith, l.one_more);
       inside = inside_of stretches stretches 0 l.halvings (step / 2) refl (omega (arith, l.is, l.within)) (omega (arith, l.is));
     }
+
+-- where it isn't the second stretch that is compared first, and a procedure lies before it, there are more
+pub more_than_one : (stretches : List Stretch) (start : Start) (procedure : ℕ) → start.middle < length stretches → (start.middle ≡ 1 → ⊥) → first_at stretches 0 ≤ procedure
+    → procedure < first_at stretches start.middle → 1 < length stretches
+more_than_one stretches start procedure within not_one root above = by_middle start.middle within not_one above
+  where
+    by_middle : (m : ℕ) → m < length stretches → (m ≡ 1 → ⊥) → procedure < first_at stretches m → 1 < length stretches
+    by_middle zero low other below = absurd (omega arith)
+    by_middle (suc m) low other below = omega (arith, other)
+
+-- or the part of the stretches from the second one on, by two probes
+pub at_second : (stretches part : List Stretch) (start : Start) (half procedure : ℕ) → IsStart (length stretches) start → half ≡ start.longest / 2 → start.middle ≤ half + 1 → (start.middle ≡ 1 → ⊥)
+    → part ≡ drop 1 stretches → first_at stretches 0 ≤ procedure → first_at stretches 1 ≤ procedure → procedure < first_at stretches start.middle → IsAscending stretches → Stepped stretches part (half / 2) 2 procedure
+at_second stretches part start half procedure starts is few not_one part_is root found above up =
+    let l = longest start.longest (length stretches) (omega (arith, starts.within)) starts.long in
+    by_halvings l.halvings l.is l.one_more l.within l.more_than_half
+  where
+    not_oldest : start.middle ≡ 0 → ⊥
+    not_oldest e = let below : procedure < first_at stretches 0 = subst (λ (n : ℕ). procedure < first_at stretches n) e above in absurd (omega arith)
+
+    by_halvings : (j : ℕ) → start.longest ≡ 2 ^ j → digits (length stretches) ≡ j + 1 → start.longest ≤ length stretches → length stretches < start.longest + start.longest → Stepped stretches part (half / 2) 2 procedure
+    by_halvings zero one more within fewer = absurd (not_oldest (omega (arith, pow-zero 2, starts.exact not_one)))
+    by_halvings (suc j) power more within fewer =
+        let half_is : half ≡ 2 ^ j = omega (arith, two-pow-succ j) in record {
+          keeper = 1;
+          halvings = j;
+          is = part_is;
+          long = omega arith;
+          within = omega (arith, two-pow-succ j, pow_pos j);
+          not_above = found;
+          next_above = λ m. omega (arith, up start.middle (1 + 2 ^ j) (omega arith) m);
+          counted = omega arith;
+          inside = inside_of stretches part 1 j (half / 2) part_is (omega (arith, two-pow-succ j, pow_pos j)) (omega arith);
+        }
+
+-- where a search begins
+
+-- a power of two that is not above a number, and more than half of it
+pub long_of : (len step j : ℕ) → step ≡ 2 ^ j → step ≤ len → len < step + step → 2 * step ≡ 2 ^ digits len
+long_of len step j is within more =
+    let many : digits len ≡ suc j = digits_are len j (omega arith) (omega (arith, two-pow-succ j)) in
+    let twice : 2 * step ≡ 2 ^ suc j = omega (arith, two-pow-succ j) in
+    twice ∙ ap (λ (n : ℕ). 2 ^ n) (sym many)
+
+pub from_middle : (len step : ℕ) → 1 ≤ len → 2 * step ≡ 2 ^ digits len → (len ≡ step → ⊥) → IsStart len (record { longest = step; middle = len - step })
+from_middle len step some long apart =
+    let l = longest step len some long in
+    record { long = long; within = omega (arith, l.within, l.is, pow_pos l.halvings); newer = omega arith; exact = λ _. omega (arith, l.within) }
+
+pub from_second : (len step : ℕ) → 1 < len → 2 * step ≡ 2 ^ digits len → len ≡ step → IsStart len (record { longest = step; middle = 1 })
+from_second len step some long same = record { long = long; within = omega arith; newer = omega arith; exact = λ other. absurd (other refl) }
+
+pub from_only : (len step : ℕ) → len ≡ 1 → 2 * step ≡ 2 ^ digits len → len ≡ step → IsStart len (record { longest = step; middle = 0 })
+from_only len step one long same = record { long = long; within = omega arith; newer = omega arith; exact = λ _. omega arith }
 
 -- a step that is left
 record IsStep (step halvings : ℕ) : Type 0 where

@@ -4,4 +4,3 @@ pub mod Segments
 pub mod Halving
 pub mod Cuts
 pub mod Counting
-mod Kept

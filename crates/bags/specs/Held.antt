@@ -4,6 +4,7 @@ use Rattle.std.specs.List.{range_with_len}
 use Rattle.std.specs.FinSet as set
 use Rattle.bags.specs.Nested.{Nested}
 use Rattle.bags.specs.Procedures.{Bag, Active, Procedures}
+use Rattle.bags.specs.Search.{Start, IsStart}
 use Rattle.bags.specs.Stretch.{Stretch}
 use Rattle.trace.specs.Bounds.{most_records}
 
@@ -60,7 +61,7 @@ pub record AreHeld (count : ℕ) (ss : List Stretch) (nested : List Nested) : Ty
   pub most : count ≤ most_records + 1
   pub cut : AreCut count ss (reverse nested)
 
--- and beside them settled, a number up to which all procedures are in the root's first stretch
-pub record AreKept (count settled : ℕ) (ss : List Stretch) (nested : List Nested) : Type 0 where
+-- and where a search among the stretches begins
+pub record AreKept (count : ℕ) (start : Start) (ss : List Stretch) (nested : List Nested) : Type 0 where
   pub held : AreHeld count ss nested
-  pub in_series : settled ≤ start count (drop 1 ss)
+  pub start_is : IsStart (length ss) start

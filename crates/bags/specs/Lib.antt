@@ -2,8 +2,9 @@ pub mod Procedures
 pub mod Paths
 pub mod Stretches
 pub mod Words
+pub mod First
 pub mod Stretch
 pub mod Nested
-pub mod Held
-pub mod Search
 pub mod Numbers
+pub mod Search
+pub mod Held

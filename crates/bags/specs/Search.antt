@@ -1,5 +1,6 @@
 -- Private: the first numbers of stretches.
-use Rattle.std.specs.Prelude.{◌≡◌, ℕ, zero, suc, ◌+◌, ◌<◌, ◌≤◌, List, [], ◌∷◌, length, get_or}
+use Rattle.std.specs.Prelude.{◌≡◌, ℕ, zero, suc, ◌+◌, ◌*◌, ◌^◌, ◌<◌, ◌≤◌, List, [], ◌∷◌, length, get_or}
+use Rattle.bags.specs.Numbers.{digits}
 use Rattle.bags.specs.Stretch.{Stretch}
 
 -- the first number at an index, or 0 past the end
@@ -19,3 +20,16 @@ pub record IsKeeper (stretches : List Stretch) (procedure : ℕ) (keeper : Stret
   pub is : keeper ≡ get_or stretches index keeper
   pub not_above : first_at stretches index ≤ procedure
   pub next_above : index + 1 < length stretches → procedure < first_at stretches (index + 1)
+
+-- where a search begins: the greatest power of two that is not above the number of stretches, and the index of the first
+-- comparison
+pub record Start : Type 0 where
+  pub longest : ℕ
+  pub middle : ℕ
+
+-- from the middle on there are no more stretches than the longest step; and as many, unless the middle is the second one
+pub record IsStart (len : ℕ) (s : Start) : Type 0 where
+  pub long : 2 * s.longest ≡ 2 ^ digits len
+  pub within : s.middle < len
+  pub newer : len ≤ s.middle + s.longest
+  pub exact : (s.middle ≡ 1 → ⊥) → s.middle + s.longest ≡ len

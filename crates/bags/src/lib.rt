@@ -4,20 +4,24 @@
 //! in one bag of one active procedure; so the list of stretches says what all the bags hold.
 #![tactic(auto)]
 
-ghost use Rattle.std.specs.Prelude.{◌≡◌, ◌+◌, ◌*◌, ◌<◌, ◌≤◌, ◌^◌, true, false, length, IfOk, OnOk, OnErr};
+ghost use Rattle.std.specs.Prelude.{◌≡◌, ◌+◌, ◌*◌, ◌<◌, ◌≤◌, true, false, length, IfOk, OnOk, OnErr};
 ghost use Rattle.trace.specs.Bounds.{most_records};
-ghost use Rattle.bags.specs.Search.{first_at, IsAscending, IsKeeper};
 ghost use Rattle.bags.specs.Stretches.{stretches};
 ghost use Rattle.bags.specs.Numbers.{digits};
 
+use look_up::look_up;
 use nested::Nested;
+use search::Start;
 use std::alloc::Global;
 use std::marker::Model;
 use stretch::Stretch;
 use trace::NoMemory;
 
+mod first;
 pub mod laws;
+mod look_up;
 mod nested;
+mod search;
 mod stretch;
 
 /// The bags of the active procedures of a serial run, which begins in its root.
@@ -30,9 +34,8 @@ pub struct Bags {
     /// Their stretches: the root's first, then those of the next active procedure, and so on.
     stretches: Vec<Stretch>,
     count: u64,
-    /// How many procedures there were when the root last synced; at first the root alone. All of them are in series
-    /// with what executes next.
-    settled: u64,
+    /// Where a look-up among the stretches begins.
+    start: Start,
 }
 
 impl Model for Bags {
@@ -46,7 +49,7 @@ impl Model for Bags {
 
     ghost view = { λ b. procedures_of b.count b.stretches.items b.nested.items };
 
-    ghost invariant = { λ b. AreKept b.count b.settled b.stretches.items b.nested.items };
+    ghost invariant = { λ b. AreKept b.count b.start b.stretches.items b.nested.items };
 }
 
 impl Bags {
@@ -66,7 +69,7 @@ impl Bags {
             nested,
             stretches,
             count: 1,
-            settled: 1,
+            start: Start::of_one(),
         })
     }
 
@@ -101,6 +104,7 @@ impl Bags {
             .push_reserved(Nested::new(self.stretches.len(), self.count, is_called));
         self.stretches
             .push_reserved(Stretch::new(self.count, false));
+        self.start = self.start.of_more(self.stretches.len());
         self.count += 1;
         Ok(())
     }
@@ -111,9 +115,7 @@ impl Bags {
     {
         let executing = self.nested[self.nested.len() - 1];
         self.stretches.truncate(executing.begins() + 1);
-        if self.nested.len() == 1 {
-            self.settled = self.count;
-        }
+        self.start = self.start.of_fewer(executing.begins() + 1);
     }
 
     /// The executing procedure returns to its parent, which executes from here on.
@@ -130,13 +132,17 @@ impl Bags {
         if last.is_parallel() != is_parallel {
             self.stretches
                 .push_reserved(Stretch::new(executing.number(), is_parallel));
+            self.start = self.start.of_fewer(executing.begins() + 1);
+        } else {
+            self.start = self.start.of_fewer(executing.begins());
         }
     }
 
-    /// The number of the executing procedure.
+    /// The number of the executing procedure, which stands in no P-bag.
     pub fn current(&self) -> u64
         ensures executes { result ≡ current self.now.active }
         ensures known { result < self.now.count }
+        ensures in_series { in_p self.now.active result ≡ false }
     {
         self.nested[self.nested.len() - 1].number()
     }
@@ -157,11 +163,12 @@ impl Bags {
         self.nested.len() as u64
     }
 
-    /// How many numbers are held in all: one for each active procedure, and one for each stretch.
+    /// How many numbers the lists have in all: two for each active procedure, and one for each stretch.
     pub fn held(&self) -> u64
-        ensures { result ≡ length self.now.active + stretches self.now }
+        ensures exact { result ≡ 2 * length self.now.active + stretches self.now }
+        ensures most { result ≤ 2 * (length self.now.active + stretches self.now) }
     {
-        (self.nested.len() + self.stretches.len()) as u64
+        (2 * self.nested.len() + self.stretches.len()) as u64
     }
 
     /// Whether a procedure stands in a P-bag: whether it is parallel to what executes next.
@@ -176,8 +183,8 @@ impl Bags {
         self.in_p_counted(procedure).0
     }
 
-    /// The answer of `in_p`, and the probes that it took: how often the procedure's number was compared with
-    /// the first number of a stretch.
+    /// The answer of `in_p`, and the probes that it took: how often the procedure's number was compared with a number
+    /// that is the first of a stretch or of an active procedure.
     #[inline(always)]
     pub fn in_p_counted(&self, procedure: u64) -> (bool, u32)
         requires { procedure < self.now.count }
@@ -185,72 +192,7 @@ impl Bags {
         ensures paths { TellsPaths self.now procedure result.0 }
         ensures probes { result.1 ≤ digits (stretches self.now) }
     {
-        let mut probes = 0;
-        (self.is_in_p(procedure, &mut probes), probes)
+        let (keeper, probes) = look_up(&self.stretches, self.start, procedure);
+        (keeper.is_parallel(), probes)
     }
-
-    // The procedures up to the root's last sync are told at once, and those that the executing one keeps by its newest
-    // stretch, where it has two at most.
-    #[inline(always)]
-    fn is_in_p(&self, procedure: u64, probes: &mut u32) -> bool
-        requires known { procedure < self.now.count }
-        requires uncounted { probes.old ≡ 0 }
-        ensures bags { result ≡ in_p self.now.active procedure }
-        ensures probes { probes.new ≤ digits (stretches self.now) }
-    {
-        if procedure < self.settled {
-            return false;
-        }
-        let executing = self.nested[self.nested.len() - 1];
-        let part = if executing.is_before(procedure) {
-            let own = &self.stretches[executing.begins()..];
-            if own.len() <= 2 {
-                let newest = own[own.len() - 1];
-                return newest.is_parallel() && newest.begins_by(procedure, probes);
-            }
-            own
-        } else {
-            &self.stretches[..executing.begins()]
-        };
-        keeper_of(part, procedure, probes).is_parallel()
-    }
-}
-
-/// The stretch that a procedure lies in: the last one whose first number is not above it. It is searched by steps that
-/// are powers of two, each half as long as the one before.
-#[tactic(auto, using(crate::proofs::Segments::first_at_is))]
-#[inline(always)]
-fn keeper_of(stretches: &[Stretch], procedure: u64, probes: &mut u32) -> Stretch
-    requires some { 0 < length stretches.now }
-    requires ascending { IsAscending stretches.now }
-    requires first { first_at stretches.now 0 ≤ procedure }
-    requires uncounted { probes.old ≡ 0 }
-    requires known { procedure ≤ most_records }
-    ensures keeper { IsKeeper stretches.now procedure result }
-    ensures probes { probes.new ≤ digits (length stretches.now) }
-{
-    let mut step = longest_step(stretches.len());
-    let newer = &stretches[stretches.len() - step..];
-    let mut part = if newer[0].begins_by(procedure, probes) {
-        newer
-    } else {
-        stretches
-    };
-    step /= 2;
-    while step > 0 {
-        if part[step].begins_by(procedure, probes) {
-            part = &part[step..];
-        }
-        step /= 2;
-    }
-    part[0]
-}
-
-/// The greatest power of two that is not above a length.
-#[inline(always)]
-fn longest_step(len: usize) -> usize
-    requires { 0 < len }
-    ensures { 2 * result ≡ 2 ^ digits len }
-{
-    1 << len.ilog2()
 }

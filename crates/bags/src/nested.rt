@@ -1,9 +1,10 @@
 //! Active procedures, as they are held.
 #![tactic(auto)]
 
-ghost use Rattle.std.specs.Prelude.{◌≡◌, ◌+◌, ◌*◌, ◌<◌, ◌≤◌, ◌^◌, ◌↔◌, IsTrue};
+ghost use Rattle.std.specs.Prelude.{◌≡◌, ◌≤◌};
 ghost use Rattle.trace.specs.Bounds.{most_records};
 
+use crate::first::First;
 use std::marker::Model;
 
 /// An active procedure: where its stretches begin, its number, and whether it was called and not spawned. The first of
@@ -11,21 +12,18 @@ use std::marker::Model;
 #[derive(Clone, Copy)]
 pub struct Nested {
     begins: usize,
-    // twice the number, and 1 more where it was called
-    word: u64,
+    // the flag is set where it was called
+    first: First,
 }
 
 impl Model for Nested {
-    ghost use Rattle.bags.specs.Nested.{Nested, nested_of};
-    ghost use Rattle.bags.specs.Words.{word_with, word_back};
+    ghost use Rattle.bags.specs.Nested.{Nested};
 
     ghost Value = { Nested };
 
-    ghost view = { λ n. nested_of n.begins n.word };
+    ghost view = { λ n. record { begins = n.begins; number = n.first.number; is_called = n.first.flag } };
 
-    ghost inverse = { λ n. record { begins = n.begins; word = word_with n.number n.is_called } };
-
-    ghost inverse_ok = { λ n h i. record { begins = n.begins; word = word_back n.word i } };
+    ghost inverse = { λ n. record { begins = n.begins; first = record { number = n.number; flag = n.is_called } } };
 }
 
 impl Nested {
@@ -39,7 +37,7 @@ impl Nested {
     {
         Nested {
             begins,
-            word: 2 * number + is_called as u64,
+            first: First::new(number, is_called),
         }
     }
 
@@ -56,7 +54,7 @@ impl Nested {
     pub fn number(self) -> u64
         ensures { result ≡ self.number }
     {
-        self.word / 2
+        self.first.number()
     }
 
     /// Whether it was called.
@@ -64,15 +62,6 @@ impl Nested {
     pub fn is_called(self) -> bool
         ensures { result ≡ self.is_called }
     {
-        self.word % 2 == 1
-    }
-
-    /// Whether a procedure is this one or began after it.
-    #[inline(always)]
-    pub fn is_before(self, procedure: u64) -> bool
-        requires { procedure ≤ most_records }
-        ensures { IsTrue result ↔ (self.number ≤ procedure) }
-    {
-        self.word <= 2 * procedure + 1
+        self.first.flag()
     }
 }

@@ -1,29 +1,27 @@
-//! The first numbers of stretches. Nothing outside this file compares one but by the call that counts it.
+//! Stretches, as they are held.
 #![tactic(auto)]
 
-ghost use Rattle.std.specs.Prelude.{◌≡◌, ◌+◌, ◌*◌, ◌<◌, ◌≤◌, ◌^◌, ◌↔◌, IsTrue};
+ghost use Rattle.std.specs.Prelude.{◌≡◌, ◌+◌, ◌<◌, ◌≤◌, ◌^◌, ◌↔◌, IsTrue};
 ghost use Rattle.trace.specs.Bounds.{most_records};
 
+use crate::first::First;
+use crate::look_up::Probes;
 use std::marker::Model;
 
 /// A run of procedures that stand in one bag: the first of them, and whether the bag is a P-bag.
 #[derive(Clone, Copy)]
 pub struct Stretch {
-    // twice the first number, and 1 more where the bag is a P-bag
-    word: u64,
+    first: First,
 }
 
 impl Model for Stretch {
-    ghost use Rattle.bags.specs.Stretch.{Stretch, stretch_of};
-    ghost use Rattle.bags.specs.Words.{word_with, word_back};
+    ghost use Rattle.bags.specs.Stretch.{Stretch};
 
     ghost Value = { Stretch };
 
-    ghost view = { λ s. stretch_of s.word };
+    ghost view = { λ s. record { first = s.first.number; is_parallel = s.first.flag } };
 
-    ghost inverse = { λ s. record { word = word_with s.first s.is_parallel } };
-
-    ghost inverse_ok = { λ s h i. record { word = word_back s.word i } };
+    ghost inverse = { λ s. record { first = record { number = s.first; flag = s.is_parallel } } };
 }
 
 impl Stretch {
@@ -35,7 +33,7 @@ impl Stretch {
         ensures bag { result.is_parallel ≡ is_parallel }
     {
         Stretch {
-            word: 2 * first + is_parallel as u64,
+            first: First::new(first, is_parallel),
         }
     }
 
@@ -44,18 +42,17 @@ impl Stretch {
     pub fn is_parallel(self) -> bool
         ensures { result ≡ self.is_parallel }
     {
-        self.word % 2 == 1
+        self.first.flag()
     }
 
     /// Whether it begins with a procedure or before it: a probe, which is counted.
     #[inline(always)]
-    pub fn begins_by(self, procedure: u64, probes: &mut u32) -> bool
+    pub fn begins_by(self, procedure: u64, probes: &mut Probes) -> bool
         requires counts { probes.old + 1 < 2 ^ 32 }
         requires known { procedure ≤ most_records }
         ensures by { IsTrue result ↔ (self.first ≤ procedure) }
         ensures counted { probes.new ≡ probes.old + 1 }
     {
-        *probes += 1;
-        self.word <= 2 * procedure + 1
+        self.first.is_by(procedure, probes)
     }
 }

@@ -77,6 +77,15 @@ fn steps_are_in_p(bags: &Bags, step: u64, most: u32) -> bool {
     true
 }
 
+/// The most probes that a look-up takes.
+fn most_probes(bags: &Bags) -> u32 {
+    let mut most = 0;
+    for procedure in 0..bags.count() {
+        most = most.max(bags.in_p_counted(procedure).1);
+    }
+    most
+}
+
 /// For a look-up whose probes aren't counted.
 const ANY: u32 = u32::MAX;
 
@@ -134,13 +143,13 @@ fn numbers_of_rows(rt: HostRuntime) -> Result<(), Fail> {
         Record::Sync,
     ];
     run(&mut bags, &records)?;
-    assert!(rt; has_sizes(&bags, 2, 3, 5));
+    assert!(rt; has_sizes(&bags, 2, 3, 7));
     assert!(rt; are_in_p(&bags, &[1], 2));
 
     let mut bags = Bags::new(rt.alloc())?;
     let records = [Record::Spawn, Record::Read(1), Record::Return];
     repeat(&mut bags, 2, &records)?;
-    assert!(rt; has_sizes(&bags, 1, 3, 3));
+    assert!(rt; has_sizes(&bags, 1, 3, 4));
     assert!(rt; are_in_p(&bags, &[1, 2], 2));
     Ok(())
 }
@@ -149,23 +158,11 @@ fn numbers_of_rows(rt: HostRuntime) -> Result<(), Fail> {
 fn numbers_of_a_thousand(rt: HostRuntime) -> Result<(), Fail> {
     let mut bags = Bags::new(rt.alloc())?;
     repeat(&mut bags, 1000, &[Record::Spawn])?;
-    assert!(rt; has_sizes(&bags, 1001, 1001, 2002));
+    assert!(rt; has_sizes(&bags, 1001, 1001, 3003));
     assert!(rt; are_in_p(&bags, &[], 10));
     repeat(&mut bags, 1000, &[Record::Return])?;
-    assert!(rt; has_sizes(&bags, 1, 1001, 3));
+    assert!(rt; has_sizes(&bags, 1, 1001, 4));
     assert!(rt; steps_are_in_p(&bags, 1, 2));
-    Ok(())
-}
-
-// The newest of 17 active procedures is told by one probe.
-#[test]
-fn newest_of_seventeen(rt: HostRuntime) -> Result<(), Fail> {
-    let mut bags = Bags::new(rt.alloc())?;
-    repeat(&mut bags, 16, &[Record::Spawn])?;
-    let (is_parallel, probes) = bags.in_p_counted(bags.current());
-    assert!(rt; bags.active() == 17);
-    assert!(rt; !is_parallel);
-    assert!(rt; probes <= 1);
     Ok(())
 }
 
@@ -177,25 +174,29 @@ const SPAWNED_THEN_CALLED: [Record; 4] = [
     Record::Return,
 ];
 
-// The root's S-bag holds itself and the called one.
+// Row `call-mixed` after place 6, but for its accesses. The root's S-bag holds itself and the called one. Of the three
+// stretches each differs from its neighbours, so one comparison doesn't tell them all: some look-up takes two.
 #[test]
 fn called_after_spawned(rt: HostRuntime) -> Result<(), Fail> {
     let mut bags = Bags::new(rt.alloc())?;
     run(&mut bags, &SPAWNED_THEN_CALLED)?;
-    assert!(rt; has_sizes(&bags, 1, 3, 4));
+    assert!(rt; has_sizes(&bags, 1, 3, 5));
     assert!(rt; are_in_p(&bags, &[1], 2));
+    assert!(rt; most_probes(&bags) == 2);
     Ok(())
 }
 
-// The numbers of spawned children are odd.
+// The numbers of spawned children are odd. The 1,001 stretches alternate: no two neighbours give one answer, and nine
+// comparisons tell 512 of them apart at most. So some look-up takes ten, and one that makes more than it counts shows.
 #[test]
 fn calls_between_spawns(rt: HostRuntime) -> Result<(), Fail> {
     let mut bags = Bags::new(rt.alloc())?;
     repeat(&mut bags, 500, &SPAWNED_THEN_CALLED)?;
-    assert!(rt; has_sizes(&bags, 1, 1001, 1002));
+    assert!(rt; has_sizes(&bags, 1, 1001, 1003));
     assert!(rt; steps_are_in_p(&bags, 2, 10));
+    assert!(rt; most_probes(&bags) == 10);
     run(&mut bags, &[Record::Sync])?;
-    assert!(rt; has_sizes(&bags, 1, 1001, 2));
+    assert!(rt; has_sizes(&bags, 1, 1001, 3));
     assert!(rt; are_in_p(&bags, &[], 1));
     Ok(())
 }

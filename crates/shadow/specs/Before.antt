@@ -1,9 +1,10 @@
--- Private: kept names of earlier accesses, and what an access can race with.
-use Rattle.std.specs.Prelude.{ℕ, ◌<◌, ◌≤◌, ◌||◌, IsTrue}
+-- Promised: kept names of earlier accesses, and what an access can race with.
+use Rattle.std.specs.Prelude.{◌≡◌, ℕ, ◌<◌, ◌≤◌, ◌||◌, false, IsTrue}
 use Rattle.std.specs.Option.{ForSome}
 use Rattle.trace.specs.declared.records.Kind.{Kind}
 use Rattle.trace.specs.declared.records.Access.{Access}
 use Rattle.trace.specs.Accesses.{writes}
+use Rattle.bags.specs.Procedures.{Procedures, current, in_p}
 use Rattle.shadow.specs.Cells.{Named, Cell}
 
 -- a name that was kept before a place, of one of so many procedures
@@ -21,3 +22,9 @@ pub record CanRace (kind : Kind) (place : ℕ) (first : Access) : Type 0 where
   pub from_one : 1 ≤ first.place
   pub earlier : first.place < place
   pub one_writes : IsTrue (writes first.kind || writes kind)
+
+-- the procedure that executes, which stands in no P-bag
+pub record Executes (s : Procedures) (procedure : ℕ) : Type 0 where
+  pub is : procedure ≡ current s.active
+  pub known : procedure < s.count
+  pub in_series : in_p s.active procedure ≡ false

@@ -1,4 +1,4 @@
--- Private: where the cell of a location lies: cells lie in pages of eight.
+-- Promised: where the cell of a location lies: cells lie in pages of eight.
 use Rattle.std.specs.Prelude.{◌≡◌, ℕ, ◌+◌, ◌*◌, ◌/◌, ◌%◌, ◌==◌, ◌&&◌, if◌then◌else◌, List, [], Option, Some, None, nat_eq, slice_get, slice_index_or, unwrap_or}
 use Rattle.std.specs.Map.{lookup}
 use Rattle.shadow.specs.Cells.{Cell, untouched}

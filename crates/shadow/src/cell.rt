@@ -2,8 +2,9 @@
 ghost use Rattle.std.specs.Prelude.{◌≡◌, ◌+◌, ◌<◌, ◌≤◌, None, true, false, IsTrue, ◌↔◌};
 ghost use Rattle.std.specs.Option.{ForSome};
 ghost use Rattle.trace.specs.Bounds.{most_records};
+ghost use Rattle.bags.specs.Procedures.{in_p};
 ghost use Rattle.shadow.specs.Cells.{untouched, race_at, race_with, touched, rival, parallel_access, reader_after, name_of};
-ghost use Rattle.shadow.specs.Before.{IsNameBefore, IsCellBefore, CanRace};
+ghost use Rattle.shadow.specs.Before.{IsNameBefore, IsCellBefore, CanRace, Executes};
 ghost use Rattle.shadow.specs.Touches.{MayTouch, HasTouched};
 
 use bags::Bags;
@@ -72,26 +73,28 @@ impl Slot {
 
     /// Keeps the name of an access by the executing procedure.
     #[inline(always)]
-    fn keep(&mut self, bags: &Bags, place: u64)
-        requires { 1 ≤ place }
+    fn keep(&mut self, bags: &Bags, executing: u64, place: u64)
+        requires executes { Executes bags.now executing }
+        requires from_one { 1 ≤ place }
         ensures name { self.new ≡ name_of bags.now.active place }
         ensures earlier { ForSome self.new (IsNameBefore (place + 1) bags.now.count) }
     {
-        self.procedure = bags.current();
+        self.procedure = executing;
         self.place = place;
     }
 
     /// Keeps the name of a read, unless the kept one stands in a P-bag.
     #[inline(always)]
-    fn keep_reader(&mut self, bags: &Bags, place: u64)
+    fn keep_reader(&mut self, bags: &Bags, executing: u64, place: u64)
+        requires executes { Executes bags.now executing }
         requires earlier { ForSome self.old (IsNameBefore place bags.now.count) }
         requires from_one { 1 ≤ place }
         ensures reader { self.new ≡ reader_after bags.now.active place self.old }
         ensures earlier { ForSome self.new (IsNameBefore (place + 1) bags.now.count) }
     {
         match self.name() {
-            Some(name) if bags.in_p(name.procedure) => {}
-            _ => self.keep(bags, place),
+            Some(name) if is_in_p(bags, executing, name.procedure) => {}
+            _ => self.keep(bags, executing, place),
         }
     }
 }
@@ -130,10 +133,11 @@ impl Kept {
         requires { MayTouch bags.now place self.old }
         ensures { HasTouched bags.now location kind place self.old self.new result }
     {
-        let first = rival(bags, kind, place, self);
+        let executing = bags.current();
+        let first = rival(bags, executing, kind, place, self);
         match kind {
-            Kind::Read => self.reader.keep_reader(bags, place),
-            Kind::Write => self.writer.keep(bags, place),
+            Kind::Read => self.reader.keep_reader(bags, executing, place),
+            Kind::Write => self.writer.keep(bags, executing, place),
         }
         match first {
             Some(first) if self.tell() => Some(Race {
@@ -160,32 +164,56 @@ impl Kept {
 
 /// The first access of a race with an access by the executing procedure.
 #[inline(always)]
-fn rival(bags: &Bags, kind: Kind, place: u64, kept: &Kept) -> Option<Access>
-    requires { IsCellBefore place bags.now.count kept.now }
+fn rival(bags: &Bags, executing: u64, kind: Kind, place: u64, kept: &Kept) -> Option<Access>
+    requires executes { Executes bags.now executing }
+    requires earlier { IsCellBefore place bags.now.count kept.now }
     ensures first { result ≡ rival bags.now.active kind kept.now }
     ensures can_race { ForSome result (CanRace kind place) }
 {
-    let writer = parallel_access(bags, Kind::Write, place, kept.writer.name());
+    let writer = parallel_access(bags, executing, Kind::Write, place, kept.writer.name());
     match (kind, writer) {
-        (Kind::Write, None) => parallel_access(bags, Kind::Read, place, kept.reader.name()),
+        (Kind::Write, None) => parallel_access(
+            bags,
+            executing,
+            Kind::Read,
+            place,
+            kept.reader.name(),
+        ),
         _ => writer,
     }
 }
 
 /// The kept access, where it stands in a P-bag.
 #[inline(always)]
-fn parallel_access(bags: &Bags, kind: Kind, place: u64, kept: Option<Name>) -> Option<Access>
-    requires { ForSome kept (IsNameBefore place bags.now.count) }
+fn parallel_access(
+    bags: &Bags,
+    executing: u64,
+    kind: Kind,
+    place: u64,
+    kept: Option<Name>,
+) -> Option<Access>
+    requires executes { Executes bags.now executing }
+    requires earlier { ForSome kept (IsNameBefore place bags.now.count) }
     ensures access { result ≡ parallel_access bags.now.active kind kept }
     ensures from_one { ForSome result (λ first. 1 ≤ first.place) }
     ensures earlier { ForSome result (λ first. first.place < place) }
     ensures same_kind { ForSome result (λ first. first.kind ≡ kind) }
 {
     match kept {
-        Some(name) if bags.in_p(name.procedure) => Some(Access {
+        Some(name) if is_in_p(bags, executing, name.procedure) => Some(Access {
             kind,
             place: name.place,
         }),
         _ => None,
     }
+}
+
+/// Whether a procedure stands in a P-bag. The executing one doesn't, so it isn't looked up.
+#[inline(always)]
+fn is_in_p(bags: &Bags, executing: u64, procedure: u64) -> bool
+    requires executes { Executes bags.now executing }
+    requires known { procedure < bags.now.count }
+    ensures { result ≡ in_p bags.now.active procedure }
+{
+    procedure != executing && bags.in_p(procedure)
 }

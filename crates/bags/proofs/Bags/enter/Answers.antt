@@ -1,13 +1,13 @@
-use Rattle.std.proofs.Common.{ap, ◌∙◌, ◌≡◌, ◌+◌, ◌++◌, ◌∷◌, [], ◌≤◌, ℕ, drop, length, subst, sym, List, arith}
+use Rattle.std.proofs.Common.{ap, ◌∙◌, ◌≡◌, ◌+◌, ◌++◌, ◌∷◌, [], ℕ, length, subst, sym, List, arith}
 use Rattle.bags.specs.Nested.{Nested}
+use Rattle.bags.specs.Search.{IsStart}
 use Rattle.bags.specs.Stretch.{Stretch}
-use Rattle.bags.specs.Held.{start, procedures_of, AreHeld, AreKept}
+use Rattle.bags.specs.Held.{procedures_of, AreHeld, AreKept}
 use Rattle.bags.specs.Procedures.{Procedures, entered}
-use Rattle.bags.proofs.Cuts.{entered_held, stretch_some}
-use Rattle.bags.proofs.Kept.{entered_settled}
+use Rattle.bags.proofs.Cuts.{entered_held}
 use Rattle.bags.proofs.Bags.enter.Goals as goal
 
-held : (c : goal.After-self-1)
+held : (c : goal.After-self-2-1)
     → AreHeld (c.self.inside.count + 1) c.push_reserved-2.new.self.items c.push_reserved.new.self.items
     × (procedures_of (c.self.inside.count + 1) c.push_reserved-2.new.self.items c.push_reserved.new.self.items
     ≡ entered (procedures_of c.self.inside.count c.self.inside.stretches.items c.self.inside.nested.items) c.args.is_called)
@@ -33,20 +33,12 @@ returns-clause-ok c = (held c).1 ∙ ap (λ (p : Procedures). entered p c.args.i
 -- what a refused growth leaves
 pub invariant_of-self : goal.invariant_of-self
 invariant_of-self c =
-    subst (λ (xs : List Nested). AreKept c.self.inside.count c.self.inside.settled c.self.inside.stretches.items xs) (sym c.reserve.ensures.items) c.self.invariant
+    subst (λ (xs : List Nested). AreKept c.self.inside.count c.self.inside.start c.self.inside.stretches.items xs) (sym c.reserve.ensures.items) c.self.invariant
 
 pub invariant_of-self-in_err-reserve-2 : goal.invariant_of-self-in_err-reserve-2
 invariant_of-self-in_err-reserve-2 c =
-    subst (λ (ss : List Stretch). AreKept c.self.inside.count c.self.inside.settled ss c.reserve.new.self.items) (sym c.reserve-2.ensures.items)
-    (subst (λ (xs : List Nested). AreKept c.self.inside.count c.self.inside.settled c.self.inside.stretches.items xs) (sym c.reserve.ensures.items) c.self.invariant)
+    subst (λ (ss : List Stretch). AreKept c.self.inside.count c.self.inside.start ss c.reserve.new.self.items) (sym c.reserve-2.ensures.items)
+    (subst (λ (xs : List Nested). AreKept c.self.inside.count c.self.inside.start c.self.inside.stretches.items xs) (sym c.reserve.ensures.items) c.self.invariant)
 
 pub invariant_of-self-2 : goal.invariant_of-self-2
-invariant_of-self-2 c =
-    let ss : c.push_reserved-2.new.self.items ≡ c.self.inside.stretches.items ++ c.new-2.result ∷ []
-    = c.push_reserved-2.ensures.items ∙ ap (λ (xs : List Stretch). xs ++ c.new-2.result ∷ []) c.reserve-2.ensures.items in
-    record {
-      held = (held c).0;
-      in_series = subst (λ (xs : List Stretch). c.self.inside.settled ≤ start (c.self.inside.count + 1) (drop 1 xs)) (sym ss)
-          (entered_settled c.self.inside.count c.self.inside.settled c.self.inside.stretches.items c.new-2.result
-          (stretch_some c.self.inside.count c.self.inside.stretches.items c.self.inside.nested.items c.self.invariant.held) c.new-2.ensures.first c.self.invariant.in_series);
-    }
+invariant_of-self-2 c = record { held = (held c).0; start_is = subst (λ (n : ℕ). IsStart n c.of_more-self-inside.result) (c.len-2.ensures ∙ c.push_reserved-2.new.self.ok.0) c.of_more-self-inside.ensures }

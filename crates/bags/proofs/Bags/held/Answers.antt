@@ -1,20 +1,34 @@
-use Rattle.std.proofs.Common.{◌∙◌, ◌≡◌, ◌+◌, ap, length}
+use Rattle.std.proofs.Common.{◌∙◌, ◌≡◌, ap, length, arith}
 use Rattle.bags.specs.Procedures.{Procedures}
 use Rattle.bags.specs.Stretches.{stretches}
 use Rattle.bags.proofs.Cuts.{length-procedures_of}
-use Rattle.bags.proofs.Counting.{length-stretches}
+use Rattle.bags.proofs.Counting.{length-stretches, are_few}
 use Rattle.bags.proofs.Bags.held.Goals as goal
 
-pub returns : goal.returns
-returns c =
-    let active : c.len.result ≡ length c.args.self.now.active
-    = c.len.ensures
-    ∙ c.self.inside.nested.ok.0
-    ∙ length-procedures_of c.self.inside.count c.self.inside.stretches.items c.self.inside.nested.items
-    ∙ ap (λ (p : Procedures). length p.active) c.self.view_is in
-    let most : c.len-2.result ≡ stretches c.args.self.now
-    = c.len-2.ensures
-    ∙ c.self.inside.stretches.ok.0
-    ∙ length-stretches c.self.inside.count c.self.inside.stretches.items c.self.inside.nested.items c.self.invariant.held
-    ∙ ap stretches c.self.view_is in
-    λ i. active i + most i
+pub overflow_add-result : goal.overflow_add-result
+overflow_add-result c =
+    let few = are_few c.self.inside.count c.self.inside.stretches.items c.self.inside.nested.items c.self.invariant.held in
+    omega (arith, c.len.ensures, c.self.inside.nested.ok.0, c.len-2.ensures, c.self.inside.stretches.ok.0, few.of_all, few.of_active)
+
+-- the lengths of both lists
+record Lengths (c : goal.After-len-2) : Type 0 where
+  active : c.len.result ≡ length c.args.self.now.active
+  all : c.len-2.result ≡ stretches c.args.self.now
+
+lengths : (c : goal.After-len-2) → Lengths c
+lengths c = record {
+  active = c.len.ensures
+      ∙ c.self.inside.nested.ok.0
+      ∙ length-procedures_of c.self.inside.count c.self.inside.stretches.items c.self.inside.nested.items
+      ∙ ap (λ (p : Procedures). length p.active) c.self.view_is;
+  all = c.len-2.ensures
+      ∙ c.self.inside.stretches.ok.0
+      ∙ length-stretches c.self.inside.count c.self.inside.stretches.items c.self.inside.nested.items c.self.invariant.held
+      ∙ ap stretches c.self.view_is;
+}
+
+pub returns-clause-exact : goal.returns-clause-exact
+returns-clause-exact c = omega (arith, (lengths c).active, (lengths c).all)
+
+pub returns-clause-most : goal.returns-clause-most
+returns-clause-most c = omega (arith, (lengths c).active, (lengths c).all)

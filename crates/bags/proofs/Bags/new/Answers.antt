@@ -8,7 +8,7 @@ use Rattle.bags.proofs.Bags.new.Goals as goal
 pushed : {X : Type 0} (new old : List X) (x : X) → new ≡ old ++ x ∷ [] → old ≡ [] → new ≡ x ∷ []
 pushed new old x is none = is ∙ ap (λ xs. xs ++ x ∷ []) none
 
-held : (c : goal.In_ok-push-2) → AreHeld 1 c.push-2.new.self.items c.push.new.self.items × (procedures_of 1 c.push-2.new.self.items c.push.new.self.items ≡ at_start)
+held : (c : goal.After-of_one) → AreHeld 1 c.push-2.new.self.items c.push.new.self.items × (procedures_of 1 c.push-2.new.self.items c.push.new.self.items ≡ at_start)
 held c =
     at_first c.push-2.new.self.items c.push.new.self.items c.new-2.result c.new.result (pushed _ _ _ c.in_ok-push-2.ensures.items c.new-stretches.ensures.items)
     (pushed _ _ _ c.in_ok-push.ensures.items c.new-nested.ensures.items) c.new-2.ensures.first c.new-2.ensures.bag c.new.ensures.begins c.new.ensures.number c.new.ensures.called

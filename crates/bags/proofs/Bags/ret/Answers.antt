@@ -1,11 +1,12 @@
-use Rattle.std.proofs.Common.{ap, ◌∙◌, ◌≡◌, ◌-◌, ◌<◌, ◌≤◌, ◌++◌, ◌∷◌, [], ℕ, Bool, not, length, take, drop, get_or, subst, sym, List, Some, arith}
+use Rattle.std.proofs.Common.{ap, ◌∙◌, ◌≡◌, ◌+◌, ◌-◌, ◌<◌, ◌++◌, ◌∷◌, [], ℕ, Bool, not, length, take, get_or, subst, sym, List, Some, arith}
 use Rattle.trace.specs.declared.records.Record.TheVariants.{Return}
+use Rattle.std.proofs.lemmas.List.{length-append, length-take-le}
 use Rattle.bags.specs.Nested.{Nested}
+use Rattle.bags.specs.Search.{IsStart}
 use Rattle.bags.specs.Stretch.{Stretch}
-use Rattle.bags.specs.Held.{start, procedures_of, AreHeld}
+use Rattle.bags.specs.Held.{procedures_of, AreHeld}
 use Rattle.bags.specs.Procedures.{Procedures, event}
-use Rattle.bags.proofs.Cuts.{executing, executes, joined_held, moved_held, kinds_same, kinds_differ, more_than_root, parent_before, popped}
-use Rattle.bags.proofs.Kept.{own_is, moved_settled, cut_settled, settled_most}
+use Rattle.bags.proofs.Cuts.{begins_within, executing, executes, joined_held, moved_held, kinds_same, kinds_differ, more_than_root, parent_before, popped}
 use Rattle.bags.proofs.Bags.ret.Goals as goal
 
 pub overflow_sub-begins : goal.overflow_sub-begins
@@ -26,7 +27,7 @@ new-requires c =
     let x = executing count old xs g c.len.result c.self.invariant.held (c.len.ensures ∙ c.self.inside.nested.ok.0) c.index-executing.ensures in
     omega (arith, c.number.ensures, (executes count old xs g x).1, c.self.invariant.held.most)
 
-joined : (c : goal.Else-is_parallel)
+joined : (c : goal.After-self-else-is_parallel-1)
     → AreHeld c.self.inside.count c.truncate.new.self.items c.pop.new.self.items
     × (procedures_of c.self.inside.count c.truncate.new.self.items c.pop.new.self.items ≡ event (procedures_of c.self.inside.count c.self.inside.stretches.items c.self.inside.nested.items) Return)
 joined c =
@@ -44,7 +45,7 @@ joined c =
     (sym cut)
     (joined_held c.self.inside.count c.self.inside.stretches.items xs ys g c.index-last.result.now c.self.invariant.held is more same)
 
-moved : (c : goal.After-push_reserved)
+moved : (c : goal.After-self-1)
     → AreHeld c.self.inside.count c.push_reserved.new.self.items c.pop.new.self.items
     × (procedures_of c.self.inside.count c.push_reserved.new.self.items c.pop.new.self.items ≡ event (procedures_of c.self.inside.count c.self.inside.stretches.items c.self.inside.nested.items) Return)
 moved c =
@@ -63,37 +64,48 @@ moved c =
     (moved_held c.self.inside.count c.self.inside.stretches.items xs ys g c.index-last.result.now c.new.result c.self.invariant.held is more other
     (c.new.ensures.first ∙ c.number.ensures) (c.new.ensures.bag ∙ ap not c.is_called-is_parallel.ensures))
 
+-- the stretches of the one that returns begin inside the list
+returning : (count : ℕ) (ss : List Stretch) (nested : List Nested) (f : Nested) (n : ℕ) → AreHeld count ss nested → n ≡ length nested → f ≡ get_or nested (n - 1) f → f.begins < length ss
+returning count ss nested f n held len at = begins_within count ss nested f (executing count ss nested f n held len at)
+
 pub invariant_of-self : goal.invariant_of-self
 invariant_of-self c =
+    let ss : List Stretch = c.self.inside.stretches.items in
+    let x = returning c.self.inside.count ss c.self.inside.nested.items c.index-executing.result.now c.len.result c.self.invariant.held (c.len.ensures ∙ c.self.inside.nested.ok.0) c.index-executing.ensures in
+    let long : length c.push_reserved.new.self.items ≡ c.begins-then-is_parallel.result + 1
+    = omega (
+      arith,
+      ap length c.push_reserved.ensures.items,
+      length-append c.truncate.new.self.items (c.new.result ∷ []),
+      ap length c.truncate.ensures.items,
+      length-take-le c.begins-2.result ss (omega (arith, c.begins-2.ensures, x)),
+      c.begins-2.ensures,
+      c.begins-then-is_parallel.ensures,
+    ) in
+    record { held = (moved c).0; start_is = subst (λ (n : ℕ). IsStart n c.of_fewer-self-inside.result) (sym long) c.of_fewer-self-inside.ensures }
+
+pub invariant_of-self-else-is_parallel : goal.invariant_of-self-else-is_parallel
+invariant_of-self-else-is_parallel c =
+    let ss : List Stretch = c.self.inside.stretches.items in
+    let x = returning c.self.inside.count ss c.self.inside.nested.items c.index-executing.result.now c.len.result c.self.invariant.held (c.len.ensures ∙ c.self.inside.nested.ok.0) c.index-executing.ensures in
+    let long : length c.truncate.new.self.items ≡ c.begins-else-is_parallel.result
+    = omega (
+      arith,
+      ap length c.truncate.ensures.items,
+      length-take-le c.begins-2.result ss (omega (arith, c.begins-2.ensures, x)),
+      c.begins-2.ensures,
+      c.begins-else-is_parallel.ensures,
+    ) in
+    record { held = (joined c).0; start_is = subst (λ (n : ℕ). IsStart n c.of_fewer-self-inside-else-is_parallel.result) (sym long) c.of_fewer-self-inside-else-is_parallel.ensures }
+
+pub of_fewer-self-inside-requires-else-is_parallel-clause-some : goal.of_fewer-self-inside-requires-else-is_parallel-clause-some
+of_fewer-self-inside-requires-else-is_parallel-clause-some c =
     let g : Nested = c.index-executing.result.now in
     let count : ℕ = c.self.inside.count in
     let old : List Stretch = c.self.inside.stretches.items in
     let xs : List Nested = c.self.inside.nested.items in
-    let len : c.len.result ≡ length xs = c.len.ensures ∙ c.self.inside.nested.ok.0 in
-    let more : 1 < length xs = more_than_root count old xs c.args.self.now c.self.view_is c.requires in
-    let cut : c.truncate.new.self.items ≡ take g.begins old = c.truncate.ensures.items ∙ ap (λ (n : ℕ). take n old) c.begins-2.ensures in
-    let new : c.push_reserved.new.self.items ≡ take g.begins old ++ c.new.result ∷ []
-    = c.push_reserved.ensures.items ∙ ap (λ (ss : List Stretch). ss ++ c.new.result ∷ []) cut in
-    let own = own_is count c.self.inside.settled old xs g c.len.result c.self.invariant len c.index-executing.ensures in
-    let x = executing count old xs g c.len.result c.self.invariant.held len c.index-executing.ensures in
-    record {
-      held = (moved c).0;
-      in_series = subst (λ (ss : List Stretch). c.self.inside.settled ≤ start count (drop 1 ss)) (sym new)
-          (moved_settled count c.self.inside.settled g.begins old c.new.result (parent_before count old xs g x c.self.invariant.held more) own.within
-          (c.new.ensures.first ∙ c.number.ensures ∙ sym own.first) c.self.invariant.in_series);
-    }
-
-pub invariant_of-self-else-is_parallel : goal.invariant_of-self-else-is_parallel
-invariant_of-self-else-is_parallel c =
-    let g : Nested = c.index-executing.result.now in
-    let count : ℕ = c.self.inside.count in
-    let old : List Stretch = c.self.inside.stretches.items in
-    let cut : c.truncate.new.self.items ≡ take g.begins old = c.truncate.ensures.items ∙ ap (λ (n : ℕ). take n old) c.begins-2.ensures in
-    record {
-      held = (joined c).0;
-      in_series = subst (λ (ss : List Stretch). c.self.inside.settled ≤ start count (drop 1 ss)) (sym cut)
-          (cut_settled count c.self.inside.settled g.begins old (settled_most count c.self.inside.settled old c.self.inside.nested.items c.self.invariant) c.self.invariant.in_series);
-    }
+    let x = executing count old xs g c.len.result c.self.invariant.held (c.len.ensures ∙ c.self.inside.nested.ok.0) c.index-executing.ensures in
+    omega (arith, c.begins-else-is_parallel.ensures, parent_before count old xs g x c.self.invariant.held (more_than_root count old xs c.args.self.now c.self.view_is c.requires))
 
 pub returns-then-is_parallel : goal.returns-then-is_parallel
 returns-then-is_parallel c = (moved c).1 ∙ ap (λ (p : Procedures). event p Return) c.self.view_is

@@ -1,11 +1,12 @@
-use Rattle.std.proofs.Common.{ap, ◌∙◌, ◌≡◌, ◌≤◌, ◌+◌, ◌-◌, ℕ, length, take, drop, get_or, subst, sym, List, arith}
+use Rattle.std.proofs.Common.{ap, ◌∙◌, ◌≡◌, ◌+◌, ◌-◌, ℕ, length, take, get_or, subst, sym, List, arith}
 use Rattle.trace.specs.declared.records.Record.TheVariants.{Sync}
+use Rattle.std.proofs.lemmas.List.{length-take-le}
 use Rattle.bags.specs.Nested.{Nested}
+use Rattle.bags.specs.Search.{IsStart}
 use Rattle.bags.specs.Stretch.{Stretch}
-use Rattle.bags.specs.Held.{start, procedures_of, AreHeld}
+use Rattle.bags.specs.Held.{procedures_of, AreHeld}
 use Rattle.bags.specs.Procedures.{Procedures, event}
-use Rattle.bags.proofs.Cuts.{executing, synced_held}
-use Rattle.bags.proofs.Kept.{cut_settled, settled_most, root_settled}
+use Rattle.bags.proofs.Cuts.{begins_within, executing, synced_held}
 use Rattle.bags.proofs.Bags.sync.Goals as goal
 
 -- the bags that are synced
@@ -20,54 +21,31 @@ synced count ss new nested f n held len at is =
     let both = synced_held count ss nested f held x in
     record { held = subst (λ xs. AreHeld count xs nested) (sym is) both.0; is = ap (λ xs. procedures_of count xs nested) is ∙ both.1 }
 
+after : (c : goal.After-self-1) → Synced c.self.inside.count c.self.inside.stretches.items c.truncate.new.self.items c.self.inside.nested.items
+after c =
+    let ss : List Stretch = c.self.inside.stretches.items in
+    let nested : List Nested = c.self.inside.nested.items in
+    let f : Nested = c.index-executing.result.now in
+    synced c.self.inside.count ss c.truncate.new.self.items nested f c.len.result c.self.invariant.held (c.len.ensures ∙ c.self.inside.nested.ok.0) c.index-executing.ensures
+    (c.truncate.ensures.items ∙ ap (λ (n : ℕ). take (n + 1) ss) c.begins.ensures)
+
+-- how many are left
+cut : (c : goal.After-self-1) → length c.truncate.new.self.items ≡ c.begins-2.result + 1
+cut c =
+    let ss : List Stretch = c.self.inside.stretches.items in
+    let nested : List Nested = c.self.inside.nested.items in
+    let f : Nested = c.index-executing.result.now in
+    let x = executing c.self.inside.count ss nested f c.len.result c.self.invariant.held (c.len.ensures ∙ c.self.inside.nested.ok.0) c.index-executing.ensures in
+    omega (
+      arith,
+      ap length c.truncate.ensures.items,
+      length-take-le (c.begins.result + 1) ss (omega (arith, c.begins.ensures, begins_within c.self.inside.count ss nested f x)),
+      c.begins.ensures,
+      c.begins-2.ensures,
+    )
+
 pub invariant_of-self : goal.invariant_of-self
-invariant_of-self c =
-    let count : ℕ = c.self.inside.count in
-    let ss : List Stretch = c.self.inside.stretches.items in
-    let nested : List Nested = c.self.inside.nested.items in
-    let f : Nested = c.index-executing.result.now in
-    let len : c.len.result ≡ length nested = c.len.ensures ∙ c.self.inside.nested.ok.0 in
-    let cut : c.truncate.new.self.items ≡ take (f.begins + 1) ss = c.truncate.ensures.items ∙ ap (λ (n : ℕ). take (n + 1) ss) c.begins.ensures in
-    let s = synced count ss c.truncate.new.self.items nested f c.len.result c.self.invariant.held len c.index-executing.ensures cut in
-    record {
-      held = s.held;
-      in_series = subst (λ (xs : List Stretch). count ≤ start count (drop 1 xs)) (sym cut)
-          (root_settled count ss nested f c.len.result c.self.invariant.held len c.index-executing.ensures (omega (arith, len, c.len-2.ensures, c.self.inside.nested.ok.0, c.if-len-eq1.true)));
-    }
+invariant_of-self c = record { held = (after c).held; start_is = subst (λ (n : ℕ). IsStart n c.of_fewer-self-inside.result) (sym (cut c)) c.of_fewer-self-inside.ensures }
 
-pub invariant_of-self-else-len-eq1 : goal.invariant_of-self-else-len-eq1
-invariant_of-self-else-len-eq1 c =
-    let count : ℕ = c.self.inside.count in
-    let ss : List Stretch = c.self.inside.stretches.items in
-    let nested : List Nested = c.self.inside.nested.items in
-    let f : Nested = c.index-executing.result.now in
-    let len : c.len.result ≡ length nested = c.len.ensures ∙ c.self.inside.nested.ok.0 in
-    let cut : c.truncate.new.self.items ≡ take (f.begins + 1) ss = c.truncate.ensures.items ∙ ap (λ (n : ℕ). take (n + 1) ss) c.begins.ensures in
-    let s = synced count ss c.truncate.new.self.items nested f c.len.result c.self.invariant.held len c.index-executing.ensures cut in
-    record {
-      held = s.held;
-      in_series = subst (λ (xs : List Stretch). c.self.inside.settled ≤ start count (drop 1 xs)) (sym cut)
-          (cut_settled count c.self.inside.settled (f.begins + 1) ss (settled_most count c.self.inside.settled ss nested c.self.invariant) c.self.invariant.in_series);
-    }
-
-pub returns-then-len-eq1 : goal.returns-then-len-eq1
-returns-then-len-eq1 c =
-    let count : ℕ = c.self.inside.count in
-    let ss : List Stretch = c.self.inside.stretches.items in
-    let nested : List Nested = c.self.inside.nested.items in
-    let f : Nested = c.index-executing.result.now in
-    let len : c.len.result ≡ length nested = c.len.ensures ∙ c.self.inside.nested.ok.0 in
-    let cut : c.truncate.new.self.items ≡ take (f.begins + 1) ss = c.truncate.ensures.items ∙ ap (λ (n : ℕ). take (n + 1) ss) c.begins.ensures in
-    let s = synced count ss c.truncate.new.self.items nested f c.len.result c.self.invariant.held len c.index-executing.ensures cut in
-    s.is ∙ ap (λ (p : Procedures). event p Sync) c.self.view_is
-
-pub returns-else-len-eq1 : goal.returns-else-len-eq1
-returns-else-len-eq1 c =
-    let count : ℕ = c.self.inside.count in
-    let ss : List Stretch = c.self.inside.stretches.items in
-    let nested : List Nested = c.self.inside.nested.items in
-    let f : Nested = c.index-executing.result.now in
-    let len : c.len.result ≡ length nested = c.len.ensures ∙ c.self.inside.nested.ok.0 in
-    let cut : c.truncate.new.self.items ≡ take (f.begins + 1) ss = c.truncate.ensures.items ∙ ap (λ (n : ℕ). take (n + 1) ss) c.begins.ensures in
-    let s = synced count ss c.truncate.new.self.items nested f c.len.result c.self.invariant.held len c.index-executing.ensures cut in
-    s.is ∙ ap (λ (p : Procedures). event p Sync) c.self.view_is
+pub returns : goal.returns
+returns c = (after c).is ∙ ap (λ (p : Procedures). event p Sync) c.self.view_is

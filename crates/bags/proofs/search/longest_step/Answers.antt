@@ -2,7 +2,7 @@ use Rattle.std.proofs.Common.{◌≡◌, ◌*◌, ◌%◌, ◌^◌, suc, ap, sym
 use Rattle.std.proofs.Math.Nat.{two-pow-succ}
 use Rattle.bags.specs.Numbers.{digits}
 use Rattle.bags.proofs.Halving.{digits_are}
-use Rattle.bags.proofs.longest_step.Goals as goal
+use Rattle.bags.proofs.search.longest_step.Goals as goal
 
 pub returns : goal.returns
 returns c =
