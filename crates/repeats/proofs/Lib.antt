@@ -1,0 +1,4 @@
+mod Lists
+mod Strands
+mod Nested
+mod Racy
