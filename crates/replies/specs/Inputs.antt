@@ -1,5 +1,5 @@
 -- Promised: what a name on the command line stands for.
-use Rattle.std.specs.Prelude.{◌≡◌, ◌↔◌, ◌⊎◌, ℕ, ⊤, List, Option, None, Result, Ok, Err, codes}
+use Rattle.std.specs.Prelude.{◌≡◌, ◌↔◌, ◌⊎◌, ℕ, ⊤, List, [], ◌∷◌, Option, None, Some, Result, Ok, Err, codes}
 use Rattle.trace.specs.Devices.{Device}
 use Rattle.replies.specs.declared.input.Input.{Input}
 use Rattle.replies.specs.declared.input.Input.TheVariants.{File, Standard, Missing}
@@ -31,11 +31,12 @@ pub record StandsFor {F E : Type 0} (Gives : List ℕ → Result F E → Type 0)
 abbrev pub StandsBeside : {F E : Type 0} → (List ℕ → Result F E → Type 0) → List ℕ → Input F → Input F → Type 0
 StandsBeside Gives name trace report = StandsFor Gives name report ⊎ (IsMissing trace × IsMissing report)
 
--- the bytes that are still to come, where the file tells them
+-- The bytes that are still to come, where the file tells them. Of one that can't be opened a byte is still to come,
+-- which no call gives: so it is never read whole.
 abbrev pub known_bytes : {F : Type 0} → (F → Option (List ℕ)) → Input F → Option (List ℕ)
 known_bytes remaining (File f) = remaining f
 known_bytes remaining (Standard s) = None
-known_bytes remaining Missing = None
+known_bytes remaining Missing = Some (0 ∷ [])
 
 -- a device with these bytes, which no call has failed of
 abbrev pub untried : Option (List ℕ) → Device

@@ -40,8 +40,9 @@ pub fn answer_asked<T: Threads + Wait + Sync, W: Sink, E: Sink>(
 // How many bytes are read ahead of a trace, so that a long one takes few calls of the system.
 const AHEAD: usize = 1 << 16;
 
-// Answers what is asked, of what the names stand for.
-fn answer_from_files<T, F, O, W: Sink, E: Sink>(
+/// Answers what is asked of what the names stand for: standard input, or what `opener` gives of this very name. What
+/// `merge` reads is opened one after another.
+pub fn answer_from_files<T, F, O, W: Sink, E: Sink>(
     threads: &T,
     rt: &HostRuntime,
     asked: &Asked,

@@ -10,6 +10,9 @@ use std::thread::Threads;
 use trace::{Counted, Part};
 use words::{Check, Confirm, Measure, Pairs, Question};
 
+/// Row `write-write`.
+const WRITE_WRITE: &[u8] = b"trace 1\nspawn\nwrite 5\nreturn\nwrite 5\nreturn\n";
+
 /// Row `call-mixed`.
 const CALL_MIXED: &[u8] =
     b"trace 2\nspawn\nwrite 1\nreturn\ncall\nread 2\nreturn\nwrite 2\nwrite 1\nreturn\n";
@@ -49,26 +52,34 @@ impl Write for Room {
     }
 }
 
-/// Either the answer is the wanted one, or it is the message of a refusal, which is told.
-fn judge<R: Print + Abort>(rt: &R, status: u8, out: &Room, err: &Room, wanted: (u8, &[u8])) {
+/// Either the answer is the wanted one, or it is the message of a refusal, which is told. Only where threads are
+/// started may one be refused.
+fn judge<R: Print + Abort>(
+    rt: &R,
+    left: (u8, &[u8], &[u8]),
+    starts_threads: bool,
+    wanted: (u8, &[u8]),
+) {
+    let (status, out, err) = left;
     if status != 2 {
-        assert_eq!(rt; (status, out.kept()), wanted);
-        assert!(rt; err.kept().is_empty());
+        assert_eq!(rt; (status, out), wanted);
+        assert!(rt; err.is_empty());
         return;
     }
-    assert!(rt; out.kept().is_empty());
-    if err.kept() == b"spbags: out of memory\n".as_slice() {
-        tell(rt, "memory");
-    } else {
-        assert_eq!(rt; err.kept(), b"spbags: no thread\n".as_slice());
+    assert!(rt; out.is_empty());
+    if starts_threads && err == b"spbags: no thread\n".as_slice() {
         tell(rt, "thread");
+        return;
     }
+    assert_eq!(rt; err, b"spbags: out of memory\n".as_slice());
+    tell(rt, "memory");
 }
 
-/// Answers a question about row `call-mixed`.
+/// Answers a question about a trace.
 fn ask<T: Threads + Wait + Sync + Abort + Print>(
     rt: &T,
     alloc: Global,
+    trace: &[u8],
     question: Result<Question, AllocError>,
     wanted: (u8, &[u8]),
 ) {
@@ -81,11 +92,12 @@ fn ask<T: Threads + Wait + Sync + Abort + Print>(
         rt,
         alloc,
         &question,
-        &mut Counted::new(CALL_MIXED),
+        &mut Counted::new(trace),
         &mut Counted::new(&mut out),
         &mut Counted::new(&mut err),
     );
-    judge(rt, status, &out, &err, wanted);
+    let starts_threads = matches!(question, Question::Check(_));
+    judge(rt, (status, out.kept(), err.kept()), starts_threads, wanted);
 }
 
 fn check(alloc: Global) -> Result<Question, AllocError> {
@@ -115,22 +127,50 @@ fn measure(alloc: Global) -> Result<Question, AllocError> {
 
 #[test]
 fn checked(rt: HostRuntime) {
-    let wanted = (1, b"races 1\nrace 1 write 2 write 8\n".as_slice());
-    ask(&rt, rt.alloc(), check(rt.alloc()), wanted);
+    for (trace, wanted) in [
+        (WRITE_WRITE, b"races 1\nrace 5 write 2 write 4\n".as_slice()),
+        (CALL_MIXED, b"races 1\nrace 1 write 2 write 8\n".as_slice()),
+    ] {
+        ask(&rt, rt.alloc(), trace, check(rt.alloc()), (1, wanted));
+    }
 }
 
 #[test]
 fn listed(rt: HostRuntime) {
-    let wanted = (1, b"pairs 1\npair write 2 write 8\n".as_slice());
-    ask(&rt, rt.alloc(), pairs(rt.alloc(), 1), wanted);
-    let wanted = (0, b"pairs 0\n".as_slice());
-    ask(&rt, rt.alloc(), pairs(rt.alloc(), 2), wanted);
+    for (trace, location, status, wanted) in [
+        (
+            WRITE_WRITE,
+            5,
+            1,
+            b"pairs 1\npair write 2 write 4\n".as_slice(),
+        ),
+        (
+            CALL_MIXED,
+            1,
+            1,
+            b"pairs 1\npair write 2 write 8\n".as_slice(),
+        ),
+        (CALL_MIXED, 2, 0, b"pairs 0\n".as_slice()),
+    ] {
+        let question = pairs(rt.alloc(), location);
+        ask(&rt, rt.alloc(), trace, question, (status, wanted));
+    }
 }
 
 #[test]
 fn measured(rt: HostRuntime) {
-    let wanted = (0, b"work 9\nspan 7\nspawns 1\ndepth 1\n".as_slice());
-    ask(&rt, rt.alloc(), measure(rt.alloc()), wanted);
+    for (trace, wanted) in [
+        (
+            WRITE_WRITE,
+            b"work 5\nspan 4\nspawns 1\ndepth 1\n".as_slice(),
+        ),
+        (
+            CALL_MIXED,
+            b"work 9\nspan 7\nspawns 1\ndepth 1\n".as_slice(),
+        ),
+    ] {
+        ask(&rt, rt.alloc(), trace, measure(rt.alloc()), (0, wanted));
+    }
 }
 
 fn confirm(alloc: Global) -> Result<Confirm, AllocError> {
@@ -141,8 +181,14 @@ fn confirm(alloc: Global) -> Result<Confirm, AllocError> {
     })
 }
 
-/// Answers whether the report is one of races of row `call-mixed`.
-fn ask_confirm<R: Print + Abort>(rt: &R, alloc: Global, report: &[u8], wanted: (u8, &[u8])) {
+/// Answers whether the report is one of races of a trace.
+fn ask_confirm<R: Print + Abort>(
+    rt: &R,
+    alloc: Global,
+    trace: &[u8],
+    report: &[u8],
+    wanted: (u8, &[u8]),
+) {
     let Ok(confirm) = confirm(alloc) else {
         tell(rt, "name");
         return;
@@ -151,18 +197,39 @@ fn ask_confirm<R: Print + Abort>(rt: &R, alloc: Global, report: &[u8], wanted: (
     let status = answer_confirm(
         alloc,
         &confirm,
-        &mut Counted::new(CALL_MIXED),
+        &mut Counted::new(trace),
         &mut Counted::new(report),
         &mut Counted::new(&mut out),
         &mut Counted::new(&mut err),
     );
-    judge(rt, status, &out, &err, wanted);
+    judge(rt, (status, out.kept(), err.kept()), false, wanted);
 }
 
 #[test]
 fn confirmed(rt: HostRuntime) {
-    let yes = (0, b"yes\n".as_slice());
-    ask_confirm(&rt, rt.alloc(), b"races 1\nrace 1 write 2 write 8\n", yes);
-    let no = (1, b"no 1\n".as_slice());
-    ask_confirm(&rt, rt.alloc(), b"races 1\nrace 2 read 5 write 7\n", no);
+    let (yes, no) = ((0, b"yes\n".as_slice()), (1, b"no 1\n".as_slice()));
+    for (trace, report, wanted) in [
+        (
+            WRITE_WRITE,
+            b"races 1\nrace 5 write 2 write 4\n".as_slice(),
+            yes,
+        ),
+        (
+            WRITE_WRITE,
+            b"races 1\nrace 5 write 2 read 4\n".as_slice(),
+            no,
+        ),
+        (
+            CALL_MIXED,
+            b"races 1\nrace 1 write 2 write 8\n".as_slice(),
+            yes,
+        ),
+        (
+            CALL_MIXED,
+            b"races 1\nrace 2 read 5 write 7\n".as_slice(),
+            no,
+        ),
+    ] {
+        ask_confirm(&rt, rt.alloc(), trace, report, wanted);
+    }
 }

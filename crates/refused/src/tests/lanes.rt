@@ -3,22 +3,21 @@ ghost use Rattle.std.specs.Prelude.{◌≡◌};
 ghost use Rattle.lane.specs.Lanes.{lane_of};
 
 use super::tell;
-use lane::{Block, Item, Parcel, Sender, Taker, lane};
+use lane::{Item, Sender, Taker, lane};
 use route::{Progress, Router};
 use std::alloc::Global;
 use std::process::Abort;
 use trace::{NoMemory, Placed, Record};
 
-fn put_calls<R: Abort>(rt: &R, sender: &mut Sender<u32>, block: &mut Block<u32>)
+fn put_calls<R: Abort>(rt: &R, sender: &mut Sender<u32>)
     ensures { lane_of sender.new ≡ lane_of sender.old }
 {
     assert!(rt; !sender.marked());
     assert_eq!(rt; sender.put(7), Ok(()));
     assert!(rt; sender.put_block(&[8, 9]));
-    block.clear();
-    block.push(10);
-    block.push(11);
-    assert!(rt; sender.put_values(&block.between(0, 2)));
+    assert_eq!(rt; sender.put(10), Ok(()));
+    assert_eq!(rt; sender.put(11), Ok(()));
+    sender.flush();
 }
 
 fn take_calls<R: Abort>(rt: &R, taker: &mut Taker<u32>) {
@@ -29,9 +28,8 @@ fn take_calls<R: Abort>(rt: &R, taker: &mut Taker<u32>) {
 
 fn lane_calls<R: Abort>(rt: &R, alloc: Global, with: bool) -> Result<(), NoMemory> {
     let (mut sender, mut taker) = lane::<u32>(alloc, 6)?;
-    let mut block = Block::new(alloc)?;
     if with {
-        put_calls(rt, &mut sender, &mut block);
+        put_calls(rt, &mut sender);
         assert!(rt; !sender.marked() && sender.room() == 1);
         taker.beside(&mut sender);
         assert_eq!(rt; (taker.ready(), taker.take()), (5, Some(Item::One(7))));
@@ -44,7 +42,7 @@ fn lane_calls<R: Abort>(rt: &R, alloc: Global, with: bool) -> Result<(), NoMemor
 }
 
 fn router_calls<R: Abort>(rt: &R, alloc: Global, with: bool) -> Result<(), NoMemory> {
-    let (first, mut taker) = lane::<Parcel>(alloc, 4)?;
+    let (first, mut taker) = lane::<Placed>(alloc, 4)?;
     let mut senders = Vec::new(alloc);
     senders.push(first)?;
     let mut router = Router::new(alloc, senders)?;
@@ -57,7 +55,10 @@ fn router_calls<R: Abort>(rt: &R, alloc: Global, with: bool) -> Result<(), NoMem
         assert!(rt; router.pending());
         assert_eq!(rt; router.step(), Progress::Moved);
         assert_eq!(rt; router.step(), Progress::Idle);
-        assert_eq!(rt; taker.take(), Some(Item::One(Parcel::new(placed))));
+        router.flush();
+        assert_eq!(rt; taker.take(), Some(Item::One(placed)));
+        let next = Placed { place: 2, ..placed };
+        assert_eq!(rt; router.send(next), Progress::Idle);
         assert_eq!(rt; router.mark_all_step(), Progress::Moved);
         assert_eq!(rt; router.mark_all_step(), Progress::Idle);
         assert_eq!(rt; router.into_ends().len(), 1);

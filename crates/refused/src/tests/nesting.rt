@@ -61,7 +61,7 @@ fn nest<R: Print + Abort>(rt: &R, alloc: Global, is_called: bool, with: bool) {
         let _ = enter_tried(rt, &mut bags, is_called);
         if with {
             bags.sync();
-            let wanted = (depth + 1, depth + 2, depth + 2, 2 * (depth + 2));
+            let wanted = (depth + 1, depth + 2, depth + 2, 3 * (depth + 2));
             assert_eq!(rt; numbers(&bags), wanted);
             assert!(rt; !in_p(rt, &bags, depth));
         }
@@ -138,7 +138,7 @@ fn alternate<R: Print + Abort>(rt: &R, alloc: Global, called_first: bool) {
         assert_eq!(rt; in_p(rt, &bags, child + 1), !is_called);
     }
     bags.sync();
-    assert_eq!(rt; numbers(&bags), (0, 101, 1, 2));
+    assert_eq!(rt; numbers(&bags), (0, 101, 1, 3));
     for procedure in 0..101u64 {
         assert!(rt; !in_p(rt, &bags, procedure));
     }

@@ -1,7 +1,7 @@
 //! A worker in one thread.
 
 use super::{Hasher, tell};
-use lane::{Item, Parcel, Sender, lane};
+use lane::{Item, Sender, lane};
 use shard::{Back, Open, Shard, work};
 use std::alloc::Global;
 use std::process::Abort;
@@ -22,11 +22,11 @@ const THREE_WRITES: [Record; 8] = [
 ];
 
 /// Puts the records with the places from 1 on, and the mark.
-fn fill<R: Abort>(rt: &R, mut sender: Sender<Parcel>, records: &[Record]) {
+fn fill<R: Abort>(rt: &R, mut sender: Sender<Placed>, records: &[Record]) {
     for (index, what) in records.iter().enumerate() {
         let (place, what) = (index as u64 + 1, *what);
         assert!(rt; !sender.marked());
-        assert!(rt; sender.put(Parcel::new(Placed { place, what })).is_ok());
+        assert_eq!(rt; sender.put(Placed { place, what }), Ok(()));
     }
     assert!(rt; !sender.marked() && sender.mark());
 }
@@ -40,7 +40,7 @@ fn run<R: Print + Wait + Abort>(
     records: &[Record],
 ) -> Result<(), NoMemory> {
     assert!(rt; 1 <= capacity && capacity <= 65536);
-    let (sender, taker) = lane::<Parcel>(alloc, capacity)?;
+    let (sender, taker) = lane::<Placed>(alloc, capacity)?;
     let (back, mut back_taker) = lane::<Back>(alloc, capacity)?;
     let shard = Shard::new(alloc, 0, Hasher::default())?;
     fill(rt, sender, records);

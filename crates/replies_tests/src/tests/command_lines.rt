@@ -1,13 +1,16 @@
 //! Command lines that ask for nothing of a trace.
-use super::{assert_left, run};
+use super::{Ran, assert_left, run};
+use replies::refuse;
 use std::test::Fail;
-use words::VERSION;
+use trace::Counted;
+use words::{VERSION, WordsFault};
 
 #[test]
 fn refuses_command_lines(rt: HostRuntime) -> Result<(), Fail> {
     for line in [
         "",
         "check",
+        "check --shards 0 -",
         "check --shards 65 -",
         "check --part 1/1 -",
         "pairs - 03",
@@ -33,4 +36,17 @@ fn helps(rt: HostRuntime) -> Result<(), Fail> {
     let want = format!(in rt.alloc(); "spbags {VERSION}\n")?;
     assert_left(&rt, &version, 0, want.as_bytes(), b"", "--version");
     Ok(())
+}
+
+#[test]
+fn tells_want_of_memory(rt: HostRuntime) {
+    let mut out = Vec::new(rt.alloc());
+    let mut err = Vec::new(rt.alloc());
+    let status = refuse(
+        &WordsFault::NoMemory,
+        &mut Counted::new(&mut out),
+        &mut Counted::new(&mut err),
+    );
+    let ran = Ran { status, out, err };
+    assert_left(&rt, &ran, 2, b"", b"spbags: out of memory\n", "no memory");
 }

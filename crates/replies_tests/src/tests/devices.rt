@@ -70,6 +70,20 @@ impl Read for Slow<'_> {
     }
 }
 
+/// A reader of many bytes, none of which is kept: they are those that the buffers hold.
+#[derive(Drop)]
+pub struct Large {
+    pub left: usize,
+}
+
+impl Read for Large {
+    fn read(&mut self, buffer: &mut [u8]) -> io::Result<usize> {
+        let count = self.left.min(buffer.len());
+        self.left -= count;
+        Ok(count)
+    }
+}
+
 /// A reader that hands one byte a call, and of which one call fails. It goes on as if that call hadn't been.
 #[derive(Drop)]
 pub struct Halting<'a> {

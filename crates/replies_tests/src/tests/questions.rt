@@ -1,10 +1,12 @@
 //! Worked rows of `pairs`, `measure` and `confirm`.
-use super::{Left, assert_answer, assert_left, flood, run, run_with_report, text_of};
+use super::devices::{ENDLESS, Large, Slow};
+use super::{Left, assert_answer, assert_left, flood, run, run_on, run_with_report, text_of};
 use std::alloc::{AllocError, Global};
 use std::process::Abort;
 use std::sync::Wait;
 use std::test::Fail;
 use std::thread::Threads;
+use trace::Counted;
 
 const WRITE_WRITE: &str = "spawn, write 5, return, write 5, return";
 
@@ -313,5 +315,21 @@ fn refuses_bad_reports_first(rt: HostRuntime) -> Result<(), Fail> {
     refuse_reports(&rt, rt.alloc(), &BAD_REPORTS)?;
     let ran = run_with_report(&rt, rt.alloc(), "confirm - b", b"x\n", b"races 0\n", 4096)?;
     assert_left(&rt, &ran, 2, b"", b"spbags: line 1: header\n", "races 0");
+    Ok(())
+}
+
+// A report may have 67108864 bytes. These are no report's text, and that is told only where they are no more.
+#[test]
+fn refuses_a_large_report_first(rt: HostRuntime) -> Result<(), Fail> {
+    for (left, want) in [
+        (67108864, "spbags: report line 1: bad\n"),
+        (67108865, "spbags: report too large\n"),
+    ] {
+        let mut trace = Counted::new(Slow::new(b"x\n", 1));
+        let mut report = Counted::new(Large { left });
+        let line = "confirm - b";
+        let ran = run_on(&rt, rt.alloc(), line, &mut trace, &mut report, ENDLESS)?;
+        assert_left(&rt, &ran, 2, b"", want.as_bytes(), line);
+    }
     Ok(())
 }
