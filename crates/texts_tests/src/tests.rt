@@ -67,8 +67,8 @@ enum Text {
     Numbers,
     Yes,
     No,
-    Fault,
-    Refusal,
+    Fault(Fault),
+    Refusal(ReportRefusal),
     MergeRefusal,
     Line,
 }
@@ -90,7 +90,7 @@ const NUMBERS: Measure = Measure {
     depth: 1,
 };
 
-const FAULT: Fault = Fault::Text(TextFault {
+const TOO_MANY: Fault = Fault::Text(TextFault {
     line: u64::MAX,
     kind: TextKind::TooMany,
 });
@@ -106,8 +106,8 @@ fn write<W: Sink>(text: Text, sink: &mut W) -> Result<(), WriteFault> {
         Text::Numbers => return put_measure(&NUMBERS, sink),
         Text::Yes => return put_confirm(Confirm::Yes, sink),
         Text::No => return put_confirm(Confirm::No { entry: 3 }, sink),
-        Text::Fault => say_fault(&FAULT, sink),
-        Text::Refusal => say_refusal(BAD, sink),
+        Text::Fault(fault) => say_fault(&fault, sink),
+        Text::Refusal(refusal) => say_refusal(refusal, sink),
         Text::MergeRefusal => say_merge_refusal(u64::MAX, LAST_BAD, sink),
         Text::Line => say(b"a line\n", sink),
     }
@@ -115,17 +115,28 @@ fn write<W: Sink>(text: Text, sink: &mut W) -> Result<(), WriteFault> {
 }
 
 /// The texts, and whether a failure is told.
-const TEXTS: [(Text, &str, bool); 8] = [
+const TEXTS: [(Text, &str, bool); 11] = [
     (Text::Pairs, "pairs 1\npair read 2 write 5\n", true),
     (Text::Numbers, "work 8\nspan 5\nspawns 2\ndepth 1\n", true),
     (Text::Yes, "yes\n", true),
     (Text::No, "no 3\n", true),
     (
-        Text::Fault,
+        Text::Fault(TOO_MANY),
         "spbags: line 18446744073709551615: too many records\n",
         false,
     ),
-    (Text::Refusal, "spbags: report line 7: bad\n", false),
+    (
+        Text::Fault(Fault::NoMemory),
+        "spbags: out of memory\n",
+        false,
+    ),
+    (Text::Fault(Fault::NoThread), "spbags: no thread\n", false),
+    (Text::Refusal(BAD), "spbags: report line 7: bad\n", false),
+    (
+        Text::Refusal(ReportRefusal::TooLarge),
+        "spbags: report too large\n",
+        false,
+    ),
     (
         Text::MergeRefusal,
         "spbags: report 18446744073709551615 line 18446744073709551614: bad\n",

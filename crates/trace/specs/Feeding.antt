@@ -69,6 +69,12 @@ abbrev pub GivesNext : Feeding → Feeding → Change → Result (Option Placed)
 GivesNext old new c result = (w : List Record) (bytes : List ℕ) → HasFed w bytes old
     → (came : List ℕ) × Gave c came × IsFed old.reading.limit old.nesting.max_depth w (bytes ++ came) c new result
 
+-- Whatever the feed had read: `Read` is answered only where the source failed in this call, or where the feed had
+-- ended with it; and a feed has ended with a fault only where it answered that fault.
+pub record ReadsOnlyFailed (old new : Feeding) (c : Change) (result : Result (Option Placed) Fault) : Type 0 where
+  pub failed : result ≡ Err faults.Read → HasFailed c ⊎ (old.ending ≡ Bad faults.Read)
+  pub answered : (f : Fault) → new.ending ≡ Bad f → result ≡ Err f
+
 pub record HasSameLimits (old new : Feeding) : Type 0 where
   pub records : new.reading.limit ≡ old.reading.limit
   pub depths : new.nesting.max_depth ≡ old.nesting.max_depth

@@ -4,6 +4,7 @@ ghost use Rattle.std.specs.Prelude.{Option, Ok, Err, Some, None, IfOk, IfErr, On
 ghost use Rattle.std.specs.Option.{option_to_list};
 ghost use Rattle.trace.specs.declared.records.Record.{Record};
 ghost use Rattle.trace.specs.Devices.{Change, ◌⇝◌, Counts, Gave, IsUsedUp, IsSteady};
+ghost use Rattle.trace.specs.declared.faults.Fault.TheVariants as faults;
 ghost use Rattle.trace.specs.Faults.{IsBadLine, IsFirstFault};
 ghost use Rattle.trace.specs.Reading.{held_back};
 ghost use Rattle.trace.specs.Bounds.{most_records, longest_line};
@@ -59,7 +60,7 @@ impl Model for Intake {
 }
 
 impl Intake {
-    ghost use Rattle.trace.specs.Feeding.{before_all, HasUsed, HasFed, IsFed, GivesNext, HasSameLimits};
+    ghost use Rattle.trace.specs.Feeding.{before_all, HasUsed, HasFed, IsFed, GivesNext, ReadsOnlyFailed, HasSameLimits};
     ghost use Rattle.trace.specs.Nesting.{HasNested};
     ghost use Rattle.trace.specs.declared.feeding.Ending.TheVariants.{Running, Good, Bad};
 
@@ -84,6 +85,7 @@ impl Intake {
     #[inline(always)]
     pub fn next_from<S: Source>(&mut self, source: &mut S) -> Result<Option<Placed>, Fault>
         ensures fed { GivesNext self.old self.new (S.state source.old ⇝ S.state source.new) result }
+        ensures read { ReadsOnlyFailed self.old self.new (S.state source.old ⇝ S.state source.new) result }
         ensures good { self.old.ending ≡ Good → (result ≡ Ok None) × (self.new ≡ self.old) × (source.new ≡ source.old) }
         ensures bad { (f : Fault) → self.old.ending ≡ Bad f → (result ≡ Err f) × (self.new ≡ self.old)
             × (source.new ≡ source.old) }
@@ -103,6 +105,7 @@ impl Intake {
             IfSome result (λ p. (p.place ≡ length w + 1) × HasFed (w ++ p.what ∷ []) bytes self.new) }
         ensures none { result ≡ None → self.new ≡ self.old }
         ensures ended { self.old.ending ≢ Running → result ≡ None }
+        ensures running { IfSome result (λ _. self.new.ending ≡ Running) }
         ensures limits { HasSameLimits self.old self.new }
     {
         if self.start >= self.easy_until {
@@ -124,6 +127,7 @@ impl Intake {
     #[inline(always)]
     fn next_of_all<S: Source>(&mut self, source: &mut S) -> Result<Option<Placed>, Fault>
         ensures fed { GivesNext self.old self.new (S.state source.old ⇝ S.state source.new) result }
+        ensures read { ReadsOnlyFailed self.old self.new (S.state source.old ⇝ S.state source.new) result }
         ensures good { self.old.ending ≡ Good → (result ≡ Ok None) × (self.new ≡ self.old) × (source.new ≡ source.old) }
         ensures bad { (f : Fault) → self.old.ending ≡ Bad f → (result ≡ Err f) × (self.new ≡ self.old)
             × (source.new ≡ source.old) }
@@ -141,6 +145,7 @@ impl Intake {
     fn read_on<S: Source>(&mut self, source: &mut S) -> Result<Option<Placed>, Fault>
         requires { self.old.ending ≡ Running }
         ensures fed { GivesNext self.old self.new (S.state source.old ⇝ S.state source.new) result }
+        ensures read { ReadsOnlyFailed self.old self.new (S.state source.old ⇝ S.state source.new) result }
         ensures limits { HasSameLimits self.old self.new }
     {
         loop {
@@ -210,6 +215,8 @@ impl Intake {
         ensures fed { (w : List Record) (bytes : List ℕ) (c : Change) → IsSteady c
             → HasUsed (w ++ what ∷ []) bytes self.old → HasNested w self.old.nesting →
             IsFed self.old.reading.limit self.old.nesting.max_depth w bytes c self.new result }
+        ensures not_read { result ≢ Err faults.Read }
+        ensures answered { (f : Fault) → self.new.ending ≡ Bad f → result ≡ Err f }
         ensures limits { HasSameLimits self.old self.new }
     {
         match self.nest.accept(what) {
@@ -237,6 +244,8 @@ impl Intake {
         ensures fed { (w : List Record) (bytes : List ℕ) (c : Change) → IsSteady c → IsUsedUp c.new
             → HasFed w bytes self.old →
             IsFed self.old.reading.limit self.old.nesting.max_depth w bytes c self.new result }
+        ensures not_read { result ≢ Err faults.Read }
+        ensures answered { (f : Fault) → self.new.ending ≡ Bad f → result ≡ Err f }
         ensures limits { HasSameLimits self.old self.new }
     {
         if let Err(fault) = self.reader.end() {
@@ -268,7 +277,7 @@ pub struct Feed<R> {
 }
 
 impl<R: Source> Feed<R> {
-    ghost use Rattle.trace.specs.Feeding.{before_all, GivesNext, HasSameLimits};
+    ghost use Rattle.trace.specs.Feeding.{before_all, GivesNext, ReadsOnlyFailed, HasSameLimits};
     ghost use Rattle.trace.specs.declared.feeding.Ending.TheVariants.{Good, Bad};
 
     /// Nothing has been read.
@@ -285,6 +294,8 @@ impl<R: Source> Feed<R> {
     /// As `Intake::next_from`, from its own source.
     pub fn next(&mut self) -> Result<Option<Placed>, Fault>
         ensures fed { GivesNext self.old.intake self.new.intake
+            (R.state self.old.source ⇝ R.state self.new.source) result }
+        ensures read { ReadsOnlyFailed self.old.intake self.new.intake
             (R.state self.old.source ⇝ R.state self.new.source) result }
         ensures good { self.old.intake.ending ≡ Good → (result ≡ Ok None) × (self.new ≡ self.old) }
         ensures bad { (f : Fault) → self.old.intake.ending ≡ Bad f → (result ≡ Err f) × (self.new ≡ self.old) }

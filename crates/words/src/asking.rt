@@ -34,7 +34,7 @@ pub enum Question {
 pub struct Check {
     /// How many threads the locations are divided among.
     pub shards: u32,
-    /// How many items may wait for a thread: accesses, and parcels of up to 12 other records.
+    /// How many records may wait for a thread.
     pub capacity: u32,
     /// How deep procedures may nest.
     pub depth: u32,

@@ -280,7 +280,7 @@ fn argument_of<'a>(alloc: Global, argument: Argument) -> Arg<'a> {
         Argument::Capacity => number(
             alloc,
             "capacity",
-            "How many items of up to 12 records may wait for a thread: 1 to 65536, 1024 where it is left out",
+            "How many records may wait for a thread: 1 to 65536, 1024 where it is left out",
         ),
         Argument::Depth => number(
             alloc,

@@ -247,7 +247,7 @@ fn shards_of(found: &ArgMatches<'_>) -> Result<u32, WordsFault>
     }
 }
 
-// How many items may wait for a thread.
+// How many records may wait for a thread.
 fn capacity_of(found: &ArgMatches<'_>) -> Result<u32, WordsFault>
     ensures { IfOk result IsCapacity }
 {

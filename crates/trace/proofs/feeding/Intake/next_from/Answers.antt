@@ -16,3 +16,9 @@ returns-in-None-clause-fed g c =
     let same : c.next_known.new.self ≡ c.args.self.now = search rules in
     let P : Feeding → Type 0 = λ s. GivesNext s c.next_of_all.new.self (g.S.Source.state c.args.source.now ⇝ g.S.Source.state c.next_of_all.new.source) c.next_of_all.result in
     subst P same c.next_of_all.ensures.fed
+
+pub returns-in-Some-clause-read : goal.returns-in-Some-clause-read
+returns-in-Some-clause-read g c = record {
+  failed = search rules;
+  answered = λ f is. search (rules, c.in-Some.ensures.running, is);
+}

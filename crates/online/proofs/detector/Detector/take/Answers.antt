@@ -1,0 +1,23 @@
+use Rattle.std.proofs.Common.{rules, ◌≡◌, ℕ, ◌+◌, List, [], ◌∷◌, ◌++◌, length, sym, ap, subst, ◌∙◌}
+use Rattle.trace.specs.declared.records.Record.{Record}
+use Rattle.trace.specs.declared.records.Placed.{Placed}
+use Rattle.trace.specs.Traces.{placed}
+use Rattle.shadow.specs.Found.{found}
+use Rattle.detect.proofs.Detected.{placed-next}
+use Rattle.online.specs.Detectors.{DetectorState, IsAfter}
+use Rattle.online.proofs.Steps.{after_next}
+use Rattle.online.proofs.detector.Detector.take.Goals as goal
+
+next : (c : goal.In-Ok) (u : List Record) → IsAfter u c.args.self.now → c.taken-taken.result + 1 ≡ length u + 1
+next c u h = ap (λ n. n + 1) (c.taken-taken.ensures ∙ ap (λ (s : DetectorState). s.shard.taken) c.self.view_is ∙ h.count)
+
+pub returns-in-Ok-clause-taken : goal.returns-in-Ok-clause-taken
+returns-in-Ok-clause-taken c u h =
+    let p : Placed = record { place = c.taken-taken.result + 1; what = c.args.what } in
+    let told = c.in-Ok.ensures in
+    after_next u p c.args.self.now _ h (search rules) (next c u h) (told.detected (placed u)) told.last told.ended told.count (told.going ∙ h.going)
+
+pub returns-in-Ok-clause-found : goal.returns-in-Ok-clause-found
+returns-in-Ok-clause-found c u h =
+    let p : Placed = record { place = c.taken-taken.result + 1; what = c.args.what } in
+    ap found (placed-next u p (next c u h)) ∙ c.in-Ok.ensures.found (placed u) h.seen

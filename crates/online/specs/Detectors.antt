@@ -1,0 +1,62 @@
+-- Promised: what a detector has taken of the records that came, and where it wants memory.
+use Rattle.std.specs.Prelude.{◌≡◌, ℕ, ◌+◌, ◌≤◌, ◌↔◌, ◌⊎◌, Bool, true, false, List, [], ◌∷◌, ◌++◌, length, sum_by, ⊤}
+use Rattle.trace.specs.declared.records.Record.{Record}
+use Rattle.trace.specs.declared.records.Record.TheVariants.{Spawn, Call, Return, Sync, Read, Write}
+use Rattle.trace.specs.declared.records.Placed.{Placed}
+use Rattle.trace.specs.Accesses.{RaceAt}
+use Rattle.trace.specs.Bounds.{most_records}
+use Rattle.trace.specs.Faults.{HasEnded}
+use Rattle.trace.specs.Traces.{placed, opens, closes}
+use Rattle.shadow.specs.Cells.{untouched}
+use Rattle.shadow.specs.Found.{found, state_after}
+use Rattle.shadow.specs.Memory.{HaveSeen}
+use Rattle.shard.specs.declared.Back.{Back}
+use Rattle.shard.specs.Shards.{ShardState}
+use Rattle.collect.specs.Collected.{Kept, KeepsBest, races_of, fails}
+
+-- its shard, the races that are kept for the report, and whether a growth was refused
+pub record DetectorState : Type 0 where
+  pub shard : ShardState
+  pub kept : Kept
+  pub stopped : Bool
+
+-- a growth was refused
+abbrev pub IsStopped : DetectorState → Type 0
+IsStopped d = d.stopped ≡ true
+
+-- as many procedures are active as were opened and not closed, the root among them
+pub record AreActive (u : List Record) (active : ℕ) : Type 0 where
+  pub some : 1 ≤ active
+  pub balance : active + sum_by closes u ≡ 1 + sum_by opens u
+
+-- The detector has taken the records u as they came, numbered from 1, and no growth was refused. What its collector was
+-- given are the races found in them.
+pub record IsAfter (u : List Record) (d : DetectorState) : Type 0 where
+  pub seen : HaveSeen (placed u) d.shard.bags d.shard.memory
+  pub given : List Back
+  pub holds : KeepsBest given d.kept
+  pub none_failed : fails given ≡ false
+  pub races : races_of given ≡ found (placed u)
+  pub count : d.shard.taken ≡ length u
+  pub last : d.shard.last_place ≡ length u
+  pub within : length u ≤ most_records
+  pub ended : (d.shard.ended ≡ true) ↔ HasEnded u
+  pub active : d.shard.ended ≡ false → AreActive u (length d.shard.bags.active)
+  pub going : d.stopped ≡ false
+
+-- a record of its own kind at which memory may be wanted: a spawn, a call, or the first access of a location
+abbrev pub IsOpening : List Placed → Record → Type 0
+IsOpening u Spawn = ⊤
+IsOpening u Call = ⊤
+IsOpening u Return = ⊥
+IsOpening u Sync = ⊥
+IsOpening u (Read l) = (state_after u).kept l ≡ untouched
+IsOpening u (Write l) = (state_after u).kept l ≡ untouched
+
+-- memory may be wanted at the record p after u: it is of that kind, or it tells a race
+abbrev pub IsWant : List Placed → Placed → Type 0
+IsWant u p = IsOpening u p.what ⊎ ((r : RaceAt) × (found (u ++ p ∷ []) ≡ found u ++ r ∷ []))
+
+-- the same of the record that follows u
+abbrev pub MayWant : List Record → Record → Type 0
+MayWant u what = IsWant (placed u) (record { place = length u + 1; what = what })
