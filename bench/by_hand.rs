@@ -3,8 +3,8 @@
 //!     by_hand [--bags sets|numbers] FILE
 //!
 //! It prints the report that `spbags check FILE` prints, and ends with the same status. FILE may be `-`. The bags are
-//! disjoint sets, as the algorithm was published, or two numbers for each active procedure, as `spbags` has them. Shadow
-//! memory is the standard library's hash map of locations, under a hash of one multiplication.
+//! disjoint sets, as the algorithm was published, or two numbers for each active procedure, which suffice for traces
+//! without calls. Shadow memory is the standard library's hash map of locations, under a hash of one multiplication.
 mod text;
 
 use std::collections::HashMap;
@@ -18,10 +18,12 @@ use text::{Fault, Record, Records};
 
 const DEEPEST: usize = 65536;
 
-/// The S-bag and the P-bag of each active procedure. Procedures are numbered by their spawns, and the root is 0.
+/// The S-bag and the P-bag of each active procedure. Procedures are numbered by their spawns and calls; the root is 0.
 trait Bags {
     fn new() -> Self;
     fn spawn(&mut self);
+    /// Whether these bags know calls; if so, it opens the called procedure.
+    fn call(&mut self) -> bool;
     fn sync(&mut self);
     /// The root never returns by this call.
     fn end_child(&mut self);
@@ -48,16 +50,17 @@ struct Node {
 
 #[derive(Clone, Copy)]
 struct Heads {
+    is_called: bool,
     procedure: u32,
     s: u32,
     p: Option<u32>,
 }
 
 impl Sets {
-    fn add(&mut self) {
+    fn add(&mut self, is_called: bool) {
         let new = u32::try_from(self.nodes.len()).expect("at most 2^32 procedures");
         self.nodes.push(Node { above: new, rank: 0, is_p: false });
-        self.active.push(Heads { procedure: new, s: new, p: None });
+        self.active.push(Heads { is_called, procedure: new, s: new, p: None });
     }
 
     #[inline]
@@ -93,12 +96,17 @@ impl Sets {
 impl Bags for Sets {
     fn new() -> Sets {
         let mut sets = Sets { nodes: Vec::new(), active: Vec::new() };
-        sets.add();
+        sets.add(false);
         sets
     }
 
     fn spawn(&mut self) {
-        self.add();
+        self.add(false);
+    }
+
+    fn call(&mut self) -> bool {
+        self.add(true);
+        true
     }
 
     fn sync(&mut self) {
@@ -111,7 +119,12 @@ impl Bags for Sets {
 
     fn end_child(&mut self) {
         self.sync();
-        let child = self.active.pop().expect("a child is active").s;
+        let Heads { s: child, is_called, .. } = self.active.pop().expect("a child is active");
+        if is_called {
+            let s = self.top().s;
+            self.top().s = self.join(s, child, false);
+            return;
+        }
         let p = match self.top().p {
             Some(p) => self.join(p, child, true),
             None => {
@@ -155,6 +168,10 @@ impl Bags for Numbers {
         *first = (*first).min(self.count);
         self.active.push([self.count, u32::MAX]);
         self.count += 1;
+    }
+
+    fn call(&mut self) -> bool {
+        false
     }
 
     fn sync(&mut self) {
@@ -246,8 +263,10 @@ impl<B: Bags> Detector<B> {
             return Err("after end");
         }
         match record {
-            Record::Spawn if self.bags.active() > DEEPEST => return Err("too deep"),
+            Record::Spawn | Record::Call if self.bags.active() > DEEPEST => return Err("too deep"),
             Record::Spawn => self.bags.spawn(),
+            Record::Call if self.bags.call() => {}
+            Record::Call => return Err("two numbers for each procedure don't suffice for a call"),
             Record::Return if self.bags.active() == 1 => self.has_returned = true,
             Record::Return => self.bags.end_child(),
             Record::Sync => self.bags.sync(),

@@ -10,7 +10,7 @@ use text::{Fault, Record, Records};
 
 fn count(name: &str) -> Result<String, Fault> {
     let mut records = Records::new(File::open(name)?)?;
-    let (mut counts, mut locations) = ([0u64; 5], 0u64);
+    let (mut counts, mut locations) = ([0u64; 6], 0u64);
     while let Some(record) = records.next()? {
         let (kind, location) = match record {
             Record::Spawn => (0, 0),
@@ -18,13 +18,15 @@ fn count(name: &str) -> Result<String, Fault> {
             Record::Sync => (2, 0),
             Record::Read(location) => (3, location),
             Record::Write(location) => (4, location),
+            Record::Call => (5, 0),
         };
         counts[kind] += 1;
         // So that no compiler leaves the numbers unread.
         locations ^= location;
     }
-    let [spawns, returns, syncs, reads, writes] = counts;
-    Ok(format!("{spawns} spawns, {returns} returns, {syncs} syncs, {reads} reads, {writes} writes, {locations:x}"))
+    let [spawns, returns, syncs, reads, writes, calls] = counts;
+    let structure = format!("{spawns} spawns, {calls} calls, {returns} returns, {syncs} syncs");
+    Ok(format!("{structure}, {reads} reads, {writes} writes, {locations:x}"))
 }
 
 fn main() -> ExitCode {

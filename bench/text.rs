@@ -5,6 +5,7 @@ use std::io::{self, Read};
 #[derive(Clone, Copy)]
 pub enum Record {
     Spawn,
+    Call,
     Return,
     Sync,
     Read(u64),
@@ -23,7 +24,8 @@ impl From<io::Error> for Fault {
     }
 }
 
-const HEADER: &[u8] = b"trace 1\n";
+/// The headers of version 1 and of version 2, which has calls.
+const HEADERS: [&[u8]; 2] = [b"trace 1\n", b"trace 2\n"];
 /// The longest line, `write 18446744073709551615`, with its line end.
 const LONGEST: usize = 27;
 /// Zeros behind the bytes that were read, so that three words can be loaded at any byte of a line.
@@ -38,23 +40,25 @@ pub struct Records<R> {
     end: usize,
     has_ended: bool,
     line: u64,
+    has_calls: bool,
 }
 
 impl<R: Read> Records<R> {
     /// Reads the header.
     pub fn new(from: R) -> Result<Records<R>, Fault> {
-        let mut records = Records { from, bytes: vec![0; SIZE + BEHIND], next: 0, end: 0, has_ended: false, line: 1 };
+        let bytes = vec![0; SIZE + BEHIND];
+        let mut records = Records { from, bytes, next: 0, end: 0, has_ended: false, line: 1, has_calls: false };
         records.fill()?;
-        if records.bytes[..records.end].starts_with(HEADER) {
-            records.next = HEADER.len();
-            records.line = 2;
-            Ok(records)
-        } else {
-            Err(records.faulty())
-        }
+        let Some(version) = HEADERS.iter().position(|it| records.bytes[..records.end].starts_with(it)) else {
+            return Err(records.faulty());
+        };
+        records.next = HEADERS[version].len();
+        records.line = 2;
+        records.has_calls = version == 1;
+        Ok(records)
     }
 
-    /// The next record, or `None` where the bytes have ended.
+    /// The next record, or `None` if the bytes have ended.
     #[inline]
     pub fn next(&mut self) -> Result<Option<Record>, Fault> {
         if self.end - self.next < LONGEST && !self.has_ended {
@@ -63,7 +67,7 @@ impl<R: Read> Records<R> {
         if self.next == self.end {
             return Ok(None);
         }
-        match record_at(&self.bytes[self.next..self.next + BEHIND]) {
+        match record_at(&self.bytes[self.next..self.next + BEHIND], self.has_calls) {
             Some((record, length)) if length <= self.end - self.next => {
                 self.next += length;
                 self.line += 1;
@@ -102,15 +106,16 @@ impl<R: Read> Records<R> {
     }
 }
 
-// The record whose line stands at the front of the bytes, and the length of that line.
+// The record of the line at the front of the bytes, and the length of that line.
 #[inline]
-fn record_at(bytes: &[u8]) -> Option<(Record, usize)> {
+fn record_at(bytes: &[u8], has_calls: bool) -> Option<(Record, usize)> {
     match bytes[0] {
         b'r' if bytes.starts_with(b"read ") => with_number(bytes, 5, Record::Read),
         b'w' if bytes.starts_with(b"write ") => with_number(bytes, 6, Record::Write),
         b's' if bytes.starts_with(b"spawn\n") => Some((Record::Spawn, 6)),
         b's' if bytes.starts_with(b"sync\n") => Some((Record::Sync, 5)),
         b'r' if bytes.starts_with(b"return\n") => Some((Record::Return, 7)),
+        b'c' if has_calls && bytes.starts_with(b"call\n") => Some((Record::Call, 5)),
         _ => None,
     }
 }

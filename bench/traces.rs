@@ -1,11 +1,14 @@
 //! Writes the trace of a fork-join program on standard output.
 //!
-//!     traces SHAPE SIZE [--elements] [--races K --report FILE]
+//!     traces SHAPE SIZE [--version 1|2] [--elements] [--races K --report FILE]
 //!
-//! SHAPE is one of fib, nqueens, matmul, cilksort, heat, lu and spawnloop, and SIZE one of tiny, small and large: some
-//! kilobytes, 20 megabytes and 200 megabytes. None of the programs has a race.
+//! SHAPE is one of fib, nqueens, matmul, cilksort, callsort, heat, lu and spawnloop, and SIZE one of tiny, small and
+//! large: some kilobytes, 20 megabytes and 200 megabytes. None of the programs has a race.
 //!
-//! A location is an address, a multiple of the size of an element: 4 bytes for cilksort, 8 for the others. With
+//! The text is of version 1, or of the one that `--version` names. callsort is cilksort with ordinary calls: it calls
+//! the last of the sorts and merges that run beside each other, and each last merge. It is always of version 2.
+//!
+//! A location is an address, a multiple of the size of an element: 4 bytes for both sorts, 8 for the others. With
 //! `--elements` it is that address divided by that size, so that neighbours in an array have neighbouring numbers.
 //!
 //! With `--races K` each third spawn gets a race, K in all: the child and its parent, which hasn't synced, access one
@@ -41,10 +44,10 @@ const PLANTED_AT: u64 = 0x7f00_0000_0000;
 const DATA_AT: u64 = 0x5500_0000_0000;
 
 impl Trace {
-    fn new(unit: u64, to_plant: usize) -> Trace {
+    fn new(version: u8, unit: u64, to_plant: usize) -> Trace {
         let out = BufWriter::with_capacity(1 << 20, io::stdout().lock());
         let mut trace = Trace { out, place: 0, spawns: 0, unit, memory: DATA_AT, planted: Vec::new(), to_plant };
-        trace.put(format_args!("trace 1"));
+        trace.put(format_args!("trace {version}"));
         trace
     }
 
@@ -70,6 +73,13 @@ impl Trace {
         if let Some(race) = race {
             self.ripen(race);
         }
+    }
+
+    /// Calls a procedure and runs it.
+    fn call(&mut self, called: impl FnOnce(&mut Trace)) {
+        self.record(format_args!("call"));
+        called(self);
+        self.record(format_args!("return"));
     }
 
     fn sync(&mut self) {
@@ -253,12 +263,14 @@ fn matmul(trace: &mut Trace, sum: Square, left: Square, right: Square, block: us
 struct Sorting {
     values: [Vec<u32>; 2],
     arrays: [Array; 2],
+    // Whether the last of several procedures is called and not spawned.
+    calls: bool,
 }
 
 const CUTOFF: usize = 32;
 
 impl Sorting {
-    fn new(trace: &mut Trace, count: usize) -> Sorting {
+    fn new(trace: &mut Trace, count: usize, calls: bool) -> Sorting {
         let arrays = [0, 1].map(|_| trace.array(count as u64, 4));
         let mut state = 1u64;
         let mut next = |index: usize| {
@@ -267,7 +279,16 @@ impl Sorting {
             (state >> 33) as u32
         };
         let values = [(0..count).map(&mut next).collect(), vec![0; count]];
-        Sorting { values, arrays }
+        Sorting { values, arrays, calls }
+    }
+
+    // Runs the last of several procedures.
+    fn last(&mut self, trace: &mut Trace, procedure: impl FnOnce(&mut Sorting, &mut Trace)) {
+        if self.calls {
+            trace.call(|trace| procedure(self, trace));
+        } else {
+            trace.spawn(|trace| procedure(self, trace));
+        }
     }
 
     fn get(&self, trace: &mut Trace, side: usize, index: usize) -> u32 {
@@ -288,13 +309,17 @@ impl Sorting {
         let quarter = part.len() / 4;
         let [a, b, c, d] = [0, 1, 2, 3].map(|k| part.start + k * quarter);
         let end = part.end;
-        for quarter in [a..b, b..c, c..d, d..end] {
+        for quarter in [a..b, b..c, c..d] {
             trace.spawn(|trace| self.sort(trace, quarter));
         }
+        self.last(trace, |sorting, trace| sorting.sort(trace, d..end));
         trace.sync();
         trace.spawn(|trace| self.merge(trace, 0, a..b, b..c, a));
-        trace.spawn(|trace| self.merge(trace, 0, c..d, d..end, c));
+        self.last(trace, |sorting, trace| sorting.merge(trace, 0, c..d, d..end, c));
         trace.sync();
+        if self.calls {
+            return trace.call(|trace| self.merge(trace, 1, a..c, c..end, a));
+        }
         self.merge(trace, 1, a..c, c..end, a);
     }
 
@@ -327,7 +352,9 @@ impl Sorting {
         let between = to + (middle - long.start) + (cut - short.start);
         self.set(trace, 1 - side, between, value);
         trace.spawn(|trace| self.merge(trace, side, long.start..middle, short.start..cut, to));
-        trace.spawn(|trace| self.merge(trace, side, middle + 1..long.end, cut..short.end, between + 1));
+        self.last(trace, |sorting, trace| {
+            sorting.merge(trace, side, middle + 1..long.end, cut..short.end, between + 1)
+        });
         trace.sync();
     }
 
@@ -478,6 +505,7 @@ struct Asked {
     shape: String,
     // 0, 1 and 2 are tiny, small and large.
     size: usize,
+    version: u8,
     by_elements: bool,
     races: usize,
     report: Option<String>,
@@ -488,9 +516,13 @@ fn asked() -> Option<Asked> {
     let shape = words.next()?;
     let size = words.next()?;
     let size = ["tiny", "small", "large"].iter().position(|it| *it == size)?;
-    let mut asked = Asked { shape, size, by_elements: false, races: 0, report: None };
+    let version = if shape == "callsort" { 2 } else { 1 };
+    let mut asked = Asked { shape, size, version, by_elements: false, races: 0, report: None };
     while let Some(word) = words.next() {
         match word.as_str() {
+            "--version" => {
+                asked.version = words.next()?.parse().ok().filter(|it| (version..=2).contains(it))?;
+            }
             "--elements" => asked.by_elements = true,
             "--races" => asked.races = words.next()?.parse().ok()?,
             "--report" => asked.report = Some(words.next()?),
@@ -518,9 +550,9 @@ fn run(trace: &mut Trace, shape: &str, size: usize) -> Option<()> {
             [sum, left, right].iter().for_each(|matrix| matrix.fill(trace));
             matmul(trace, sum, left, right, block);
         }
-        "cilksort" => {
+        "cilksort" | "callsort" => {
             let count = [300, 18_000, 150_000][size];
-            let mut sorting = Sorting::new(trace, count);
+            let mut sorting = Sorting::new(trace, count, shape == "callsort");
             sorting.sort(trace, 0..count);
             assert!(sorting.values[0].is_sorted());
         }
@@ -546,13 +578,14 @@ fn run(trace: &mut Trace, shape: &str, size: usize) -> Option<()> {
 }
 
 fn main() -> ExitCode {
-    let usage = "traces fib|nqueens|matmul|cilksort|heat|lu|spawnloop tiny|small|large [--elements] [--races K --report FILE]";
+    let usage = "traces fib|nqueens|matmul|cilksort|callsort|heat|lu|spawnloop tiny|small|large \
+                 [--version 1|2] [--elements] [--races K --report FILE]";
     let Some(asked) = asked() else {
         eprintln!("{usage}");
         return ExitCode::from(2);
     };
-    let element = if asked.shape == "cilksort" { 4 } else { 8 };
-    let mut trace = Trace::new(if asked.by_elements { element } else { 1 }, asked.races);
+    let element = if asked.shape.ends_with("sort") { 4 } else { 8 };
+    let mut trace = Trace::new(asked.version, if asked.by_elements { element } else { 1 }, asked.races);
     if run(&mut trace, &asked.shape, asked.size).is_none() {
         eprintln!("{usage}");
         return ExitCode::from(2);
