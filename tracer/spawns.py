@@ -25,13 +25,15 @@ LITERALS = {"string", "character", "number"}
 INLINED = {"always_inline", "__always_inline__"}
 
 # A source without any of these stays as it is.
-TOUCHED = re.compile("_Cilk_|_Hyperobject|always_inline")
+TOUCHED = re.compile("_Cilk_|_Hyperobject|always_inline|cilk_(?:spawn|sync|for|scope)")
 
 SHAPES = "write `cilk_spawn f(..);' or `x = cilk_spawn f(..);' as a statement of its own"
 REFUSED = {
     "_Cilk_for": "cilk_for can't be traced: write a loop that spawns a function, and a sync after it",
     "_Cilk_scope": "cilk_scope can't be traced: write a function, which syncs at its end",
     "_Hyperobject": "reducers can't be traced",
+    **{word: f"{word} is no keyword here: write `#include <cilk/cilk.h>' above"
+       for word in ("cilk_spawn", "cilk_sync", "cilk_for", "cilk_scope")},
 }
 
 
@@ -250,6 +252,20 @@ class Spawn:
         return self.here + declared + " ".join(made) + self.tokens[self.last].marker()
 
 
+def refused(text, why):
+    """A line for each keyword of Cilk in a source that can't have any."""
+    tokens = tokens_of(text) if "_Cilk_" in text else []
+    return [f"{token.place()}: error: {why}" for token in tokens if token.text.startswith("_Cilk_")]
+
+
+def is_atomic(text, tokens, first):
+    """Whether the statement that begins here, or the block in which it stands, is OpenMP's `atomic`, which is no place
+    for anything else."""
+    starts = {first, tokens[first].around}
+    return any(re.search(r"pragma\s+omp\s+atomic\b", text[tokens[start - 1].end:tokens[start].start])
+               for start in starts if start)
+
+
 def rewritten_store(text, tokens, sign):
     """The statement `x = f(..);` around this sign, and what stands for it: with gcc no hook sees the store of a struct
     that a call gives, but it sees that of a variable. None for any other statement."""
@@ -260,6 +276,8 @@ def rewritten_store(text, tokens, sign):
     if not is_one_target(tokens, first, sign) or not is_lvalue(tokens, first, sign):
         return None
     if any(token.text.startswith("_Cilk_") or token.text in REFUSED for token in tokens[first:last]):
+        return None
+    if is_atomic(text, tokens, first):
         return None
     if [token.text for token in tokens[last + 1:last + 3]] == ["}", ")"]:
         return None  # the value of `({ .. })`

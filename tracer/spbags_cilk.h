@@ -2,6 +2,10 @@
 #ifndef SPBAGS_CILK_H
 #define SPBAGS_CILK_H
 
+#ifdef __cplusplus
+extern "C" {
+#endif
+
 typedef void (*__spbags_function)(void);
 
 /* Opens a child that is about to call this function. The same function comes back, which the compiler doesn't know: so
@@ -15,5 +19,9 @@ void __spbags_stored(const volatile void *at, unsigned long size);
 void __spbags_return(const volatile void *result, unsigned long size);
 
 void __spbags_sync(void);
+
+#ifdef __cplusplus
+}
+#endif
 
 #endif

@@ -3,7 +3,10 @@
 #include <cilk/cilk.h>
 #include <stdio.h>
 
-enum { COUNT = 64, FEW = 4 };
+#ifndef COUNT
+#define COUNT 64
+#define FEW 4
+#endif
 
 static int data[COUNT], spare[COUNT];
 

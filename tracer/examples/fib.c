@@ -13,6 +13,10 @@ static int fib(int n) {
     return x + y; /* [sum] */
 }
 
+#ifndef N
+#define N 10
+#endif
+
 int main(void) {
-    printf("%d\n", fib(10));
+    printf("%d\n", fib(N));
 }

@@ -3,7 +3,12 @@
 #include <cilk/cilk.h>
 #include <stdio.h>
 
-enum { ROWS = 10, COLUMNS = 8, BAND = 2, STEPS = 3 };
+#ifndef ROWS
+#define ROWS 10
+#define COLUMNS 8
+#define BAND 2
+#define STEPS 3
+#endif
 
 static float grids[2][ROWS][COLUMNS];
 

@@ -3,7 +3,10 @@
 #include <cilk/cilk.h>
 #include <stdio.h>
 
-enum { SIZE = 8, FEW = 2 };
+#ifndef SIZE
+#define SIZE 8
+#define FEW 2
+#endif
 
 static float a[SIZE * SIZE], b[SIZE * SIZE], c[SIZE * SIZE];
 

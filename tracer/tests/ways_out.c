@@ -18,8 +18,6 @@ static void child(const char *way) {
     pthread_t started;
     if (strcmp(way, "exit") == 0)
         exit(3);
-    if (strcmp(way, "abort") == 0)
-        _exit(3);
     if (strcmp(way, "thread") == 0)
         pthread_create(&started, NULL, thread, NULL);
     if (strcmp(way, "fork") == 0 && fork() == 0)

@@ -1,0 +1,132 @@
+/* Between a spawn and the entry of what it calls, and between its exit and the return, compilers copy arguments and the
+   result through memory of the parent's frame, which no program sees. A library function that is the child itself says
+   so by its name. */
+__attribute__((noinline)) static void any_access(bool writes, uintptr_t at, size_t size, __spbags_function self,
+                                                 uintptr_t stack_pointer, uintptr_t code) {
+    if (!tracing || initialising > 0)
+        return;
+    leave_jumped(stack_pointer, code);
+    if (frames[top].kind != CHILD || frames[top].callee == self)
+        touch(writes, at, size, code);
+}
+
+/* Of the short way: not all of it is a repeat. */
+__attribute__((noinline)) static void note_access(bool writes, uintptr_t at, size_t size, uintptr_t code) {
+    uint32_t *marks = mark_of(at);
+    for (size_t unit = 0; unit < size >> unit_shift; unit++)
+        touch_unit(writes, (at >> unit_shift) + unit, marks + unit, code);
+}
+
+static inline bool are_repeats(bool writes, const uint32_t *mark, size_t units) {
+    do
+        if (!is_repeat(writes, *mark++))
+            return false;
+    while (--units > 0);
+    return true;
+}
+
+/* The short way of most accesses, those that fill whole units and don't lie across regions. */
+static inline void usual_access(bool writes, uintptr_t at, size_t size, uintptr_t stack_pointer, uintptr_t code) {
+    if (stack_pointer >= short_way_end || ((at | size) & unit_mask) != 0 || (at & (size - 1)) != 0)
+        any_access(writes, at, size, NULL, stack_pointer, code);
+    else if (!has_region(at) || !are_repeats(writes, mark_of(at), size >> unit_shift))
+        note_access(writes, at, size, code);
+}
+
+/* The linker's name for the end of what is only read in the program. */
+extern char __init_array_start[];
+
+/* Constants as a format aren't recorded, since nothing writes them; they would be told as narrow accesses. */
+__attribute__((noinline)) static void library_read(uintptr_t at, size_t size, __spbags_function self,
+                                                   uintptr_t stack_pointer, uintptr_t code) {
+    if (at < (uintptr_t)__executable_start || at >= (uintptr_t)__init_array_start)
+        any_access(false, at, size, self, stack_pointer, code);
+}
+
+#define OFTEN(WRITES, AT, SIZE) usual_access(WRITES, (uintptr_t)(AT), SIZE, STACK_POINTER, CODE)
+#define READ(AT, SIZE) any_access(false, (uintptr_t)(AT), SIZE, NULL, STACK_POINTER, CODE)
+#define WRITE(AT, SIZE) any_access(true, (uintptr_t)(AT), SIZE, NULL, STACK_POINTER, CODE)
+#define LIBRARY_READ(AT, SIZE, SELF) \
+    library_read((uintptr_t)(AT), SIZE, (__spbags_function)SELF, STACK_POINTER, CODE)
+#define LIBRARY_WRITE(AT, SIZE, SELF) \
+    any_access(true, (uintptr_t)(AT), SIZE, (__spbags_function)SELF, STACK_POINTER, CODE)
+
+/* With clang those of coverage stand beside the accesses instead of the sanitizer's. */
+#define ACCESSES(SIZE) \
+    void __tsan_read##SIZE(void *at) { OFTEN(false, at, SIZE); } \
+    void __tsan_write##SIZE(void *at) { OFTEN(true, at, SIZE); } \
+    void __tsan_unaligned_read##SIZE(void *at) { READ(at, SIZE); } \
+    void __tsan_unaligned_write##SIZE(void *at) { WRITE(at, SIZE); } \
+    void __sanitizer_cov_load##SIZE(void *at) { OFTEN(false, at, SIZE); } \
+    void __sanitizer_cov_store##SIZE(void *at) { OFTEN(true, at, SIZE); }
+ACCESSES(1) ACCESSES(2) ACCESSES(4) ACCESSES(8) ACCESSES(16)
+
+void __tsan_read_range(void *at, size_t size) { READ(at, size); }
+void __tsan_write_range(void *at, size_t size) { WRITE(at, size); }
+void __tsan_init(void) {}
+
+/* The run has one thread, so plain operations do. A determinacy race doesn't ask whether accesses are atomic. */
+#define ATOMICALLY(ACCESSES) \
+    do { \
+        enter_guard(ATOMIC, "atomic"); \
+        ACCESSES; \
+        leave_guard(ATOMIC); \
+    } while (false)
+#define UPDATE(BITS, TYPE, NAME, NEW) \
+    TYPE __tsan_atomic##BITS##_##NAME(volatile TYPE *at, TYPE value, int order) { \
+        (void)order; \
+        ATOMICALLY(READ(at, sizeof *at); WRITE(at, sizeof *at)); \
+        TYPE old = *at; \
+        *at = (TYPE)(NEW); \
+        return old; \
+    }
+#define COMPARE(BITS, TYPE, NAME) \
+    int __tsan_atomic##BITS##_compare_exchange_##NAME( \
+        volatile TYPE *at, TYPE *expected, TYPE value, int order, int failing) { \
+        (void)order, (void)failing; \
+        ATOMICALLY(READ(at, sizeof *at)); \
+        TYPE old = *at; \
+        if (old != *expected) { \
+            *expected = old; \
+            return 0; \
+        } \
+        ATOMICALLY(WRITE(at, sizeof *at)); \
+        *at = value; \
+        return 1; \
+    }
+#define ATOMICS(BITS, TYPE) \
+    TYPE __tsan_atomic##BITS##_load(const volatile TYPE *at, int order) { \
+        (void)order; \
+        ATOMICALLY(READ(at, sizeof *at)); \
+        return *at; \
+    } \
+    void __tsan_atomic##BITS##_store(volatile TYPE *at, TYPE value, int order) { \
+        (void)order; \
+        ATOMICALLY(WRITE(at, sizeof *at)); \
+        *at = value; \
+    } \
+    UPDATE(BITS, TYPE, exchange, value) \
+    UPDATE(BITS, TYPE, fetch_add, old + value) \
+    UPDATE(BITS, TYPE, fetch_sub, old - value) \
+    UPDATE(BITS, TYPE, fetch_and, old & value) \
+    UPDATE(BITS, TYPE, fetch_or, old | value) \
+    UPDATE(BITS, TYPE, fetch_xor, old ^ value) \
+    UPDATE(BITS, TYPE, fetch_nand, ~(old & value)) \
+    COMPARE(BITS, TYPE, strong) \
+    COMPARE(BITS, TYPE, weak) \
+    TYPE __tsan_atomic##BITS##_compare_exchange_val( \
+        volatile TYPE *at, TYPE expected, TYPE value, int order, int failing) { \
+        (void)order, (void)failing; \
+        ATOMICALLY(READ(at, sizeof *at)); \
+        TYPE old = *at; \
+        if (old == expected) { \
+            ATOMICALLY(WRITE(at, sizeof *at)); \
+            *at = value; \
+        } \
+        return old; \
+    }
+ATOMICS(8, uint8_t) ATOMICS(16, uint16_t) ATOMICS(32, uint32_t) ATOMICS(64, uint64_t)
+ATOMICS(128, unsigned __int128)
+
+void __tsan_atomic_thread_fence(int order) { (void)order; }
+void __tsan_atomic_signal_fence(int order) { (void)order; }

@@ -1,0 +1,196 @@
+/* How the run ends. Whatever is open in the trace returns then, so that what came before can be judged; and where it
+   didn't end by itself, one line says how. */
+
+/* The process that is traced, and not one that fork or vfork made. */
+static pid_t traced_process;
+
+static bool is_traced(void) { return tracing && getpid() == traced_process; }
+
+static void stop_tracing(void) {
+    tracing = false;
+    short_way_end = 0;
+}
+
+static void tell_notes(void) {
+    if (narrow_accesses > 0)
+        tell("%llu accesses don't fill their units of %u bytes, so neighbours may seem to race: SPBAGS_UNIT=%u tells "
+             "them apart",
+             (unsigned long long)narrow_accesses, 1u << unit_shift, 1u << __builtin_ctzl(narrow_bits));
+    if (most_procedures > DEFAULT_DEPTH + 1)
+        tell("procedures nest %u deep, so spbags needs --depth %u or more", most_procedures - 1, most_procedures - 1);
+#ifdef SPBAGS_OPENMP
+    tell_openmp_notes();
+    end_notes();
+#endif
+}
+
+static void end_trace(void) {
+    sigset_t all, before;
+    sigfillset(&all);
+    sigprocmask(SIG_BLOCK, &all, &before);
+    stop_tracing();
+    trace.most = next_place = UINT64_MAX;
+    while (procedures > 0)
+        close_procedure(0);
+    if (looking)
+        put_notes();
+    tell_notes();
+    close_output(&places);
+    close_output(&trace);
+    sigprocmask(SIG_SETMASK, &before, NULL);
+}
+
+/* The status with which the program is to end, which would end with this one. */
+static int end_trace_of(int status) {
+    end_trace();
+#ifdef SPBAGS_OPENMP
+    if (is_strict && outlived > 0)
+        return 2;
+#endif
+    return status;
+}
+
+static void stop_at_limit(void) {
+    uint64_t most = trace.most;
+    end_trace();
+    fail("the trace has reached its limit of %llu bytes, so the run ends here, and the trace has what came before: "
+         "SPBAGS_MOST sets another limit",
+         (unsigned long long)most);
+}
+
+/* ---- Signals ---- */
+
+enum { LAST_SIGNAL = 64 };
+
+/* What the program itself causes: it can't go on, and no hook is about to change anything then. */
+static bool is_fault(int number, const siginfo_t *about) {
+    bool may_be = number == SIGSEGV || number == SIGBUS || number == SIGFPE || number == SIGILL || number == SIGTRAP ||
+                  number == SIGSYS;
+    return may_be && about->si_code > 0;
+}
+
+/* All that lies between the stack's end and its limit grows by itself, so a fault there is beyond the limit. */
+static bool is_on_stack(const void *address) {
+    uintptr_t unit = (uintptr_t)address >> unit_shift, below = ((uintptr_t)1 << 20) >> unit_shift;
+    return unit - (stack_first - below) < stack_units + below;
+}
+
+static void die_by(int number) {
+    sigset_t one;
+    sigemptyset(&one);
+    sigaddset(&one, number);
+    signal(number, SIG_DFL);
+    raise(number);
+    sigprocmask(SIG_UNBLOCK, &one, NULL);
+}
+
+static void end_by_signal(int number) {
+    waiting_signal = 0;
+    tell("the program ends by signal %d (%s), and the trace has what came before", number, strsignal(number));
+    end_trace();
+    die_by(number);
+}
+
+/* Where the trace can't be closed at once, since its reader doesn't read, signals that come again are of use. */
+static void on_signal(int number, siginfo_t *about, void *context) {
+    enum { ENOUGH = 4 };
+    static int came;
+    (void)context;
+    bool fault = is_fault(number, about);
+    came++;
+    if (!is_traced() || came == ENOUGH)
+        die_by(number);
+    else if (changes > 0 && !fault)
+        waiting_signal = number;
+    else {
+        if (fault && number == SIGSEGV && is_on_stack(about->si_addr))
+            tell("the program needs more stack than its limit, which ulimit -s sets");
+        end_by_signal(number);
+    }
+}
+
+/* Signals that end no program by themselves. */
+static bool is_harmless(int number) {
+    static const int harmless[] = {SIGCHLD, SIGCONT, SIGSTOP, SIGTSTP, SIGTTIN, SIGTTOU, SIGURG, SIGWINCH};
+    for (size_t at = 0; at < sizeof harmless / sizeof *harmless; at++)
+        if (harmless[at] == number)
+            return true;
+    return false;
+}
+
+/* On a stack of its own, since the program's may be used up. */
+static void catch_signals(void) {
+    static char stack[1 << 16];
+    sigaltstack(&(stack_t){.ss_sp = stack, .ss_size = sizeof stack}, NULL);
+    struct sigaction caught = {.sa_sigaction = on_signal, .sa_flags = SA_SIGINFO | SA_ONSTACK}, before;
+    sigfillset(&caught.sa_mask);
+    for (int number = 1; number <= LAST_SIGNAL; number++)
+        if (!is_harmless(number) && sigaction(number, NULL, &before) == 0 && before.sa_handler == SIG_DFL)
+            sigaction(number, &caught, NULL);
+}
+
+/* ---- Ends without handlers ---- */
+
+void __wrap__exit(int status) { __real__exit(is_traced() ? end_trace_of(status) : status); }
+
+void __wrap__Exit(int status) { __wrap__exit(status); }
+
+static void quick_end(void) {
+    if (is_traced() && end_trace_of(0) != 0)
+        __real__exit(2);
+}
+
+/* Another program takes this one's place, unless that fails. */
+static bool end_before_exec(void) {
+    bool traced = is_traced();
+    if (traced) {
+        end_trace();
+        tell("the program becomes another one by exec, and the trace has what came before");
+    }
+    return traced;
+}
+
+static int after_exec(bool traced, int answer) {
+    if (traced)
+        tell("the exec failed, and what comes after it isn't in the trace");
+    return answer;
+}
+
+#define EXEC(NAME, PARAMETERS, ARGUMENTS) \
+    int __real_##NAME PARAMETERS; \
+    int __wrap_##NAME PARAMETERS { \
+        bool traced = end_before_exec(); \
+        return after_exec(traced, __real_##NAME ARGUMENTS); \
+    }
+EXEC(execv, (const char *path, char *const words[]), (path, words))
+EXEC(execve, (const char *path, char *const words[], char *const settings[]), (path, words, settings))
+EXEC(execvp, (const char *name, char *const words[]), (name, words))
+EXEC(execvpe, (const char *name, char *const words[], char *const settings[]), (name, words, settings))
+EXEC(fexecve, (int file, char *const words[], char *const settings[]), (file, words, settings))
+
+/* Those that take the words one by one, up to a null pointer. */
+static size_t count_words(va_list rest) {
+    size_t count = 0;
+    while (va_arg(rest, char *))
+        count++;
+    return count;
+}
+
+#define EXEC_LIST(NAME, VECTOR, MORE) \
+    int __wrap_##NAME(const char *program, const char *first, ...) { \
+        va_list rest; \
+        va_start(rest, first); \
+        char *words[count_words(rest) + 2], **last = words; \
+        va_end(rest); \
+        va_start(rest, first); \
+        for (*last = (char *)first; *last; *++last = va_arg(rest, char *)) \
+            continue; \
+        int answer = __wrap_##VECTOR(program, words MORE); \
+        va_end(rest); \
+        return answer; \
+    }
+#define NO_SETTINGS
+#define SETTINGS , va_arg(rest, char *const *)
+EXEC_LIST(execl, execv, NO_SETTINGS)
+EXEC_LIST(execlp, execvp, NO_SETTINGS)
+EXEC_LIST(execle, execve, SETTINGS)

@@ -1,0 +1,92 @@
+/* The hooks that write a trace. `spbags-cc` compiles a program with -fsanitize=thread, which puts a call beside each
+   access and at each function's entry and exit, and links it with this file instead of the sanitizer's own runtime.
+   This file is compiled without that flag. The program runs on one thread, in the serial order: a spawned child runs at
+   once, as an ordinary call.
+
+   Each part stands on those before it: the text of the trace; what is held; what a strand has done; locations;
+   procedures; a look at the races' places; the hooks of accesses, of library functions and of locks; the heap; those of
+   C++ and, where SPBAGS_OPENMP is defined, of OpenMP; the ends of the run, and its beginning. */
+#define _GNU_SOURCE
+#include <ctype.h>
+#include <errno.h>
+#include <fcntl.h>
+#include <inttypes.h>
+#include <limits.h>
+#include <link.h>
+#include <pthread.h>
+#include <signal.h>
+#include <stdarg.h>
+#include <stdbool.h>
+#include <stdint.h>
+#include <stdio.h>
+#include <stdlib.h>
+#include <string.h>
+#include <sys/mman.h>
+#include <sys/resource.h>
+#include <sys/socket.h>
+#include <sys/stat.h>
+#include <sys/statvfs.h>
+#include <sys/wait.h>
+#include <threads.h>
+#include <time.h>
+#include <unistd.h>
+#include <unwind.h>
+#include <wchar.h>
+
+#include "../spbags_cilk.h"
+/* The real functions of library.table: what is called here by its own name is called in truth. */
+#include "library_names.h"
+
+#if !defined(__x86_64__) || !defined(__linux__)
+#error "programs can be traced on x86-64 Linux alone"
+#endif
+
+/* The version of the trace's text where SPBAGS_VERSION doesn't say. */
+enum { DEFAULT_VERSION = 2 };
+/* The unit of accesses in bytes where SPBAGS_UNIT doesn't say. */
+enum { DEFAULT_UNIT = 4 };
+/* No checker reads a trace that nests deeper, and that alone without being told. */
+enum { MOST_DEPTH = 1000000, DEFAULT_DEPTH = 65536 };
+
+/* Of the function that called the hook: its stack pointer at the call, the address after the call, and the address
+   right above its stack memory. It keeps its frame pointer, which the hook finds saved in its own frame. */
+#define STACK_POINTER ((uintptr_t)__builtin_frame_address(0) + 16)
+#define CODE ((uintptr_t)__builtin_return_address(0))
+#define FRAME_END (*(uintptr_t *)__builtin_frame_address(0) + 16)
+
+void __real__exit(int status) __attribute__((noreturn));
+int __real_pthread_create(pthread_t *, const pthread_attr_t *, void *(*)(void *), void *);
+int __real_thrd_create(thrd_t *, thrd_start_t, void *);
+
+static bool tracing;
+static unsigned version = DEFAULT_VERSION;
+/* The unit of accesses is 1 << unit_shift bytes. */
+static unsigned unit_shift;
+static uintptr_t unit_mask;
+/* The run writes no trace, and looks at the places of races. */
+static bool looking;
+
+#include "output.h"
+#include "guards.h"
+#include "marks.h"
+#include "locations.h"
+#include "procedures.h"
+#include "look.h"
+#include "accesses.h"
+#include "library.h"
+#include "locks.h"
+#include "heap.h"
+#include "cplusplus.h"
+#ifdef SPBAGS_OPENMP
+#include "openmp.h"
+#include "openmp_calls.h"
+#include "openmp_loops.h"
+#include "openmp_reductions.h"
+#include "openmp_taskloops.h"
+#include "openmp_notes.h"
+#endif
+#include "ends.h"
+#include "run.h"
+#ifdef SPBAGS_OPENMP
+#include "openmp_run.h"
+#endif

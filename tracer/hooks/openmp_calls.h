@@ -1,0 +1,144 @@
+/* What omp.h declares, for a team of one. What is asked of devices, places and cancellation is answered as where there
+   are none. */
+
+static double seconds(clockid_t clock, int (*ask)(clockid_t, struct timespec *)) {
+    struct timespec time;
+    ask(clock, &time);
+    return (double)time.tv_sec + (double)time.tv_nsec / 1e9;
+}
+
+double omp_get_wtime(void) { return seconds(CLOCK_MONOTONIC, clock_gettime); }
+double omp_get_wtick(void) { return seconds(CLOCK_MONOTONIC, clock_getres); }
+
+/* ---- Threads ---- */
+
+static uint64_t threads_now(void) { return scopes[team_at()].alone ? 1 : team_size; }
+
+void omp_set_num_threads(int threads) { current_task()->threads_wanted = threads; }
+int omp_get_num_threads(void) { return (int)threads_now(); }
+int omp_get_num_procs(void) { return PROCESSORS; }
+int omp_get_thread_limit(void) { return INT_MAX; }
+int omp_in_parallel(void) { return active_levels > 0; }
+
+int omp_get_max_threads(void) {
+    int wanted = current_task()->threads_wanted;
+    return team_size > 1 ? (int)team_size : wanted > 0 ? wanted : PROCESSORS;
+}
+
+/* gcc would ask once for a whole loop, so programs have another name for it. */
+int __spbags_thread_num(void) {
+    size_t at = newest_scope;
+    while (scopes[at].kind != SHARE && scopes[at].kind != TEAM)
+        at--;
+    return scopes[at].thread;
+}
+
+int omp_get_thread_num(void) { return __spbags_thread_num(); }
+
+/* ---- Levels: the teams around, and of those the ones that could have several threads ---- */
+
+static int level(bool active) {
+    int count = 0;
+    for (size_t at = newest_scope; at > 0; at--)
+        count += scopes[at].kind == TEAM && !(active && scopes[at].alone);
+    return count;
+}
+
+int omp_get_level(void) { return level(false); }
+int omp_get_active_level(void) { return level(true); }
+int omp_get_ancestor_thread_num(int of) {
+    return of < 0 || of > level(false) ? -1 : of == 0 ? 0 : omp_get_thread_num();
+}
+int omp_get_team_size(int of) {
+    return of < 0 || of > level(false) ? -1 : of == 0 || of < level(false) ? 1 : omp_get_num_threads();
+}
+void omp_set_max_active_levels(int most) { most_active_levels = most >= 0 ? most : most_active_levels; }
+int omp_get_max_active_levels(void) { return most_active_levels; }
+int omp_get_supported_active_levels(void) { return INT_MAX; }
+void omp_set_nested(int nested) { most_active_levels = nested ? INT_MAX : 1; }
+int omp_get_nested(void) { return most_active_levels > 1; }
+
+/* ---- Settings that change nothing here ---- */
+
+static int dynamic_threads, schedule = 2, schedule_size = 1, default_device;
+
+void omp_set_dynamic(int dynamic) { dynamic_threads = dynamic != 0; }
+int omp_get_dynamic(void) { return dynamic_threads; }
+void omp_set_schedule(int kind, int size) { schedule = kind, schedule_size = size; }
+void omp_get_schedule(int *kind, int *size) { *kind = schedule, *size = schedule_size; }
+void omp_set_default_device(int device) { default_device = device; }
+int omp_get_default_device(void) { return default_device; }
+int omp_get_num_devices(void) { return 0; }
+int omp_get_initial_device(void) { return 0; }
+int omp_get_device_num(void) { return 0; }
+int omp_is_initial_device(void) { return 1; }
+int omp_get_num_teams(void) { return 1; }
+int omp_get_team_num(void) { return 0; }
+int omp_get_cancellation(void) { return 0; }
+int omp_get_max_task_priority(void) { return 0; }
+int omp_in_final(void) { return current_task()->final; }
+int omp_get_proc_bind(void) { return 0; }
+int omp_get_num_places(void) { return 0; }
+int omp_get_place_num(void) { return -1; }
+int omp_get_partition_num_places(void) { return 0; }
+
+/* ---- Locks. Who waits for one that isn't free would wait for ever ---- */
+
+struct lock {
+    int count;
+};
+
+/* One that its owner may set again: a task, by its number. */
+struct nested_lock {
+    int count;
+    uint64_t owner;
+};
+
+__attribute__((noreturn)) static void wait_for_ever(void) {
+    fail("the program waits for a lock that stays set: a task runs to its end where it is made, so what holds the lock "
+         "can't go on");
+}
+
+void omp_init_lock(struct lock *lock) { lock->count = 0; }
+void omp_init_lock_with_hint(struct lock *lock, int hint) { (void)hint, omp_init_lock(lock); }
+void omp_destroy_lock(struct lock *lock) { (void)lock; }
+
+int omp_test_lock(struct lock *lock) {
+    if (lock->count > 0)
+        return 0;
+    lock->count = 1;
+    enter_guard((uintptr_t)lock, lock_name);
+    return 1;
+}
+
+void omp_set_lock(struct lock *lock) {
+    if (!omp_test_lock(lock))
+        wait_for_ever();
+}
+
+void omp_unset_lock(struct lock *lock) {
+    lock->count = 0;
+    leave_guard((uintptr_t)lock);
+}
+
+void omp_init_nest_lock(struct nested_lock *lock) { lock->count = 0; }
+void omp_init_nest_lock_with_hint(struct nested_lock *lock, int hint) { (void)hint, omp_init_nest_lock(lock); }
+void omp_destroy_nest_lock(struct nested_lock *lock) { (void)lock; }
+
+int omp_test_nest_lock(struct nested_lock *lock) {
+    if (lock->count > 0 && lock->owner != current_task()->number)
+        return 0;
+    lock->owner = current_task()->number;
+    enter_guard((uintptr_t)lock, lock_name);
+    return ++lock->count;
+}
+
+void omp_set_nest_lock(struct nested_lock *lock) {
+    if (omp_test_nest_lock(lock) == 0)
+        wait_for_ever();
+}
+
+void omp_unset_nest_lock(struct nested_lock *lock) {
+    lock->count--;
+    leave_guard((uintptr_t)lock);
+}

@@ -1,0 +1,175 @@
+static unsigned choice(const char *variable, const char *values, unsigned otherwise) {
+    const char *value = getenv(variable);
+    if (!value || !*value)
+        return otherwise;
+    if (value[1] != '\0' || !strchr(values, *value))
+        fail("%s=%s: wanted one of the numbers %s", variable, value, values);
+    return (unsigned)(*value - '0');
+}
+
+/* Out of the program's way: its own files keep their numbers, and what it starts doesn't get ours. */
+static int move_away(const char *variable, int file) {
+    int moved = fcntl(file, F_DUPFD_CLOEXEC, 64);
+    if (moved < 0)
+        fail("%s: descriptor %d: %s", variable, file, strerror(errno));
+    return moved;
+}
+
+/* As far as the system lets us; what isn't a pipe stays as it is. */
+static void enlarge_pipe(int file) {
+    for (int size = PIPE; size > PIECE && fcntl(file, F_SETPIPE_SZ, size) < 0; size /= 2)
+        continue;
+}
+
+/* Where NAME is fd:N with a descriptor that isn't the program's, this is that descriptor, out of the way; else -1. */
+static int named_file(const char *variable, const char *name) {
+    if (strncmp(name, "fd:", 3) != 0)
+        return -1;
+    char *rest;
+    long file = strtol(name + 3, &rest, 10);
+    if (name[3] < '0' || name[3] > '9' || *rest != '\0' || file <= STDERR_FILENO || file > 65535)
+        fail("%s=%s: wanted fd: and the number of a descriptor above 2", variable, name);
+    int moved = move_away(variable, (int)file);
+    close((int)file);
+    return moved;
+}
+
+/* NAME is a file, fd:N an open descriptor, and - the standard output: what the program prints there goes to its
+   standard error instead. */
+static void open_output(struct output *output, const char *variable, const char *name) {
+    output->name = name;
+    output->file = named_file(variable, name);
+    if (strcmp(name, "-") == 0) {
+        output->file = move_away(variable, STDOUT_FILENO);
+        dup2(STDERR_FILENO, STDOUT_FILENO);
+    } else if (output->file < 0) {
+        int file = open(name, O_WRONLY | O_CREAT | O_TRUNC | O_CLOEXEC, 0666);
+        if (file < 0)
+            fail("cannot open %s: %s", name, strerror(errno));
+        output->file = move_away(variable, file);
+        close(file);
+    }
+    enlarge_pipe(output->file);
+}
+
+static uint64_t number_from(const char *variable, const char *what, uint64_t otherwise) {
+    const char *value = getenv(variable);
+    if (!value || !*value)
+        return otherwise;
+    char *rest;
+    errno = 0;
+    uint64_t number = strtoull(value, &rest, 10);
+    if (*value < '1' || *value > '9' || *rest != '\0' || errno != 0)
+        fail("%s=%s: wanted a number of %s from 1 on", variable, value, what);
+    return number;
+}
+
+/* A number of bytes for the trace; where none is said, a quarter of the space that is free where it goes to a file. */
+static void set_limit(bool is_file) {
+    struct statvfs space;
+    if (is_file && fstatvfs(trace.file, &space) == 0)
+        trace.most = space.f_bavail * space.f_frsize / 4;
+    trace.most = number_from("SPBAGS_MOST", "bytes", trace.most);
+}
+
+/* A trace that goes to a file has its places beside it, where nothing else was said. */
+static void open_outputs(const char *name) {
+    static char beside[4096];
+    const char *places_name = getenv("SPBAGS_PLACES");
+    struct stat about;
+    open_output(&trace, "SPBAGS_TRACE", name);
+    bool is_file = fstat(trace.file, &about) == 0 && S_ISREG(about.st_mode);
+    set_limit(is_file);
+    if (!places_name && is_file && strcmp(name, "-") != 0 && strncmp(name, "fd:", 3) != 0) {
+        if ((size_t)snprintf(beside, sizeof beside, "%s.places", name) >= sizeof beside)
+            fail("SPBAGS_TRACE: the name is too long");
+        places_name = beside;
+    }
+    if (places_name && *places_name)
+        open_output(&places, "SPBAGS_PLACES", places_name);
+}
+
+/* In the way of spbags-run: lines about the run go to it, a second run looks at the places of a report, and where the
+   program forks there is no answer. */
+static void refuse_fork(void) {
+    if (tracing)
+        fail("the program forks, and only one process can be traced");
+}
+
+static void open_ways(void) {
+    const char *lines = getenv("SPBAGS_SAYS"), *report = getenv("SPBAGS_LOOK"), *last = getenv("SPBAGS_LAST");
+    if (lines && *lines) {
+        says = named_file("SPBAGS_SAYS", lines);
+        pthread_atfork(refuse_fork, NULL, NULL);
+    }
+    ends_at_last = last && *last;
+    if (report && *report)
+        start_look(named_file("SPBAGS_LOOK", report));
+    unsetenv("SPBAGS_SAYS");
+    unsetenv("SPBAGS_LOOK");
+    unsetenv("SPBAGS_LAST");
+}
+
+/* What the library allocates for these streams depends on what they are, and all later addresses with it. */
+static void give_streams_buffers(void) {
+    static char input[4096], output[4096];
+    setvbuf(stdin, input, _IOFBF, sizeof input);
+    setvbuf(stdout, output, isatty(STDOUT_FILENO) ? _IOLBF : _IOFBF, sizeof output);
+}
+
+/* The stack as it may grow, up to where the environment stands above all frames. */
+static void find_stack(void) {
+    const size_t most = (size_t)1 << 30;
+    struct rlimit limit;
+    size_t size = most;
+    if (getrlimit(RLIMIT_STACK, &limit) == 0 && limit.rlim_cur < most)
+        size = limit.rlim_cur;
+    uintptr_t end = (uintptr_t)environ;
+    stack_first = (end - size) >> unit_shift;
+    stack_units = (end >> unit_shift) - stack_first;
+    make_marks(stack_first << unit_shift, end);
+    numbers = reserve(stack_units * sizeof *numbers);
+    /* A frame has at least its return address and its frame pointer, and at most one open child. */
+    most_frames = size / 16 * 2;
+    frames = reserve(most_frames * sizeof *frames);
+    owners = reserve((MOST_DEPTH + 3) * sizeof *owners);
+}
+
+__attribute__((constructor(101))) static void start(void) {
+    const char *name = getenv("SPBAGS_TRACE");
+    if (!name || !*name) {
+        tell("SPBAGS_TRACE isn't set, so no trace is written");
+        return;
+    }
+    version = choice("SPBAGS_VERSION", "12", DEFAULT_VERSION);
+    unit_shift = (unsigned)__builtin_ctz(choice("SPBAGS_UNIT", "1248", DEFAULT_UNIT));
+    unit_mask = ((uintptr_t)1 << unit_shift) - 1;
+    if (choice("SPBAGS_REPEATS", "01", 0) == 1)
+        write_repeats();
+    fill_digits();
+    give_streams_buffers();
+    open_outputs(name);
+    open_ways();
+    /* A traced program that this one starts would write over the trace. */
+    unsetenv("SPBAGS_TRACE");
+    find_stack();
+    frames[top] = (struct frame){.kind = ROOT, .end = UINTPTR_MAX};
+    procedures = most_procedures = 1;
+    traced_process = getpid();
+    pthread_atfork(NULL, NULL, stop_tracing);
+    at_quick_exit(quick_end);
+    const char *header = version == 2 ? "trace 2\n" : "trace 1\n";
+    memcpy(room(&trace), header, strlen(header));
+    trace.used += looking ? 0 : strlen(header);
+    tracing = true;
+    find_short_way();
+    catch_signals();
+}
+
+/* After the program's own handlers. */
+__attribute__((destructor(101))) static void finish(void) {
+    if (is_traced() && end_trace_of(0) != 0) {
+        fflush(NULL);
+        __real__exit(2);
+    }
+}

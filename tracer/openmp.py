@@ -1,0 +1,137 @@
+"""Rewrites the OpenMP of a preprocessed source: every loop gets the schedule `dynamic,1`, so that the runtime is asked
+for each iteration. What can't be traced is refused, with its file and line."""
+import re
+
+MARKER = re.compile(r'#(?:line)? *([0-9]+) *("(?:\\.|[^"\\])*")?')
+PRAGMA = re.compile(r"[ \t]*#[ \t]*pragma[ \t]+omp\b(.*)")
+ATTRIBUTE = re.compile(r"\[\[\s*(?:using\s+)?omp\b")
+WORD = re.compile(r"[A-Za-z_]\w*")
+PIECE = re.compile(r"\"(?:\\.|[^\"\\\n])*\"|'(?:\\.|[^'\\\n])*'|[(){}\[\];]|[A-Za-z_]\w*|.", re.DOTALL)
+CLOSING = {"(": ")", "[": "]", "{": "}"}
+
+# The words that a directive begins with; those that have more here can't be traced, and are called so.
+DIRECTIVES = {
+    **dict.fromkeys(("parallel", "for", "simd", "sections", "single", "master", "masked", "task", "taskloop",
+                     "taskwait", "ordered", "declare", "begin", "end")),
+    "target": "target", "teams": "teams", "distribute": "distribute", "loop": "loop (write `for')", "cancel": "cancel",
+    "cancellation": "cancel", "allocate": "allocate", "allocators": "allocate", "depobj": "depend", "scan": "scan",
+    "metadirective": "metadirective", "dispatch": "dispatch", "interop": "interop"}
+REFUSED_CLAUSES = {"depend": "depend", "doacross": "depend", "detach": "detach", "allocate": "allocate"}
+
+
+def clauses_of(text):
+    """The clauses of a directive, each with its name, its text, and where both stand in the whole."""
+    found, at = [], 0
+    while True:
+        word = WORD.search(text, at)
+        if not word:
+            return found
+        at = end_of_brackets(text, word.end()) if text[word.end():].lstrip().startswith("(") else word.end()
+        found.append((word.group(), word.start(), at))
+
+
+def end_of_brackets(text, start):
+    """The end of what the first bracket from here on opens."""
+    depth = 0
+    for piece in PIECE.finditer(text, start):
+        depth += piece.group() in CLOSING
+        if piece.group() in CLOSING.values():
+            depth -= 1
+            if depth == 0:
+                return piece.end()
+    return len(text)
+
+
+def leading(clauses):
+    """The words of the directive itself."""
+    names = []
+    for name, _, _ in clauses:
+        if name not in DIRECTIVES:
+            break
+        names.append(name)
+    return names
+
+
+def refusal(text):
+    """What can't be traced in this directive, or None."""
+    clauses = clauses_of(text)
+    names = leading(clauses)
+    for name in names:
+        if DIRECTIVES[name]:
+            return DIRECTIVES[name]
+    for name, start, end in clauses[len(names):]:
+        if name in REFUSED_CLAUSES:
+            return REFUSED_CLAUSES[name]
+        if re.match(r"reduction\s*\(\s*inscan\b", text[start:end]):
+            return "scan"
+    return None
+
+
+def rescheduled(text):
+    """A loop's directive with the schedule that the hooks need."""
+    for name, start, end in clauses_of(text):
+        if name == "schedule":
+            text = text[:start] + text[end:].lstrip(" ,")
+            break
+    return text.rstrip(" ,") + " schedule(dynamic,1)"
+
+
+class Source:
+    """A preprocessed source that is read line by line."""
+
+    def __init__(self):
+        self.file, self.line, self.faults = "?", 1, []
+
+    def refuse(self, why):
+        self.faults.append(f"{self.file}:{self.line}: error: {why}")
+
+    def directive(self, text):
+        """What stands for a directive."""
+        why = refusal(text)
+        if why:
+            self.refuse(f"OpenMP's {why} can't be traced: #pragma omp{text}")
+        return f"#pragma omp{rescheduled(text) if 'for' in leading(clauses_of(text)) else text}\n"
+
+    def rewritten(self, line):
+        marker, pragma = MARKER.match(line), PRAGMA.match(line)
+        if marker:
+            self.line, self.file = int(marker[1]), marker[2][1:-1] if marker[2] else self.file
+            return line
+        if pragma:
+            line = self.directive(pragma[1])
+        elif ATTRIBUTE.search(line):
+            self.refuse("attributes of OpenMP can't be traced: write #pragma omp")
+        self.line += 1
+        return line
+
+
+def rewritten(text):
+    """The source with its loops rewritten, and a line for each directive that can't be traced."""
+    source = Source()
+    return "".join(map(source.rewritten, re.findall(r"[^\n]*\n|[^\n]+", text))), source.faults
+
+
+# What the hooks of OpenMP don't have, by its name.
+UNKNOWN = (
+    ("__kmpc_", "clang's OpenMP, where gcc's can be traced"),
+    ("GOMP_target|GOACC|GOMP_offload|omp_target", "OpenMP's target"),
+    ("GOMP_cancel|GOMP_barrier_cancel|GOMP_.*_cancel$", "OpenMP's cancel"),
+    ("GOMP_doacross|GOMP_loop.*_doacross|GOMP_taskwait_depend", "OpenMP's depend"),
+    ("GOMP_teams|omp_.*teams", "OpenMP's teams"),
+    ("omp_fulfill_event", "OpenMP's detach"),
+    ("GOMP_alloc|GOMP_free|omp_.*alloc|omp_free", "OpenMP's allocate"),
+    ("GOMP_loop|GOMP_parallel_loop", "a loop that the tracer's compiler didn't compile"),
+    ("GOMP_|omp_", "a part of OpenMP"))
+UNDEFINED = re.compile("^(?:\\S*ld: )?(.*?):? undefined reference to [`'](\\w+)'", re.MULTILINE)
+
+
+def unknown(messages, has_openmp):
+    """A line for each call of OpenMP that a linker's messages say is missing."""
+    lines = []
+    for where, name in UNDEFINED.findall(messages):
+        what = next((what for pattern, what in UNKNOWN if re.match(pattern, name)), None)
+        if what and not has_openmp and not name.startswith("__kmpc_"):
+            lines.append(f"{where}: {name}: link with -fopenmp")
+        elif what:
+            lines.append(f"{where}: {name} can't be traced: it is {what}")
+    return list(dict.fromkeys(lines))

@@ -1,0 +1,101 @@
+"""Where code addresses and variables of a program stand in its source, by addr2line and nm of binutils."""
+import bisect
+import functools
+import os
+import re
+import subprocess
+from collections import namedtuple
+
+# A function, and a line of it; the line is 0 where it isn't known.
+Position = namedtuple("Position", "file line function")
+Variable = namedtuple("Variable", "name offset size")
+
+UNKNOWN = Position("?", 0, "?")
+# What a compiler puts behind the name of a function when it makes others of its parts.
+OUTLINED = re.compile(r"(?:\._omp_(?:cpy)?fn\.[0-9]+| \[clone [^]]*\])+$")
+SYSTEM = ("/usr/include/", "/usr/local/include/", "/usr/lib")
+
+
+class Failure(Exception):
+    """Why there is no answer, in one line."""
+
+
+def asked(*command, given=""):
+    """What a program of binutils answers."""
+    try:
+        answer = subprocess.run(command, input=given, capture_output=True, text=True, errors="surrogateescape")
+    except OSError as error:
+        raise Failure(f"{command[0]}: {error.strerror}") from error
+    if answer.returncode != 0:
+        raise Failure(answer.stderr.strip() or f"{command[0]} gave no answer")
+    return answer.stdout
+
+
+def shown(file):
+    """A file's name from here, where it is below this folder."""
+    relative = os.path.relpath(file) if file.startswith("/") else file
+    return os.path.normpath(file) if relative.startswith("..") else relative
+
+
+def is_system(position):
+    return position.file.startswith(SYSTEM)
+
+
+def leading(positions):
+    """The first that doesn't stand in a header of the system, or else the first."""
+    return next((position for position in positions if not is_system(position)), positions[0])
+
+
+def positions_of(program, codes):
+    """For each code address the positions there, the innermost first: several where a call was put into its caller.
+    An address is that after a call, so one less is the call's."""
+    ordered = sorted(set(codes))
+    given = "".join(f"{max(code - 1, 0):#x}\n" for code in ordered)
+    found = asked("addr2line", "-C", "-a", "-f", "-i", "-e", program, given=given).splitlines()
+    starts = [number for number, line in enumerate(found) if line.startswith("0x")]
+    positions = {}
+    for code, start, end in zip(ordered, starts, [*starts[1:], len(found)]):
+        positions[code] = [position_of(found[at], found[at + 1]) for at in range(start + 1, end, 2)]
+    if len(positions) != len(ordered):
+        raise Failure("addr2line gave no answer")
+    return positions
+
+
+def position_of(function, where):
+    file, _, line = where.split(" (")[0].rpartition(":")
+    function = OUTLINED.sub("", function)
+    return Position(shown(file), int(line) if line.isdigit() else 0, function)
+
+
+@functools.lru_cache
+def lines_of(file):
+    try:
+        with open(file, errors="replace") as source:
+            return source.read().splitlines()
+    except OSError:
+        return []
+
+
+def text_of(position):
+    """The text of a line, without the space around it."""
+    lines = lines_of(position.file)
+    return lines[position.line - 1].strip() if 0 < position.line <= len(lines) else ""
+
+
+class Variables:
+    """The globals and statics of a program."""
+
+    def __init__(self, program):
+        row = re.compile("([0-9a-f]+) ([0-9a-f]+) [BDRSGVCWbdrsgv] (.+)")
+        found = filter(None, map(row.fullmatch, asked("nm", "-C", "-S", "--defined-only", program).splitlines()))
+        self.rows = sorted((int(found[1], 16), int(found[2], 16), found[3]) for found in found)
+        self.starts = [start for start, _, _ in self.rows]
+
+    def at(self, address):
+        number = bisect.bisect_right(self.starts, address) - 1
+        if number < 0:
+            return None
+        start, size, name = self.rows[number]
+        # A static of a function has a number behind its name with gcc, and the function before it with clang.
+        name = re.sub(r"\.[0-9]+$", "", name).rpartition(".")[2] or name
+        return Variable(name, address - start, size) if address < start + size else None

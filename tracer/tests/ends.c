@@ -1,0 +1,69 @@
+/* Ends in the way that its first word names, after a race. */
+#include <cilk/cilk.h>
+#include <signal.h>
+#include <stdlib.h>
+#include <string.h>
+#include <unistd.h>
+
+static volatile int cell;
+static volatile char *volatile nowhere;
+
+static void set(void) { cell = 1; } /* [first] */
+
+static int fill(int depth) {
+    volatile char much[4096];
+    much[0] = (char)depth;
+    return fill(depth + 1) + much[0];
+}
+
+static int nest(int depth) {
+    if (depth == 0)
+        return 0;
+    int below = cilk_spawn nest(depth - 1);
+    cilk_sync;
+    return below + 1;
+}
+
+static void nest_often(int count) {
+    for (int i = 0; i < count; i++)
+        nest(1);
+}
+
+static void end(const char *way) {
+    cell = 2; /* [second] */
+    if (strcmp(way, "fault") == 0)
+        *nowhere = 1;
+    if (strcmp(way, "abort") == 0)
+        abort();
+    if (strcmp(way, "trap") == 0)
+        __builtin_trap();
+    if (strcmp(way, "stack") == 0)
+        cell = fill(0);
+    if (strcmp(way, "terminate") == 0)
+        raise(SIGTERM);
+    if (strcmp(way, "_exit") == 0)
+        _exit(3);
+    if (strcmp(way, "_Exit") == 0)
+        _Exit(3);
+    if (strcmp(way, "quick_exit") == 0)
+        quick_exit(3);
+    if (strcmp(way, "exec") == 0)
+        execl("/bin/sh", "sh", "-c", "exit 3", (char *)NULL);
+    if (strcmp(way, "no_exec") == 0)
+        execlp("./no/program", "program", (char *)NULL);
+    if (strcmp(way, "nest") == 0)
+        nest(70000);
+    if (strcmp(way, "long") == 0)
+        nest_often(100000);
+    while (strcmp(way, "never") == 0)
+        nest(1);
+    if (strcmp(way, "copy") == 0 && vfork() == 0)
+        _exit(0);
+}
+
+static void run(const char *way) {
+    cilk_spawn set();
+    cilk_spawn end(way);
+}
+
+int main(int count, char **words) { run(count > 1 ? words[1] : ""); }

@@ -1,0 +1,248 @@
+#!/usr/bin/env python3
+"""Random Cilk programs, traced and judged. Each is written twice: as a program in C for spbags-cc, and as one that
+tells judge.h what it does, which says by definition which variables race. Their names have to be those of the locations
+that `spbags check` reports of the trace, with repeats and without, and both reports have to name the same locations.
+
+    random.py [--count 200] [--seed 1] [--seconds 60]
+
+CC names the compiler and SPBAGS the checker. It stops after so many seconds, and its last line says how many programs
+it tried and how many of them were wrong."""
+import argparse
+import collections
+import os
+import random
+import struct
+import subprocess
+import sys
+import tempfile
+import time
+from concurrent.futures import ThreadPoolExecutor
+
+HERE = os.path.dirname(os.path.realpath(__file__))
+TRACER = os.path.dirname(HERE)
+SPBAGS = os.path.realpath(os.environ.get("SPBAGS", os.path.join(TRACER, "..", "spbags")))
+BATCH, GLOBALS, MOST_STEPS = 25, 4, 400
+
+HEAD = """\
+#include <cilk/cilk.h>
+#include <stdlib.h>
+#include <string.h>
+typedef volatile int number;
+"""
+
+
+class Writer:
+    """One program in both forms: lines of Cilk C, and what they do, told to the judge."""
+
+    def __init__(self, number, source):
+        self.random, self.number = source, number
+        self.cilk, self.judged = [], []
+        self.steps = []  # by function: how many steps a call of it takes
+        self.tags = {}   # by line of `cilk`: the variable whose first access it is
+
+    def line(self, cilk, judged):
+        self.cilk.append(cilk)
+        self.judged.append(judged)
+
+    def tagged(self, name, cilk, judged):
+        self.tags[len(self.cilk)] = name
+        self.line(cilk, judged)
+
+    def write(self):
+        count = self.random.randint(2, 5)
+        names = [f"p{self.number}_g{at}" for at in range(GLOBALS)]
+        self.line(f"static number {', '.join(names)};", f"static int {', '.join(names)};")
+        for at in range(count):
+            Function(self, at, names).write()
+        self.line(f"static void p{self.number}(void) {{", f"static void p{self.number}(void) {{ begin_program();")
+        for name in names:
+            self.tagged(name, f"{name} = 0;", f'{name} = variable("{name}"); touch({name}, true);')
+        last = f"p{self.number}_f{count - 1}"
+        self.line(f"{last}(&{names[0]}, &{names[1]}); }}",
+                  f"{last}({names[0]}, {names[1]}); end_program({self.number}); }}")
+
+
+class Function:
+    """A function of the program; it calls those before it."""
+
+    def __init__(self, writer, at, names):
+        self.writer, self.random, self.at, self.globals = writer, writer.random, at, names
+        self.name = f"p{writer.number}_f{at}"
+        self.locals, self.steps = [], 0
+
+    def variable(self):
+        """A variable: its address in C, itself in C, and for the judge."""
+        kind = self.random.randrange(8)
+        if kind < 2:
+            name = self.random.choice("qr")
+            return name, "*" + name, name
+        if kind < 4:
+            name = self.random.choice(self.globals)
+            return "&" + name, name, name
+        name, on_heap = self.random.choice(self.locals)
+        return (name, "*" + name, name) if on_heap else ("&" + name, name, name)
+
+    def declare(self):
+        for at in range(self.random.randint(1, 3)):
+            name, on_heap = f"v{at}", self.random.random() < 0.3
+            tag = f"{self.name}.{name}"
+            if on_heap:
+                self.writer.line(f"number *{name} = malloc(sizeof *{name});", "")
+                made = f"*{name} = 0;"
+            else:
+                made = f"number {name} = 0;"
+            self.writer.tagged(tag, made, f'int {name} = variable("{tag}"); touch({name}, true);')
+            self.locals.append((name, on_heap))
+
+    def access(self):
+        (at, this, judged), kind = self.variable(), self.random.randrange(6)
+        other_at, _, other = self.variable()
+        read, wrote = f"touch({judged}, false);", f"touch({judged}, true);"
+        self.writer.line(*(
+            (f"{this};", read), (f"{this} = {kind};", wrote), (f"{this} += {kind};", read + wrote),
+            (f"if ({this} == 1) {this} = 1; else {this} = 2;", read + wrote),
+            (f"memmove((void *)({at}), (void *)({other_at}), sizeof(number));", f"touch({other}, false); {wrote}"),
+            (f"memset((void *)({at}), 1, sizeof(number));", wrote))[kind])
+
+    def call(self, spawns):
+        callee = self.random.randrange(self.at)
+        (_, this, judged), (a, _, judged_a), (b, _, judged_b) = (self.variable() for _ in range(3))
+        stores = self.random.random() < 0.5
+        call = f"{'cilk_spawn ' if spawns else ''}p{self.writer.number}_f{callee}({a}, {b});"
+        told = f"p{self.writer.number}_f{callee}({judged_a}, {judged_b});"
+        told += f" touch({judged}, true);" if stores else ""
+        self.writer.line(f"{this} = {call}" if stores else call, f"spawn(); {told} spawned();" if spawns else told)
+        self.steps += self.writer.steps[callee]
+
+    def statement(self, deep):
+        kind = self.random.randrange(12)
+        may_call = self.at > 0 and self.steps < MOST_STEPS
+        if kind < 4 and may_call:
+            self.call(True)
+        elif kind < 6 and may_call:
+            self.call(False)
+        elif kind == 6:
+            self.writer.line("cilk_sync;", "sync_children();")
+        elif kind == 7 and not deep:
+            self.loop()
+        else:
+            self.access()
+        self.steps += 1
+
+    def loop(self):
+        before = self.steps
+        self.writer.line("for (int i = 0; i < 2; i++) {", "for (int i = 0; i < 2; i++) {")
+        for _ in range(self.random.randint(1, 3)):
+            self.statement(True)
+        self.writer.line("}", "}")
+        self.steps += self.steps - before
+
+    def write(self):
+        self.writer.line(f"static int {self.name}(number *q, number *r) {{",
+                         f"static void {self.name}(int q, int r) {{ enter();")
+        self.declare()
+        for _ in range(self.random.randint(2, 8)):
+            self.statement(False)
+        self.writer.line("return 1; }", "leave(); }")
+        self.writer.steps.append(self.steps + 1)
+
+
+class Batch:
+    """Some programs in one file, built both ways."""
+
+    def __init__(self, folder, first, count, seed):
+        self.name = os.path.join(folder, f"b{first}")
+        self.numbers, self.tags = range(first, first + count), {}
+        cilk, judged = HEAD.splitlines(), ['#include "judge.h"']
+        for number in self.numbers:
+            writer = Writer(number, random.Random(f"{seed} {number}"))
+            writer.write()
+            self.tags.update({len(cilk) + line + 1: tag for line, tag in writer.tags.items()})
+            cilk += writer.cilk
+            judged += writer.judged
+        calls = " ".join(f"case {number}: p{number}(); break;" for number in self.numbers)
+        cilk.append(f"int main(int count, char **words) {{ switch (atoi(words[1])) {{ {calls} }} }}")
+        judged.append(f"int main(void) {{ {' '.join(f'p{number}();' for number in self.numbers)} }}")
+        self.write(".c", cilk)
+        self.write("_judged.c", judged)
+
+    def write(self, ending, lines):
+        with open(self.name + ending, "w", encoding="utf-8") as file:
+            file.write("\n".join(lines) + "\n")
+
+    def run(self, *words, **settings):
+        done = subprocess.run(words, capture_output=True, text=True, env={**os.environ, **settings})
+        if done.returncode not in (0, 1) or (done.returncode and words[0] != SPBAGS):
+            sys.exit(f"random.py: {' '.join(words)}: {done.stderr}")
+        return done.stdout
+
+    def build(self):
+        level = ("-O0", "-O1")[self.numbers[0] // BATCH % 2]
+        self.run(os.path.join(TRACER, "spbags-cc"), level, "-w", "-o", self.name, self.name + ".c")
+        self.run("gcc" if not os.environ.get("CC") else os.environ["CC"], "-w", "-O1", "-I" + HERE, "-o",
+                 self.name + "_judged", self.name + "_judged.c")
+        told = self.run(self.name + "_judged")
+        self.wanted = {int(words[0]): collections.Counter(words[1:]) for words in map(str.split, told.splitlines())}
+
+    def racy(self, number, repeats):
+        """The racy locations of a traced run, and the code of the first access of each."""
+        trace = f"{self.name}.{number}"
+        self.run(self.name, str(number), SPBAGS_TRACE=trace, SPBAGS_REPEATS=str(repeats),
+                 SPBAGS_VERSION=str(1 + number % 2))
+        report = self.run(SPBAGS, "check", trace)
+        racy = {line.split()[1] for line in report.splitlines()[1:]}
+        codes = {}
+        with open(trace, encoding="ascii") as records, open(trace + ".places", "rb") as places:
+            next(records)
+            for record in records:
+                code, location = places.read(8), record[:-1].rpartition(" ")[2]
+                if location in racy:
+                    codes.setdefault(location, struct.unpack("<Q", code)[0] - 1)
+        os.remove(trace)
+        os.remove(trace + ".places")
+        return codes
+
+    def names(self, codes):
+        """By code the variable whose first access it is."""
+        ordered = sorted(codes)
+        if not ordered:
+            return {}
+        lines = self.run("addr2line", "-e", self.name, *map(hex, ordered)).splitlines()
+        numbers = [int(line.split(" ")[0].rpartition(":")[2]) for line in lines]
+        return {code: self.tags.get(line, f"line {line}") for code, line in zip(ordered, numbers)}
+
+    def wrong(self):
+        """The numbers of the programs whose races aren't those that the judge names."""
+        self.build()
+        runs = {number: (self.racy(number, 0), self.racy(number, 1)) for number in self.numbers}
+        names = self.names({code for run in runs.values() for codes in run for code in codes.values()})
+        wrong = []
+        for number, (codes, all_codes) in runs.items():
+            found = collections.Counter(names[code] for code in codes.values())
+            if found != self.wanted[number] or codes != all_codes:
+                print(f"program {number}: wanted {dict(self.wanted[number])}, found {dict(found)}", file=sys.stderr)
+                wrong.append(number)
+        return wrong
+
+
+def main():
+    parser = argparse.ArgumentParser(description=__doc__, formatter_class=argparse.RawDescriptionHelpFormatter)
+    for name, value in (("count", 200), ("seed", 1), ("seconds", 60)):
+        parser.add_argument("--" + name, type=int, default=value)
+    words = parser.parse_args()
+    end, tried, wrong, racy = time.monotonic() + words.seconds, 0, 0, 0
+    with tempfile.TemporaryDirectory(prefix="spbags-random-") as folder, ThreadPoolExecutor(2) as pool:
+        batches = [Batch(folder, first, min(BATCH, words.count - first), words.seed)
+                   for first in range(0, words.count, BATCH)]
+        results = [(batch, pool.submit(lambda batch=batch: batch.wrong() if time.monotonic() < end else None))
+                   for batch in batches]
+        for batch, result in results:
+            if result.result() is not None:
+                tried += len(batch.numbers)
+                wrong += len(result.result())
+                racy += sum(bool(names) for names in batch.wanted.values())
+    print(f"{tried} programs, {racy} with races, {wrong} wrong")
+    return 1 if wrong or not racy else 0
+
+
+sys.exit(main())

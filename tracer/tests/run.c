@@ -1,0 +1,176 @@
+/* Races that run.py knows: the first word says which. The tags name lines. */
+#include <cilk/cilk.h>
+#include <pthread.h>
+#include <stdatomic.h>
+#include <stdio.h>
+#include <stdlib.h>
+#include <string.h>
+#include <unistd.h>
+
+struct cell {
+    int value, other;
+};
+static volatile int guarded;
+static int table[10], cells[1000];
+static volatile char letters[8];
+static atomic_int hits;
+static pthread_mutex_t lock = PTHREAD_MUTEX_INITIALIZER;
+
+static void set(int *at) { *at = 1; } /* [set] */
+
+static void set_below(int *at) {
+    set(at); /* [set below] */
+}
+
+static void of_a_global(void) {
+    cilk_spawn set_below(&table[2]); /* [spawn global] */
+    table[2] = 2; /* [global] */
+    cilk_sync; /* [sync global] */
+}
+
+static void count(void) {
+    static volatile int calls = 0;
+    calls = 1; /* [count] */
+}
+
+static void of_a_static(void) {
+    for (int i = 0; i < 2; i++)
+        cilk_spawn count(); /* [spawn static] */
+}
+
+static struct cell *make(int many) {
+    return calloc((size_t)many, sizeof(struct cell)); /* [make] */
+}
+
+static void of_the_heap(void) {
+    struct cell *made = make(3); /* [made] */
+    cilk_spawn set(&made[1].other); /* [spawn heap] */
+    made[1].other = 2; /* [heap] */
+}
+
+static void of_a_local(int *at) {
+    cilk_spawn set(at); /* [spawn local] */
+    printf("%d\n", *at); /* [local] */
+}
+
+static int of_order(const void *one, const void *other) {
+    table[9]++; /* [order] */
+    return *(const int *)one - *(const int *)other;
+}
+
+static void sort(int *at) {
+    qsort(at, 2, sizeof *at, of_order); /* [sort] */
+}
+
+static void of_a_library(void) {
+    int numbers[] = {2, 1, 4, 3};
+    cilk_spawn sort(numbers); /* [spawn sort] */
+    sort(numbers + 2); /* [sorts] */
+    cilk_sync;
+    char *text = strdup("text"); /* [dup] */
+    cilk_spawn strcpy(text, "long"); /* [spawn copy] */
+    strcpy(text, "next"); /* [copy] */
+}
+
+static void set_all(void) {
+    for (int i = 0; i < 1000; i++)
+        cells[i] = 1; /* [set all] */
+}
+
+static void of_a_thousand(void) {
+    cilk_spawn set_all(); /* [spawn all] */
+    for (int i = 0; i < 1000; i++)
+        cells[i] = 2; /* [all] */
+}
+
+static void nothing(void) {}
+
+/* Each process has another number, and so another course. */
+static void of_another_course(void) {
+    for (int i = getpid() % 1000; i >= 0; i--)
+        cilk_spawn nothing();
+    cilk_sync;
+    of_a_global();
+}
+
+/* As many races as there are letters in the input. */
+static void of_the_input(void) {
+    char line[100];
+    int many = 0;
+    while (fgets(line, sizeof line, stdin))
+        many += (int)strlen(line) - 1;
+    for (int i = 0; i < many; i++) {
+        cilk_spawn set(&cells[i]); /* [spawn input] */
+        cells[i] = 2; /* [input] */
+    }
+}
+
+static void set_letter(int at) {
+    letters[at] = 'a'; /* [letter] */
+}
+
+static void of_neighbours(void) {
+    cilk_spawn set_letter(0);
+    set_letter(1);
+}
+
+static void of_a_letter(void) {
+    of_neighbours();
+    cilk_spawn set_letter(5); /* [spawn letter] */
+    set_letter(5); /* [calls letter] */
+}
+
+static void hit(void) {
+    atomic_fetch_add(&hits, 1); /* [hit] */
+}
+
+static void turn(void) {
+    pthread_mutex_lock(&lock);
+    guarded = 1; /* [turn] */
+    pthread_mutex_unlock(&lock);
+}
+
+static void of_guards(void) {
+    cilk_spawn hit(); /* [spawn hit] */
+    hit(); /* [hits] */
+    cilk_spawn turn(); /* [spawn turn] */
+    turn(); /* [turns] */
+}
+
+static void of_one_guard(void) {
+    cilk_spawn turn();
+    guarded = 2; /* [no turn] */
+}
+
+static void set_in_header(void);
+
+static void of_a_header(void) {
+    cilk_spawn set_in_header(); /* [spawn header] */
+    set_in_header(); /* [header] */
+}
+
+static const struct {
+    const char *name;
+    void (*run)(void);
+} all[] = {
+    {"global", of_a_global}, {"static", of_a_static}, {"heap", of_the_heap}, {"library", of_a_library},
+    {"thousand", of_a_thousand}, {"course", of_another_course}, {"input", of_the_input},
+    {"neighbours", of_neighbours}, {"letter", of_a_letter}, {"guards", of_guards}, {"one guard", of_one_guard},
+    {"header", of_a_header},
+};
+
+/* Runs those that the words name, and ends with their number. */
+int main(int count, char **words) {
+    int local = 0, runs = 0;
+    for (int word = 1; word < count; word++) {
+        for (size_t at = 0; at < sizeof all / sizeof *all; at++)
+            if (strcmp(words[word], all[at].name) == 0)
+                all[at].run(), runs++; /* [run] */
+        if (strcmp(words[word], "local") == 0)
+            of_a_local(&local), runs++; /* [run local] */
+    }
+    return runs;
+}
+
+#line 5 "/usr/include/own.h"
+static void set_in_header(void) { table[3] = 1; }
