@@ -16,7 +16,7 @@ IsQuestionInRange (Pairs p) = IsDepth p.depth × (0 < string_len p.trace)
 IsQuestionInRange (Explain e) = IsDepth e.depth × (0 < string_len e.trace)
 IsQuestionInRange (Measure m) = IsDepth m.depth × (0 < string_len m.trace)
 
--- the same of a report and its trace, of which standard input is one at most
+-- the same of a report and its trace; at most one of them is standard input
 pub record IsConfirmInRange (c : Confirm) : Type 0 where
   pub depth : IsDepth c.depth
   pub trace_named : 0 < string_len c.trace

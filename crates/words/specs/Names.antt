@@ -6,7 +6,7 @@ use Rattle.trace.specs.declared.records.Part.{Part}
 abbrev pub part_text : Part → List ℕ
 part_text part = decimal part.index ++ codes "/" ++ decimal part.count
 
--- the part that a word asks for; the whole, part 0 of 1, where there is no word
+-- the part that a word names; the whole, part 0 of 1, if there is no word
 abbrev pub IsPartAsked : Option (List ℕ) → Part → Type 0
 IsPartAsked None part = part.count ≡ 1
 IsPartAsked (Some word) part = word ≡ part_text part
@@ -15,6 +15,6 @@ IsPartAsked (Some word) part = word ≡ part_text part
 abbrev pub IsName : {A : Type 0} → String A → Type 0
 IsName name = 0 < string_len name
 
--- two names, of which standard input is one at most
+-- two names; at most one of them is standard input
 abbrev pub IsOneStandard : {A : Type 0} → String A → String A → Type 0
 IsOneStandard a b = string_bytes a ≡ codes "-" → string_bytes b ≡ codes "-" → ⊥

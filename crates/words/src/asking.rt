@@ -1,4 +1,4 @@
-//! What is asked: a command with its numbers and its names, each in its range.
+//! What the program is asked: a command with its numbers and file names, each in its range.
 ghost use Rattle.std.specs.Prelude.{◌≡◌, ◌<◌, ◌≤◌, All, AllPairs, string_len, string_bytes, codes, vec_len};
 ghost use Rattle.trace.specs.Bounds.{IsShardCount, IsCapacity, IsDepth};
 ghost use Rattle.words.specs.Names.{IsName, IsOneStandard};
@@ -12,7 +12,7 @@ pub enum Asked {
     Question(Question),
     /// Whether the entries of a report are races.
     Confirm(Confirm),
-    /// One report out of many.
+    /// One report made of many.
     Merge(Merge),
 }
 
@@ -38,7 +38,7 @@ pub struct Check {
     pub capacity: u32,
     /// How deep procedures may nest.
     pub depth: u32,
-    /// The part of the locations whose races are told; the whole where no part is asked for.
+    /// The part of the locations that the report covers; the whole if the words name no part.
     pub part: Part,
     /// The name of the trace's file; `-` is standard input.
     pub trace: String,
@@ -92,7 +92,7 @@ pub struct Confirm {
     pub depth: u32,
     /// The name of the trace's file; `-` is standard input.
     pub trace: String,
-    /// The name of the report's file; `-` is standard input, where it isn't the trace's.
+    /// The name of the report's file; `-` is standard input, if the trace's name isn't `-`.
     pub report: String,
     ghost depth_within: { IsDepth depth },
     ghost trace_named: { 0 < string_len trace },
@@ -100,10 +100,10 @@ pub struct Confirm {
     ghost one_standard: { string_bytes trace ≡ codes "-" → string_bytes report ≡ codes "-" → ⊥ },
 }
 
-/// `merge`: one report out of many.
+/// `merge`: one report made of many.
 #[derive(Debug, Drop, PartialEq, Eq)]
 pub struct Merge {
-    /// The names of the reports' files, in their order; `-` is standard input, for one of them at most.
+    /// The names of the reports' files, in their order; at most one is `-`, standard input.
     pub reports: Vec<String>,
     ghost some: { 0 < vec_len reports },
     ghost named: { All IsName reports.items },

@@ -22,26 +22,27 @@ Exit status:
   1  a race, or no
   2  no answer; standard error says why
 
-A trace is text: the line `trace 1` or `trace 2`, then a line for each record, in the order of the run: `spawn`,
-`sync`, `return`, `read L` or `write L`, where L is a location, 0 to 18446744073709551615; and after `trace 2` also
-`call`, an ordinary call of a procedure that may spawn. The root procedure's `return` is the last.
-A file named `-` is standard input. Each command has its own help, as in `spbags check --help`.";
+A trace is text. Its first line is `trace 1` or `trace 2`. Then each record has a line, in the order of the run:
+`spawn`, `sync`, `return`, `read L` or `write L`, where L is a location, 0 to 18446744073709551615. After `trace 2` a
+line may also be `call`, an ordinary call of a procedure that may spawn. The root procedure's `return` is the last
+line.
+A file named `-` is standard input. Each command has its own help, such as `spbags check --help`.";
 
-const CHECK_ABOUT: &str = "Tells one race of each location that has any.";
+const CHECK_ABOUT: &str = "Reports one race of each location that has any.";
 
 const CHECK_NOTES: &str = "\
-The trace is read from FILE, or from standard input where FILE is `-`. Neither the number of shards nor the capacity
-changes the report. Its first line is the number of races; a line follows for each, as `race 5 write 2 write 6`: the
-location, and the kinds and places of two accesses. Place k stands on line k + 1 of the trace. Location l belongs to
-shard l mod N, where N is the number of shards.
-With --part K/N the report tells only of the locations l with l mod N = K. A part numbers them by l div N, and it is
-these numbers that --shards divides. `spbags merge` makes the whole report of those of all parts.
-`spbags explain run.trace 5` says why it is a race.
+The command reads the trace from FILE, or from standard input if FILE is `-`. The first line of the report is the
+number of races. Then each race has a line, such as `race 5 write 2 write 6`: the location, and the kinds and places
+of its two accesses. Place k is on line k + 1 of the trace. `spbags explain run.trace 5` says why it is a race.
 
-A trace that takes minutes: `pv run.trace | spbags check -` shows how far the reading is (pv is a Debian package). One
-thread reads, and each shard is a thread beside it, so give no more shards than processors are idle. Where locations
-are addresses, --shards 1 is as fast as more and takes no more memory. With --capacity 16384 the threads wait for each
-other less often; it takes a megabyte for each shard.
+With --shards N location l belongs to shard l mod N. Neither --shards nor --capacity changes the report.
+With --part K/N the report has only the locations l with l mod N = K. The part numbers them by l div N, and --shards
+divides these numbers. `spbags merge` makes the whole report from those of all parts.
+
+For a trace that takes minutes, `pv run.trace | spbags check -` shows the progress (pv is a Debian package). One
+thread reads, and each shard is a further thread, so give at most as many shards as processors are idle. If the
+locations are addresses, --shards 1 is as fast as more and takes no more memory. With --capacity 16384 the threads
+wait for each other less often; it takes a megabyte for each shard.
 
 Examples:
   spbags check run.trace
@@ -51,70 +52,72 @@ Examples:
 
 Exit status:
   0  no race
-  1  a race; the report stands on standard output
+  1  a race; the report is on standard output
   2  no answer; standard error says why";
 
-const PAIRS_ABOUT: &str = "Tells all races of one location.";
+const PAIRS_ABOUT: &str = "Lists all races of one location.";
 
 const PAIRS_NOTES: &str = "\
-The trace is read from FILE, or from standard input where FILE is `-`. The first line of the answer is the number of
-races; a line follows for each, as `pair write 2 write 6`: the kinds and places of its two accesses. The lines are
-sorted by the second place, then by the first. Place k stands on line k + 1 of the trace.
+The command reads the trace from FILE, or from standard input if FILE is `-`. The first line of the answer is the
+number of races. Then each race has a line, such as `pair write 2 write 6`: the kinds and places of its two accesses.
+The lines are sorted by the second place, then by the first. Place k is on line k + 1 of the trace.
 
-The answer comes when the whole trace was read. Every access of L is compared with each earlier one of L, also where
-there is no race: twice as many accesses take four times as long. They are kept in memory, and so are the races.
+The answer comes after the whole trace was read. The command compares every access of L with each earlier one of L,
+even if L has no race: twice as many accesses take four times as long. It keeps these accesses and their races in
+memory.
 
 Example:
   spbags pairs run.trace 5
 
 Exit status:
   0  no race of the location
-  1  a race; the pairs stand on standard output
+  1  a race; the pairs are on standard output
   2  no answer; standard error says why";
 
-const EXPLAIN_ABOUT: &str = "Tells why the race of one location is a race.";
+const EXPLAIN_ABOUT: &str = "Says why the race of one location is a race.";
 
 const EXPLAIN_NOTES: &str = "\
-The trace is read from FILE, or from standard input where FILE is `-`. Where L has no race the answer is `no race`.
-Otherwise it is the race that `check` tells of L, and why no order of its two accesses is sure:
+The command reads the trace from FILE, or from standard input if FILE is `-`. Without a race of L the answer is
+`no race`. Otherwise it is the race that `check` reports of L, and why another schedule may run its accesses in the
+other order:
 
-  race 5 write 2 write 6   the race: its location, and the kinds and places of two accesses
-  meet 0                   the procedure that executes both, itself or below: the place that opened it, the root by 0
-  first spawn 1 write 2    what was opened below that procedure, down to the first access
-  second write 6           the same of the second access
-  joined 7                 where that procedure next waits for what it spawned: a sync, or its return
+  race 5 write 2 write 6   the race: its location, and the kinds and places of its two accesses
+  meet 0                   the deepest procedure that holds both accesses: the place that opened it; the root is 0
+  first spawn 1 write 2    the way from there down to the first access: what opened each procedure, and the access
+  second write 6           the way down to the second access
+  joined 7                 the place where the meeting procedure next waits for its children: a sync, or its return
 
-What comes first below the meeting procedure on the line `first` is a spawn, and from there to the second access that
-procedure doesn't sync. Place k stands on line k + 1 of the trace.
+The line `first` begins with a spawn, and from there to the second access the meeting procedure doesn't sync.
+Place k is on line k + 1 of the trace.
 
 Example:
   spbags explain run.trace 5
 
 Exit status:
   0  no race of the location
-  1  a race; why stands on standard output
+  1  a race; the reason is on standard output
   2  no answer; standard error says why";
 
-const MEASURE_ABOUT: &str = "Tells how long, how parallel and how deep the run was.";
+const MEASURE_ABOUT: &str = "Reports how long, how parallel and how deep the run was.";
 
 const MEASURE_NOTES: &str = "\
-The trace is read from FILE, or from standard input where FILE is `-`. The answer has four lines: the number of
-records, the greatest number of records that had to come one after another, the number of spawns, and the depth of
-the deepest record.
+The command reads the trace from FILE, or from standard input if FILE is `-`. The answer has four lines: the number of
+records, the greatest number of records that every schedule runs one after another, the number of spawns, and the
+depth of the deepest record.
 
 Example:
   spbags measure run.trace
 
 Exit status:
-  0  the numbers stand on standard output
+  0  the numbers are on standard output
   2  no answer; standard error says why";
 
-const CONFIRM_ABOUT: &str = "Tells whether every entry of a report is a race of a trace.";
+const CONFIRM_ABOUT: &str = "Says whether every entry of a report is a race of a trace.";
 
 const CONFIRM_NOTES: &str = "\
-One of TRACE and REPORT may be `-`, which is standard input. The report is read first; it may have 67108864 bytes at
-most. The answer is `yes`, or `no N`, where the N-th entry is the first that is no race. Whether entries are missing,
-or another race of a location comes earlier, isn't asked.
+One of TRACE and REPORT may be `-`, which is standard input. The command reads the report first; a report has at most
+67108864 bytes. The answer is `yes`, or `no N` if entry N is the first that isn't a race. The command doesn't look for
+missing entries, or for an earlier race of a location.
 
 Example:
   spbags check run.trace | spbags confirm run.trace -
@@ -127,11 +130,11 @@ Exit status:
 const MERGE_ABOUT: &str = "Makes one report of many, such as those of all parts of a trace.";
 
 const MERGE_NOTES: &str = "\
-The reports are read one after another, each whole; one of them may be `-`, which is standard input, and each may have
-67108864 bytes at most. The answer is a report with one race of each location that any of them has. Where several have
-a race of one location, that with the earliest second place stands, and of those with the same one the one that comes
-first: in the order of the words, and within a report of its lines. Of the reports of parts 0 to N - 1 of one trace it
-is the trace's own report.
+The command reads the reports one after another, each as a whole. One of them may be `-`, which is standard input. A
+report has at most 67108864 bytes. The answer has one race of each location that any of them has. If several reports
+have a race of a location, the answer has the one with the earliest second place; if several of these have the same
+second place, it has that of the report named first. From the reports of parts 0 to N - 1 of a trace it makes the
+report of the trace.
 
 Example:
   spbags check --part 0/2 run.trace > part-0.report
@@ -140,10 +143,10 @@ Example:
 
 Exit status:
   0  no report has a race
-  1  a race; the report stands on standard output
+  1  a race; the report is on standard output
   2  no answer; standard error says why";
 
-// What the program can be asked to do.
+// What the program can do.
 #[derive(Clone, Copy)]
 enum Subcommand {
     Check,
@@ -171,7 +174,7 @@ enum Argument {
     Location,
 }
 
-/// The program with its commands, which stand in its help in this order.
+/// The program with its commands, in the order of its help.
 pub fn program<'a>(alloc: Global) -> Result<Command<'a>, AllocError> {
     let mut program = bare_program(alloc)?;
     for subcommand in [
@@ -250,7 +253,7 @@ fn command_of<'a>(alloc: Global, subcommand: Subcommand) -> Result<Command<'a>, 
     }
 }
 
-// A command that takes these arguments. Its help shows them in this order, and it is that of the words without `--`.
+// A command that takes these arguments, in this order; its help shows them in the same order.
 fn taking<'a>(
     alloc: Global,
     name: &'a str,
@@ -265,7 +268,7 @@ fn taking<'a>(
     Ok(command)
 }
 
-// A command with the texts of its help, that takes nothing yet.
+// A command with the texts of its help, and without arguments.
 fn described<'a>(alloc: Global, name: &'a str, about: &'a str, notes: &'a str) -> Command<'a> {
     Command::new(alloc, name).about(about).after_help(notes)
 }
@@ -275,23 +278,23 @@ fn argument_of<'a>(alloc: Global, argument: Argument) -> Arg<'a> {
         Argument::Shards => number(
             alloc,
             "shards",
-            "How many threads the locations are divided among: 1 to 64, 4 where it is left out",
+            "How many threads share the locations: 1 to 64, by default 4",
         ),
         Argument::Capacity => number(
             alloc,
             "capacity",
-            "How many records may wait for a thread: 1 to 65536, 1024 where it is left out",
+            "How many records may wait for a thread: 1 to 65536, by default 1024",
         ),
         Argument::Depth => number(
             alloc,
             "depth",
-            "How deep procedures may nest: 0 to 1000000, 65536 where it is left out",
+            "How deep procedures may nest: 0 to 1000000, by default 65536",
         ),
         Argument::Part => option(
             alloc,
             "part",
             "K/N",
-            "Only the locations that leave the rest K where they are divided by N: N is 1 to 65536, K below N",
+            "Only the locations l with l mod N = K; N is 1 to 65536, K below N",
         ),
         Argument::File => needed(alloc, "FILE", "The trace; `-` is standard input"),
         Argument::Trace => needed(alloc, "TRACE", "The trace; `-` is standard input"),

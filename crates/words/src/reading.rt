@@ -13,16 +13,16 @@ use std::alloc::{AllocError, Global};
 use thiserror::Error as ErrorTexts;
 use trace::{Part, decimal_of};
 
-/// Why the words ask for nothing that can be answered.
+/// Why the words ask for nothing that the program can answer.
 #[derive(Debug, Drop, ErrorTexts)]
 pub enum WordsFault {
-    /// They are no command line of the program.
+    /// They aren't a command line of the program.
     #[error("bad command line")]
     Bad,
     /// They ask for a text of the program's own: help, or its version.
     #[error("{0}")]
     Help(String),
-    /// A growth was refused.
+    /// The allocator refused a growth.
     #[error("out of memory")]
     NoMemory,
 }
@@ -33,25 +33,25 @@ impl From<AllocError> for WordsFault {
     }
 }
 
-/// The most shards that may be asked for.
+/// The greatest number of shards.
 pub const MOST_SHARDS: u64 = 64;
 
-/// The shards where no number is asked for.
+/// The number of shards if the words give none.
 pub const USUAL_SHARDS: u32 = 4;
 
-/// The greatest capacity that may be asked for.
+/// The greatest capacity.
 pub const GREATEST_CAPACITY: u64 = 65_536;
 
-/// The capacity where none is asked for.
+/// The capacity if the words give none.
 pub const USUAL_CAPACITY: u32 = 1024;
 
-/// The greatest depth that may be asked for.
+/// The greatest depth.
 pub const GREATEST_DEPTH: u64 = 1_000_000;
 
-/// The depth where none is asked for.
+/// The depth if the words give none.
 pub const USUAL_DEPTH: u32 = 65_536;
 
-/// The most parts that the locations may be divided into.
+/// The greatest number of parts.
 pub const MOST_PARTS: u64 = 65_536;
 
 /// Reads the words of a command line, without the program's name.
@@ -203,7 +203,7 @@ fn named(alloc: Global, word: &str) -> Result<String, WordsFault>
     Ok(name)
 }
 
-// The part of the locations whose races are told.
+// The part of the locations that the report covers.
 fn part_of(found: &ArgMatches<'_>) -> Result<Part, WordsFault>
     ensures { IfOk result (IsPartAsked (first_value (found_of found.now) (codes "part"))) }
 {
@@ -269,7 +269,7 @@ fn depth_of(found: &ArgMatches<'_>) -> Result<u32, WordsFault>
     }
 }
 
-// The number that an option gives, spelled as a trace spells its numbers; `None` where the option is left out.
+// The number that an option gives, spelled as a trace spells its numbers; `None` without the option.
 fn number_of(found: &ArgMatches<'_>, option: &str) -> Result<Option<u64>, WordsFault> {
     let Some(digits) = found.get_str(option) else {
         return Ok(None);
