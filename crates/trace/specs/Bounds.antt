@@ -30,6 +30,6 @@ IsPartCount n = (1 ≤ n) × (n ≤ most_parts)
 abbrev pub IsCapacity : ℕ → Type 0
 IsCapacity n = (1 ≤ n) × (n ≤ most_items)
 
--- how deep the program may be told that procedures nest
+-- the greatest depth that the program may be given as its limit
 abbrev pub IsDepth : ℕ → Type 0
 IsDepth n = n ≤ 1000000

@@ -55,7 +55,7 @@ pub data Edge (w : List Record) (i j : ℕ) : Type 0 where
   comes_back : IsPlace w i → IsPlace w j → i < j → IsComeback w i j → Edge w i j
   join : IsPlace w i → IsPlace w j → i < j → IsJoin w i j → Edge w i j
 
--- places of which each next one is reached by an edge; one place alone is a path
+-- places; an edge leads from each to the next one; one place alone is a path
 abbrev pub IsPath : List Record → List ℕ → Type 0
 IsPath w [] = ⊥
 IsPath w (i ∷ []) = IsPlace w i
@@ -70,7 +70,7 @@ end_of i (j ∷ p) = end_of j p
 abbrev pub Leads : List Record → ℕ → ℕ → Type 0
 Leads w i j = (p : List ℕ) × IsPath w (i ∷ p) × (end_of i p ≡ j)
 
--- two different places, where no path leads from either to the other
+-- two different places; no path leads from either to the other
 pub record IsParallel (w : List Record) (i j : ℕ) : Type 0 where
   pub first : IsPlace w i
   pub second : IsPlace w j

@@ -2,8 +2,8 @@
 use Rattle.std.specs.Prelude.{◌≡◌, ℕ, ◌+◌, ◌-◌, ◌^◌, min, List, Option, Result, MatchResult}
 use Rattle.std.specs.Io.KnownBytes.{Consumes, IsAtEnd}
 
--- a device at a moment: the bytes that a source still has, or that a sink holds, where it tells them; and how
--- often it has failed
+-- a device at a moment: the bytes that a source still has, or that a sink holds, if it shows them; and how often it
+-- has failed
 pub record Device : Type 0 where
   pub bytes : Option (List ℕ)
   pub failures : ℕ

@@ -9,8 +9,8 @@ use Rattle.trace.specs.Text.{text, AllFit}
 use Rattle.trace.specs.Devices.{Change, Gave, HasFailed}
 use Rattle.trace.specs.Feeding.{IsWhole, IsFaultFed}
 
--- the bytes that came are the text of w in a version, where w is well nested within the limits, and they are
--- all that the source had
+-- the bytes that came are the text of w in a version, w is well nested within the limits, and they are all that the
+-- source had
 pub record ReadsWhole (records depths : ℕ) (c : Change) (w : List Record) : Type 0 where
   pub came : List ℕ
   pub gave : Gave c came
@@ -22,7 +22,7 @@ pub record OfTrace (records depths : ℕ) (c : Change) (Says : List Record → T
   pub read : ReadsWhole records depths c trace
   pub says : Says trace
 
--- a source that tells its bytes and doesn't fail: they are the text of w in a version, and w is well nested within
+-- a source that shows its bytes and doesn't fail: they are the text of w in a version, and w is well nested within
 -- the limits
 pub record HoldsTrace (records depths : ℕ) (c : Change) (w : List Record) : Type 0 where
   pub version : Version
@@ -31,16 +31,16 @@ pub record HoldsTrace (records depths : ℕ) (c : Change) (w : List Record) : Ty
   pub well_nested : IsWellNested w records depths
   pub never_failed : HasFailed c → ⊥
 
--- what a reading in one thread may want
+-- what a reading in one thread may lack
 abbrev pub IsWantOfMemory : Fault → Type 0
 IsWantOfMemory f = f ≡ NoMemory
 
--- what a reading with threads may want
+-- what a reading with threads may lack
 abbrev pub IsWantOfMemoryOrThread : Fault → Type 0
 IsWantOfMemoryOrThread f = (f ≡ NoMemory) ⊎ (f ≡ NoThread)
 
--- Why a reading gives no answer. Something was wanting; or the fault is the first of the bytes that came, or the
--- source failed before any. A source that holds a trace and doesn't fail is refused for want alone.
+-- Why a reading gives no answer. Memory or a thread was lacking; or the fault is the first of the bytes that came, or
+-- the source failed before any. A source that holds a trace and doesn't fail is refused only for such a lack.
 pub record IsRefused (IsWant : Fault → Type 0) (records depths : ℕ) (c : Change) (f : Fault) : Type 0 where
   pub first : IsWant f ⊎ ((came : List ℕ) × Gave c came × IsFaultFed records depths came c f)
   pub honest : (w : List Record) → HoldsTrace records depths c w → IsWant f

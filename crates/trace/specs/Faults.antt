@@ -12,8 +12,8 @@ use Rattle.trace.specs.declared.faults.Fault.TheVariants.{Text, Nest}
 use Rattle.trace.specs.Traces.{IsPlace, IsRootReturn, depth, opens}
 use Rattle.trace.specs.Text.{header, spell, Fits, AllFit, ended, line, text, IsUnended, IsOpen}
 
--- The bytes begin with a line that is judged: one that ends, or one of which the 27th byte has come.
--- (No line of a trace has more than 26 bytes, so 27 bytes that are no line stay no line.)
+-- The bytes begin with a line that is judged: one that ends, or one that has 27 bytes.
+-- (No line of a trace has more than 26 bytes, so 27 bytes that aren't a line never become one.)
 pub data IsJudged : List ℕ → List ℕ → Type 0 where
   at_end : (body more : List ℕ) → IsUnended body → IsJudged (ended body ++ more) body
   at_length : (body more : List ℕ) → IsUnended body → length body ≡ 27 → IsJudged (body ++ more) body
@@ -66,8 +66,8 @@ pub data IsBadPlace (depths : ℕ) (bytes : List ℕ) : NestFault → Type 0 whe
       → bytes ≡ text v u ++ (line r ++ more) → AreNested depths u → IsMisplaced depths u r k
       → IsBadPlace depths bytes (record { place = length u + 1; kind = k })
 
--- The first fault of bytes after which others may come: of the first faulty line and the first faulty
--- place the one that comes first, where the record at place p stands on line p + 1; on one line the line's.
+-- The first fault of bytes after which others may come: the first faulty line or the first faulty place, whichever
+-- comes first. The record at place p is on line p + 1; on the same line the faulty line comes first.
 pub data IsFirstFault (records depths : ℕ) (bytes : List ℕ) : Fault → Type 0 where
   bad_line : (f : TextFault) → IsBadLine records bytes f
       → ((n : NestFault) → IsBadPlace depths bytes n → f.line ≤ n.place + 1)
@@ -76,8 +76,8 @@ pub data IsFirstFault (records depths : ℕ) (bytes : List ℕ) : Fault → Type
       → ((f : TextFault) → IsBadLine records bytes f → n.place + 1 < f.line)
       → IsFirstFault records depths bytes (Nest n)
 
--- The first fault of bytes that have ended. A rest without a line end is a fault where nothing before it is;
--- and last, that the root hasn't returned.
+-- The first fault of bytes that have ended. A rest without a line end is a fault if nothing before it is; and the
+-- last possible fault is that the root hasn't returned.
 pub data IsFaultOfAll (records depths : ℕ) (bytes : List ℕ) : Fault → Type 0 where
   before_end : (f : Fault) → IsFirstFault records depths bytes f → IsFaultOfAll records depths bytes f
   truncated : (f : TextFault) → IsTruncated records bytes f → ((g : Fault) → IsFirstFault records depths bytes g → ⊥)

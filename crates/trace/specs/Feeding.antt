@@ -41,8 +41,8 @@ pub record HasFed (w : List Record) (bytes : List ℕ) (s : Feeding) : Type 0 wh
 abbrev pub IsFaultThen : ℕ → ℕ → List ℕ → Change → Fault → Type 0
 IsFaultThen records depths bytes c f = IsFirstFault records depths bytes f ⊎ (IsUsedUp c.new × IsFaultOfAll records depths bytes f)
 
--- What a fault says of the bytes that have come, and of what their source went through. `Read` comes only where
--- the source failed, and the bytes before that hold no fault.
+-- What a fault says of the bytes that have come, and of what their source went through. `Read` comes only if the
+-- source failed, and the bytes before that hold no fault.
 abbrev pub IsFaultFed : ℕ → ℕ → List ℕ → Change → Fault → Type 0
 IsFaultFed records depths bytes c (faults.Text f) = IsFaultThen records depths bytes c (faults.Text f) × IsSteady c
 IsFaultFed records depths bytes c (faults.Nest f) = IsFaultThen records depths bytes c (faults.Nest f) × IsSteady c
@@ -69,8 +69,8 @@ abbrev pub GivesNext : Feeding → Feeding → Change → Result (Option Placed)
 GivesNext old new c result = (w : List Record) (bytes : List ℕ) → HasFed w bytes old
     → (came : List ℕ) × Gave c came × IsFed old.reading.limit old.nesting.max_depth w (bytes ++ came) c new result
 
--- Whatever the feed had read: `Read` is answered only where the source failed in this call, or where the feed had
--- ended with it; and a feed has ended with a fault only where it answered that fault.
+-- Whatever the feed had read: it answers `Read` only if the source failed in this call, or if the feed had ended with
+-- `Read`; and a feed has ended with a fault only if it answered that fault.
 pub record ReadsOnlyFailed (old new : Feeding) (c : Change) (result : Result (Option Placed) Fault) : Type 0 where
   pub failed : result ≡ Err faults.Read → HasFailed c ⊎ (old.ending ≡ Bad faults.Read)
   pub answered : (f : Fault) → new.ending ≡ Bad f → result ≡ Err f

@@ -1,4 +1,4 @@
--- Promised: the procedure in which two places meet, and where its spawns and syncs leave them parallel.
+-- Promised: the procedure in which two places meet, and when its spawns and syncs leave them parallel.
 -- A procedure is named by the place of the record that opened it, and the root by 0.
 use Rattle.std.specs.Prelude.{◌≡◌, ℕ, zero, suc, ◌+◌, ◌<◌, ◌≤◌, Bool, true, false, ◌⊎◌, ◌&&◌, nat_lt, nat_eq, List, Option, Some, None}
 use Rattle.trace.specs.declared.records.Record.{Record}

@@ -1,4 +1,4 @@
--- Promised: the parts of a trace's locations, each of which can be searched for races by itself.
+-- Promised: the parts of a trace's locations; a program can search each for races by itself.
 use Rattle.std.specs.Prelude.{ℕ, ◌+◌, ◌*◌, ◌/◌, ◌%◌, ◌==◌, List, filter, map}
 use Rattle.trace.specs.declared.records.Record.{Record}
 use Rattle.trace.specs.declared.records.Record.TheVariants.{Spawn, Call, Return, Sync, Read, Write}

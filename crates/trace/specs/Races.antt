@@ -1,4 +1,4 @@
--- Promised: races of a trace, the race that is told of a location, and the report of a trace.
+-- Promised: races of a trace, the race that is reported of a location, and the report of a trace.
 use Rattle.std.specs.Prelude.{◌≡◌, ℕ, suc, ◌<◌, ◌≤◌, ◌↔◌, List, map, Option, Some, None, ◌⊎◌, Contains}
 use Rattle.std.specs.List.Sorted.{IsStrictlyIncreasing}
 use Rattle.trace.specs.declared.records.Record.{Record}
@@ -28,7 +28,7 @@ IsWrite w l i = IsAccess w l i Write
 abbrev pub IsAccessPlace : List Record → ℕ → Type 0
 IsAccessPlace w i = (l : ℕ) × (IsRead w l i ⊎ IsWrite w l i)
 
--- two accesses of l, in trace order and parallel, of which one writes
+-- two accesses of l, in trace order and parallel, at least one of them a write
 pub record IsRace (w : List Record) (l i j : ℕ) : Type 0 where
   pub in_order : i < j
   pub first : IsRead w l i ⊎ IsWrite w l i
@@ -56,13 +56,13 @@ pub data IsKeptReader (w : List Record) (l : ℕ) : ℕ → Option ℕ → Type 
   replaces : {j k : ℕ} → IsRead w l j → Leads w k j → IsKeptReader w l j (Some k) → IsKeptReader w l (suc j) (Some j)
   stays : {j k : ℕ} → IsRead w l j → (Leads w k j → ⊥) → IsKeptReader w l j (Some k) → IsKeptReader w l (suc j) (Some k)
 
--- The first place of the race that is told, whose second place is j: the last write before j where that
--- is parallel to j, otherwise the kept reader before j.
+-- The first place of the race that is reported, if its second place is j: the last write before j if that is parallel
+-- to j, otherwise the kept reader before j.
 pub data IsFirst (w : List Record) (l j : ℕ) : ℕ → Type 0 where
   last_write : {i : ℕ} → IsLastWrite w l j i → IsParallel w i j → IsFirst w l j i
   kept_reader : {i : ℕ} → ((k : ℕ) → IsLastWrite w l j k → IsParallel w k j → ⊥) → IsKeptReader w l j (Some i) → IsFirst w l j i
 
--- the race that is told of its location, with the kinds of its accesses
+-- the race that is reported of its location, with the kinds of its accesses
 pub record IsTold (w : List Record) (r : RaceAt) : Type 0 where
   pub second : IsSecond w r.location r.second.place
   pub first : IsFirst w r.location r.second.place r.first.place

@@ -57,9 +57,9 @@ header_length None = 0
 abbrev pub held_back : Reading → ℕ
 held_back s = header_length s.version + length s.rest
 
--- What a step of a reader makes of a piece. It uses a front of the piece, all of it where it gives no record; what
--- isn't a record's is held back, and never more than a line; and it counts the records that it gives. A fault is
--- kept, and is of a line that is begun.
+-- What a step of a reader makes of a piece. It uses a front of the piece, all of it if it gives no record. It holds
+-- back the bytes that aren't a record's, never more than a line, and counts the records that it gives. It keeps a
+-- fault; the fault is of a line that has begun.
 pub record HasStepped (old new : Reading) (piece : List ℕ) (result : Result Taken TextFault) : Type 0 where
   pub used : IfOk result (λ t. t.used ≤ length piece)
   pub whole : IfOk result (λ t. t.what ≡ None → t.used ≡ length piece)

@@ -34,7 +34,7 @@ abbrev pub HasCalls : Version → Type 0
 HasCalls One = ⊥
 HasCalls Two = Unit {0}
 
--- what has a line in a version: a call where the version has calls, and a location that fits 64 bits
+-- what has a line in a version: a call if the version has calls, and a location that fits 64 bits
 abbrev pub Fits : Version → Record → Type 0
 Fits v Spawn = Unit {0}
 Fits v Call = HasCalls v
@@ -46,7 +46,7 @@ Fits v (Write l) = l < 2 ^ 64
 abbrev pub AllFit : Version → List Record → Type 0
 AllFit v w = AllByRecursion (Fits v) w
 
--- what stands on a line, and the byte that ends it
+-- the text of a line, and the byte that ends it
 abbrev pub ended : List ℕ → List ℕ
 ended body = body ++ newline ∷ []
 

@@ -12,7 +12,7 @@ at w (suc i) = slice_get w i
 abbrev pub IsPlace : List Record → ℕ → Type 0
 IsPlace w i = (1 ≤ i) × (i ≤ length w)
 
--- the records with their places, of which the first is given
+-- the records with their places; the first record has the given place
 abbrev pub placed_from : ℕ → List Record → List Placed
 placed_from i [] = []
 placed_from i (r ∷ w) = record { place = i; what = r } ∷ placed_from (suc i) w

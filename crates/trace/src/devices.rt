@@ -1,4 +1,5 @@
-//! Devices: the sources and sinks that texts are read from and written to, with a count of their failures.
+//! Devices: the sources that a program reads texts from and the sinks that it writes them to. Each counts its
+//! failures.
 ghost use Rattle.std.specs.Prelude.{◌≡◌, ◌<◌, length, IfOk};
 ghost use Rattle.std.specs.Io.{ReadsAtMost, WritesAtMost};
 ghost use Rattle.std.specs.Io.KnownBytes.{ReadConsumes, WriteAppends, Keeps};
@@ -10,35 +11,34 @@ use std::io::{Read, Write};
 #[derive(Clone, Copy, Debug, PartialEq, Eq)]
 pub struct Failed;
 
-/// What bytes are read from.
+/// What a program reads bytes from.
 pub trait Source {
-    /// The bytes that are still to come, where the source tells them, and how often it has failed. That count
-    /// stays at 2^64 - 1.
+    /// The bytes that are still to come, if the source shows them, and how often it has failed. That count stays at
+    /// 2^64 - 1.
     ghost state: { Self → Device };
 
-    /// Puts the next bytes at the front of the buffer, and answers how many. With room in the buffer
-    /// 0 is the end of the input.
+    /// Puts the next bytes at the front of the buffer, and returns their number. If the buffer isn't empty, 0 means
+    /// the end of the input.
     fn get(&mut self, buffer: &mut [u8]) -> Result<usize, Failed>
         ensures bound { ReadsAtMost result buffer.new }
         ensures bytes { ReadConsumes (state self.old).bytes (state self.new).bytes result buffer.new }
         ensures count { Counts result (state self.old ⇝ state self.new) };
 }
 
-/// What bytes are written to.
+/// What a program writes bytes to.
 pub trait Sink {
-    /// The bytes that it holds, where the sink tells them, and how often it has failed. That count stays at
-    /// 2^64 - 1.
+    /// The bytes that it holds, if the sink shows them, and how often it has failed. That count stays at 2^64 - 1.
     ghost state: { Self → Device };
 
-    /// Takes bytes from the front of the buffer, and answers how many. A sink that takes none of a
-    /// buffer that isn't empty has failed.
+    /// Takes bytes from the front of the buffer, and returns their number. A sink that takes no byte of a buffer that
+    /// isn't empty has failed.
     fn put(&mut self, buffer: &[u8]) -> Result<usize, Failed>
         ensures bound { WritesAtMost result buffer.now }
         ensures some { IfOk result (λ n. 0 < length buffer.now → 0 < n) }
         ensures bytes { WriteAppends (state self.old).bytes (state self.new).bytes result buffer.now }
         ensures count { Counts result (state self.old ⇝ state self.new) };
 
-    /// Passes on what it holds back.
+    /// Passes on the bytes that it holds back.
     fn flush(&mut self) -> Result<(), Failed>
         ensures bytes { Keeps (state self.old).bytes (state self.new).bytes }
         ensures count { Counts result (state self.old ⇝ state self.new) };
@@ -52,7 +52,7 @@ pub struct Counted<D> {
 }
 
 impl<D> Counted<D> {
-    /// Makes a source of a reader, or a sink of a writer. It has not failed yet.
+    /// Makes a source of a reader, or a sink of a writer. It hasn't failed yet.
     pub fn new(device: D) -> Self
         ensures device { result.device ≡ device }
         ensures none { result.failed ≡ 0 }

@@ -5,7 +5,7 @@ ghost use Rattle.trace.specs.Digits.{paired};
 
 use std::simd::prelude::*;
 
-/// The place of the first value that is no digit's.
+/// The index of the first value that isn't a digit's.
 #[inline(always)]
 pub fn first_other(values: u8x16) -> Option<usize>
     ensures within { IfSome result (λ n. n < 16) }
@@ -20,7 +20,7 @@ pub fn first_other(values: u8x16) -> Option<usize>
     Some(others.trailing_zeros() as usize)
 }
 
-/// The first so many values moved to the back, and zeros in front of them.
+/// Moves the first `count` values to the back, with zeros in front of them.
 #[inline(always)]
 pub fn moved_back(values: u8x16, count: usize) -> u8x16
     requires { count < 16 }
@@ -31,7 +31,7 @@ pub fn moved_back(values: u8x16, count: usize) -> u8x16
     values.swizzle_dyn_within::<16>(places + u8x16::splat(240 + count as u8))
 }
 
-/// The number that sixteen digits write.
+/// The number that the sixteen digits spell.
 #[inline(always)]
 pub fn number_from(digits: u8x16) -> u64
     requires { AllBelowBase 10 digits }

@@ -1,4 +1,4 @@
-//! What may be wrong with a trace, with what it is read from and with what is written to.
+//! The faults of a trace, of the source that it comes from and of the sink that a text goes to.
 ghost use Rattle.std.specs.Prelude.{◌≡◌};
 ghost use Rattle.trace.specs.declared.faults.Fault.{Fault};
 ghost use Rattle.trace.specs.declared.faults.Fault.TheVariants as faults;
@@ -6,7 +6,7 @@ ghost use Rattle.trace.specs.declared.faults.Fault.TheVariants as faults;
 use crate::devices::Failed;
 use std::alloc::{AllocError, AllocFailed};
 
-/// A growth was refused: the memory is used up.
+/// The allocator refused a growth: there is no more memory.
 #[derive(Clone, Copy, Debug, PartialEq, Eq)]
 pub struct NoMemory;
 
@@ -27,15 +27,15 @@ impl<T: Drop> From<AllocFailed<T>> for NoMemory {
 pub enum TextKind {
     /// Line 1 isn't a header.
     Header,
-    /// A later line is no record.
+    /// A later line isn't a record.
     Line,
-    /// A good record line whose place is above the limit on records.
+    /// A line is a good record, but its place is above the limit on records.
     TooMany,
-    /// At the end of the bytes: a rest without a line end, or no line at all.
+    /// The bytes end in the middle of a line, or before the first line.
     Truncated,
 }
 
-/// The first faulty line of a trace's text. Lines are counted from 1.
+/// The first faulty line of a trace's text. The first line is line 1.
 #[derive(Clone, Copy, Debug, PartialEq, Eq)]
 pub struct TextFault {
     pub line: u64,
@@ -45,22 +45,22 @@ pub struct TextFault {
 /// What is wrong with a record at its place.
 #[derive(Clone, Copy, Debug, PartialEq, Eq)]
 pub enum NestKind {
-    /// A record after the root's return.
+    /// A record follows the root's return.
     AfterEnd,
-    /// A record that opens a procedure deeper than the limit.
+    /// A record opens a procedure deeper than the limit.
     TooDeep,
-    /// At the end of the records: the root hasn't returned.
+    /// The records end before the root returns.
     Unfinished,
 }
 
-/// The first place at which the records don't nest. Places are counted from 1.
+/// The first place at which the records don't nest. The first place is 1.
 #[derive(Clone, Copy, Debug, PartialEq, Eq)]
 pub struct NestFault {
     pub place: u64,
     pub kind: NestKind,
 }
 
-/// Why no answer could be given.
+/// Why there is no answer.
 #[derive(Clone, Copy, Debug, PartialEq, Eq)]
 pub enum Fault {
     /// The first faulty line.
@@ -69,9 +69,9 @@ pub enum Fault {
     Nest(NestFault),
     /// The reader failed.
     Read,
-    /// A growth was refused.
+    /// The allocator refused a growth.
     NoMemory,
-    /// The start of a thread was refused.
+    /// The system refused to start a thread.
     NoThread,
 }
 
@@ -83,7 +83,7 @@ impl From<NoMemory> for Fault {
     }
 }
 
-/// The writer failed, or took no byte.
+/// The writer failed, or took no bytes.
 #[derive(Clone, Copy, Debug, PartialEq, Eq)]
 pub struct WriteFault;
 

@@ -1,4 +1,5 @@
-//! Placed records from a source of bytes: a reader of lines and a nest behind one buffer, and how they have ended.
+//! Records with their places, from a source of bytes: a buffer, a reader of lines and a nest, and how they have
+//! ended.
 ghost use Rattle.std.specs.Prelude.{◌≡◌, ◌≢◌, ℕ, ◌+◌, ◌≤◌, ◌<◌, List, [], ◌++◌, ◌∷◌, length, take, true, false};
 ghost use Rattle.std.specs.Prelude.{Option, Ok, Err, Some, None, IfOk, IfErr, OnErr, IfSome};
 ghost use Rattle.std.specs.Option.{option_to_list};
@@ -17,7 +18,7 @@ use crate::reading::Reader;
 use crate::records::{Limits, Placed, Record};
 use std::marker::Model;
 
-/// How a feed has ended, if it has.
+/// How a feed has ended, if it has ended.
 #[derive(Clone, Copy)]
 pub enum Ending {
     Running,
@@ -25,8 +26,8 @@ pub enum Ending {
     Bad(Fault),
 }
 
-/// Reads placed records from a source that is lent at each call, through a buffer whose size shows in
-/// no answer.
+/// Reads placed records from a source that each call lends it, through a buffer. No answer depends on the buffer's
+/// size.
 #[derive(Drop)]
 pub struct Intake {
     reader: Reader,
@@ -64,7 +65,7 @@ impl Intake {
     ghost use Rattle.trace.specs.Nesting.{HasNested};
     ghost use Rattle.trace.specs.declared.feeding.Ending.TheVariants.{Running, Good, Bad};
 
-    /// Nothing has been read.
+    /// An intake that has read nothing.
     pub fn new(limits: Limits) -> Self
         ensures { result ≡ before_all limits.records limits.depth }
     {
@@ -79,9 +80,9 @@ impl Intake {
         }
     }
 
-    /// The next placed record, or `None` at a good end of the input. Bytes that came before a failed
-    /// read are judged before it, and nothing is tried again: after a fault every call answers that
-    /// fault, and after `None` every call answers `None`.
+    /// The next placed record, or `None` at a good end of the input. The bytes before a failed read are judged before
+    /// the failure. Nothing is tried again: after a fault every call returns that fault, and after `None` every call
+    /// returns `None`.
     #[inline(always)]
     pub fn next_from<S: Source>(&mut self, source: &mut S) -> Result<Option<Placed>, Fault>
         ensures fed { GivesNext self.old self.new (S.state source.old ⇝ S.state source.new) result }
@@ -97,8 +98,8 @@ impl Intake {
         }
     }
 
-    /// The next placed record, where the bytes that have come tell it easily. The answer `None` says nothing and
-    /// changes nothing; `next_from` tells then.
+    /// The next placed record, if the bytes that have come show it at once. The answer `None` says nothing and
+    /// changes nothing; then `next_from` gives the record.
     #[inline(always)]
     pub fn next_known(&mut self) -> Option<Placed>
         ensures fed { (w : List Record) (bytes : List ℕ) → HasFed w bytes self.old →
@@ -123,7 +124,7 @@ impl Intake {
         }
     }
 
-    // The next placed record, easily told or not.
+    // The next placed record, whether its line is easy or not.
     #[inline(always)]
     fn next_of_all<S: Source>(&mut self, source: &mut S) -> Result<Option<Placed>, Fault>
         ensures fed { GivesNext self.old self.new (S.state source.old ⇝ S.state source.new) result }
@@ -162,7 +163,7 @@ impl Intake {
         }
     }
 
-    // Gets the next bytes of the source where all that have come were used. Whether there are any.
+    // Gets the next bytes of the source if all that have come were used. Whether there are any.
     fn fill<S: Source>(&mut self, source: &mut S) -> Result<bool, Failed>
         ensures came { (came : List ℕ) × Gave (S.state source.old ⇝ S.state source.new) came
             × (self.new ≡ record self.old { coming = self.old.coming ++ came }) }
@@ -269,7 +270,7 @@ impl Intake {
     }
 }
 
-/// The placed records of a source of its own.
+/// The placed records of a source that it owns.
 #[derive(Drop)]
 pub struct Feed<R> {
     pub intake: Intake,
@@ -280,7 +281,7 @@ impl<R: Source> Feed<R> {
     ghost use Rattle.trace.specs.Feeding.{before_all, GivesNext, ReadsOnlyFailed, HasSameLimits};
     ghost use Rattle.trace.specs.declared.feeding.Ending.TheVariants.{Good, Bad};
 
-    /// Nothing has been read.
+    /// A feed that has read nothing.
     pub fn new(limits: Limits, source: R) -> Self
         ensures intake { result.intake ≡ before_all limits.records limits.depth }
         ensures source { result.source ≡ source }
@@ -291,7 +292,7 @@ impl<R: Source> Feed<R> {
         }
     }
 
-    /// As `Intake::next_from`, from its own source.
+    /// The same as `Intake::next_from`, from the feed's own source.
     pub fn next(&mut self) -> Result<Option<Placed>, Fault>
         ensures fed { GivesNext self.old.intake self.new.intake
             (R.state self.old.source ⇝ R.state self.new.source) result }

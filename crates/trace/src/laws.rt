@@ -1,4 +1,4 @@
-//! What holds of every text, and of every well nested trace.
+//! What is true of every text, and of every well nested trace.
 
 ghost use Rattle.std.specs.Prelude.{◌≡◌, ℕ, ◌<◌, ◌↔◌, ◌++◌, ◌⊎◌, true, List, Some, Err};
 ghost use Rattle.trace.specs.declared.records.Version.{Version};
@@ -18,10 +18,9 @@ ghost use Rattle.trace.specs.Races.{IsAccessPlace, access};
 ghost use Rattle.trace.specs.Shares.{goes};
 ghost use Rattle.trace.specs.Meeting.{ExactlyOne, Holds, InOneBlock, IsMeeting, IsStand};
 
-/// Two places meet in one procedure, the deepest one whose part of the trace holds both, and a place has
-/// one stand in each procedure that holds it. Two accesses are parallel exactly where the first lies
-/// inside a child that their meeting procedure spawned, with no sync of its own from there to the
-/// second one's stand.
+/// Two places meet in one procedure, the deepest whose part of the trace holds both. A place has one stand in each
+/// procedure that holds it. Two accesses are parallel exactly if the first lies inside a child that their meeting
+/// procedure spawned, and the meeting procedure doesn't sync from there to the stand of the second.
 pub fn meeting()
     ensures meets { (w : List Record) (records depths i j : ℕ) → IsWellNested w records depths
         → IsPlace w i → i < j → ExactlyOne (IsMeeting w i j) }
@@ -32,8 +31,8 @@ pub fn meeting()
         → IsParallel w i j ↔ InOneBlock w m i j }
 {}
 
-/// Parallel places are two places of the trace, whichever is named first. Of two places of a well nested trace they
-/// are parallel, or a path leads from the earlier to the later one.
+/// Parallel places are places of the trace, and being parallel doesn't depend on their order. For two places of a
+/// well nested trace, either they are parallel, or a path leads from the earlier to the later one.
 pub fn parallel()
     ensures either_way { (w : List Record) (i j : ℕ) → IsParallel w i j
         → IsPlace w i × IsPlace w j × IsParallel w j i }
@@ -41,8 +40,8 @@ pub fn parallel()
         → IsPlace w i → IsPlace w j → i < j → Leads w i j ⊎ IsParallel w i j }
 {}
 
-/// Of n shards each spawn, call, return and sync goes to all, and each access to exactly one, which its location
-/// tells.
+/// Each spawn, call, return and sync goes to all of n shards. Each access goes to exactly one shard, which its
+/// location determines.
 pub fn shares()
     ensures structure { (k n : ℕ) → (goes k n Spawn ≡ true) × (goes k n Call ≡ true)
         × (goes k n Return ≡ true) × (goes k n Sync ≡ true) }
@@ -50,10 +49,10 @@ pub fn shares()
     ensures by_location { (k n l : ℕ) (a b : Kind) → goes k n (access a l) ≡ goes k n (access b l) }
 {}
 
-/// A text is of one trace and in one version, and what a reader gives of bytes is the same however they were cut.
-/// Bytes have one first fault, which stays their first fault when more bytes come; and one fault once they
-/// have ended. The text of a well nested trace has none, and neither have the bytes in front of its end: a feed
-/// over it, whose source tells what it has left, fails only where the source does.
+/// A text is of one trace and one version. A reader gives the same records however the bytes were cut. Bytes have one
+/// first fault, and it stays their first fault when more bytes come; once the bytes have ended, they have one fault.
+/// The text of a well nested trace has no fault, and neither has a prefix of it. A feed over that text, from a source
+/// that shows its bytes, fails only if the source fails.
 pub fn texts()
     ensures one_trace { (v x : Version) (u w : List Record) → AllFit v u → AllFit x w → text v u ≡ text x w
         → (v ≡ x) × (u ≡ w) }

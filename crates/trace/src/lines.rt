@@ -12,10 +12,10 @@ use crate::numbers::{decimal_of, number_of};
 use crate::records::{Record, Version};
 use memchr::memchr;
 
-/// How many bytes the longest line of a trace has, its end not counted.
+/// The number of bytes of the longest line, without its end.
 pub const LONGEST: usize = 26;
 
-/// The record that a line spells in a version, its end left out.
+/// The record that a line without its end spells in a version.
 pub fn record_of(version: Version, line: &[u8]) -> Option<Record>
     ensures found { IfSome result (λ r. line.now ≡ spell r) }
     ensures fits { IfSome result (Fits version) }
@@ -41,7 +41,7 @@ pub fn record_of(version: Version, line: &[u8]) -> Option<Record>
     }
 }
 
-/// The version whose header a line is, its end left out.
+/// The version whose header a line without its end is.
 pub fn version_of(line: &[u8]) -> Option<Version>
     ensures found { IfSome result (λ v. line.now ≡ header v) }
     ensures none { IfNone result (IsNoHeader line.now) }
@@ -53,17 +53,17 @@ pub fn version_of(line: &[u8]) -> Option<Version>
     }
 }
 
-/// Where the line ends of which some bytes are held, and to which the bytes of a piece are added.
+/// Where a line ends. Some bytes of it came before, and a piece follows them.
 pub enum Cut {
     /// At this byte of the piece.
     End(usize),
     /// Not before its 27th byte, so it is no line of a trace.
     Long,
-    /// Not in this piece, after which it has at most 26 bytes.
+    /// Not in this piece. With the piece the line has at most 26 bytes.
     Open,
 }
 
-/// Looks for the end of a line of which `held` bytes came before the piece.
+/// Looks for the end of a line; `held` bytes of it came before the piece.
 pub fn cut_of(held: usize, piece: &[u8]) -> Cut
     requires { held ≤ LONGEST }
     ensures { IsCut held piece.now result }
@@ -77,15 +77,15 @@ pub fn cut_of(held: usize, piece: &[u8]) -> Cut
     }
 }
 
-/// A record at the front of a piece, and how many bytes its line has with its end.
+/// A record at the front of a piece, and the number of bytes of its line with its end.
 #[derive(Clone, Copy)]
 pub struct Front {
     pub record: Record,
     pub used: usize,
 }
 
-/// The record whose line stands whole at the front of a piece, where it is easily told; the answer
-/// `None` says nothing. The version is looked at where the line is a call's.
+/// The record at the front of a piece, if its whole line is there and is of an easy form; the answer `None` says
+/// nothing. The version matters only if the line is a call's.
 #[inline(always)]
 pub fn front_of(version: Option<Version>, piece: &[u8]) -> Option<Front>
     requires { longest_line < length piece.now }

@@ -1,4 +1,4 @@
-//! How the procedures of a trace nest: each record gets its place, and none may stand where no procedure runs.
+//! How the procedures of a trace nest: each record gets its place, and a record may come only while a procedure runs.
 ghost use Rattle.std.specs.Prelude.{◌≡◌, ℕ, ◌≤◌, ◌+◌, ◌<◌, ◌++◌, ◌∷◌, [], List, length, IfOk, IfErr, OnOk, OnErr, MatchResult};
 ghost use Rattle.trace.specs.declared.records.Record.{Record};
 ghost use Rattle.trace.specs.Bounds.{most_records};
@@ -7,7 +7,7 @@ use crate::faults::{NestFault, NestKind};
 use crate::records::{Placed, Record};
 use std::marker::Model;
 
-/// Counts records, and tells whether their procedures nest.
+/// Counts records, and checks that their procedures nest.
 #[derive(Drop)]
 pub struct Nest {
     max_depth: u32,
@@ -34,7 +34,7 @@ impl Nest {
     ghost use Rattle.trace.specs.Faults.{IsMisplaced, HasEnded};
     ghost use Rattle.trace.specs.declared.faults.NestKind.TheVariants.{Unfinished};
 
-    /// No record has come. No procedure may lie deeper than the limit.
+    /// A nest that has seen no record. No procedure may be deeper than the limit.
     pub fn new(max_depth: u32) -> Self
         ensures { result ≡ at_first_place max_depth }
     {
@@ -46,14 +46,14 @@ impl Nest {
         }
     }
 
-    /// How many records were accepted.
+    /// The number of accepted records.
     pub fn count(&self) -> u64
         ensures { result ≡ self.now.count }
     {
         self.count
     }
 
-    /// Gives the next record its place, unless it is misplaced there. A refused record changes nothing.
+    /// Gives the next record its place, or refuses it if it may not come there. A refused record changes nothing.
     #[inline(always)]
     pub fn accept(&mut self, what: Record) -> Result<Placed, NestFault>
         requires { self.old.count < most_records }
@@ -97,7 +97,7 @@ impl Nest {
         Ok(Placed { place, what })
     }
 
-    /// Whether the accepted records are well nested, so that none may follow.
+    /// Whether the accepted records are a well nested trace, so that no record may follow.
     pub fn end(&self) -> Result<(), NestFault>
         ensures ok { (u : List Record) → HasNested u self.now
             → OnOk result (IsWellNested u self.now.count self.now.max_depth) }

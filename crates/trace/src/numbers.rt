@@ -50,8 +50,7 @@ pub struct Number {
     pub digits: usize,
 }
 
-/// The number in front of a line's end, where it is easily told: one of 1 to 15 digits that doesn't
-/// begin with 0. The answer `None` says nothing.
+/// The number before a line's end, if it has 1 to 15 digits and doesn't begin with 0. The answer `None` says nothing.
 #[inline(always)]
 pub fn number_of(bytes: &[u8]) -> Option<Number>
     requires { length bytes.now ≡ 16 }

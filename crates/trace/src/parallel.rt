@@ -1,4 +1,4 @@
-//! Whether two places of a trace are parallel, told from the records between them and the openers before them.
+//! Whether two places of a trace are parallel, by the records between them and the openers before them.
 ghost use Rattle.std.specs.Prelude.{◌≡◌, ℕ, ◌<◌, ◌≤◌, ◌↔◌, true, length, Some};
 ghost use Rattle.trace.specs.declared.records.Record.TheVariants.{Spawn};
 ghost use Rattle.trace.specs.Traces.{at, depth, IsWellNested};
@@ -6,8 +6,8 @@ ghost use Rattle.trace.specs.Dag.{IsOpenerOf, JoinsAt, IsParallel};
 
 use crate::records::Record;
 
-/// Whether place j of a well nested trace is parallel to the earlier place i, where the record at j
-/// neither syncs nor returns. It walks once from i to j, and once back from i to the openers that it needs.
+/// Whether place j of a well nested trace is parallel to the earlier place i, if the record at j is neither a sync
+/// nor a return. It walks once from i to j, and once back from i to the openers that it needs.
 pub fn is_parallel(records: &[Record], i: u64, j: u64) -> bool
     requires some { 1 ≤ i }
     requires in_order { i < j }

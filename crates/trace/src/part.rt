@@ -1,4 +1,4 @@
-//! Parts of a trace's locations, each of which can be searched for races by itself.
+//! Parts of a trace's locations. A program can search each for races by itself.
 ghost use Rattle.std.specs.Prelude.{◌≡◌, ◌≢◌, ◌<◌, ◌^◌, ◌/◌, ◌%◌, [], ◌∷◌, IfSome, IfNone};
 ghost use Rattle.std.specs.Option.{option_to_list};
 ghost use Rattle.trace.specs.Parts.{location_at, records_of};
@@ -6,15 +6,15 @@ ghost use Rattle.trace.specs.Parts.{location_at, records_of};
 use crate::records::{Part, Placed, Record};
 
 impl Part {
-    /// The only part of one, which has all locations, each with itself for its number.
+    /// The only part of one: it has all locations, and each is its own number.
     pub fn whole() -> Part
         ensures { result.count ≡ 1 }
     {
         Part { index: 0, count: 1 }
     }
 
-    /// What the part has of a record: a spawn, call, return or sync as it is, an access of one of its locations by the
-    /// location's number, and nothing of any other access.
+    /// What the part has of a record: a spawn, call, return or sync as it is; an access of one of its locations, by
+    /// the location's number; and nothing of another access.
     #[inline(always)]
     pub fn take(self, placed: Placed) -> Option<Placed>
         ensures { option_to_list result ≡ records_of self (placed ∷ []) }
@@ -30,7 +30,7 @@ impl Part {
         })
     }
 
-    // The number of a location, where the location is the part's.
+    // The number of a location, if the location is the part's.
     #[inline(always)]
     fn number_of(self, location: u64) -> Option<u64>
         ensures number { IfSome result (λ number. number ≡ location / self.count) }

@@ -1,4 +1,4 @@
-//! The reader of a trace's text, which comes in pieces of any size. It keeps the bytes of the line that isn't ended
+//! The reader of a trace's text, which comes in pieces of any size. It keeps the bytes of a line that hasn't ended
 //! yet.
 ghost use Rattle.std.specs.Prelude.{◌≡◌, ◌≢◌, ◌≤◌, ◌+◌, ◌<◌, ◌++◌, ◌∷◌, [], ℕ, List, length, take};
 ghost use Rattle.std.specs.Prelude.{IfOk, IfErr, IfSome, IfNone, OnOk, OnErr, Some, None, Ok, Err};
@@ -104,7 +104,7 @@ fn record_with(version: Version, held: &mut Held, end: &[u8]) -> Option<Record>
     record
 }
 
-/// Reads the text of a trace in pieces of any size, and gives its records. The header tells the version of the text.
+/// Reads the text of a trace in pieces of any size, and gives its records. The header says the version of the text.
 #[derive(Drop)]
 pub struct Reader {
     limit: u64,
@@ -136,7 +136,7 @@ impl Model for Reader {
 impl Reader {
     ghost use Rattle.trace.specs.Reading.{at_first_byte, HasRead, AreText, HasStepped, IsBetweenLines, held_back};
 
-    /// A reader of a text of at most so many records, of which nothing has come.
+    /// A reader of a text of at most `max_records` records. It has read nothing.
     pub fn new(max_records: u64) -> Self
         requires { max_records ≤ most_records }
         ensures { result ≡ at_first_byte max_records }
@@ -150,9 +150,8 @@ impl Reader {
         }
     }
 
-    /// Reads on from the front of the piece, up to the end of the next record's line. Where that line
-    /// doesn't end in the piece, all of the piece is used and no record is given. After a fault every
-    /// call answers that fault.
+    /// Reads from the front of the piece, up to the end of the next record's line. If that line doesn't end in the
+    /// piece, it takes the whole piece and gives no record. After a fault every call returns that fault.
     pub fn step(&mut self, piece: &[u8]) -> Result<Taken, TextFault>
         ensures stepped { HasStepped self.old self.new piece.now result }
         ensures taken { (w : List Record) (bytes : List ℕ) → HasRead w bytes self.old →
@@ -182,8 +181,8 @@ impl Reader {
         })
     }
 
-    /// Up to how many more records `front` may give with no other look at the reader: none before the header has come,
-    /// within a line, or after a fault.
+    /// How many more records `front` may give before the reader is asked again: 0 before the header has come, within
+    /// a line, or after a fault.
     #[inline(always)]
     pub(crate) fn room(&self) -> u64
         ensures within { self.now.count + result ≤ self.now.limit }
@@ -198,8 +197,8 @@ impl Reader {
         }
     }
 
-    /// The next record, where its line is easily told; the answer `None` says nothing. It is taken by `count_one`, and
-    /// by leaving out the bytes of its line.
+    /// The next record, if its line is of an easy form; the answer `None` says nothing. The caller takes it by a call
+    /// of `count_one`, and by leaving out the bytes of its line.
     #[inline(always)]
     pub(crate) fn front(&self, piece: &[u8]) -> Option<Front>
         requires at_line { IsBetweenLines self.now }
@@ -215,7 +214,7 @@ impl Reader {
         front_of(self.version, piece)
     }
 
-    /// One record more was given.
+    /// Counts one more record.
     #[inline(always)]
     pub(crate) fn count_one(&mut self)
         requires { self.old.count < self.old.limit }
@@ -224,7 +223,7 @@ impl Reader {
         self.count += 1;
     }
 
-    // Reads on in line 1, up to its end where that comes.
+    // Reads on in line 1, up to its end if the end comes.
     fn open(&mut self, piece: &[u8]) -> Result<usize, TextFault>
         requires first { self.old.version ≡ None }
         requires no_fault { self.old.fault ≡ None }
@@ -261,7 +260,7 @@ impl Reader {
         }
     }
 
-    // Reads on in a line after line 1, up to its end where that comes.
+    // Reads on in a line after line 1, up to its end if the end comes.
     fn next(&mut self, version: Version, piece: &[u8]) -> Result<Taken, TextFault>
         requires begun { self.old.version ≡ Some version }
         requires no_fault { self.old.fault ≡ None }

@@ -1,5 +1,5 @@
-//! Records, accesses and races, the versions of a trace's text, the limits within which a trace is read, and the parts
-//! of its locations.
+//! Records, accesses and races; the versions of a trace's text; the limits of a trace; and the parts of its
+//! locations.
 ghost use Rattle.std.specs.Prelude.{◌<◌, ◌≤◌};
 ghost use Rattle.trace.specs.Bounds.{most_records, IsPartCount};
 
@@ -10,7 +10,8 @@ use std::marker::Model;
 pub enum Record {
     /// The executing procedure spawns a child, which executes from the next record on.
     Spawn,
-    /// The executing procedure calls another, which executes from the next record on and returns before it goes on.
+    /// The executing procedure calls another one, which executes from the next record on. The caller goes on after
+    /// its return.
     Call,
     /// The executing procedure returns, after the sync that every return implies.
     Return,
@@ -22,7 +23,7 @@ pub enum Record {
     Write(u64),
 }
 
-/// The version of a trace's text. Calls stand in version 2 alone.
+/// The version of a trace's text. Only version 2 has calls.
 #[derive(Clone, Copy, Debug, PartialEq, Eq)]
 pub enum Version {
     One,
@@ -43,15 +44,15 @@ pub enum Kind {
     Write,
 }
 
-/// An access of a location that is known from elsewhere: its kind, and the place of its record.
+/// An access of a known location: its kind, and the place of its record.
 #[derive(Clone, Copy, Debug, PartialEq, Eq)]
 pub struct Access {
     pub kind: Kind,
     pub place: u64,
 }
 
-/// Two accesses of one location, of which at least one writes. The first stands before the second,
-/// and their places are 1 to 2^48.
+/// Two accesses of one location, at least one of them a write. The first comes before the second, and their places
+/// are 1 to 2^48.
 #[derive(Clone, Copy, Debug, PartialEq, Eq)]
 pub struct Race {
     pub location: u64,
@@ -71,8 +72,7 @@ impl Model for Race {
     ghost inverse = { λ r. record { location = r.location; first = r.first; second = r.second } };
 }
 
-/// The limits within which a trace is read: how many records it may have, at most 2^48, and how
-/// deep its procedures may nest.
+/// The limits of a trace: its greatest number of records, at most 2^48, and the greatest depth of its procedures.
 #[derive(Clone, Copy, Debug, PartialEq, Eq)]
 pub struct Limits {
     pub records: u64,
@@ -80,8 +80,8 @@ pub struct Limits {
     ghost within: { records ≤ most_records },
 }
 
-/// One of the parts that the locations are divided into: those that leave the rest `index` where they are divided by
-/// `count`. A part numbers its locations from 0 in their order.
+/// One part of the locations: those whose remainder is `index` in a division by `count`. A part numbers its locations
+/// from 0 in their order.
 #[derive(Clone, Copy, Debug, PartialEq, Eq)]
 pub struct Part {
     /// Which part it is: 0 to `count` - 1.

@@ -1,4 +1,4 @@
-//! Shows the records of a trace, one after another, to what is kept of them.
+//! Shows the records of a trace, one after another, to a watcher.
 ghost use Rattle.std.specs.Prelude.{◌∷◌, ◌++◌, List, [], OnOk};
 ghost use Rattle.trace.specs.declared.records.Record.{Record};
 ghost use Rattle.trace.specs.Devices.{◌⇝◌};
@@ -10,19 +10,19 @@ use crate::faults::{Fault, NoMemory};
 use crate::feeding::Intake;
 use crate::records::{Limits, Placed};
 
-/// What is kept of the records that were shown.
+/// A watcher: what it keeps of the records that it was shown.
 pub trait Watch {
-    /// From its first state on it was shown these records, and this is its state now.
+    /// It was in the first state, it was shown these records, and it is in the second state now.
     ghost has_seen: { Self → List Record → Self → Type 0 };
 
-    /// Takes the next record. After a refused growth it is of no more use.
+    /// Takes the next record. After a refused growth the watcher is of no more use.
     fn take(&mut self, placed: Placed) -> Result<(), NoMemory>
         requires { (first : Self) × (u : List Record) × has_seen first u self.old × ComesAfter u placed }
         ensures { OnOk result ((first : Self) (u : List Record) → has_seen first u self.old → ComesAfter u placed
             → has_seen first (u ++ placed.what ∷ []) self.new) };
 }
 
-/// Shows all records of a trace, up to its end, or to the first fault or refused growth.
+/// Shows all records of a trace, up to its end, its first fault or a refused growth.
 #[inline(always)]
 pub fn read_to_end<R: Source, W: Watch>(
     limits: Limits,

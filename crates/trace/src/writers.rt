@@ -1,4 +1,4 @@
-//! The writers of a trace's text. On a fault a beginning of the text was written.
+//! The writers of a trace's text. After a fault the sink has a prefix of the text.
 ghost use Rattle.std.specs.Prelude.{◌≡◌, ◌⊎◌, ◌≤◌, [], ◌∷◌, ◌++◌, length, drop, decimal};
 ghost use Rattle.trace.specs.Devices.{◌⇝◌};
 ghost use Rattle.trace.specs.declared.records.Version.{Version};
@@ -10,7 +10,7 @@ use crate::faults::WriteFault;
 use crate::records::Record;
 use itoa::write_digits;
 
-/// Puts all bytes to the sink, in as many calls as it wants.
+/// Puts all bytes into the sink, in as many calls as the sink needs.
 pub fn put_all<W: Sink>(sink: &mut W, bytes: &[u8]) -> Result<(), WriteFault>
     ensures { Puts result bytes.now (W.state sink.old ⇝ W.state sink.new) }
 {
@@ -35,7 +35,7 @@ pub fn write_header<W: Sink>(version: u32, sink: &mut W) -> Result<(), WriteFaul
     }
 }
 
-/// Writes the line of a record. A call's stands in version 2 alone.
+/// Writes the line of a record. Only version 2 has the line of a call.
 pub fn write_record<W: Sink>(what: &Record, sink: &mut W) -> Result<(), WriteFault>
     ensures { Puts result (line what.now) (W.state sink.old ⇝ W.state sink.new) }
 {
@@ -62,7 +62,7 @@ fn put_access<W: Sink>(sink: &mut W, word: &[u8], location: u64) -> Result<(), W
     put_all(sink, &bytes[start..])
 }
 
-// Builds the line of an access in front of the line end, and answers where it starts.
+// Builds the line of an access in front of the line end, and returns its start.
 fn build_access(bytes: &mut [u8; LONGEST], word: &[u8], location: u64) -> usize
     requires word { length word.now ≤ 6 }
     requires line_end { drop 26 bytes.old ≡ newline ∷ [] }
