@@ -6,11 +6,11 @@ use Rattle.audit.specs.declared.answers.Confirm.{Confirm}
 use Rattle.audit.specs.declared.answers.Confirm.TheVariants.{Yes, No}
 use Rattle.audit.specs.Pairs.{IsPair}
 
--- the two accesses race on the location that is told, and are of the kinds told
+-- the two accesses race on the entry's location, and are of the entry's kinds
 abbrev pub TellsRace : List Record → RaceAt → Type 0
 TellsRace w r = IsPair w r.location (r.first, r.second)
 
--- the first entry that tells no race; entries are counted from 1
+-- the first entry that isn't a race; entries are counted from 1
 pub record IsFirstWrong (w : List Record) (entries : List RaceAt) (entry : ℕ) : Type 0 where
   pub before : ℕ
   pub from_one : entry ≡ suc before

@@ -1,4 +1,4 @@
--- Promised: why the accesses of the race that is told of a location are parallel.
+-- Promised: why the accesses of the race that is reported of a location are parallel.
 use Rattle.std.specs.Prelude.{◌≡◌, ℕ, ◌<◌, ◌↔◌, List, Option, None, Some, MatchOption, Contains, AllPairs}
 use Rattle.trace.specs.declared.records.Record.{Record}
 use Rattle.trace.specs.declared.records.Record.TheVariants as records
@@ -31,12 +31,13 @@ pub record IsNextWait (w : List Record) (m j k : ℕ) : Type 0 where
   pub waits : WaitsAt w m k
   pub none_between : (i : ℕ) → j < i → i < k → WaitsAt w m i → ⊥
 
--- There is none where it is said that there is none.
+-- If the answer names no next wait, there is none.
 abbrev pub AreJoined : List Record → ℕ → ℕ → Option ℕ → Type 0
 AreJoined w m j joined = MatchOption joined ((k : ℕ) → j < k → WaitsAt w m k → ⊥) (IsNextWait w m j)
 
--- The race is the one that is told of its location. Its accesses meet in a procedure, and these are the openers below it.
--- The first access lies inside a child that it spawned, and it doesn't sync from there to the second access's stand.
+-- The race is the one that is reported of its location. Its accesses meet in a procedure, and these are the openers
+-- below it. The first access lies inside a child that this procedure spawned, and the procedure doesn't sync from
+-- there to the second access's stand.
 pub record IsExplained (w : List Record) (e : Explained) : Type 0 where
   pub told : IsTold w e.race
   pub meets : IsMeeting w e.race.first.place e.race.second.place e.meeting
@@ -49,7 +50,7 @@ pub record IsExplained (w : List Record) (e : Explained) : Type 0 where
 abbrev pub Explains : List Record → ℕ → Option Explained → Type 0
 Explains w l answer = MatchOption answer ((i j : ℕ) → IsRace w l i j → ⊥) (λ e. (e.race.location ≡ l) × IsExplained w e)
 
--- two explanations tell the same
+-- two explanations are equal
 pub record IsSameExplanation (a b : Explained) : Type 0 where
   pub race : a.race ≡ b.race
   pub meeting : a.meeting ≡ b.meeting

@@ -6,7 +6,7 @@ use Rattle.trace.specs.Traces.{depth, IsPlace}
 use Rattle.trace.specs.Dag.{IsPath}
 use Rattle.audit.specs.declared.answers.Measure.{Measure}
 
--- a path has so many places, and none has more
+-- a path has this number of places, and none has more
 pub record IsSpan (w : List Record) (span : ℕ) : Type 0 where
   pub reached : (p : List ℕ) × IsPath w p × (length p ≡ span)
   pub most : (p : List ℕ) → IsPath w p → length p ≤ span

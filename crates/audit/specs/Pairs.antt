@@ -10,7 +10,7 @@ pub record IsPair (w : List Record) (l : ℕ) (p : Access × Access) : Type 0 wh
   pub first_kind : IsAccess w l p.0.place p.0.kind
   pub second_kind : IsAccess w l p.1.place p.1.kind
 
--- by the second place, and where that is the same, by the first
+-- by the second place, then by the first
 abbrev pub IsBefore : Access × Access → Access × Access → Type 0
 IsBefore p q = (p.1.place < q.1.place) ⊎ ((p.1.place ≡ q.1.place) × (p.0.place < q.0.place))
 

@@ -1,14 +1,14 @@
-//! What the questions answer.
+//! The answers to the questions about a trace.
 use trace::Race;
 
 /// Numbers of a trace.
 #[derive(Clone, Copy, Debug, PartialEq, Eq)]
 pub struct Measure {
-    /// How many records there are.
+    /// The number of records.
     pub work: u64,
     /// The greatest number of records on a path of the dag.
     pub span: u64,
-    /// How many of the records are spawns.
+    /// The number of spawns.
     pub spawns: u64,
     /// The depth of the deepest place; the root's own places have depth 0.
     pub depth: u32,
@@ -19,11 +19,11 @@ pub struct Measure {
 pub enum Confirm {
     /// All of them are.
     Yes,
-    /// An entry isn't, and those before it are. Entries are counted from 1.
+    /// This entry isn't a race, and the entries before it are. The first entry is entry 1.
     No { entry: u64 },
 }
 
-/// How a procedure was opened.
+/// How a record opened a procedure.
 #[derive(Clone, Copy, Debug, PartialEq, Eq)]
 pub enum Opening {
     Spawn,
@@ -37,17 +37,17 @@ pub struct Opener {
     pub place: u64,
 }
 
-/// Why the two accesses of a race are parallel: they meet in a procedure, the first one lies inside a child that it
-/// spawned, and it doesn't sync before the second one.
+/// Why the two accesses of a race are parallel: they meet in a procedure, the first lies inside a child that this
+/// procedure spawned, and this procedure doesn't sync before the second.
 #[derive(Debug, Drop, PartialEq, Eq)]
 pub struct Explained {
-    /// The race that is told of its location.
+    /// The race that a report has of the location.
     pub race: Race,
-    /// The deepest procedure that holds both accesses, by the place of the record that opened it; the root by 0.
+    /// The deepest procedure that holds both accesses, by the place of the record that opened it; 0 for the root.
     pub meeting: u64,
-    /// The openers of the procedures below that one which hold the first access, from the outermost on.
+    /// The openers of the procedures below it that hold the first access, the outermost first.
     pub first: Vec<Opener>,
-    /// The openers of those which hold the second access. There is none where the meeting procedure executes it itself.
+    /// The openers of those that hold the second access; none if the meeting procedure executes that access itself.
     pub second: Vec<Opener>,
     /// The place of the meeting procedure's next sync or return, if there is one: too late for this race.
     pub joined: Option<u64>,

@@ -1,4 +1,4 @@
-//! Whether the entries of a report are races: what is kept of a trace for them, and the answer.
+//! Whether the entries of a report are races: what is kept of a trace for this, and the answer.
 ghost use Rattle.std.specs.Prelude.{◌≡◌, ◌≢◌, ◌<◌, ℕ, suc, List, [], length, map, slice_get, Some, IfSome, IfNone, IfOk, OnOk};
 ghost use Rattle.trace.specs.declared.records.Record.{Record};
 ghost use Rattle.trace.specs.Accesses.{IsRaceShape};
@@ -18,18 +18,18 @@ use trace::{
     Access, Fault, Kind, Limits, NoMemory, Placed, Race, Record, Source, Watch, read_to_end,
 };
 
-/// How far an entry was found in the trace.
+/// How far the records so far show an entry to be a race.
 #[derive(Clone, Copy)]
 pub(crate) enum Standing {
-    /// Its first access wasn't there yet.
+    /// Its first access hasn't come.
     Missing,
-    /// Its first access was there, at this depth.
+    /// Its first access has come, at this depth.
     Begun(usize),
     /// It is a race.
     Confirmed,
 }
 
-/// An entry of a report: the race that it tells, and how far it was found.
+/// An entry of a report: its race, and how far the records show it.
 #[derive(Clone, Copy)]
 pub(crate) struct Entry {
     pub(crate) location: u64,
@@ -48,7 +48,7 @@ pub(crate) struct Confirming {
 impl Confirming {
     ghost use Rattle.audit.specs.Entries.{HasConfirmed, Touches, races_of};
 
-    /// No record was seen.
+    /// The state before the first record.
     pub(crate) fn new(alloc: Global, report: &Report) -> Result<Confirming, NoMemory>
         ensures { IfOk result (HasConfirmed report.now []) }
     {
@@ -58,7 +58,7 @@ impl Confirming {
         })
     }
 
-    /// Takes an access of a location: there is one entry of it at most.
+    /// Takes an access of a location. At most one entry has this location.
     fn touch(&mut self, location: u64, access: Access)
         ensures entries { Touches self.old.meetings location access self.old.entries.items self.new.entries.items }
         ensures same_races { races_of self.new.entries.items ≡ races_of self.old.entries.items }
@@ -99,7 +99,7 @@ impl Watch for Confirming {
     }
 }
 
-/// The entries, of which nothing was found yet.
+/// The entries of a report, before the first record.
 fn entries_of(alloc: Global, races: &[Race]) -> Result<Vec<Entry>, NoMemory>
     ensures { IfOk result (λ entries. entries.items ≡ map entry_of races.now) }
 {
@@ -112,7 +112,7 @@ fn entries_of(alloc: Global, races: &[Race]) -> Result<Vec<Entry>, NoMemory>
     Ok(entries.collect(alloc)?)
 }
 
-/// The index of the entry on a location, if there is one.
+/// The index of the entry of a location, if there is one.
 fn find_entry(entries: &[Entry], location: u64) -> Option<usize>
     ensures within { IfSome result (λ k. k < length entries.now) }
     ensures found { IfSome result (λ k. (e : Entry) → slice_get entries.now k ≡ Some e → e.location ≡ location) }
@@ -127,7 +127,7 @@ fn find_entry(entries: &[Entry], location: u64) -> Option<usize>
     }
 }
 
-/// How far an entry was found, where the next record is an access of its location.
+/// How far the records show an entry, after an access of its location.
 fn next_standing(meetings: &Meetings, entry: Entry, access: Access) -> Standing
     ensures { (u : List Record) → HasMet meetings.now u → IsRaceShape entry.first entry.second
         → access.place ≡ suc (length u)
@@ -144,7 +144,7 @@ fn next_standing(meetings: &Meetings, entry: Entry, access: Access) -> Standing
     }
 }
 
-/// Whether all entries are confirmed, else the first that isn't.
+/// Yes if all entries are confirmed, otherwise the first one that isn't.
 pub(crate) fn answer_of(entries: &[Entry]) -> Confirm
     ensures { AnswersBy entries.now result }
 {
@@ -161,24 +161,24 @@ pub(crate) fn answer_of(entries: &[Entry]) -> Confirm
     Confirm::Yes
 }
 
-/// Reads a trace to its end, and tells whether every entry of a report is a race of it: whether both places access the
-/// location as told, and are parallel. It doesn't ask whether entries are missing, or whether another pair of the
-/// location comes earlier.
+/// Reads a trace to its end, and says whether every entry of a report is a race of it: whether its two places are
+/// parallel accesses of the location, of the kinds that the entry says. It doesn't ask whether the report lacks
+/// entries, or whether another pair of the location comes earlier.
 ///
-/// A fault is the whole answer. It keeps three numbers for each active procedure, two for each turn that they took from
-/// spawned children to called ones or back, and a few for each entry. An access costs a search among the entries, and
-/// that of an entry's second place one among the active procedures and one among the turns; any other record costs the
-/// same wherever it stands.
+/// A fault is the whole answer. It keeps three numbers for each active procedure, two numbers for each turn that
+/// these took from spawned children to called ones or back, and a few numbers for each entry. An access costs a
+/// search among the entries. The second access of an entry also costs one search among the active procedures and one
+/// among the turns. Any other record costs the same wherever it stands.
 pub fn confirm<R: Source>(
     alloc: Global,
     limits: Limits,
     source: &mut R,
     report: &Report,
 ) -> Result<Confirm, Fault>
-    // All bytes of the source are the text of a trace that is well nested within the limits. The answer is yes where
-    // all entries tell a race of it, otherwise the first that doesn't.
-    // Otherwise no memory was left, or the fault is the first; and where the source holds such a trace and doesn't
-    // fail, no memory was left.
+    // All bytes of the source are the text of a trace that is well nested within the limits. The answer is yes if all
+    // entries are races of it, otherwise the first entry that isn't.
+    // Otherwise no memory was left, or the fault is the first. If the source holds such a trace and doesn't fail, no
+    // memory was left.
     ensures { EndsReading IsWantOfMemory limits.records limits.depth (R.state source.old ⇝ R.state source.new)
         (λ answer w. Confirms w report.now answer) result }
 {

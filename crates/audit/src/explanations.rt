@@ -1,4 +1,4 @@
-//! Why the told race of a location is one: two accesses are kept, with the openers of the procedures that hold them.
+//! Why the reported race of a location is one: the two accesses, with the openers of the procedures that hold them.
 ghost use Rattle.std.specs.Prelude.{◌≡◌, ◌≤◌, ◌↔◌, List, [], length, drop, true, false, Some, None, OnOk, IfOk, IfNone, IfSome, MatchOption};
 ghost use Rattle.trace.specs.declared.records.Record.{Record};
 ghost use Rattle.audit.specs.Explaining.{Follows, Joins, TellsIt, explanation};
@@ -22,27 +22,28 @@ pub(crate) struct Trail {
     pub(crate) openers: Vec<Opener>,
 }
 
-/// The race that is told, and its meeting procedure: the place of its opener, or 0 for the root, and how deep it lies.
+/// The race to report, and its meeting procedure: the place of its opener, or 0 for the root, and its depth.
 #[derive(Drop)]
 pub(crate) struct Told {
     pub(crate) first: Access,
     pub(crate) second: Access,
     pub(crate) meeting: u64,
     pub(crate) level: usize,
-    /// The openers below it that hold the accesses.
+    /// The openers of the procedures below it that hold the accesses.
     pub(crate) first_openers: Vec<Opener>,
     pub(crate) second_openers: Vec<Opener>,
-    /// Its next sync or return, once that was seen.
+    /// The place of its next sync or return, after that record has come.
     pub(crate) joined: Option<u64>,
 }
 
-/// What is kept of a location until a race on it is told: its last write, and its kept reader. From then on, that race.
+/// What is kept of a location: until its race is found, its last write and its kept reader, and from then on that
+/// race.
 #[derive(Drop)]
 pub(crate) struct Explaining {
     pub(crate) alloc: Global,
     pub(crate) location: u64,
     pub(crate) meetings: Meetings,
-    /// The openers of the active procedures below the root, until a race is told.
+    /// The openers of the active procedures below the root, until the race is found.
     pub(crate) openers: Vec<Opener>,
     pub(crate) last_write: Option<Trail>,
     pub(crate) kept_reader: Option<Trail>,
@@ -57,7 +58,7 @@ impl Explaining {
     ghost use Rattle.audit.specs.Meetings.{HasMet};
     ghost use Rattle.audit.specs.Explaining.{HasExplained, HasSought, IsRival, TellsNow, Keeps, Touches, Seeks};
 
-    /// No record was seen.
+    /// The state before the first record.
     pub(crate) fn new(alloc: Global, location: u64) -> Explaining
         ensures { HasExplained location [] result }
     {
@@ -72,7 +73,7 @@ impl Explaining {
         }
     }
 
-    // Takes the next record, while no race is told.
+    // Takes the next record, before a race is found.
     fn seek(&mut self, placed: Placed) -> Result<(), NoMemory>
         ensures location { self.new.location ≡ self.old.location }
         ensures meetings { self.new.meetings ≡ self.old.meetings }
@@ -84,7 +85,7 @@ impl Explaining {
         }
     }
 
-    // Takes an access of the location: the race is told, or the access may be kept.
+    // Takes an access of the location: it completes the race, or it may be kept.
     fn touch(&mut self, access: Access) -> Result<(), NoMemory>
         ensures location { self.new.location ≡ self.old.location }
         ensures meetings { self.new.meetings ≡ self.old.meetings }
@@ -190,7 +191,7 @@ impl Watch for Explaining {
     }
 }
 
-/// Follows a record into the procedure that it opens, or out of the one that returns.
+/// Takes a record that opens a procedure or returns from one.
 fn follow(openers: &mut Vec<Opener>, placed: Placed) -> Result<(), NoMemory>
     ensures { OnOk result (Follows placed.place placed.what openers.old.items openers.new.items) }
 {
@@ -223,7 +224,7 @@ fn joins(what: Record) -> bool
 }
 
 /// The race of a kept access with the next one. They meet in the last active procedure that was opened before the
-/// first.
+/// first access.
 fn told_of(
     alloc: Global,
     kind: Kind,
@@ -260,23 +261,23 @@ fn openers_below(alloc: Global, level: usize, openers: &[Opener]) -> Result<Vec<
     Ok(Vec::from_slice(alloc, &openers[level..])?)
 }
 
-/// Reads a trace to its end, and explains the race that a report tells of a location, or finds none.
+/// Reads a trace to its end, and explains the race that the report has of a location, or says that there is none.
 ///
 /// A fault is the whole answer. It keeps three numbers and an opener for each active procedure, two numbers for each
-/// turn that they took from spawned children to called ones or back, and two accesses of the location at most, with the
-/// openers of the procedures that hold them. Once a race is told it keeps that one's openers alone. Until then an
-/// access of the location costs at most two searches among the active procedures and two among the turns, and a copy of
-/// the openers where it is kept; any other record costs the same wherever it stands.
+/// turn that these took from spawned children to called ones or back, and at most two accesses of the location, with
+/// the openers of the procedures that hold them. After it has found the race it keeps only the openers of this race.
+/// Until then an access of the location costs at most two searches among the active procedures and two among the
+/// turns, and a copy of the openers if it is kept. Any other record costs the same wherever it stands.
 pub fn explain<R: Source>(
     alloc: Global,
     limits: Limits,
     source: &mut R,
     location: u64,
 ) -> Result<Option<Explained>, Fault>
-    // All bytes of the source are the text of a trace that is well nested within the limits, and it is explained why
-    // the race told of the location is one, or there is none.
-    // Otherwise no memory was left, or the fault is the first; and where the source holds such a trace and doesn't
-    // fail, no memory was left.
+    // All bytes of the source are the text of a trace that is well nested within the limits. The answer explains why
+    // the reported race of the location is one, or there is none.
+    // Otherwise no memory was left, or the fault is the first. If the source holds such a trace and doesn't fail, no
+    // memory was left.
     ensures { EndsReading IsWantOfMemory limits.records limits.depth (R.state source.old ⇝ R.state source.new)
         (λ answer w. Explains w location answer) result }
 {
@@ -285,7 +286,7 @@ pub fn explain<R: Source>(
     Ok(explained(explaining))
 }
 
-/// What is told of the location after all records, if a race was.
+/// The explanation after all records, if there is a race.
 fn explained(explaining: Explaining) -> Option<Explained>
     requires { IfSome explaining.told (λ d. IsRaceShape d.first d.second) }
     ensures { MatchOption explaining.told (result ≡ None)

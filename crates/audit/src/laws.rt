@@ -1,4 +1,4 @@
-//! That a question about a trace has one answer.
+//! Each question about a trace has one answer.
 
 ghost use Rattle.std.specs.Prelude.{◌≡◌, ℕ, List, Option};
 ghost use Rattle.trace.specs.declared.records.Record.{Record};
@@ -12,8 +12,8 @@ ghost use Rattle.audit.specs.Measures.{IsMeasure};
 ghost use Rattle.audit.specs.Pairs.{ArePairs};
 ghost use Rattle.audit.specs.Confirms.{Confirms};
 
-/// A trace has one measure, a location one list of its races and one explanation, and a report one answer to whether
-/// its entries are races.
+/// A trace has one measure. A location has one list of its races and one explanation. A report has one answer to
+/// whether its entries are races.
 pub fn one_answer()
     ensures measure { (w : List Record) (m n : Measure) → IsMeasure w m → IsMeasure w n → m ≡ n }
     ensures pairs { (w : List Record) (l : ℕ) (ps qs : List (Access × Access)) → ArePairs w l ps

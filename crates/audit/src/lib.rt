@@ -1,5 +1,5 @@
-//! Questions about one trace, answered over its dag: its measures, all races of one location, why the one that is told
-//! of it is a race, and whether the entries of a report are races.
+//! Questions about one trace, answered over its dag: its measures, all races of one location, why the reported race
+//! of a location is one, and whether the entries of a report are races.
 #![tactic(auto)]
 
 pub mod answers;

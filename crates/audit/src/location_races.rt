@@ -1,4 +1,4 @@
-//! All races of one location: its accesses so far, each compared with those before it.
+//! All races of one location: each access is compared with those before it.
 ghost use Rattle.std.specs.Prelude.{◌≡◌, ◌≢◌, ℕ, List, [], length, Bool, ◌||◌, OnOk, MatchOption};
 ghost use Rattle.trace.specs.declared.records.Record.{Record};
 ghost use Rattle.trace.specs.declared.records.Kind.{Kind};
@@ -13,7 +13,7 @@ use crate::meetings::Meetings;
 use std::alloc::Global;
 use trace::{Access, Fault, Kind, Limits, NoMemory, Placed, Record, Source, Watch, read_to_end};
 
-/// An access of the location, and how deep the procedure lies that executed it.
+/// An access of the location, and the depth of the procedure that executes it.
 #[derive(Clone, Copy)]
 pub(crate) struct Kept {
     pub(crate) access: Access,
@@ -32,7 +32,7 @@ pub(crate) struct Pairing {
 impl Pairing {
     ghost use Rattle.audit.specs.Pairing.{HasPaired};
 
-    /// No record was seen.
+    /// The state before the first record.
     pub(crate) fn new(alloc: Global, location: u64) -> Pairing
         ensures { HasPaired location [] result }
     {
@@ -60,7 +60,7 @@ impl Watch for Pairing {
     }
 }
 
-/// Adds the races of an access with the earlier ones.
+/// Adds the races of an access with the earlier accesses.
 fn add_pairs(
     meetings: &Meetings,
     kept: &[Kept],
@@ -79,7 +79,7 @@ fn add_pairs(
     Ok(())
 }
 
-/// The access of a location that a record is, if it is one.
+/// The access of a location, if the record is one.
 pub(crate) fn access_of(placed: Placed, location: u64) -> Option<Access>
     ensures { MatchOption result ((k : Kind) → placed.what ≢ access k location) (λ a. (a.place ≡ placed.place)
         × (placed.what ≡ access a.kind location)) }
@@ -108,13 +108,13 @@ fn one_writes(first: Kind, second: Kind) -> bool
     }
 }
 
-/// Reads a trace to its end and lists all races of a location: by their second places, and those of one second place
-/// by their first places.
+/// Reads a trace to its end, and lists all races of a location, sorted by their second places and then by their
+/// first.
 ///
-/// A fault is the whole answer. It keeps three numbers for each active procedure, two for each turn that they took from
-/// spawned children to called ones or back, and the accesses of the location with their depths. Each access of the
-/// location is compared with all earlier ones of it, by a search among the active procedures and one among the turns;
-/// any other record costs the same wherever it stands.
+/// A fault is the whole answer. It keeps three numbers for each active procedure, two numbers for each turn that
+/// these took from spawned children to called ones or back, and the accesses of the location with their depths. It
+/// compares each access of the location with all earlier ones, by one search among the active procedures and one
+/// among the turns. Any other record costs the same wherever it stands.
 pub fn pairs<R: Source>(
     alloc: Global,
     limits: Limits,
@@ -122,8 +122,8 @@ pub fn pairs<R: Source>(
     location: u64,
 ) -> Result<Vec<(Access, Access)>, Fault>
     // All bytes of the source are the text of a trace that is well nested within the limits, and these are the races.
-    // Otherwise no memory was left, or the fault is the first; and where the source holds such a trace and doesn't
-    // fail, no memory was left.
+    // Otherwise no memory was left, or the fault is the first. If the source holds such a trace and doesn't fail, no
+    // memory was left.
     ensures { EndsReading IsWantOfMemory limits.records limits.depth (R.state source.old ⇝ R.state source.new)
         (λ ps w. ArePairs w location ps.items) result }
 {

@@ -9,9 +9,10 @@ use crate::answers::Measure;
 use std::alloc::Global;
 use trace::{Fault, Limits, NoMemory, Placed, Record, Source, Watch, read_to_end};
 
-/// The longest paths in an active procedure, by their numbers of records: the one to the record from which it goes on,
-/// which is the last one that it executed itself, the one that opened it or the return of a child that it called; and
-/// the one to a return of a child that it spawned and hasn't waited for. A number is 0 where there is no such record.
+/// The longest paths in an active procedure, by their numbers of records. `own` leads to the last record that the
+/// procedure executed itself, to the record that opened it, or to the return of a child that it called, whichever
+/// came last. `unjoined` leads to a return of a child that it spawned and hasn't waited for. A number is 0 if there
+/// is no such record.
 #[derive(Clone, Copy)]
 pub(crate) struct Longest {
     pub(crate) own: u64,
@@ -21,7 +22,7 @@ pub(crate) struct Longest {
 impl Longest {
     ghost use Rattle.audit.specs.LongestPaths.{through};
 
-    /// The longest path to the next record of this procedure.
+    /// The length of the longest path to the next record of this procedure.
     fn through(self, what: Record) -> u64
         requires own { self.own < most_records }
         requires unjoined { self.unjoined < most_records }
@@ -44,7 +45,7 @@ pub(crate) struct Waiting {
 impl Waiting {
     ghost use Rattle.audit.specs.LongestPaths.{after_child};
 
-    /// The longest paths once the child has returned, by a return to which the longest path has so many records.
+    /// The longest paths after the child's return; the longest path to that return has `length` records.
     fn after_child(self, length: u64) -> Longest
         ensures { result ≡ after_child length self.calls self.longest }
     {
@@ -65,9 +66,9 @@ impl Waiting {
 /// The numbers of the records so far.
 #[derive(Drop)]
 pub(crate) struct Measuring {
-    /// Of the procedure that executes.
+    /// The longest paths of the executing procedure.
     pub(crate) executing: Longest,
-    /// Of the procedures above it, from the root on.
+    /// The procedures above it, from the root on.
     pub(crate) waiting: Vec<Waiting>,
     pub(crate) work: u64,
     pub(crate) span: u64,
@@ -78,7 +79,7 @@ pub(crate) struct Measuring {
 impl Measuring {
     ghost use Rattle.audit.specs.LongestPaths.{HasMeasured, Advances};
 
-    /// No record was seen.
+    /// The state before the first record.
     pub(crate) fn new(alloc: Global) -> Measuring
         ensures { HasMeasured result [] }
     {
@@ -95,7 +96,7 @@ impl Measuring {
         }
     }
 
-    /// Takes a record to which the longest path has so many records.
+    /// Takes a record; the longest path to it has `length` records.
     fn advance(&mut self, what: Record, length: u64) -> Result<(), NoMemory>
         ensures paths { OnOk result
             (Advances length what self.old.executing self.old.waiting.items self.new.executing self.new.waiting.items) }
@@ -155,12 +156,13 @@ impl Watch for Measuring {
 
 /// Reads a trace to its end and measures it.
 ///
-/// A fault is the whole answer. It keeps two numbers for each active procedure, and whether it waits for a call, so its
-/// memory grows with the depth alone, and a record costs the same wherever it stands.
+/// A fault is the whole answer. It keeps two numbers for each active procedure, and whether that waits for a call. So
+/// its memory grows with the depth alone, and a record costs the same wherever it stands.
 pub fn measure<R: Source>(alloc: Global, limits: Limits, source: &mut R) -> Result<Measure, Fault>
-    // All bytes of the source are the text of a trace that is well nested within the limits, and these are its numbers.
-    // Otherwise no memory was left, or the fault is the first; and where the source holds such a trace and doesn't
-    // fail, no memory was left.
+    // All bytes of the source are the text of a trace that is well nested within the limits, and these are its
+    // numbers.
+    // Otherwise no memory was left, or the fault is the first. If the source holds such a trace and doesn't fail, no
+    // memory was left.
     ensures { EndsReading IsWantOfMemory limits.records limits.depth (R.state source.old ⇝ R.state source.new)
         (λ m w. IsMeasure w m) result }
 {

@@ -1,5 +1,5 @@
-//! Where two places meet: the active procedures, each by the places at which it was opened and has last synced, and
-//! which of their children were spawned.
+//! Where two places meet: the active procedures, each with the places of its opener and its last sync, and which of
+//! their children were spawned.
 ghost use Rattle.std.specs.Prelude.{◌≡◌, ◌≤◌, List, [], length, true, OnOk};
 ghost use Rattle.trace.specs.declared.records.Record.{Record};
 ghost use Rattle.audit.specs.Meetings.{EndsIn, TakesTurn};
@@ -7,8 +7,8 @@ ghost use Rattle.audit.specs.Meetings.{EndsIn, TakesTurn};
 use std::alloc::Global;
 use trace::{NoMemory, Placed, Record};
 
-/// An active procedure: the place of the record that opened it, 0 for the root, and the place of its last own sync,
-/// or again the former where it hasn't synced; and how many turns had begun when it was opened.
+/// An active procedure: the place of the record that opened it, or 0 for the root; the place of its last own sync, or
+/// of its opener if it hasn't synced; and how many turns had begun when it was opened.
 #[derive(Clone, Copy)]
 pub(crate) struct Active {
     pub(crate) opened: u64,
@@ -16,8 +16,8 @@ pub(crate) struct Active {
     pub(crate) turns: usize,
 }
 
-/// A turn: from a place on the active procedures have opened children of this kind alone, spawned or called, up to the
-/// next turn.
+/// A turn: from this place up to the next turn the active procedures have opened children of one kind only, spawned
+/// or called.
 #[derive(Clone, Copy)]
 pub(crate) struct Turn {
     pub(crate) opened: u64,
@@ -30,7 +30,7 @@ pub(crate) struct Meetings {
     pub(crate) executing: Active,
     /// The procedures above it, from the root on.
     pub(crate) waiting: Vec<Active>,
-    /// In the order of their places. What a procedure began is forgotten when it syncs or returns.
+    /// In the order of their places. A sync or return of a procedure removes what this procedure began.
     pub(crate) turns: Vec<Turn>,
 }
 
@@ -39,7 +39,7 @@ impl Meetings {
     ghost use Rattle.std.specs.Prelude.{nat_lt, false};
     ghost use Rattle.audit.specs.Meetings.{HasMet, Moves, OpensChild, TellsParallel, TellsTurn, TellsUnjoinedAfter};
 
-    /// No record was seen.
+    /// The state before the first record.
     pub(crate) fn new(alloc: Global) -> Meetings
         ensures { HasMet result [] }
     {
@@ -91,7 +91,7 @@ impl Meetings {
         Ok(())
     }
 
-    /// How deep the procedure lies that executes.
+    /// The depth of the executing procedure.
     pub(crate) fn depth(&self) -> usize
         ensures { result ≡ length self.now.waiting.items }
     {
@@ -99,8 +99,8 @@ impl Meetings {
     }
 
     /// Whether an earlier access, at a place and a depth, is parallel to an access that comes next. They meet in the
-    /// last active procedure that was opened before the earlier one: there they are parallel where that lies in a child
-    /// that it spawned, and the procedure hasn't synced since.
+    /// last active procedure that was opened before the earlier one. They are parallel if the earlier one lies in a
+    /// child that this procedure spawned, and this procedure hasn't synced since.
     pub(crate) fn is_parallel(&self, place: u64, depth: usize) -> bool
         ensures { (u : List Record) → HasMet self.now u → TellsParallel u place depth result }
     {
@@ -120,7 +120,7 @@ impl Meetings {
         }
     }
 
-    // How many of the waiting procedures were opened before a place, where they stand in this order.
+    // The number of waiting procedures that were opened before a place, if they are in this order.
     fn holders(&self, place: u64) -> usize
         ensures within { result ≤ length self.now.waiting.items }
         ensures opened { IsPartitionedBy (λ f. nat_lt f.opened place) self.now.waiting.items
@@ -130,8 +130,8 @@ impl Meetings {
         self.waiting.partition_point(|f| f.opened < place)
     }
 
-    // Whether the last turn that began before a place is one of spawned children, where they stand in this order. It is
-    // that of the child which holds the place, if its parent hasn't synced since.
+    // Whether the last turn that began before a place is one of spawned children, if they are in this order. It is
+    // the turn of the child that holds the place, if its parent hasn't synced since.
     fn is_in_spawned_turn(&self, place: u64) -> bool
         ensures { TellsTurn self.now.turns.items place result }
     {
