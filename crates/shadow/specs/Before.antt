@@ -7,7 +7,7 @@ use Rattle.trace.specs.Accesses.{writes}
 use Rattle.bags.specs.Procedures.{Procedures, current, in_p}
 use Rattle.shadow.specs.Cells.{Named, Cell}
 
--- a name that was kept before a place, of one of so many procedures
+-- a name that was kept before a place; it is one of `count` procedures
 pub record IsNameBefore (place count : ℕ) (n : Named) : Type 0 where
   pub from_one : 1 ≤ n.place
   pub earlier : n.place < place
@@ -17,7 +17,7 @@ pub record IsCellBefore (place count : ℕ) (c : Cell) : Type 0 where
   pub writer : ForSome c.writer (IsNameBefore place count)
   pub reader : ForSome c.reader (IsNameBefore place count)
 
--- an earlier access that makes a race with one of this kind at this place, where the two are parallel
+-- an earlier access that makes a race with one of this kind at this place, if the two are parallel
 pub record CanRace (kind : Kind) (place : ℕ) (first : Access) : Type 0 where
   pub from_one : 1 ≤ first.place
   pub earlier : first.place < place

@@ -12,7 +12,7 @@ pub record Named : Type 0 where
   pub procedure : ℕ
   pub place : ℕ
 
--- the kept writer and the kept reader of a location, and whether its race was told
+-- the kept writer and the kept reader of a location, and whether its race was reported
 pub record Cell : Type 0 where
   pub writer : Option Named
   pub reader : Option Named
@@ -26,7 +26,7 @@ abbrev pub stands_in_p : List Active → Option Named → Bool
 stands_in_p fs None = false
 stands_in_p fs (Some n) = in_p fs n.procedure
 
--- the kept access, where it stands in a P-bag
+-- the kept access, if its procedure is in a P-bag
 abbrev pub parallel_access : List Active → Kind → Option Named → Option Access
 parallel_access fs k None = None
 parallel_access fs k (Some n) = if in_p fs n.procedure then Some (record { kind = k; place = n.place }) else None
@@ -49,7 +49,7 @@ abbrev pub touched : List Active → Kind → ℕ → Cell → Cell
 touched fs Read place c = record { writer = c.writer; reader = reader_after fs place c.reader; told = c.told || is_some (rival fs Read c) }
 touched fs Write place c = record { writer = name_of fs place; reader = c.reader; told = c.told || is_some (rival fs Write c) }
 
--- the race that is told at an access: the first of its location
+-- the race that is reported at an access: the first of its location
 abbrev pub race_with : ℕ → Kind → ℕ → Bool → Option Access → Option RaceAt
 race_with l k place told None = None
 race_with l k place true (Some first) = None

@@ -35,7 +35,7 @@ after_record s place records.Call = record { bags = event s.bags records.Call; k
 after_record s place records.Return = record { bags = event s.bags records.Return; kept = s.kept }
 after_record s place records.Sync = record { bags = event s.bags records.Sync; kept = s.kept }
 
--- the race that is told at a record
+-- the race that is reported at a record
 abbrev pub race_of : State → ℕ → Record → Option RaceAt
 race_of s place (records.Read l) = race_at s.bags.active l Read place (s.kept l)
 race_of s place (records.Write l) = race_at s.bags.active l Write place (s.kept l)
@@ -52,7 +52,7 @@ state_from s (p ∷ u) = state_from (after_record s p.place p.what) u
 abbrev pub state_after : List Placed → State
 state_after u = state_from start u
 
--- the races that are told, by their second places
+-- the reported races, by their second places
 abbrev pub found_from : State → List Placed → List RaceAt
 found_from s [] = []
 found_from s (p ∷ u) = option_to_list (race_of s p.place p.what) ++ found_from (after_record s p.place p.what) u
@@ -69,6 +69,6 @@ abbrev pub by_location : List RaceAt → List RaceAt
 by_location [] = []
 by_location (r ∷ rs) = put_in r (by_location rs)
 
--- the races that are told of a trace, by ascending location
+-- the races that are reported of a trace, by ascending location
 abbrev pub verdict : List Record → List RaceAt
 verdict w = by_location (found (placed w))

@@ -1,4 +1,4 @@
--- Promised: where the cell of a location lies: cells lie in pages of eight.
+-- Promised: the cells of the locations: a page has eight of them.
 use Rattle.std.specs.Prelude.{◌≡◌, ℕ, ◌+◌, ◌*◌, ◌/◌, ◌%◌, ◌==◌, ◌&&◌, if◌then◌else◌, List, [], Option, Some, None, nat_eq, slice_get, slice_index_or, unwrap_or}
 use Rattle.std.specs.Map.{lookup}
 use Rattle.shadow.specs.Cells.{Cell, untouched}
@@ -16,7 +16,7 @@ page_of n l = (l / n / 64 * 8 + l / n % 8) * n + l % n
 abbrev pub seat_of : ℕ → ℕ → ℕ
 seat_of n l = l / n / 8 % 8
 
--- the page of this number, in which nothing is kept where it isn't there
+-- the page of this number; if it isn't there, an untouched one
 abbrev pub cells_of : List (ℕ × List Cell) → ℕ → List Cell
 cells_of pages page = unwrap_or (lookup (nat_eq page) pages) []
 
@@ -32,7 +32,7 @@ cell_of n pages l = cell_in pages (page_of n l) (seat_of n l)
 abbrev pub IsPageAt : List (ℕ × List Cell) → ℕ → ℕ → Type 0
 IsPageAt pages index page = slice_get pages index ≡ Some (page, cells_of pages page)
 
--- the index where the page of this number stands, or that there is none
+-- the index of the page of this number, or that there is none
 abbrev pub IsLookedUp : List (ℕ × List Cell) → ℕ → Option ℕ → Type 0
 IsLookedUp pages page (Some index) = IsPageAt pages index page
 IsLookedUp pages page None = lookup (nat_eq page) pages ≡ None

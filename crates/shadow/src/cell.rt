@@ -28,7 +28,7 @@ impl Model for Name {
     ghost inverse = { λ n. record { procedure = n.procedure; place = n.place } };
 }
 
-/// The name that is kept, if any: a procedure and a place, or the place 0 where none is kept.
+/// The name that is kept: a procedure and a place. The place is 0 if no name is kept.
 #[derive(Drop)]
 pub struct Slot {
     procedure: u64,
@@ -57,7 +57,7 @@ impl Slot {
         }
     }
 
-    /// The name that is kept.
+    /// The kept name, if there is one.
     #[inline(always)]
     fn name(&self) -> Option<Name>
         ensures { result ≡ self.now }
@@ -83,7 +83,7 @@ impl Slot {
         self.place = place;
     }
 
-    /// Keeps the name of a read, unless the kept one stands in a P-bag.
+    /// Keeps the name of a read, unless the kept reader is in a P-bag.
     #[inline(always)]
     fn keep_reader(&mut self, bags: &Bags, executing: u64, place: u64)
         requires executes { Executes bags.now executing }
@@ -99,7 +99,7 @@ impl Slot {
     }
 }
 
-/// The kept writer and the kept reader of a location, and whether its race was told.
+/// The kept writer and the kept reader of a location, and whether its race was reported.
 #[derive(Drop)]
 pub struct Kept {
     writer: Slot,
@@ -116,7 +116,7 @@ impl Model for Kept {
 }
 
 impl Kept {
-    /// What is kept of a location that was not touched.
+    /// The state of a location before its first access.
     pub fn untouched() -> Kept
         ensures { result ≡ untouched }
     {
@@ -127,7 +127,7 @@ impl Kept {
         }
     }
 
-    /// An access of the location by the executing procedure: the race that it tells, if any.
+    /// Takes an access of the location by the executing procedure, and reports its race, if any.
     #[inline(always)]
     pub fn touch(&mut self, bags: &Bags, location: u64, kind: Kind, place: u64) -> Option<Race>
         requires { MayTouch bags.now place self.old }
@@ -149,7 +149,7 @@ impl Kept {
         }
     }
 
-    // The location's race is told from here on. Whether it wasn't told before.
+    // From here on the location's race counts as reported. Whether it wasn't reported before.
     #[cold]
     #[inline(never)]
     fn tell(&mut self) -> bool
@@ -162,7 +162,7 @@ impl Kept {
     }
 }
 
-/// The first access of a race with an access by the executing procedure.
+/// The first access of a race with an access by the executing procedure, if there is one.
 #[inline(always)]
 fn rival(bags: &Bags, executing: u64, kind: Kind, place: u64, kept: &Kept) -> Option<Access>
     requires executes { Executes bags.now executing }
@@ -183,7 +183,7 @@ fn rival(bags: &Bags, executing: u64, kind: Kind, place: u64, kept: &Kept) -> Op
     }
 }
 
-/// The kept access, where it stands in a P-bag.
+/// The kept access, if its procedure is in a P-bag.
 #[inline(always)]
 fn parallel_access(
     bags: &Bags,
@@ -208,7 +208,7 @@ fn parallel_access(
     }
 }
 
-/// Whether a procedure stands in a P-bag. The executing one doesn't, so it isn't looked up.
+/// Whether a procedure is in a P-bag. The executing procedure is in none, so it isn't looked up.
 #[inline(always)]
 fn is_in_p(bags: &Bags, executing: u64, procedure: u64) -> bool
     requires executes { Executes bags.now executing }

@@ -45,7 +45,7 @@ impl<S: BuildHasher> Model for Shadow<S> {
 impl<S: BuildHasher> Shadow<S> {
     ghost use Rattle.shadow.specs.Memory.{kept_of, last_place_of, least_count_of, IsSameMemory};
 
-    /// Shadow memory of which nothing was touched. It takes no memory.
+    /// Shadow memory before the first access. It takes no memory.
     pub fn with_hasher(alloc: Global, hasher: S) -> Shadow<S>
         ensures kept { (l : ℕ) → kept_of result l ≡ untouched }
         ensures last_place { last_place_of result ≡ 0 }
@@ -54,8 +54,8 @@ impl<S: BuildHasher> Shadow<S> {
         Shadow::for_shards(alloc, hasher, 1)
     }
 
-    /// The shadow memory of one of so many shards, of which nothing was touched: its pages are full where the locations
-    /// of one shard alone are touched. It takes no memory.
+    /// The shadow memory of one of `shards` shards, before the first access. If only locations of one shard are
+    /// touched, the pages are full. It takes no memory.
     pub fn for_shards(alloc: Global, hasher: S, shards: u64) -> Shadow<S>
         requires { 1 ≤ shards }
         ensures kept { (l : ℕ) → kept_of result l ≡ untouched }
@@ -70,21 +70,21 @@ impl<S: BuildHasher> Shadow<S> {
         }
     }
 
-    /// The place of the last touch, or 0 before the first.
+    /// The place of the last access, or 0 before the first.
     pub fn last_place(&self) -> u64
         ensures { result ≡ last_place_of self.now }
     {
         self.last_place
     }
 
-    /// How many procedures the bags of the last touch had, or 1 before the first.
+    /// The number of procedures in the bags at the last access, or 1 before the first.
     pub fn least_count(&self) -> u64
         ensures { result ≡ least_count_of self.now }
     {
         self.least_count
     }
 
-    /// An access by the executing procedure of the bags: the race that it tells, if any.
+    /// Takes an access by the executing procedure of the bags, and reports its race, if any.
     #[inline(always)]
     pub fn touch(
         &mut self,
@@ -104,7 +104,7 @@ impl<S: BuildHasher> Shadow<S> {
         ensures last_place { OnOk result (last_place_of self.new ≡ place) }
         ensures least_count { OnOk result (least_count_of self.new ≡ bags.now.count) }
 
-        // A refusal changes nothing, and comes only where nothing is kept of the location yet.
+        // A refusal changes nothing, and comes only if nothing is kept of the location yet.
         ensures err { OnErr result (IsSameMemory self.old self.new) }
         ensures not_there { OnErr result (kept_of self.old location ≡ untouched) }
     {

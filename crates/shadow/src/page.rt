@@ -1,4 +1,4 @@
-//! Pages of cells: what is kept of eight locations.
+//! Pages of cells: each has what is kept of eight locations.
 ghost use Rattle.std.specs.Prelude.{◌≡◌, ◌≢◌, ◌<◌, ℕ};
 ghost use Rattle.shadow.specs.Pages.{cell_at};
 ghost use Rattle.shadow.specs.Cells.{untouched};
@@ -25,7 +25,7 @@ impl Model for Page {
 }
 
 impl Page {
-    /// Nothing is kept of any location.
+    /// A page of eight locations before their first access.
     pub fn untouched() -> Page
         ensures { (seat : ℕ) → cell_at result seat ≡ untouched }
     {
@@ -43,7 +43,7 @@ impl Page {
         }
     }
 
-    /// An access of the location that is kept in this seat: the race that it tells, if any. The others are left.
+    /// Takes an access of the location in this seat, and reports its race, if any. The other seats don't change.
     #[inline(always)]
     pub fn touch(
         &mut self,

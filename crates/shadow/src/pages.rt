@@ -1,4 +1,4 @@
-//! The pages that were touched, by their numbers.
+//! The touched pages, by their numbers.
 ghost use Rattle.std.specs.Prelude.{◌≡◌, ◌<◌, [], IfSome, IfOk, IsTrue, OnErr};
 ghost use Rattle.shadow.specs.Pages.{cells_of, cell_in, IsPageAt, IsLookedUp, HasPut, HasSameCells};
 ghost use Rattle.shadow.specs.Touches.{MayTouch, HasTouched};
@@ -12,13 +12,14 @@ use std::hash::BuildHasher;
 use std::marker::Model;
 use trace::{Kind, NoMemory, Race};
 
-/// How many indices are remembered.
+/// The number of remembered indices.
 const SLOTS: usize = 256;
 
-/// How many slots before its own a page has that of the page whose locations come before its own.
+/// The slot of a page lies this many slots after that of the page whose locations come just before.
 const NEIGHBOUR: usize = 9;
 
-/// Pages by their numbers. Where a late look-up found a page is remembered, and tried first at the next one.
+/// Pages by their numbers. They remember where late look-ups found a page, and the next look-up tries this index
+/// first.
 #[derive(Drop)]
 pub struct Pages<S: BuildHasher> {
     map: IndexMap<u64, Page, S>,
@@ -46,13 +47,13 @@ impl<S: BuildHasher> Pages<S> {
         }
     }
 
-    /// The index that is remembered for the spot's slot. It may be another page's.
+    /// The remembered index of this slot. It may be the index of another page.
     #[inline(always)]
     pub fn remembered(&self, spot: Spot) -> usize {
         self.recent[spot.slot]
     }
 
-    /// Whether the page of this number stands at this index.
+    /// Whether the page of this number is at this index.
     #[inline(always)]
     pub fn is_at(&self, index: usize, page: u64) -> bool
         ensures { IsTrue result → IsPageAt self.now index page }
@@ -63,10 +64,10 @@ impl<S: BuildHasher> Pages<S> {
         }
     }
 
-    /// Where the page of this number stands, for the slot to remember. It is looked up, and added with nothing kept in
-    /// it where it isn't there.
+    /// The index of the page of this number, which the slot remembers. If there is no such page, an untouched one is
+    /// added.
     ///
-    /// On an error nothing has changed.
+    /// An error leaves all as it was.
     #[inline(never)]
     pub fn find(&mut self, slot: usize, page: u64) -> Result<usize, NoMemory>
         requires { slot < 256 }
@@ -123,7 +124,7 @@ impl<S: BuildHasher> Pages<S> {
         Some(index)
     }
 
-    /// An access of the location of this spot, whose page stands at this index: the race that it tells, if any.
+    /// Takes an access of the location of this spot, whose page is at this index, and reports its race, if any.
     #[inline(always)]
     pub fn touch(
         &mut self,
@@ -154,7 +155,7 @@ mod tests {
     use std::hash::{BuildHasherDefault, FoldHasher};
     use std::test::Fail;
 
-    /// How many pages 10,000 locations take that follow one another in the third of so many shards.
+    /// How many pages 10,000 consecutive locations of the third of `shards` shards take.
     fn pages_taken(alloc: Global, shards: u64) -> Result<usize, Fail> {
         let mut pages = Pages::with_hasher(alloc, BuildHasherDefault::<FoldHasher>::default());
         for number in 0..10_000u64 {

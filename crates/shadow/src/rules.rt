@@ -11,11 +11,11 @@ use bags::Bags;
 use std::hash::BuildHasher;
 use trace::{Kind, NoMemory, Placed, Race, Record};
 
-/// Takes a record of a run: an access touches its location by the bags as they are, and every other record
-/// moves the bags. The root's return changes nothing. Where the bags and the shadow memory are those after
-/// some records, the answer is the race that this record adds to those found.
+/// Takes a record of a run. An access touches its location by the bags as they are; every other record moves the
+/// bags. The root's return changes nothing. If the bags and the shadow memory are those after some records, the
+/// answer is the race that this record adds to those found.
 ///
-/// On an error the same call may be made again.
+/// After an error the same call may be made again.
 #[inline(always)]
 pub fn apply<S: BuildHasher>(
     bags: &mut Bags,
@@ -63,7 +63,7 @@ mod tests {
     /// A race: its location, and the kind and the place of each of its accesses.
     type Told = (u64, (Kind, u64), (Kind, u64));
 
-    /// The races that records tell, one record after another.
+    /// The races that the records add, one record after another.
     fn races(alloc: Global, records: &[Record]) -> Result<Vec<Told>, Fail> {
         let mut bags = Bags::new(alloc)?;
         let mut shadow = Shadow::with_hasher(alloc, BuildHasherDefault::<FoldHasher>::default());

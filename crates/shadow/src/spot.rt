@@ -1,25 +1,25 @@
-//! Where the cell of a location lies.
+//! Where the cell of a location is.
 ghost use Rattle.std.specs.Prelude.{◌≡◌, ◌+◌, ◌*◌, ◌/◌, ◌%◌, ◌<◌, ◌≤◌, ◌^◌};
 ghost use Rattle.shadow.specs.Pages.{page_of, seat_of};
 
-/// How many cells a page has.
+/// The number of cells of a page.
 const SEATS: u64 = 8;
 
-/// Where a location's cell lies.
+/// Where a location's cell is.
 #[derive(Clone, Copy)]
 pub struct Spot {
-    /// The number of the page that has the cell.
+    /// The number of the cell's page.
     pub page: u64,
     /// The cell's seat in the page.
     pub seat: usize,
-    /// The page's slot among the 256 that remember an index each.
+    /// The page's slot among the 256 that each remember an index.
     pub slot: usize,
     ghost seat_within: { seat < 8 },
     ghost slot_within: { slot < 256 },
 }
 
-/// Where the location's cell lies, with so many shards. A division by a number that is known before takes a
-/// multiplication and no division, so the numbers that most often are a count of processors stand here.
+/// Where the location's cell is, if there are `shards` shards. A division by a constant compiles to a multiplication,
+/// which is faster, so the usual numbers of processors have cases of their own.
 #[inline(always)]
 pub fn spot_of(location: u64, shards: u64) -> Spot
     requires { 1 ≤ shards }
