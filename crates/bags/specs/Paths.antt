@@ -11,8 +11,8 @@ pub record IsCompletedAt (w : List Record) (p r : ℕ) : Type 0 where
   pub a_return : at w r ≡ Some Return
   pub its_own : p ≡ procedure_at w r
 
--- Where s are the bags after the first t records of a well nested trace, and the next record neither
--- syncs nor returns: the answer is true exactly where no path leads from p's return to the next record.
+-- If s are the bags after the first t records of a well nested trace, and the next record is neither a sync nor a
+-- return: the answer is true exactly if no path leads from p's return to the next record.
 abbrev pub TellsPaths : Procedures → ℕ → Bool → Type 0
 TellsPaths s p answer = (w : List Record) (n d t r : ℕ) → IsWellNested w n d → s ≡ bags_after (take t (placed w))
     → IsPlace w (suc t) → (JoinsAt w (suc t) → ⊥) → IsCompletedAt w p r → r ≤ t

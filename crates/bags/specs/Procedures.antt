@@ -21,8 +21,8 @@ pub record Active : Type 0 where
   pub serial : Bag
   pub parallel : Bag
 
--- the procedures so far: how many there are, and the active ones, of which the first executes and each
--- next one is the parent of the one before it
+-- the procedures so far: their number, and the active ones; the first of these executes, and each next one is the
+-- parent of the one before it
 pub record Procedures : Type 0 where
   pub count : ℕ
   pub active : List Active
@@ -35,8 +35,8 @@ opened is_called f = record { own = f; is_called = is_called; serial = set.inser
 abbrev pub synced : Active → Active
 synced f = record { own = f.own; is_called = f.is_called; serial = set.union f.serial f.parallel; parallel = set.empty }
 
--- the parent f takes in its child g, which returns: g syncs, and then P of f = P of f + S of g where g was spawned, and
--- S of f = S of f + S of g where it was called
+-- the parent f takes in its child g, which returns: g syncs; then P of f = P of f + S of g if g was spawned, and S of
+-- f = S of f + S of g if it was called
 abbrev pub adopts : Active → Active → Active
 adopts f g = record {
   own = f.own;

@@ -1,4 +1,4 @@
-//! First numbers, of stretches and of active procedures. One call compares them, and it counts.
+//! First numbers of stretches, and numbers of active procedures. Only one call compares them, and it counts.
 #![tactic(auto)]
 
 ghost use Rattle.std.specs.Prelude.{◌≡◌, ◌+◌, ◌*◌, ◌<◌, ◌≤◌, ◌^◌, ◌↔◌, IsTrue};
@@ -7,10 +7,10 @@ ghost use Rattle.trace.specs.Bounds.{most_records};
 use crate::look_up::Probes;
 use std::marker::Model;
 
-/// The number of a procedure with which a stretch begins, or which is active, and a flag beside it.
+/// The number of a procedure that begins a stretch or is active, and a flag.
 #[derive(Clone, Copy)]
 pub struct First {
-    // twice the number, and 1 more where the flag is set
+    // twice the number, plus 1 if the flag is set
     word: u64,
 }
 
@@ -48,7 +48,7 @@ impl First {
         self.word % 2 == 1
     }
 
-    /// The number, for the procedure that executes to tell.
+    /// The number, so that the executing procedure's can be reported.
     #[inline(always)]
     pub fn number(self) -> u64
         ensures { result ≡ self.number }
@@ -56,7 +56,7 @@ impl First {
         self.word / 2
     }
 
-    /// Whether the number isn't above a procedure's: a probe, which is counted.
+    /// Whether the number is at most a procedure's. This comparison is a probe, and it is counted.
     #[inline(always)]
     pub fn is_by(self, procedure: u64, probes: &mut Probes) -> bool
         requires counts { probes.old + 1 < 2 ^ 32 }

@@ -1,12 +1,12 @@
-//! What the paths of a trace do at a completed procedure.
+//! The paths of a trace from a completed procedure.
 
 ghost use Rattle.std.specs.Prelude.{ℕ, List};
 ghost use Rattle.trace.specs.declared.records.Record.{Record};
 ghost use Rattle.trace.specs.Traces.{IsWellNested};
 ghost use Rattle.trace.specs.Dag.{OneWayOut};
 
-/// One way out: from a place in the part of a completed procedure to a later place outside that part a
-/// path leads exactly where one leads from the procedure's return.
+/// One way out: for a place in the part of a completed procedure and a later place outside that part, a path leads
+/// from the first to the second exactly if one leads from the procedure's return to the second.
 pub fn out()
     ensures one_way { (w : List Record) (records depths : ℕ) → IsWellNested w records depths → OneWayOut w }
 {}

@@ -1,7 +1,7 @@
 //! S-bags and P-bags: which completed procedures are parallel to the one that executes.
 //!
-//! Procedures are numbered by their spawns and calls. A stretch is a longest run of consecutive procedures that stand
-//! in one bag of one active procedure; so the list of stretches says what all the bags hold.
+//! Spawns and calls number the procedures. A stretch is a longest run of consecutive procedures in one bag of one
+//! active procedure; so the list of stretches says what all the bags hold.
 #![tactic(auto)]
 
 ghost use Rattle.std.specs.Prelude.{◌≡◌, ◌+◌, ◌*◌, ◌<◌, ◌≤◌, true, false, length, IfOk, OnOk, OnErr};
@@ -31,7 +31,7 @@ mod stretch;
 pub struct Bags {
     /// The active procedures; the last one executes.
     nested: Vec<Nested>,
-    /// Their stretches: the root's first, then those of the next active procedure, and so on.
+    /// The stretches of the active procedures, the root's first.
     stretches: Vec<Stretch>,
     count: u64,
     /// Where a look-up among the stretches begins.
@@ -57,7 +57,7 @@ impl Bags {
     ghost use Rattle.bags.specs.Procedures.{at_start, current, entered, event, in_p};
     ghost use Rattle.trace.specs.declared.records.Record.TheVariants.{Sync, Return};
 
-    /// The bags at the start: the root alone is active.
+    /// The bags at the start: only the root is active.
     pub fn new(alloc: Global) -> Result<Bags, NoMemory>
         ensures { IfOk result (λ bags. bags ≡ at_start) }
     {
@@ -127,7 +127,8 @@ impl Bags {
         let _ = self.nested.pop();
         let last = self.stretches[executing.begins() - 1];
         self.stretches.truncate(executing.begins());
-        // What it kept goes to one bag of its parent, and joins the parent's last stretch where that is of that bag.
+        // What it kept goes to one bag of its parent, and joins the parent's last stretch if that belongs to the same
+        // bag.
         let is_parallel = !executing.is_called();
         if last.is_parallel() != is_parallel {
             self.stretches
@@ -138,7 +139,7 @@ impl Bags {
         }
     }
 
-    /// The number of the executing procedure, which stands in no P-bag.
+    /// The number of the executing procedure, which is in no P-bag.
     pub fn current(&self) -> u64
         ensures executes { result ≡ current self.now.active }
         ensures known { result < self.now.count }
@@ -147,7 +148,7 @@ impl Bags {
         self.nested[self.nested.len() - 1].number()
     }
 
-    /// How many procedures there are so far, completed ones among them.
+    /// The number of procedures so far, active and completed.
     pub fn count(&self) -> u64
         ensures procedures { result ≡ self.now.count }
         ensures some { 1 ≤ result }
@@ -155,7 +156,7 @@ impl Bags {
         self.count
     }
 
-    /// How many procedures are active. The root always is.
+    /// The number of active procedures. The root is always active.
     pub fn active(&self) -> u64
         ensures procedures { result ≡ length self.now.active }
         ensures some { 1 ≤ result }
@@ -163,7 +164,7 @@ impl Bags {
         self.nested.len() as u64
     }
 
-    /// How many numbers the lists have in all: two for each active procedure, and one for each stretch.
+    /// How many numbers the lists hold in all: two for each active procedure, and one for each stretch.
     pub fn held(&self) -> u64
         ensures exact { result ≡ 2 * length self.now.active + stretches self.now }
         ensures most { result ≤ 2 * (length self.now.active + stretches self.now) }
@@ -171,20 +172,20 @@ impl Bags {
         (2 * self.nested.len() + self.stretches.len()) as u64
     }
 
-    /// Whether a procedure stands in a P-bag: whether it is parallel to what executes next.
+    /// Whether a procedure is in a P-bag: whether it is parallel to the next strand.
     #[inline(always)]
     pub fn in_p(&self, procedure: u64) -> bool
         requires { procedure < self.now.count }
         ensures bags { result ≡ in_p self.now.active procedure }
-        // After the records before a place that neither syncs nor returns: a completed procedure stands in
-        // a P-bag exactly where no path leads from its return to that place.
+        // After the records before a place that is neither a sync nor a return: a completed procedure is in a P-bag
+        // exactly if no path leads from its return to that place.
         ensures paths { TellsPaths self.now procedure result }
     {
         self.in_p_counted(procedure).0
     }
 
-    /// The answer of `in_p`, and the probes that it took: how often the procedure's number was compared with a number
-    /// that is the first of a stretch or of an active procedure.
+    /// The answer of `in_p`, and the number of its probes: how often it compared the procedure's number with the
+    /// first number of a stretch or with an active procedure's number.
     #[inline(always)]
     pub fn in_p_counted(&self, procedure: u64) -> (bool, u32)
         requires { procedure < self.now.count }

@@ -1,4 +1,4 @@
-//! The look-up of a procedure among stretches, with its probes. It begins with none, and no other code makes a counter.
+//! The look-up of a procedure among stretches, with its probes. It makes the counter, at 0; no other code makes one.
 #![tactic(auto)]
 
 ghost use Rattle.std.specs.Prelude.{◌≡◌, ◌+◌, ◌<◌, ◌≤◌, ◌^◌, length};
@@ -10,7 +10,7 @@ use crate::search::{Start, keeper_of};
 use crate::stretch::Stretch;
 use std::marker::Model;
 
-/// How many probes a look-up has made.
+/// The number of probes that a look-up has made.
 #[derive(Drop)]
 pub struct Probes {
     made: u32,
@@ -25,7 +25,7 @@ impl Model for Probes {
 }
 
 impl Probes {
-    /// One probe more.
+    /// Counts one more probe.
     #[inline(always)]
     pub fn add(&mut self)
         requires { self.old + 1 < 2 ^ 32 }
@@ -35,7 +35,7 @@ impl Probes {
     }
 }
 
-/// The stretch that a procedure lies in, and the probes that it took to find it.
+/// The stretch of a procedure, and the number of probes that it took to find it.
 #[inline(always)]
 pub fn look_up(stretches: &[Stretch], start: Start, procedure: u64) -> (Stretch, u32)
     requires start { IsStart (length stretches.now) start }

@@ -1,4 +1,4 @@
-//! Active procedures, as they are held.
+//! Active procedures, as `Bags` holds them.
 #![tactic(auto)]
 
 ghost use Rattle.std.specs.Prelude.{◌≡◌, ◌≤◌};
@@ -7,12 +7,12 @@ ghost use Rattle.trace.specs.Bounds.{most_records};
 use crate::first::First;
 use std::marker::Model;
 
-/// An active procedure: where its stretches begin, its number, and whether it was called and not spawned. The first of
-/// its stretches begins with itself, in its S-bag.
+/// An active procedure: where its stretches begin, its number, and whether it was called rather than spawned. Its
+/// first stretch begins with the procedure itself, in its S-bag.
 #[derive(Clone, Copy)]
 pub struct Nested {
     begins: usize,
-    // the flag is set where it was called
+    // the flag is set if it was called
     first: First,
 }
 

@@ -1,4 +1,4 @@
-//! The search for the stretch that a procedure lies in. It can't read a first number, and makes no counter.
+//! The search for the stretch of a procedure. It can't read a first number, and it makes no counter.
 #![tactic(auto)]
 
 ghost use Rattle.std.specs.Prelude.{◌≡◌, ℕ, ◌+◌, ◌*◌, ◌<◌, ◌≤◌, ◌^◌, length};
@@ -10,12 +10,12 @@ use crate::look_up::Probes;
 use crate::stretch::Stretch;
 use std::marker::Model;
 
-/// Where a search among so many stretches begins.
+/// Where a search among a number of stretches begins.
 #[derive(Clone, Copy)]
 pub struct Start {
-    /// The greatest power of two that is not above their number.
+    /// The greatest power of two that is at most this number.
     longest: usize,
-    /// The first stretch that is compared. Those from it on are no more than `longest`.
+    /// The first stretch to compare. From it on there are at most `longest` stretches.
     middle: usize,
 }
 
@@ -30,7 +30,7 @@ impl Model for Start {
 }
 
 impl Start {
-    /// Among one stretch.
+    /// The start among one stretch.
     pub fn of_one() -> Start
         ensures { IsStart 1 result }
     {
@@ -40,7 +40,7 @@ impl Start {
         }
     }
 
-    /// Among so many stretches, where they were one fewer.
+    /// The start among `len` stretches, made from that of one stretch less.
     #[inline(always)]
     pub fn of_more(self, len: usize) -> Start
         requires { (fewer : ℕ) × (len ≡ fewer + 1) × (1 ≤ fewer) × IsStart fewer self }
@@ -60,7 +60,7 @@ impl Start {
         }
     }
 
-    /// Among so many stretches, where they were as many or more.
+    /// The start among `len` stretches, made from that of at least as many.
     #[inline(always)]
     pub fn of_fewer(self, len: usize) -> Start
         requires some { 1 ≤ len }
@@ -79,7 +79,7 @@ impl Start {
     }
 }
 
-/// The first stretch to be compared, of so many.
+/// The index of the first of `len` stretches to compare.
 #[inline(always)]
 fn middle_of(len: usize, longest: usize) -> usize
     requires some { 1 ≤ len }
@@ -93,9 +93,9 @@ fn middle_of(len: usize, longest: usize) -> usize
     }
 }
 
-/// The stretch that a procedure lies in: the last one whose first number is not above it. The newest stretches are told
-/// from the older ones first. The oldest stretch is told by a second comparison, or by the first, where the others are
-/// few enough. All else is searched by steps that are halved.
+/// The stretch of a procedure: the last one whose first number is at most the procedure's. The first comparison
+/// separates the newest stretches from the older ones. A second one finds the oldest stretch; if there are few
+/// others, the first comparison already does. The rest is a search that halves its steps.
 #[tactic(auto, using(crate::proofs::Segments::first_at_is))]
 #[inline(always)]
 pub fn keeper_of(
@@ -134,7 +134,7 @@ pub fn keeper_of(
     part[0]
 }
 
-/// The greatest power of two that is not above a length.
+/// The greatest power of two that is at most this length.
 #[inline(always)]
 fn longest_step(len: usize) -> usize
     requires { 0 < len }

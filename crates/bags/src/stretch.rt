@@ -1,4 +1,4 @@
-//! Stretches, as they are held.
+//! Stretches, as `Bags` holds them.
 #![tactic(auto)]
 
 ghost use Rattle.std.specs.Prelude.{◌≡◌, ◌+◌, ◌<◌, ◌≤◌, ◌^◌, ◌↔◌, IsTrue};
@@ -8,7 +8,7 @@ use crate::first::First;
 use crate::look_up::Probes;
 use std::marker::Model;
 
-/// A run of procedures that stand in one bag: the first of them, and whether the bag is a P-bag.
+/// A run of procedures in one bag: the first of them, and whether the bag is a P-bag.
 #[derive(Clone, Copy)]
 pub struct Stretch {
     first: First,
@@ -45,7 +45,7 @@ impl Stretch {
         self.first.flag()
     }
 
-    /// Whether it begins with a procedure or before it: a probe, which is counted.
+    /// Whether it begins with this procedure or an earlier one. This comparison is a probe, and it is counted.
     #[inline(always)]
     pub fn begins_by(self, procedure: u64, probes: &mut Probes) -> bool
         requires counts { probes.old + 1 < 2 ^ 32 }
