@@ -1,4 +1,4 @@
--- Promised: lists of items: where the mark stands, and the values.
+-- Promised: lists of items: the place of the mark, and the values.
 use Rattle.std.specs.Prelude.{◌≡◌, Bool, true, false, List, [], ◌∷◌, ◌++◌}
 use Rattle.lane.specs.declared.item.Item.{Item}
 use Rattle.lane.specs.declared.item.Item.TheVariants.{One, Finish}

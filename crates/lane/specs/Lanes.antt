@@ -9,7 +9,7 @@ use Rattle.lane.specs.declared.sender.Sender.{Sender}
 use Rattle.lane.specs.declared.taker.Taker.{Taker}
 use Rattle.lane.specs.declared.sender.End.{End}
 
--- a lane, as a value that tells it from each other lane: where its ring lies, and the ring's names
+-- a lane, as a value that distinguishes it from each other lane: the place of its ring, and the ring's names
 abbrev pub LaneId : Type 0
 LaneId = (Ptr × Ptr) × (Names × Global)
 

@@ -10,7 +10,7 @@ use rtrb::RingBuffer;
 use std::alloc::Global;
 use trace::NoMemory;
 
-/// Makes a lane that holds so many items at most, the mark being one.
+/// Makes a lane that holds at most `capacity` items. The mark is an item.
 pub fn lane<T: Copy + Send>(
     alloc: Global,
     capacity: usize,

@@ -1,10 +1,10 @@
-//! What stands in a lane.
+//! The items of a lane.
 ghost use Rattle.std.specs.Prelude.{◌≡◌};
 ghost use Rattle.lane.specs.Items.{is_finish};
 
 use rtrb::Protocol;
 
-/// What stands in a lane: a value, or the mark behind the last one.
+/// An item of a lane: a value, or the mark behind the last value.
 #[derive(Clone, Copy, Debug, PartialEq, Eq)]
 pub enum Item<T> {
     One(T),

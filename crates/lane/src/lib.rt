@@ -1,4 +1,4 @@
-//! Lanes: bounded queues of one sender and one taker, with a finish mark and a receipt of what was put.
+//! Lanes: bounded queues of one sender and one taker, with a finish mark and a receipt of the items put.
 #![tactic(auto)]
 
 mod ends;

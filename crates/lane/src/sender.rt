@@ -11,11 +11,11 @@ use crate::item::{Item, MarkLast};
 use rtrb::Producer;
 use std::alloc::Global;
 
-/// How many values a block has at most.
+/// The greatest number of values in a block.
 pub const BLOCK: usize = 64;
 
-/// The end that puts. It stages items in memory of its own and shows them to the taker together, since a look of one
-/// processor at what another one has just written takes longer than all else that a put does.
+/// The end that puts. It stages items in memory of its own and shows them to the taker together. For one processor to
+/// look at what another has just written takes longer than all else in a put.
 #[derive(Drop)]
 pub struct Sender<T> {
     pub(crate) ring: Producer<Item<T>, Global, MarkLast>,
@@ -24,7 +24,7 @@ pub struct Sender<T> {
     pub(crate) staged: Vec<Item<T>>,
     // how many items are staged at most
     pub(crate) most: usize,
-    // how many this time: all that `most` and the known room allow; 0 where the other end is to be looked at first
+    // how many this time: all that `most` and the known room allow; 0 if a look at the other end has to come first
     pub(crate) limit: usize,
     ghost memory: { BLOCK ≤ vec_capacity staged },
     ghost most_is: { most ≡ most_staged (producer_capacity ring) },
@@ -35,7 +35,7 @@ pub struct Sender<T> {
     ghost last: { mark_last (sent ring ++ staged.items) ≡ true },
 }
 
-/// The receipt of a sender that puts nothing more: what was put in all.
+/// The receipt of a sender that puts nothing more: all that it put.
 #[derive(Drop)]
 pub struct End<T> {
     pub(crate) sender: Sender<T>,
@@ -44,8 +44,8 @@ pub struct End<T> {
 impl<T: Copy + Send> Sender<T> {
     ghost use Rattle.lane.specs.Lanes.{lane_of, end_lane, put_of, shown_of, staged_of, all_put, capacity_of, room_of};
 
-    /// Adds the value at the end of what was put, or hands it back because the lane was full. The taker is shown it
-    /// with those put after it: at the latest when as many are staged as `most_staged` says, or by `flush`.
+    /// Puts the value behind those put before, or hands it back if the lane is full. It shows values to the taker
+    /// together: at the latest when `most_staged` of them are staged, or in `flush`.
     #[inline(always)]
     #[tactic(auto, using(crate::proofs::Marks::has_mark_more))]
     pub fn put(&mut self, value: T) -> Result<(), T>
@@ -66,7 +66,7 @@ impl<T: Copy + Send> Sender<T> {
         Ok(())
     }
 
-    // Looks at the other end, where nothing is staged; false where the lane is full.
+    // Looks at the other end while nothing is staged; false if the lane is full.
     #[cold]
     #[inline(never)]
     fn look(&mut self) -> bool
@@ -83,7 +83,7 @@ impl<T: Copy + Send> Sender<T> {
         !full
     }
 
-    // Stages the value, and shows all where the limit is reached.
+    // Stages the value, and shows all if the limit is reached.
     #[inline(always)]
     #[tactic(auto, using(crate::proofs::Marks::has_mark_staged, crate::proofs::Marks::mark_last_staged, crate::proofs::Marks::none_staged))]
     fn stage(&mut self, value: T)
@@ -100,7 +100,7 @@ impl<T: Copy + Send> Sender<T> {
         }
     }
 
-    /// Shows the taker all that was put.
+    /// Shows the taker all items put.
     pub fn flush(&mut self)
         ensures lane { (lane_of self.new ≡ lane_of self.old) × (capacity_of self.new ≡ capacity_of self.old) }
         ensures put { put_of self.new ≡ put_of self.old }
@@ -113,8 +113,8 @@ impl<T: Copy + Send> Sender<T> {
         }
     }
 
-    /// Adds a block of up to 64 values, or none of them because the lane had no room for all. The taker is shown all
-    /// that was put.
+    /// Puts a block of up to 64 values, or none of them if the lane has no room for all. It shows the taker all items
+    /// put.
     #[tactic(auto, using(crate::proofs::Marks::has_mark_block, crate::proofs::Marks::mark_last_values, crate::proofs::Marks::no_mark_in, crate::proofs::Marks::none_staged))]
     pub fn put_block(&mut self, values: &[T]) -> bool
         requires unmarked { has_mark (put_of self.old) ≡ false }
@@ -134,7 +134,7 @@ impl<T: Copy + Send> Sender<T> {
         put
     }
 
-    /// Puts the mark, which takes a place too; false where the lane was full. The taker is shown all that was put.
+    /// Puts the mark, which takes a place too; false if the lane is full. It shows the taker all items put.
     #[tactic(auto, using(crate::proofs::Marks::has_mark_more, crate::proofs::Marks::mark_last_more, crate::proofs::Marks::none_staged))]
     pub fn mark(&mut self) -> bool
         requires { has_mark (put_of self.old) ≡ false }
@@ -156,29 +156,29 @@ impl<T: Copy + Send> Sender<T> {
         true
     }
 
-    /// For how many items more the sender knows to have room, without a look at the other end. While that is above 0
-    /// neither `put` nor `mark` is refused.
+    /// The number of further items that the sender knows to have room for, without a look at the other end. While it
+    /// is above 0, `put` and `mark` succeed.
     pub fn room(&self) -> usize
         ensures { result ≡ room_of self.now }
     {
         self.ring.cached_slots() - self.staged.len()
     }
 
-    /// How many items the lane holds at most.
+    /// The greatest number of items in the lane.
     pub fn capacity(&self) -> usize
         ensures { result ≡ capacity_of self.now }
     {
         self.ring.capacity()
     }
 
-    /// Whether the mark was put.
+    /// Whether the mark has been put.
     pub fn marked(&self) -> bool
         ensures { result ≡ has_mark (put_of self.now) }
     {
         self.marked
     }
 
-    /// The receipt, which holds the sender. The taker is shown all that was put.
+    /// The receipt, which holds the sender. It shows the taker all items put.
     pub fn end(mut self) -> End<T>
         ensures lane { end_lane result ≡ lane_of self }
         ensures put { all_put result ≡ put_of self }

@@ -20,7 +20,7 @@ pub struct Taker<T> {
 impl<T: Copy + Send> Taker<T> {
     ghost use Rattle.lane.specs.Lanes.{lane_of, taker_lane, end_lane, put_of, all_put, taken_of, waiting_of, taker_capacity};
 
-    /// The next item, or `None` because the lane was empty; after the mark always `None`.
+    /// The next item, or `None` if the lane is empty; after the mark always `None`.
     #[tactic(auto, using(crate::proofs::Marks::has_mark_more, crate::proofs::Marks::mark_last_more))]
     pub fn take(&mut self) -> Option<Item<T>>
         ensures lane { taker_lane self.new ≡ taker_lane self.old }
@@ -39,8 +39,8 @@ impl<T: Copy + Send> Taker<T> {
         Some(item)
     }
 
-    /// Takes as many of the next items as there are, at most so many as the slice has, and tells how many. Those stand
-    /// in its front; what follows them there means nothing. After the mark it takes none.
+    /// Takes the next items that are there, at most as many as the slice holds, and returns their number. They are at
+    /// the front of the slice; the rest of the slice means nothing. After the mark it takes none.
     #[tactic(auto, using(crate::proofs::Marks::ended_by, crate::proofs::Marks::mark_last_block))]
     pub fn take_block(&mut self, items: &mut [Item<T>]) -> usize
         ensures lane { taker_lane self.new ≡ taker_lane self.old }
@@ -62,29 +62,29 @@ impl<T: Copy + Send> Taker<T> {
         count
     }
 
-    /// How many items the taker knows to wait, without a look at the other end. While that is above 0 and the mark
-    /// wasn't taken `take` gives one.
+    /// The number of waiting items that the taker knows of, without a look at the other end. While it is above 0 and
+    /// the mark isn't taken, `take` gives an item.
     pub fn ready(&self) -> usize
         ensures { result ≡ length (waiting_of self.now) }
     {
         self.ring.cached_slots()
     }
 
-    /// How many items the lane holds at most.
+    /// The greatest number of items in the lane.
     pub fn capacity(&self) -> usize
         ensures { result ≡ taker_capacity self.now }
     {
         self.ring.capacity()
     }
 
-    /// Whether the mark was taken.
+    /// Whether the mark has been taken.
     pub fn ended(&self) -> bool
         ensures { result ≡ has_mark (taken_of self.now) }
     {
         self.ended
     }
 
-    /// Looks at the other end: what was taken, and then what waits, is what was put.
+    /// Looks at the other end: the items taken, and then those that wait, are the items put.
     pub fn beside(&mut self, sender: &mut Sender<T>)
         requires { lane_of sender.old ≡ taker_lane self.old }
         ensures lane { (taker_lane self.new ≡ taker_lane self.old) × (lane_of sender.new ≡ lane_of sender.old) }
@@ -98,8 +98,7 @@ impl<T: Copy + Send> Taker<T> {
         self.ring.slots_beside(&mut sender.ring);
     }
 
-    /// Compares the ends of one lane: what was taken is a beginning of what was put, and with the
-    /// mark all of it.
+    /// Compares the ends of one lane: the items taken are a prefix of the items put, and with the mark all of them.
     #[tactic(auto, using(crate::proofs::Marks::all_taken))]
     pub fn settle(&mut self, end: &mut End<T>)
         requires { end_lane end.old ≡ taker_lane self.old }

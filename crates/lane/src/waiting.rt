@@ -5,15 +5,16 @@ use std::thread;
 use std::thread::Parker;
 use std::time::Duration;
 
-/// How an end of a lane waits for the other one, be it for items or for room.
+/// How an end of a lane waits for the other one, whether for items or for room.
 ///
-/// It lets other threads run and looks again, so many times, and then it naps. Where other programs want the processor
-/// a thread that gives way gets it back after a slice of time, and a lane is filled in less than a hundredth of a
-/// slice; so where that is seen it naps at once for a while, since one that slept gets the processor when it wakes: for
-/// the longer the more often it is seen. How often it looks before it naps, and how long a nap takes, goes by what the
-/// last waits showed. Looks that found what they waited for make more looks. A nap after which half of the lane was
-/// filled, or emptied for a sender, was too long, and more looks would have been better; one after which little has
-/// changed was too short.
+/// It lets other threads run and looks again, up to a number of times. Then it naps. If other programs use the
+/// processor, a thread that gives way gets it back only after a time slice, and a lane fills in less than a hundredth
+/// of a slice. A thread that slept gets the processor when it wakes. So an end that sees this naps at once for a
+/// while, and for longer the more often it sees it.
+///
+/// The last waits decide how often it looks before a nap, and how long a nap takes. Looks that found what they waited
+/// for lead to more looks. If half of the lane filled during a nap, or emptied for a sender, the nap was too long,
+/// and more looks would have been better. If little changed, it was too short.
 #[derive(Drop)]
 pub struct Waiting {
     parker: Parker,
@@ -52,8 +53,8 @@ const SHORTEST_NAP: u64 = 3;
 
 const LONGEST_NAP: u64 = 800;
 
-// How many waits are naps where giving way took so long that another program must have had the processor: at first, and
-// where it takes so long again and again. After so many looks in time it is half as many.
+// How many waits are naps after a thread that gave way waited so long that another program must have had the
+// processor: at first, and if this happens again and again. After `IN_TIME` looks in time the number halves.
 const SHORTEST_BUSY: u32 = 4;
 
 const LONGEST_BUSY: u32 = 1024;
@@ -72,9 +73,8 @@ impl Waiting {
         Waiting::beside(1)
     }
 
-    /// An end that hasn't waited yet, one of so many in as many threads. They share the processors, and what a lane
-    /// holds lasts the longer the more there are: so with n of them each looks n times less often, and naps n times as
-    /// long.
+    /// An end that hasn't waited yet, one of `ends` ends in as many threads. These share the processors, so what a
+    /// lane holds lasts longer. With n of them each looks n times less often and naps n times as long.
     pub fn beside(ends: u64) -> Waiting {
         let ends = ends.clamp(1, MOST_LOOKS as u64);
         let most_looks = MOST_LOOKS / ends as u32;
@@ -92,8 +92,8 @@ impl Waiting {
         }
     }
 
-    /// Waits a little where a look showed nothing; else learns from what it showed: so many items or so much room, of
-    /// as much as the lane has.
+    /// Waits a little if a look showed nothing. Otherwise it learns from the number of items, or the room, that the
+    /// look showed of the lane's capacity.
     #[inline(always)]
     pub fn after_look<R: Wait>(&mut self, rt: &R, shown: usize, capacity: usize) {
         if shown == 0 {
@@ -118,7 +118,7 @@ impl Waiting {
         }
     }
 
-    /// Learns from how far the other end came: so many items or so much room, of as much as the lane has.
+    /// Learns from how far the other end came: the number of items or the room, of the lane's capacity.
     #[inline(always)]
     pub fn learn(&mut self, shown: usize, capacity: usize) {
         match self.last {
