@@ -38,15 +38,15 @@ pub record HasWholeShare (n : ℕ) (on : ℕ → List (Item Placed)) (u : List P
   pub whole : on k ≡ map One (share k n u) ++ Finish ∷ []
   pub none_sent : (p : Placed) → IsBeingSent n on p → ⊥
 
--- What was taken of lane k is a beginning of its share of u, so each record once and in trace order; and where the mark was
--- taken it is that share whole, and nothing more stands on the lane.
+-- The items taken from lane k are a prefix of its share of u, so each record comes once and in trace order. If the
+-- mark was taken, they are the whole share, and nothing more is on the lane.
 pub record TakesShare (n : ℕ) (u : List Placed) (k : ℕ) (taken put : List (Item Placed)) : Type 0 where
   pub front : IsBeginning (records taken) (share k n u)
   pub each_once : IsRising (records taken)
   pub whole : has_mark taken ≡ true → taken ≡ map One (share k n u) ++ Finish ∷ []
   pub none_more : has_mark taken ≡ true → put ≡ taken
 
--- exactly one list was routed, and it is a beginning of w
+-- exactly one list was routed, and it is a prefix of w
 pub record HasRouted (n : ℕ) (on : ℕ → List (Item Placed)) (w : List Placed) : Type 0 where
   pub list : List Placed
   pub routed : IsRouted n on list

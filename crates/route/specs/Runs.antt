@@ -44,7 +44,7 @@ held_after k held (take j x) = if j == k then drop 1 held else held
 abbrev pub held : List Event → ℕ → List (Item Placed)
 held es k = fold (held_after k) [] es
 
--- after these events a put is allowed where the lane isn't marked, and a take where it gives the oldest item
+-- after these events a put is allowed if the lane isn't marked, and a take if it gives the oldest item
 abbrev pub IsAllowed : List Event → Event → Type 0
 IsAllowed es (put k x) = has_mark (put_list es k) ≡ false
 IsAllowed es (take k x) = (rest : List (Item Placed)) × (held es k ≡ x ∷ rest)

@@ -1,4 +1,4 @@
--- Promised: what stands on each lane while records are sent, and the lanes that a record goes to.
+-- Promised: the items on each lane while records are sent, and the lanes that a record goes to.
 use Rattle.std.specs.Prelude.{◌≡◌, ℕ, ◌<◌, ◌%◌, ◌&&◌, nat_lt, if◌then◌else◌, List, [], ◌∷◌, ◌++◌, length, map, slice_index_or, slice_set, Option, Some, None}
 use Rattle.lane.specs.declared.item.Item.{Item}
 use Rattle.lane.specs.declared.item.Item.TheVariants.{One, Finish}
@@ -30,7 +30,7 @@ abbrev pub portion : ℕ → ℕ → ℕ → Option Placed → List Placed
 portion k n turn None = []
 portion k n turn (Some p) = if nat_lt k turn && goes_placed k n p then p ∷ [] else []
 
--- the mark, where lane k is among the first `marked`
+-- the mark, if lane k is among the first `marked`
 abbrev pub mark_of : ℕ → ℕ → List (Item Placed)
 mark_of k marked = if nat_lt k marked then Finish ∷ [] else []
 

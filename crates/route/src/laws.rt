@@ -1,4 +1,4 @@
-//! What stands on the lanes at every point of every run, and on the lanes of every router.
+//! The items on the lanes at every point of every run, and on the lanes of every router.
 
 ghost use Rattle.std.specs.Prelude.{◌≡◌, ℕ, ◌<◌, ◌⊎◌, true, List, ◌++◌, map};
 ghost use Rattle.lane.specs.declared.item.Item.{Item};
@@ -11,9 +11,9 @@ ghost use Rattle.route.specs.Routers.{puts_of, lane_count, pending_of, HasSent, 
 ghost use Rattle.route.specs.Runs.{Event, IsRun, put_event, sending, put_list, taken_list};
 ghost use Rattle.route.specs.RouterRuns.{run_of};
 
-/// Of every run of lanes. Since each beginning of a run is a run, all this holds at every point. One list
-/// was routed, and a lane has its share of it, or lacks the record that is being sent. A lane with the mark has
-/// its whole share. What was taken from a lane is a beginning of what was put.
+/// For every run of lanes. Each prefix of a run is a run, so this is true at every point. One list was routed; a lane
+/// has its share of it, or lacks only the record that is being sent. A lane with the mark has its whole share. The
+/// items taken from a lane are a prefix of the items put.
 pub fn runs()
     // all that is sent, put by put, is a run, so there are runs of every list of records
     ensures some { (n : ℕ) (w : List Placed) → 0 < n → IsRising w → IsRun n w (map put_event (sending n w)) }
@@ -27,15 +27,15 @@ pub fn runs()
         → HasWholeShare n (put_list es) u k }
     ensures taken { (n k : ℕ) (w : List Placed) (es : List Event) → IsRun n w es
         → IsBeginning (taken_list es k) (put_list es k) }
-    // what was taken is a beginning of the lane's share, and with the mark that share whole
+    // the items taken are a prefix of the lane's share, and with the mark the whole share
     ensures headline { (n k : ℕ) (w u : List Placed) (es : List Event) → IsRun n w es
         → IsRouted n (put_list es) u → k < n → TakesShare n u k (taken_list es k) (put_list es k) }
     ensures ended { (n k : ℕ) (w : List Placed) (before after : List Event) → IsRun n w (before ++ after) → k < n
         → has_mark (taken_list before k) ≡ true → put_list (before ++ after) k ≡ taken_list before k }
 {}
 
-/// Of every router that was offered records whose places rise: the same, and what was routed is what was sent
-/// whole, or that and the pending record.
+/// For every router that was offered records whose places ascend: the same; and the routed list is the records sent
+/// whole, or these and the pending record.
 pub fn routers()
     // what it has sent so far is a run of its lanes, an event for each put
     ensures run { (r : Router) (w : List Placed) → IsRising (in_hand w (pending_of r))
@@ -58,7 +58,7 @@ pub fn routers()
         → IsRising (in_hand w (pending_of r)) → IsRouted (lane_count r) (put_on (puts_of r)) u
         → k < lane_count r → has_mark (put_on (puts_of r) k) ≡ true
         → HasWholeShare (lane_count r) (put_on (puts_of r)) u k }
-    // with the receipt of lane k what its taker took is a beginning of what was put
+    // with the receipt of lane k the items that its taker took are a prefix of the items put
     ensures headline { (r : Router) (k : ℕ) (w u : List Placed) (taken : List (Item Placed)) → HasSent w r
         → IsRising (in_hand w (pending_of r)) → IsRouted (lane_count r) (put_on (puts_of r)) u
         → k < lane_count r → IsBeginning taken (put_on (puts_of r) k)

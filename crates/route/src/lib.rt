@@ -1,5 +1,5 @@
-//! The router: sends each record to the lanes whose share has it, one put a step, so that a full lane stops it and loses
-//! nothing.
+//! The router: it sends each record to the lanes whose share has it, one put a step. So a full lane stops it and
+//! loses nothing.
 #![tactic(auto)]
 
 pub mod laws;

@@ -1,10 +1,10 @@
-/// What a step of the router came to.
+/// The result of a step of the router.
 #[derive(Clone, Copy, Debug, PartialEq, Eq)]
 pub enum Progress {
     /// There was nothing to put.
     Idle,
-    /// One put was done.
+    /// One put has succeeded.
     Moved,
-    /// This lane was full, and nothing changed.
+    /// This lane is full, and nothing has changed.
     Blocked(u32),
 }

@@ -1,4 +1,4 @@
-//! A put on one of many lanes, and all that was put shown.
+//! A put on one of many lanes, and a flush of all of them.
 ghost use Rattle.std.specs.Prelude.{◌≡◌, ℕ, ◌<◌, ◌≤◌, false, [], length, slice_index_or, vec_len, if◌then◌else◌, IsFalse};
 ghost use Rattle.lane.specs.declared.item.Item.TheVariants.{One, Finish};
 ghost use Rattle.lane.specs.Items.{has_mark};
@@ -8,7 +8,7 @@ ghost use Rattle.route.specs.Sending.{put_on, with_put};
 use lane::Sender;
 use trace::Placed;
 
-/// Puts the record on the lane; false where the lane was full.
+/// Puts the record on the lane; false if the lane is full.
 #[inline(always)]
 pub fn put_on(senders: &mut Vec<Sender<Placed>>, lane: usize, placed: Placed) -> bool
     requires within { lane < vec_len senders.old }
@@ -27,7 +27,7 @@ pub fn put_on(senders: &mut Vec<Sender<Placed>>, lane: usize, placed: Placed) ->
     senders[lane].put(placed).is_ok()
 }
 
-/// Puts the mark on the lane; false where the lane was full.
+/// Puts the mark on the lane; false if the lane is full.
 pub fn mark_on(senders: &mut Vec<Sender<Placed>>, lane: usize) -> bool
     requires within { lane < vec_len senders.old }
     requires unmarked { has_mark (put_on (puts senders.old.items) lane) ≡ false }
@@ -45,7 +45,7 @@ pub fn mark_on(senders: &mut Vec<Sender<Placed>>, lane: usize) -> bool
     senders[lane].mark()
 }
 
-/// Shows each taker all that was put on its lane.
+/// Shows each taker all items put on its lane.
 pub fn flush_all(senders: &mut Vec<Sender<Placed>>)
     ensures puts { puts senders.new.items ≡ puts senders.old.items }
     ensures lanes { lanes senders.new.items ≡ lanes senders.old.items }

@@ -1,4 +1,4 @@
-//! The router, what it keeps, and how it begins and ends.
+//! The router, its state, and how it begins and ends.
 ghost use Rattle.std.specs.Prelude.{◌≡◌, ◌<◌, ◌≤◌, [], All, IfOk, map, true, vec_len, vec_capacity};
 ghost use Rattle.std.specs.Option.{ForSome};
 ghost use Rattle.trace.specs.Bounds.{most_shards};
@@ -13,7 +13,7 @@ use lane::{End, Sender};
 use std::alloc::Global;
 use trace::{NoMemory, Placed};
 
-/// Sends records to lanes, each to those whose share has it, in the order of the lanes.
+/// Sends records to lanes, each record to the lanes whose share has it, in the order of the lanes.
 #[derive(Drop)]
 pub struct Router {
     senders: Vec<Sender<Placed>>,
@@ -38,8 +38,8 @@ pub struct Router {
 impl Router {
     ghost use Rattle.route.specs.Routers.{lanes_of, puts_of, capacities_of, lane_count, pending_of, marked_of, HasSent};
 
-    /// A router over lanes on which nothing was put. It takes memory for the receipts, and none after
-    /// that; a refusal drops the senders.
+    /// A router over lanes without items. It takes memory for the receipts now, and none later. A refusal drops the
+    /// senders.
     pub fn new(alloc: Global, senders: Vec<Sender<Placed>>) -> Result<Router, NoMemory>
         requires some { 1 ≤ vec_len senders }
         requires within { vec_len senders ≤ most_shards }

@@ -21,8 +21,8 @@ pub fn first_lane(what: Record, count: usize) -> usize
     }
 }
 
-/// The lane that an access of the location goes to. A remainder by a number that is known before takes a multiplication
-/// and no division, so the numbers that most often are a count of processors stand here.
+/// The lane that an access of the location goes to. A remainder by a constant compiles to a multiplication, which is
+/// faster, so the usual numbers of processors have cases of their own.
 #[inline(always)]
 pub fn lane_of(location: u64, count: usize) -> usize
     requires { 1 ≤ count }

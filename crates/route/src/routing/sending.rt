@@ -1,4 +1,4 @@
-//! What a router does.
+//! The steps of a router.
 ghost use Rattle.std.specs.Prelude.{◌≡◌, ◌<◌, ◌+◌, ◌↔◌, ◌≢◌, ℕ, List, [], ◌∷◌, ◌++◌, map, is_some};
 ghost use Rattle.std.specs.Prelude.{IsFalse, if◌then◌else◌};
 ghost use Rattle.lane.specs.declared.item.Item.TheVariants.{One, Finish};
@@ -24,7 +24,7 @@ impl Router {
         self.pending.is_some()
     }
 
-    /// For how many records more the sender of the lane knows to have room; 0 where there is no such lane.
+    /// The number of further records that the lane's sender knows to have room for; 0 if there is no such lane.
     pub fn room(&self, lane: usize) -> usize
         ensures { result ≡ room_on self.now lane }
     {
@@ -34,7 +34,7 @@ impl Router {
         }
     }
 
-    /// How many records the lane holds at most; 0 where there is no such lane.
+    /// The greatest number of records in the lane; 0 if there is no such lane.
     pub fn capacity(&self, lane: usize) -> usize
         ensures { result ≡ capacity_on self.now lane }
     {
@@ -44,7 +44,7 @@ impl Router {
         }
     }
 
-    /// Takes a record to be sent. It is put by the next steps.
+    /// Takes a record to send. The next steps put it.
     #[inline(always)]
     pub fn offer(&mut self, placed: Placed)
         requires idle { pending_of self.old ≡ None }
@@ -62,8 +62,8 @@ impl Router {
         self.pending = Some(placed);
     }
 
-    /// Puts the pending record on the next lane that it goes to: a spawn, a call, a return or a sync
-    /// on all lanes in their order, an access of location l on lane l mod n.
+    /// Puts the pending record on its next lane. A spawn, a call, a return or a sync goes to all lanes in their
+    /// order, an access of location l to lane l mod n.
     #[inline(always)]
     pub fn step(&mut self) -> Progress
         // w is what was sent whole before
@@ -125,8 +125,8 @@ impl Router {
         Progress::Moved
     }
 
-    /// Offers a record and takes its steps, until it was sent whole or a lane is full. `Idle` and `Blocked` are what the
-    /// last of these steps answers.
+    /// Offers a record and takes its steps, until it is sent whole or a lane is full. The last of these steps gives
+    /// the answer, `Idle` or `Blocked`.
     #[inline(always)]
     pub fn send(&mut self, placed: Placed) -> Progress
         requires idle { pending_of self.old ≡ None }
@@ -162,7 +162,7 @@ impl Router {
         }
     }
 
-    // Puts the record on the lane; false where the lane was full.
+    // Puts the record on the lane; false if the lane was full.
     #[inline(always)]
     fn put_on_lane(&mut self, lane: usize, placed: Placed) -> bool
         requires within { lane < lane_count self.old }
@@ -178,7 +178,7 @@ impl Router {
         put_on(&mut self.senders, lane, placed)
     }
 
-    /// Shows each taker all that was put on its lane.
+    /// Shows each taker all items put on its lane.
     pub fn flush(&mut self)
         ensures shown { (k : ℕ) → k < lane_count self.new → shown_on self.new k ≡ put_on (puts_of self.new) k }
         ensures unchanged { IsUnchanged self.old self.new }
@@ -188,7 +188,7 @@ impl Router {
         flush_all(&mut self.senders);
     }
 
-    /// Puts the mark on the next lane that has none.
+    /// Puts the mark on the next lane without one.
     pub fn mark_all_step(&mut self) -> Progress
         requires { pending_of self.old ≡ None }
         ensures sent { (w : List Placed) → HasSent w self.old → HasSent w self.new }
