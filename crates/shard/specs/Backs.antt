@@ -10,7 +10,7 @@ races_of [] = []
 races_of (Race r ∷ g) = r ∷ races_of g
 races_of (NoMemory ∷ g) = races_of g
 
--- whether a shard told that it ran out of memory
+-- whether a shard reported that it ran out of memory
 abbrev pub fails : List Back → Bool
 fails [] = false
 fails (Race r ∷ g) = fails g

@@ -29,7 +29,7 @@ pub record IsFresh (s : ShardState) : Type 0 where
   pub running : s.ended ≡ false
   pub none_taken : s.taken ≡ 0
 
--- the root's return is the one where the root alone is active
+-- the root's return is the return while only the root is active
 abbrev pub is_root_return : Procedures → Record → Bool
 is_root_return s Return = length s.active == 1
 is_root_return s Spawn = false

@@ -26,7 +26,7 @@ abbrev pub RiseFrom : ℕ → List Placed → Type 0
 RiseFrom place [] = Unit {0}
 RiseFrom place (p ∷ u) = (place < p.place) × (p.place ≤ most_records) × RiseFrom p.place u
 
--- as a trace, a share, and a beginning of either are: the places rise, and the root's return is nowhere but last
+-- as a trace, a share, and a prefix of either are: the places ascend, and the root's return is nowhere but last
 pub record AreInOrder (u : List Placed) : Type 0 where
   pub rising : RiseFrom 0 u
   pub ended_last : (i : ℕ) → i < length u → IsRootReturn (whats u) i → ⊥
@@ -43,11 +43,11 @@ pub data HasStopped (u : List Placed) (put : List (Item Back)) : Type 0 where
   no_memory : (v rest : List Placed) (p : Placed) → u ≡ v ++ p ∷ rest → AreInOrder (v ++ p ∷ [])
       → put ≡ race_items (found v) ++ One NoMemory ∷ [] → HasStopped u put
 
--- what a worker has put that was given the records u: the races found in them where they are in order, or less
+-- what a worker has put that was given the records u: the races found in them if they are in order, or less
 abbrev pub HasHandedBack : List Placed → List (Item Back) → Type 0
 HasHandedBack u put = (AreInOrder u × (put ≡ race_items (found u))) ⊎ HasStopped u put
 
--- after a place, and where so many procedures are active: the places rise, and nothing follows the root's return
+-- after a place, with this number of active procedures: the places ascend, and nothing follows the root's return
 abbrev pub Follow : ℕ → ℕ → List Placed → Type 0
 Follow place active [] = Unit {0}
 Follow place active (p ∷ u) = (place < p.place) × (p.place ≤ most_records) × (p.what ≡ Return → active ≡ 1 → u ≡ [])
@@ -70,7 +70,7 @@ pub record HasWorked (u : List Placed) (s : ShardState) (put : List (Item Back))
   pub going : stopped ≡ false → IsGoing u s put
   pub at_end : stopped ≡ true → HasStopped u put
 
--- a beginning of a share of a well nested trace
+-- a prefix of a share of a well nested trace
 pub record IsOfShare (u : List Placed) : Type 0 where
   pub trace : List Record
   pub shard : ℕ
@@ -81,7 +81,7 @@ pub record IsOfShare (u : List Placed) : Type 0 where
   pub to_limit : limit ≤ most_records
   pub begins : IsBeginning u (share shard shards (placed trace))
 
--- the races found in u and the mark, or where memory was refused a beginning of them, one NoMemory and the mark
+-- the races found in u and the mark; or, after a refused growth, a prefix of them, one NoMemory and the mark
 abbrev pub TellsFound : List Placed → List (Item Back) → Type 0
 TellsFound u put = (put ≡ race_items (found u) ++ Finish ∷ [])
     ⊎ ((rs : List RaceAt) × IsBeginning rs (found u) × (put ≡ race_items rs ++ One NoMemory ∷ Finish ∷ []))

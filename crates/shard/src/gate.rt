@@ -1,8 +1,8 @@
-//! What a worker passes before it takes up a record.
+//! The gate that a worker passes before it takes a record.
 
-/// A gate that a worker passes at each record. It may look on, or hold the worker up.
+/// A gate that a worker passes at each record. It may watch the worker, or hold it up.
 pub trait Gate {
-    /// The shard of this number is about to take up the record at this place.
+    /// The shard of this number is about to take the record at this place.
     fn pass(&self, shard: u32, place: u64);
 }
 

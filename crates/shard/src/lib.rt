@@ -1,4 +1,4 @@
-//! A shard of the detector: its state, the worker that runs it on a lane, and what it hands back.
+//! A shard of the detector: its state, the worker that runs it on a lane, and what the worker hands back.
 #![tactic(auto)]
 
 mod gate;
@@ -15,8 +15,8 @@ pub use working::{Worked, work};
 /// What a shard hands back.
 #[derive(Clone, Copy, Debug, PartialEq, Eq)]
 pub enum Back {
-    /// A race, told at its second access.
+    /// A race, reported at its second access.
     Race(Race),
-    /// A growth was refused. The shard tells no race after it.
+    /// The allocator refused a growth. The shard reports no race after it.
     NoMemory,
 }

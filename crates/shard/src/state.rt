@@ -17,7 +17,7 @@ use trace::{NoMemory, Placed, Race, Record};
 #[derive(Drop)]
 pub struct Shard<S: BuildHasher + Drop> {
     index: u32,
-    /// Of how many it is one.
+    /// The number of shards.
     shards: u64,
     bags: Bags,
     shadow: Shadow<S>,
@@ -58,8 +58,8 @@ impl<S: BuildHasher + Drop> Shard<S> {
         Shard::of_shards(alloc, index, 1, hasher)
     }
 
-    /// The shard of this number among so many, before its first record. It takes any location, and the least memory
-    /// where it takes only those that are this shard's.
+    /// The shard of this number among `shards` shards, before its first record. It takes any location. It needs the
+    /// least memory if it takes only the locations of this shard.
     pub fn of_shards(
         alloc: Global,
         index: u32,
@@ -81,18 +81,17 @@ impl<S: BuildHasher + Drop> Shard<S> {
         })
     }
 
-    /// Whether a record may come at this place: it lies above the last record's and is at most 2^48,
-    /// and the root hasn't returned.
+    /// Whether a record may come at this place: the place is above the last record's and at most 2^48, and the root
+    /// hasn't returned.
     pub fn accepts(&self, place: u64) -> bool
         ensures { IsTrue result ↔ Accepts self.now place }
     {
         !self.ended && self.last_place < place && place <= 1 << 48
     }
 
-    /// Takes a record of the shard's share: the race that it tells, if any. The root's return changes no
-    /// bags.
+    /// Takes a record of the shard's share, and reports its race, if any. The root's return changes no bags.
     ///
-    /// On an error the same call may be made again.
+    /// After an error the same call may be made again.
     pub fn apply(&mut self, placed: Placed) -> Result<Option<Race>, NoMemory>
         requires { Accepts self.old placed.place }
 
@@ -128,19 +127,19 @@ impl<S: BuildHasher + Drop> Shard<S> {
         self.taken = self.taken.saturating_add(1);
     }
 
-    /// The shard's number.
+    /// The number of the shard.
     pub(crate) fn index(&self) -> u32
         ensures { result ≡ self.now.index }
     {
         self.index
     }
 
-    /// Of how many shards it is one.
+    /// The number of shards.
     pub(crate) fn shards(&self) -> u64 {
         self.shards
     }
 
-    /// How many records were taken: those applied, and those that `work` took and didn't apply. At
+    /// The number of records that the shard has taken: those applied, and those that `work` took and didn't apply. At
     /// 2^64 - 1 the count stays.
     pub fn taken(&self) -> u64
         ensures { result ≡ self.now.taken }

@@ -1,4 +1,4 @@
-//! What a worker puts on its lane back, once there is room.
+//! Puts on the lane back, as soon as there is room.
 ghost use Rattle.std.specs.Prelude.{◌≡◌, false, [], ◌∷◌, ◌++◌};
 ghost use Rattle.lane.specs.declared.item.Item.TheVariants.{One, Finish};
 ghost use Rattle.lane.specs.Items.{has_mark};
@@ -8,7 +8,7 @@ use crate::Back;
 use lane::{End, Sender, Waiting};
 use std::sync::Wait;
 
-/// Puts the value, once there is room.
+/// Puts the value, as soon as there is room.
 #[cold]
 #[inline(never)]
 pub fn put<R: Wait>(rt: &R, back: &mut Sender<Back>, value: Back)
@@ -29,7 +29,7 @@ pub fn put<R: Wait>(rt: &R, back: &mut Sender<Back>, value: Back)
     unreachable!()
 }
 
-/// Puts the mark, once there is room, and gives the receipt.
+/// Puts the mark, as soon as there is room, and gives the receipt.
 pub fn mark<R: Wait>(rt: &R, mut back: Sender<Back>) -> End<Back>
     requires { has_mark (put_of back) ≡ false }
     ensures lane { end_lane result ≡ lane_of back }

@@ -15,7 +15,8 @@ use std::hash::BuildHasher;
 use std::sync::Wait;
 use trace::Placed;
 
-/// A shard, its lane back, and whether it applies no more: a growth was refused, or a record was out of order.
+/// A shard, its lane back, and whether it has stopped applying records: after a refused growth or a record out of
+/// order.
 #[derive(Drop)]
 pub struct Worker<S: BuildHasher + Drop> {
     pub shard: Shard<S>,
@@ -25,8 +26,8 @@ pub struct Worker<S: BuildHasher + Drop> {
 }
 
 impl<S: BuildHasher + Drop> Worker<S> {
-    /// Takes each record of a block, once it has passed the gate, and shows the races that these tell to the taker of
-    /// the lane back.
+    /// Takes each record of a block after it has passed the gate. At the end it shows the races of these records to
+    /// the taker of the lane back.
     pub fn take_block<R: Wait, G: Gate>(&mut self, rt: &R, gate: &G, block: &[Item<Placed>])
         ensures worked { (u : List Placed) → HasWorked u self.old.shard (put_of self.old.back) self.old.stopped →
             HasWorked (u ++ records block.now) self.new.shard (put_of self.new.back) self.new.stopped }
@@ -52,8 +53,8 @@ impl<S: BuildHasher + Drop> Worker<S> {
         }
     }
 
-    /// Takes a record: applies it and tells its race. After a refused growth, which is told once, and after
-    /// a record out of order it only counts.
+    /// Takes a record: applies it and reports its race. After a refused growth, which it reports once, and after a
+    /// record out of order it only counts.
     pub fn take<R: Wait>(&mut self, rt: &R, placed: Placed)
         ensures worked { (u : List Placed) → HasWorked u self.old.shard (put_of self.old.back) self.old.stopped →
             HasWorked (u ++ placed ∷ []) self.new.shard (put_of self.new.back) self.new.stopped }

@@ -14,7 +14,7 @@ use std::hash::BuildHasher;
 use std::sync::Wait;
 use trace::Placed;
 
-/// What a worker answers: its taker, the receipt of its lane back, and its shard.
+/// What a worker returns: its taker, the receipt of its lane back, and its shard.
 #[derive(Drop)]
 pub struct Worked<S: BuildHasher + Drop> {
     pub taker: Taker<Placed>,
@@ -24,10 +24,11 @@ pub struct Worked<S: BuildHasher + Drop> {
 
 /// Runs a shard on the records of a lane up to the mark, and puts its races on the lane back.
 ///
-/// A block of records is taken at a time. Each passes the gate before it is applied. Each race is put on the lane back,
-/// tried again while that is full, and shown at the end of its block. After a refused growth `Back::NoMemory` is put
-/// once, nothing more is applied, and the taking goes on. At the mark the lane back is marked. A record that the shard
-/// doesn't accept isn't applied, and neither is any after it; among the records of a share there is none.
+/// It takes a block of records at a time. Each record passes the gate before the shard applies it. Each race goes on
+/// the lane back; if that is full the worker tries again, and at the end of the block it shows the races. After a
+/// refused growth it puts `Back::NoMemory` once, applies nothing more, and goes on taking. At the mark it marks the
+/// lane back. The shard applies neither a record that it doesn't accept nor any after it; it accepts every record of
+/// a share.
 pub fn work<R: Wait, S: BuildHasher + Drop, G: Gate>(
     rt: &R,
     shard: Shard<S>,
