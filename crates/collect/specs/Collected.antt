@@ -13,7 +13,7 @@ use Rattle.collect.specs.Reports.{IsReportList}
 abbrev pub race_on : ℕ → List RaceAt → Option RaceAt
 race_on l rs = find (λ r. r.location == l) rs
 
--- of two races the one with the lesser second place, on equal places the one that came first
+-- of two races the one with the lesser second place; on equal places the one that came first
 abbrev pub better : RaceAt → RaceAt → RaceAt
 better kept r = if nat_lt r.second.place kept.second.place then r else kept
 
@@ -29,12 +29,12 @@ kept_after l kept r = if r.location == l then Some (option_map_or (λ k. better 
 abbrev pub best : ℕ → List RaceAt → Option RaceAt
 best l rs = fold (kept_after l) None rs
 
--- what a collector is seen as: the races that it keeps, and whether it was told of a refused growth
+-- the view of a collector: the races that it keeps, and whether it took a refused growth
 pub record Kept : Type 0 where
   pub races : List RaceAt
   pub refused : Bool
 
--- a race on a location of which none is kept
+-- a race on a location without a kept race
 abbrev pub IsFirstOnLocation : Kept → Back → Type 0
 IsFirstOnLocation c (Race r) = race_on r.location c.races ≡ None
 IsFirstOnLocation c NoMemory = ⊥

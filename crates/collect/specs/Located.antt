@@ -1,4 +1,4 @@
--- Promised: races whose locations are told by their numbers in a part, and the same races at their locations.
+-- Promised: races whose locations are their numbers in a part, and the same races at their locations.
 use Rattle.std.specs.Prelude.{◌<◌, ◌^◌, List}
 use Rattle.std.specs.List.{AllByRecursion}
 use Rattle.trace.specs.declared.records.Part.{Part}

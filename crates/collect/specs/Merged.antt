@@ -24,7 +24,7 @@ IsMerged reports merged = IsCollected (given_by reports) merged
 abbrev pub AreAllParts : ℕ → List Part → Type 0
 AreAllParts n parts = (k : ℕ) → k < n → (part : Part) × Contains parts part × (part.count ≡ n) × (part.index ≡ k)
 
--- the reports of these parts, where races is the report of the whole
+-- the reports of these parts, if races is the report of the whole
 abbrev pub reports_of_parts : List Part → List RaceAt → List (List RaceAt)
 reports_of_parts parts races = map (λ part. races_of_part part races) parts
 

@@ -16,7 +16,7 @@ pub data IsFirstBadLine (bytes : List ℕ) : ℕ → Type 0 where
   no_end : (rs : List RaceAt) (rest : List ℕ) → length rs < 2 ^ 64 → IsReportList rs → bytes ≡ rtext rs ++ rest → rest ≢ []
       → IsFirstBadLine bytes (length rs + 2)
 
--- a fault tells the first faulty line, or that a growth was refused
+-- a fault is the first faulty line, or a refused growth
 abbrev pub IsReportFault : List ℕ → ReportFault → Type 0
 IsReportFault bytes (Bad line) = IsFirstBadLine bytes line
 IsReportFault bytes NoMemory = Unit {0}

@@ -1,4 +1,4 @@
-//! The races of all shards, kept by location.
+//! The races of all shards, by location.
 ghost use Rattle.std.specs.Prelude.{◌≡◌, List, [], ◌∷◌, ◌++◌, map, true, OnOk, OnErr, IfOk, IsErr};
 ghost use Rattle.shard.specs.declared.Back.{Back};
 ghost use Rattle.collect.specs.Collected.{AreFirstLeast, KeepsBest, IsCollected, IsFirstOnLocation, IsTakenInPart, fails, has_better};
@@ -10,8 +10,8 @@ use std::collections::BTreeMap;
 use std::marker::Model;
 use trace::{NoMemory, Race};
 
-/// Keeps of each location the race with the least second place; of two on equal places, the one
-/// that came first.
+/// Keeps for each location the race with the least second place; if two have the same places, the one that came
+/// first.
 #[derive(Drop)]
 pub struct Collector {
     alloc: Global,
@@ -32,7 +32,7 @@ impl Model for Collector {
 }
 
 impl Collector {
-    /// A collector that was given nothing. It takes no memory yet.
+    /// A collector without races. It takes no memory yet.
     pub fn new(alloc: Global) -> Collector
         ensures { KeepsBest [] result }
     {
@@ -43,8 +43,7 @@ impl Collector {
         }
     }
 
-    /// Takes what a shard handed back. Only a race on a new location asks for memory; a refused
-    /// growth changes nothing.
+    /// Takes what a shard handed back. Only a race on a new location needs memory. A refused growth changes nothing.
     pub fn take(&mut self, back: Back) -> Result<(), NoMemory>
         ensures ok { OnOk result ((g : List Back) → KeepsBest g self.old → KeepsBest (g ++ back ∷ []) self.new) }
         ensures err { OnErr result (self.new ≡ self.old) }
@@ -59,8 +58,8 @@ impl Collector {
         }
     }
 
-    /// Takes the races of a report, one after another. Where a growth is refused, the races before
-    /// that one were taken and the rest weren't, so what is collected is no longer the whole.
+    /// Takes the races of a report, one after another. If the allocator refuses a growth, the collector has the races
+    /// before it and lacks the others, so it is no longer the whole.
     pub fn take_report(&mut self, report: &Report) -> Result<(), NoMemory>
         ensures ok { OnOk result ((g : List Back) → KeepsBest g self.old
             → KeepsBest (g ++ map Back.Race report.now) self.new) }
@@ -72,7 +71,7 @@ impl Collector {
         Ok(())
     }
 
-    /// The report of what was taken. It refuses where a shard ran out of memory.
+    /// The report of the races taken. It refuses if a shard has run out of memory.
     pub fn finish(self) -> Result<Report, NoMemory>
         ensures ok { IfOk result (λ r. (g : List Back) → KeepsBest g self → IsCollected g r) }
         ensures first_least { IfOk result (λ r. (g : List Back) → KeepsBest g self → AreFirstLeast g r) }

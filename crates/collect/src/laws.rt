@@ -1,4 +1,4 @@
-//! Laws of reports that belong to no value.
+//! Laws of all reports.
 ghost use Rattle.collect.specs.Merged.{PartsMakeWhole, PartsMakeTrace, MergesWithItself, OrderIsFree};
 ghost use Rattle.collect.specs.ReportFaults.{OneFault, NoFault, OneList};
 
@@ -7,14 +7,14 @@ pub fn one_list()
     ensures { OneList }
 {}
 
-/// Bytes have one first faulty line at most, and the text of a report has none.
+/// Bytes have at most one first faulty line, and the text of a report has none.
 pub fn one_fault()
     ensures one { OneFault }
     ensures none { NoFault }
 {}
 
-/// Merging: of the reports of all parts of one trace the report of the trace is made, in whatever
-/// order they come, and so it is where some come again.
+/// Merging: the reports of all parts of one trace make the report of the trace, in any order, and also if some come
+/// more than once.
 pub fn merging()
     ensures whole { PartsMakeWhole }
     ensures trace { PartsMakeTrace }

@@ -1,4 +1,4 @@
-//! A line of text that is built from its end, in a buffer on the stack.
+//! A line of text in a buffer on the stack, built from its end.
 ghost use Rattle.std.specs.Prelude.{◌≡◌, ◌+◌, ◌<◌, ◌≤◌, [], ◌∷◌, ◌++◌, length, decimal};
 ghost use Rattle.trace.specs.Bounds.{most_records};
 ghost use Rattle.trace.specs.Text.{newline};
@@ -29,7 +29,7 @@ impl Model for Line {
 }
 
 impl Line {
-    // A line of which only the end is there.
+    // A line that has only its end.
     pub(crate) fn end() -> Line
         ensures { result ≡ newline ∷ [] }
     {

@@ -14,12 +14,12 @@ use crate::reports::Report;
 use std::alloc::{AllocFailed, Global};
 use trace::{Access, Kind, Race, decimal_of};
 
-/// Why bytes gave no report.
+/// Why the bytes are no report.
 #[derive(Clone, Copy, Debug, PartialEq, Eq)]
 pub enum ReportFault {
-    /// The first line that may not stand where it stands. Lines are counted from 1.
+    /// The first line that may not be where it is. The first line is line 1.
     Bad { line: u64 },
-    /// A growth was refused.
+    /// The allocator refused a growth.
     NoMemory,
 }
 
@@ -62,8 +62,7 @@ pub fn read_report(alloc: Global, bytes: &[u8]) -> Result<Report, ReportFault>
     }
 }
 
-// The number of the line behind the head and the lines of these races, all of which stand in so
-// many bytes.
+// The number of the line behind the head and the lines of these races, which all fit into `size` bytes.
 fn line_after(races: &[Race], size: usize) -> u64
     requires { length races.now + 2 ≤ size }
     ensures { result ≡ length races.now + 2 }
@@ -71,7 +70,7 @@ fn line_after(races: &[Race], size: usize) -> u64
     races.len() as u64 + 2
 }
 
-// The number of races that the head line tells, and the bytes behind that line.
+// The number of races in the head line, and the bytes behind that line.
 fn head_of(bytes: &[u8]) -> Option<(u64, &[u8])>
     ensures found { IfSome result (λ p. bytes.now ≡ head p.0 ++ p.1.now) }
     ensures fits { IfSome result (λ p. p.0 < 2 ^ 64) }
@@ -83,7 +82,7 @@ fn head_of(bytes: &[u8]) -> Option<(u64, &[u8])>
     number_until(rest, b'\n')
 }
 
-// The race of the line in front, where it may follow these races, and the bytes behind that line.
+// The race of the first line, if it may follow these races, and the bytes behind that line.
 fn next_race<'a>(races: &[Race], bytes: &'a [u8]) -> Option<(Race, &'a [u8])>
     requires { IsReportList races.now }
     ensures found { IfSome result (λ p. bytes.now ≡ race_line p.0 ++ p.1.now) }
@@ -216,7 +215,7 @@ fn place_of(bytes: &[u8], byte: u8) -> Option<usize>
     None
 }
 
-// The bytes behind the word, where they begin with it.
+// The bytes behind the word, if the bytes begin with it.
 fn after_word<'a>(bytes: &'a [u8], word: &[u8]) -> Option<&'a [u8]>
     ensures found { IfSome result (λ rest. bytes.now ≡ word.now ++ rest.now) }
     ensures none { IfNone result ((more : List ℕ) → bytes.now ≢ word.now ++ more) }

@@ -32,7 +32,7 @@ impl Report {
     {
         self.races.as_slice()
     }
-    /// Of a report whose locations are numbers in a part: the same races, each at the location of its number.
+    /// For a report whose locations are numbers in a part: the same races, each at the location of its number.
     pub fn at_locations_of(self, part: Part) -> Report
         requires { HaveLocations part self }
         ensures { result ≡ map (located_at part) self }

@@ -1,4 +1,4 @@
-//! The writer of a report's text. On a fault a beginning of the text was written.
+//! The writer of a report's text. After a fault the sink has a prefix of the text.
 ghost use Rattle.std.specs.Prelude.{◌≡◌};
 ghost use Rattle.trace.specs.Devices.{◌⇝◌};
 ghost use Rattle.trace.specs.Writers.{Puts};
