@@ -11,24 +11,24 @@ use Rattle.trace.specs.Races.{IsAccessPlace, IsRead, IsRace, IsKeptReader, IsTol
 abbrev pub OfWellNested : (List Record → Type 0) → Type 0
 OfWellNested P = (w : List Record) (records depths : ℕ) → IsWellNested w records depths → P w
 
--- of three accesses in trace order: where the first and the second are parallel, and the second and the third
--- are, so are the first and the third
+-- for three accesses in trace order: if the first and the second are parallel, and the second and the third are, then
+-- the first and the third are
 abbrev pub IsParallelThrough : List Record → Type 0
 IsParallelThrough w = (i j k : ℕ) → i < j → j < k → IsAccessPlace w i → IsAccessPlace w j → IsAccessPlace w k
     → IsParallel w i j → IsParallel w j k → IsParallel w i k
 
--- where a path leads from the first to the second, and the first and the third are parallel, so are the second
--- and the third
+-- if a path leads from the first to the second, and the first and the third are parallel, then the second and the
+-- third are
 abbrev pub IsParallelAfter : List Record → Type 0
 IsParallelAfter w = (i j k : ℕ) → i < j → j < k → IsAccessPlace w i → IsAccessPlace w j → IsAccessPlace w k
     → Leads w i j → IsParallel w i k → IsParallel w j k
 
--- where any read of a location before an access is parallel to it, the kept reader is
+-- if any read of a location before an access is parallel to it, the kept reader is
 abbrev pub KeepsParallelReader : List Record → Type 0
 KeepsParallelReader w = (l i j : ℕ) → i < j → IsRead w l i → IsAccessPlace w j → IsParallel w i j
     → (k : ℕ) × IsKeptReader w l j (Some k) × IsParallel w k j
 
--- the races that are told of the racy locations and whose second place is at most t, by their second places
+-- the races that are reported of the racy locations and whose second place is at most t, by their second places
 pub record AreEarlyRaces (w : List Record) (t : ℕ) (rs : List RaceAt) : Type 0 where
   pub ascending : IsStrictlyIncreasing (map (λ r. r.second.place) rs)
   pub exactly : (r : RaceAt) → Contains rs r ↔ (IsTold w r × (r.second.place ≤ t))

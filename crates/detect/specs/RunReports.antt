@@ -27,7 +27,7 @@ pub record RunAnswers (n : ℕ) (run : Run) (w : List Record) : Type 0 where
   pub reported : IsReportOf w run.report
   pub took : TookShares n w run
 
--- the part is reported, and each of n shards took its share of the part's records, in which an access tells its
+-- the part is reported, and each of n shards took its share of the part's records; in these an access has its
 -- location's number
 pub record RunAnswersPart (part : Part) (n : ℕ) (run : Run) (w : List Record) : Type 0 where
   pub reported : IsPartReportOf part w run.report

@@ -21,7 +21,7 @@ use shard::Worked;
 use std::hash::BuildHasher;
 use trace::{Fault, Placed};
 
-/// What a run has come to: how reading ended, and what the workers handed back.
+/// The results of a run: how reading ended, and what the workers handed back.
 #[derive(Drop)]
 pub(crate) struct Done<S: BuildHasher + Drop> {
     pub(crate) outcome: Result<(), Fault>,
@@ -29,7 +29,7 @@ pub(crate) struct Done<S: BuildHasher + Drop> {
     pub(crate) workers: Vec<Worked<S>>,
 }
 
-/// Compares the receipts of a run, whatever came of it, and reports what was found in the records that were sent.
+/// Compares the receipts of a run, whatever its result, and reports the races of the records that were sent.
 pub(crate) fn close<S: BuildHasher + Drop>(done: Done<S>, lists: Lists) -> Result<Run, Fault>
     requires room { OnOk done.outcome (HasRoom (vec_len done.workers) lists) }
     requires closed { IsClosed done }

@@ -23,7 +23,7 @@ pub(crate) struct Detector<S: BuildHasher + Drop> {
 }
 
 impl<S: BuildHasher + Drop> Detector<S> {
-    /// Nothing was seen.
+    /// The state before the first record.
     pub(crate) fn new(alloc: Global, hasher: S) -> Result<Detector<S>, NoMemory>
         ensures { IfOk result (λ d. HasFollowed [] d.bags d.shadow d.collector) }
     {
@@ -34,7 +34,7 @@ impl<S: BuildHasher + Drop> Detector<S> {
         })
     }
 
-    /// Takes a record behind those that were detected.
+    /// Takes the next record.
     #[inline(always)]
     fn follow(&mut self, placed: Placed) -> Result<(), NoMemory>
         requires ready { AreReadyFor self.old.bags self.old.shadow placed.place }

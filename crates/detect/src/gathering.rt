@@ -13,7 +13,7 @@ use route::Router;
 use shard::Back;
 use std::sync::Wait;
 
-/// The lanes back from the shards, and what came over them.
+/// The lanes back from the shards, and the races that came over them.
 #[derive(Drop)]
 pub(crate) struct Gathering {
     pub(crate) backs: Vec<Taker<Back>>,
@@ -25,7 +25,7 @@ pub(crate) struct Gathering {
 }
 
 impl Gathering {
-    /// Takes a turn of each lane, of what is there.
+    /// Takes from each lane in turn what is there.
     pub(crate) fn take_turns(&mut self)
         ensures { IsFurther self.old self.new }
     {
@@ -51,7 +51,7 @@ impl Gathering {
         self.waiting.learn(router.room(lane), router.capacity(lane));
     }
 
-    /// Takes from the first so many lanes until each has given its mark.
+    /// Takes from the first `count` lanes until each has given its mark.
     pub(crate) fn finish_lanes<R: Wait>(&mut self, rt: &R, count: usize)
         requires { count ≤ vec_len self.old.backs }
         ensures further { IsFurther self.old self.new }
@@ -78,7 +78,7 @@ impl Gathering {
         unreachable!()
     }
 
-    // Takes a block of what the lane has; false where nothing was there.
+    // Takes a block of the items on the lane; false if there was none.
     fn take_turn(&mut self, shard: usize) -> bool
         requires { shard < vec_len self.old.backs }
         ensures { IsFurther self.old self.new }

@@ -1,4 +1,4 @@
-//! What a worker is given, and what it promises.
+//! The job of a worker, and its promise.
 ghost use Rattle.shard.specs.Worked.{DidWork};
 
 use lane::{Sender, Taker};
@@ -16,7 +16,7 @@ pub(crate) struct Job<S: BuildHasher + Drop> {
     pub(crate) back: Sender<Back>,
 }
 
-/// The promise of a worker: it has done its work on the lanes that it was given.
+/// The promise of a worker: it has done its work on its lanes.
 #[derive(Drop)]
 pub(crate) struct WorkOf {
     pub(crate) taker: Snapshot<Taker<Placed>>,

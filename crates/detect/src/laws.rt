@@ -1,4 +1,4 @@
-//! That the rules of SP-bags find just the races of the dag, in every well nested trace.
+//! In every well nested trace the rules of SP-bags find exactly the races of the dag.
 
 ghost use Rattle.std.specs.Prelude.{◌≡◌, ◌==◌, ◌%◌, ℕ, List, [], filter, map, take, ◌↔◌};
 ghost use Rattle.trace.specs.Traces.{placed};
@@ -12,8 +12,8 @@ ghost use Rattle.shadow.specs.Found.{found, verdict};
 ghost use Rattle.collect.specs.Located.{located_at};
 ghost use Rattle.detect.specs.Racy.{OfWellNested, IsParallelThrough, IsParallelAfter, KeepsParallelReader, AreEarlyRaces, HasRace, HasLocation};
 
-/// Of every well nested trace: what parallel accesses say of a third one; that the kept reader stands for
-/// all reads before an access; and that the races found are those of the dag, up to every place and in all.
+/// For every well nested trace: what parallel accesses say of a third access; the kept reader represents all reads
+/// before an access; and the races found are those of the dag, up to every place and in all.
 pub fn dag()
     ensures parallel_through { OfWellNested IsParallelThrough }
     ensures parallel_after { OfWellNested IsParallelAfter }
@@ -26,14 +26,14 @@ pub fn dag()
     ensures race_free { OfWellNested (λ w. (verdict w ≡ []) ↔ ((l : ℕ) → HasRace w l → ⊥)) }
 {}
 
-/// Of every list of placed records: what is found in a shard's share are the races found in the whole list whose
-/// locations are the shard's.
+/// For every list of placed records: the races found in a shard's share are those found in the whole list whose
+/// locations belong to the shard.
 pub fn shares()
     ensures { (k n : ℕ) (u : List Placed) → found (share k n u) ≡ filter (λ r. r.location % n == k) (found u) }
 {}
 
-/// Of every list of placed records: what is found in a part's records, each race at the location of its number, are the
-/// races found in the whole list whose locations are the part's.
+/// For every list of placed records: the races found in a part's records, each at the location of its number, are
+/// those found in the whole list whose locations belong to the part.
 pub fn parts()
     ensures { (part : Part) (u : List Placed)
         → map (located_at part) (found (records_of part u)) ≡ races_of_part part (found u) }

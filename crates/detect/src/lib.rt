@@ -1,4 +1,4 @@
-//! Determinacy races of a trace: what the rules of SP-bags find is what the dag has.
+//! Determinacy races of a trace: the rules of SP-bags find exactly the races of the dag.
 #![tactic(auto)]
 
 mod closing;

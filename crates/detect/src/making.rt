@@ -1,4 +1,4 @@
-//! What a run needs, all of it made before a worker is started or a byte is read.
+//! What a run needs. All of it is made before the first worker starts and before the first byte is read.
 ghost use Rattle.std.specs.Prelude.{◌≡◌, ℕ, ◌+◌, ◌≤◌, vec_len, vec_capacity, IfOk, OnOk};
 ghost use Rattle.trace.specs.Bounds.{IsShardCount, IsCapacity};
 ghost use Rattle.detect.specs.Readiness.{IsBetween, IsReady, IsTied};
@@ -24,7 +24,7 @@ pub(crate) struct Ends<S: BuildHasher + Drop> {
     pub(crate) backs: Vec<Taker<Back>>,
 }
 
-/// What a run begins with. There is room for a handle and for an answer of each worker.
+/// The state of a run at its start. There is room for a handle and for an answer of each worker.
 #[derive(Drop)]
 pub(crate) struct Made<S: BuildHasher + Drop> {
     pub(crate) sending: Sending,
@@ -33,14 +33,14 @@ pub(crate) struct Made<S: BuildHasher + Drop> {
     pub(crate) workers: Vec<Worked<S>>,
 }
 
-/// Room for what a run answers of each shard.
+/// Room for the results of each shard.
 #[derive(Drop)]
 pub(crate) struct Lists {
     pub(crate) taken: Vec<u64>,
     pub(crate) lanes: Vec<Taker<Placed>>,
 }
 
-/// Makes the lanes, the router of the part's records, the shards, and room for what comes of the workers.
+/// Makes the lanes, the router of the part's records, the shards, and room for the results of the workers.
 pub(crate) fn make<S: BuildHasher + Drop>(
     alloc: Global,
     capacity: u32,
@@ -137,7 +137,7 @@ fn make_job<S: BuildHasher + Drop>(
     Ok((sender, Job { shard, taker, back }, gatherer))
 }
 
-/// Room for what a run answers of so many shards.
+/// Room for the results of `count` shards.
 pub(crate) fn make_lists(alloc: Global, count: usize) -> Result<Lists, NoMemory>
     ensures { IfOk result (HasRoom count) }
 {

@@ -9,21 +9,21 @@ use std::alloc::Global;
 use std::hash::BuildHasher;
 use trace::{Fault, Limits, Part, Source, read_to_end};
 
-/// Reads a trace to its end and reports its races: of each location that has any, one. It is the SP-bags
-/// algorithm of Feng and Leiserson, "Efficient Detection of Determinacy Races in Cilk Programs" (SPAA 1997).
+/// Reads a trace to its end and reports one race of each location that has any. It is the SP-bags algorithm of Feng
+/// and Leiserson, "Efficient Detection of Determinacy Races in Cilk Programs" (SPAA 1997).
 ///
-/// A fault is the whole answer: no race is told with it. Memory is taken for the bags, the shadow memory
-/// and the races, and not for records as such.
+/// A fault is the whole answer: no race comes with it. The bags, the shadow memory and the races take memory; a
+/// record itself takes none.
 pub fn detect_plain<R: Source, S: BuildHasher + Drop>(
     alloc: Global,
     limits: Limits,
     source: &mut R,
     hasher: S,
 ) -> Result<Report, Fault>
-    // All bytes of the source are the text of a trace that is well nested within the limits. The report is
-    // the verdict on it, and that is its report by the dag.
-    // Otherwise no memory was left, or the fault is the first; and where the source holds such a trace and
-    // doesn't fail, no memory was left.
+    // All bytes of the source are the text of a trace that is well nested within the limits. The report is the
+    // verdict on it and its report by the dag.
+    // Otherwise no memory was left, or the fault is the first. If the source holds such a trace and doesn't fail, no
+    // memory was left.
     ensures { EndsReading IsWantOfMemory limits.records limits.depth (R.state source.old ⇝ R.state source.new)
         (λ report w. IsReportOf w report) result }
 {
@@ -32,8 +32,8 @@ pub fn detect_plain<R: Source, S: BuildHasher + Drop>(
     Ok(detector.finish()?)
 }
 
-/// Reads a trace to its end and reports the races of a part of its locations. An access of any other location is
-/// dropped as soon as it is read, and no memory is taken for it.
+/// Reads a trace to its end and reports the races of a part of its locations. It drops an access of any other
+/// location as soon as it has read it, so this access takes no memory.
 pub fn detect_plain_part<R: Source, S: BuildHasher + Drop>(
     alloc: Global,
     limits: Limits,

@@ -1,10 +1,10 @@
-//! How a run is divided, and its limits.
+//! The shards and the limits of a run.
 ghost use Rattle.std.specs.Prelude.{◌≡◌, ◌≤◌};
 ghost use Rattle.trace.specs.Bounds.{IsShardCount, IsCapacity};
 
 use trace::Limits;
 
-/// How many shards there are, how many items each lane holds, and the limits of the trace.
+/// The number of shards, the greatest number of items in each lane, and the limits of the trace.
 #[derive(Clone, Copy, Debug, PartialEq, Eq)]
 pub struct Plan {
     pub(crate) shards: u32,
@@ -15,7 +15,7 @@ pub struct Plan {
 }
 
 impl Plan {
-    /// A plan for 1 to 64 shards, with lanes that hold 1 to 65536 items, the mark being one.
+    /// A plan for 1 to 64 shards, with lanes that hold 1 to 65536 items. The mark is an item.
     pub fn new(shards: u32, capacity: u32, limits: Limits) -> Plan
         requires shards { IsShardCount shards }
         requires capacity { IsCapacity capacity }

@@ -1,4 +1,4 @@
-//! A run among its workers: they are started, the trace is read and sent, and they are joined.
+//! A run among its workers: it starts them, reads the trace and sends its records, and joins the workers.
 ghost use Rattle.std.specs.Prelude.{vec_len};
 ghost use Rattle.trace.specs.Devices.{◌⇝◌};
 ghost use Rattle.detect.specs.Readiness.{IsReady};
@@ -13,8 +13,8 @@ use std::sync::Wait;
 use std::thread::{Scope, Threads};
 use trace::{Limits, Source};
 
-/// Starts the workers, reads the trace and sends what the part has of it, and joins all workers that were started.
-/// After a refused start nothing is read. Nothing here takes memory but the collector.
+/// Starts the workers, reads the trace, sends what the part has of it, and joins all started workers. If the start of
+/// a worker is refused, it reads nothing. Only the collector takes memory here.
 pub(crate) fn run<
     's,
     E,

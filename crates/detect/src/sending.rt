@@ -1,4 +1,4 @@
-//! From the source to the shards: records are sent, and at last the marks.
+//! From the source to the shards: the reading thread sends the records, and at last the marks.
 ghost use Rattle.std.specs.Prelude.{◌≡◌, ◌++◌, ◌∷◌, [], List};
 ghost use Rattle.std.specs.Option.{option_to_list};
 ghost use Rattle.trace.specs.declared.records.Placed.{Placed};
@@ -14,7 +14,7 @@ use route::{Progress, Router};
 use std::sync::Wait;
 use trace::{Fault, Intake, Limits, Part, Placed, Source};
 
-/// What the reading thread holds while it sends what a part has of the records, and takes what comes back.
+/// What the reading thread holds while it sends a part's records and takes the races that come back.
 #[derive(Drop)]
 pub(crate) struct Sending {
     pub(crate) part: Part,
@@ -83,7 +83,7 @@ impl Sending {
         }
     }
 
-    // Puts the pending record on the lanes that lack it, of which this one was full.
+    // Puts the pending record on the lanes that lack it; this lane was full.
     #[cold]
     #[inline(never)]
     fn send_rest<T: Wait>(&mut self, rt: &T, lane: usize)

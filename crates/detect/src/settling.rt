@@ -1,4 +1,4 @@
-//! The receipts: what was taken is compared with what was put.
+//! The receipts: the items taken are compared with the items put.
 ghost use Rattle.std.specs.Prelude.{◌≡◌, ◌<◌, ℕ, map, vec_len};
 ghost use Rattle.lane.specs.Items.{IsBeginning};
 ghost use Rattle.lane.specs.Lanes.{end_lane, taker_lane, all_put};
@@ -10,7 +10,8 @@ use shard::{Back, Worked};
 use std::hash::BuildHasher;
 use trace::Placed;
 
-/// Compares what each worker took with the router's receipt of its lane. There is a worker for each of the first lanes.
+/// Compares the items that each worker took with the router's receipt of its lane. Each of the first lanes has a
+/// worker.
 pub(crate) fn settle_shards<S: BuildHasher + Drop>(
     workers: &mut Vec<Worked<S>>,
     ends: &mut Vec<End<Placed>>,
@@ -25,7 +26,7 @@ pub(crate) fn settle_shards<S: BuildHasher + Drop>(
     }
 }
 
-/// Compares what was taken of each lane back with the worker's receipt of it.
+/// Compares the items taken from each lane back with the worker's receipt of it.
 pub(crate) fn settle_backs<S: BuildHasher + Drop>(
     workers: &mut Vec<Worked<S>>,
     backs: &mut Vec<Taker<Back>>,

@@ -1,4 +1,4 @@
-//! Detection with a thread a shard.
+//! Detection with a thread for each shard.
 ghost use Rattle.std.specs.Prelude.{◌≡◌, vec_len};
 ghost use Rattle.trace.specs.Devices.{◌⇝◌};
 ghost use Rattle.trace.specs.Endings.{EndsReading, IsWantOfMemoryOrThread};
@@ -20,24 +20,23 @@ use std::thread;
 use std::thread::Threads;
 use trace::{Fault, Part, Placed, Source};
 
-/// What a run with shards answers.
+/// The result of a run with shards.
 #[derive(Drop)]
 pub struct Run {
-    /// The races, one of each racy location.
+    /// The races, one for each racy location.
     pub report: Report,
-    /// How many records each shard took, the mark not counted.
+    /// The number of records that each shard took, without the mark.
     pub taken: Vec<u64>,
-    /// The lane to each shard, taken to its mark.
+    /// The lane to each shard, taken up to its mark.
     pub lanes: Vec<Taker<Placed>>,
 }
 
-/// Reads a trace to its end and reports its races, with a thread for each shard of the locations: the
-/// SP-bags algorithm of Feng and Leiserson, "Efficient Detection of Determinacy Races in Cilk Programs"
-/// (SPAA 1997), its shadow memory divided among the threads. There is one hasher for each shard.
+/// Reads a trace to its end and reports its races, with a thread for each shard of the locations. It is the SP-bags
+/// algorithm of Feng and Leiserson, "Efficient Detection of Determinacy Races in Cilk Programs" (SPAA 1997), with the
+/// shadow memory divided among the threads. Each shard has its own hasher.
 ///
-/// Everything but what shards and collector take as they go is made first, then the workers are
-/// started, then the trace is read. A fault is the whole answer: no race is told with it, and every worker
-/// that was started is joined.
+/// It first makes everything but what the shards and the collector add later, then starts the workers, then reads the
+/// trace. A fault is the whole answer: no race comes with it. Every started worker is joined.
 pub fn detect<T: Threads + Wait + Sync, R: Source, G: Gate + Sync, S: BuildHasher + Send + Drop>(
     rt: &T,
     alloc: Global,
@@ -49,10 +48,10 @@ pub fn detect<T: Threads + Wait + Sync, R: Source, G: Gate + Sync, S: BuildHashe
 where
     S::Hasher: Send,
     requires { vec_len hashers ≡ plan.shards }
-    // All bytes of the source are the text of a trace that is well nested within the limits. The report is
-    // the verdict on it, which is its report by the dag, and each shard took its share of it.
-    // Otherwise no memory was left, no thread could be started, or the fault is the first; and where the source
-    // holds such a trace and doesn't fail, it is one of the former two.
+    // All bytes of the source are the text of a trace that is well nested within the limits. The report is the
+    // verdict on it and its report by the dag, and each shard took its share of it.
+    // Otherwise no memory was left, no thread could start, or the fault is the first. If the source holds such a
+    // trace and doesn't fail, it is one of the former two.
     ensures { EndsReading IsWantOfMemoryOrThread plan.limits.records plan.limits.depth
         (R.state source.old ⇝ R.state source.new)
         (RunAnswers plan.shards) result }
@@ -60,9 +59,9 @@ where
     detect_part(rt, alloc, plan, Part::whole(), source, gate, hashers)
 }
 
-/// Reads a trace to its end and reports the races of a part of its locations. An access of any other location is
-/// dropped as soon as it is read, and goes to no shard. The shards divide the numbers of the part's locations: shard j
-/// of n has those that leave the rest j where they are divided by n.
+/// Reads a trace to its end and reports the races of a part of its locations. It drops an access of any other
+/// location as soon as it has read it, and no shard gets it. The shards divide the numbers of the part's locations:
+/// shard j of n has the numbers with remainder j modulo n.
 pub fn detect_part<
     T: Threads + Wait + Sync,
     R: Source,

@@ -1,4 +1,4 @@
-//! The workers: each is started in the scope of the run, and joined at its end.
+//! The workers: each starts in the scope of the run, and is joined at its end.
 ghost use Rattle.std.specs.Prelude.{◌≡◌, ◌≤◌, ℕ, map, vec_len, vec_capacity, IfErr, OnOk, MatchResult};
 ghost use Rattle.trace.specs.declared.faults.Fault.TheVariants.{NoThread};
 ghost use Rattle.lane.specs.Items.{IsBeginning};
@@ -12,8 +12,8 @@ use std::sync::Wait;
 use std::thread::{PromisedHandle, Scope, Threads};
 use trace::Fault;
 
-/// Starts a worker on each job; the handles stand in the order of the jobs. After a refused start the
-/// jobs that are left are dropped.
+/// Starts a worker on each job. The handles are in the order of the jobs. After a refused start it drops the jobs
+/// that are left.
 pub(crate) fn start_all<'s, E, T: Wait + Sync, G: Gate + Sync, S: BuildHasher + Send + Drop + 's>(
     rt: &'s T,
     scope: &Scope<'s, E>,
@@ -60,7 +60,7 @@ where
     }
 }
 
-/// Joins the workers; what they answer stands in the order of the handles.
+/// Joins the workers. Their results are in the order of the handles.
 pub(crate) fn join_all<T: Threads, S: BuildHasher + Drop>(
     rt: &T,
     handles: Vec<PromisedHandle<Worked<S>, WorkOf>>,
