@@ -37,13 +37,13 @@ report_message reports.TooLarge = codes "spbags: report too large\n"
 report_message (reports.Bad line) = codes "spbags: report line " ++ decimal line ++ codes ": bad\n"
 report_message reports.NoMemory = codes "spbags: out of memory\n"
 
--- the line for one of many reports that isn't read: which one it is, is told of one with a faulty line alone
+-- the line for one refused report of many; only the line for a faulty line says which report it is
 abbrev pub merge_message : ℕ → ReportRefusal → List ℕ
 merge_message number (reports.Bad line) = codes "spbags: report " ++ decimal number ++ codes " line " ++ decimal line ++ codes ": bad\n"
 merge_message number reports.Read = report_message reports.Read
 merge_message number reports.TooLarge = report_message reports.TooLarge
 merge_message number reports.NoMemory = report_message reports.NoMemory
 
--- the line where the answer can't be written
+-- the line if the answer can't be written
 abbrev pub cannot_write : List ℕ
 cannot_write = codes "spbags: cannot write\n"

@@ -26,22 +26,22 @@ pub record GivesReport (c : Change) (entries : List RaceAt) : Type 0 where
   pub is_report : IsReportList entries
   pub gives : GivesAll c (rtext entries)
 
--- a source that tells its bytes and doesn't fail: they are the text of a report that isn't too large
+-- a source that shows its bytes and doesn't fail: they are the text of a report that isn't too large
 pub record HoldsReport (c : Change) (entries : List RaceAt) : Type 0 where
   pub is_text : c.old.bytes ≡ Some (rtext entries)
   pub is_report : IsReportList entries
   pub within : length (rtext entries) ≤ most_report_bytes
   pub never_failed : HasFailed c → ⊥
 
--- What a refusal says of the bytes that came. `Read` comes only where the source failed within the bytes that a
--- report may have; of one that is too large one byte too many was read, and no more.
+-- What a refusal says of the bytes that came. `Read` comes only if the source failed within the bytes that a report
+-- may have. `TooLarge` comes after one byte too many, and no more bytes were read.
 abbrev pub IsCause : Change → ReportRefusal → Type 0
 IsCause c Read = (came : List ℕ) × Gave c came × (length came ≤ most_report_bytes) × HasFailed c
 IsCause c TooLarge = (came : List ℕ) × Gave c came × (length came ≡ most_report_bytes + 1)
 IsCause c (Bad line) = (came : List ℕ) × GivesAll c came × IsFirstBadLine came line
 IsCause c NoMemory = Unit {0}
 
--- Why there is no report. A source that holds one and doesn't fail is refused for want of memory alone.
+-- Why there is no report. A source that holds one and doesn't fail is refused only for lack of memory.
 pub record IsRefusal (c : Change) (refusal : ReportRefusal) : Type 0 where
   pub cause : IsCause c refusal
   pub honest : (entries : List RaceAt) → HoldsReport c entries → refusal ≡ NoMemory

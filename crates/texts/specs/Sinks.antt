@@ -1,10 +1,10 @@
--- Promised: what the end of an answer tells, by its status.
+-- Promised: what the end of an answer says, by its status.
 use Rattle.std.specs.Prelude.{◌≡◌, ℕ, List, ◌⊎◌}
 use Rattle.trace.specs.Devices.{Change}
 use Rattle.trace.specs.Writers.{IsUntouched, Took, TookFront, WasGiven}
 use Rattle.texts.specs.Messages.{cannot_write}
 
--- The end of an answer that has this status: it was written whole and this is the status, or writing it failed and
--- the status is 2, which standard error was told.
+-- The end of an answer with this status: it was written whole and this is the status; or writing it failed, the
+-- status is 2, and standard error has the line for that.
 abbrev pub Tells : ℕ → ℕ → List ℕ → Change → Change → Type 0
 Tells result status text out err = ((result ≡ status) × Took text out × IsUntouched err) ⊎ ((result ≡ 2) × TookFront text out × WasGiven cannot_write err)

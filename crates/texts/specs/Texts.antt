@@ -42,7 +42,7 @@ opener_text o = opening_word o.what ++ decimal o.place ++ codes " "
 abbrev pub side_line : List ℕ → List Opener → Access → List ℕ
 side_line word openers a = (word ++ flat_map opener_text openers) ++ (access_text a ++ codes "\n")
 
--- the line of the meeting procedure's next wait, where there is one
+-- the line of the meeting procedure's next wait, if there is one
 abbrev pub joined_text : Option ℕ → List ℕ
 joined_text None = []
 joined_text (Some k) = number_line (codes "joined ") k

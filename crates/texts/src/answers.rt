@@ -1,5 +1,5 @@
-//! The texts of the answers, as they are put into a sink; that of `check` is written by its report, and that of
-//! `explain` stands beside.
+//! The texts of the answers, put into a sink. A report writes the text of `check` itself; `explanations` has that of
+//! `explain`.
 ghost use Rattle.std.specs.Prelude.{◌≡◌, ◌≤◌, ◌++◌, length};
 ghost use Rattle.trace.specs.Devices.{◌⇝◌};
 ghost use Rattle.trace.specs.Writers.{Puts};
@@ -10,7 +10,7 @@ use crate::messages::{put, put_at};
 use audit::{Confirm, Measure};
 use trace::{Access, Kind, Sink, WriteFault};
 
-/// Puts the races of a location into a sink: their number, and a line for each.
+/// Puts the races of a location into a sink: their number, and a line for each race.
 pub fn put_pairs<W: Sink>(pairs: &[(Access, Access)], sink: &mut W) -> Result<(), WriteFault>
     ensures { Puts result (pairs_text pairs.now) (W.state sink.old ⇝ W.state sink.new) }
 {
@@ -29,7 +29,7 @@ fn put_pair<W: Sink>(pair: &(Access, Access), sink: &mut W) -> Result<(), WriteF
     put_access(pair.1, b"\n", sink)
 }
 
-// An access, and what stands after it in its line.
+// An access, and what follows it in its line.
 pub(crate) fn put_access<W: Sink>(
     access: Access,
     ending: &[u8],
@@ -44,7 +44,7 @@ pub(crate) fn put_access<W: Sink>(
     }
 }
 
-/// Puts the numbers of a trace into a sink, a line for each.
+/// Puts the numbers of a trace into a sink, a line for each number.
 pub fn put_measure<W: Sink>(measure: &Measure, sink: &mut W) -> Result<(), WriteFault>
     ensures { Puts result (measure_text measure.now) (W.state sink.old ⇝ W.state sink.new) }
 {
@@ -54,7 +54,7 @@ pub fn put_measure<W: Sink>(measure: &Measure, sink: &mut W) -> Result<(), Write
     put_at(b"depth ", u64::from(measure.depth), b"\n", sink)
 }
 
-/// Puts what is said of a report into a sink.
+/// Puts the answer of `confirm` into a sink.
 pub fn put_confirm<W: Sink>(answer: Confirm, sink: &mut W) -> Result<(), WriteFault>
     ensures { Puts result (confirm_text answer) (W.state sink.old ⇝ W.state sink.new) }
 {

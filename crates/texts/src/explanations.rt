@@ -1,4 +1,4 @@
-//! The text of the answer to `explain`, as it is put into a sink.
+//! The text of the answer to `explain`, put into a sink.
 ghost use Rattle.std.specs.Prelude.{◌≡◌, codes};
 ghost use Rattle.trace.specs.Devices.{◌⇝◌};
 ghost use Rattle.trace.specs.Writers.{Puts};
@@ -10,7 +10,7 @@ use crate::messages::{put, put_at};
 use audit::{Explained, Opener, Opening};
 use trace::{Access, Race, Sink, WriteFault};
 
-/// Puts why a location is racy into a sink, or that it isn't.
+/// Puts into a sink why a location is racy, or that it isn't.
 pub fn put_explained<W: Sink>(answer: &Option<Explained>, sink: &mut W) -> Result<(), WriteFault>
     ensures { Puts result (explained_text answer.now) (W.state sink.old ⇝ W.state sink.new) }
 {

@@ -1,4 +1,4 @@
-//! What the program writes, byte for byte, and the report that it reads.
+//! The texts that the program writes, byte for byte, and the report that it reads.
 #![tactic(auto)]
 
 mod answers;

@@ -8,7 +8,7 @@ use crate::reports::ReportRefusal;
 use itoa::write_digits;
 use trace::{Fault, NestKind, Sink, TextKind, WriteFault, put_all};
 
-/// Writes the line for a fault. Where that fails there is nobody left to tell.
+/// Writes the line for a fault. If that fails, there is nowhere left to report it.
 pub fn say_fault<E: Sink>(fault: &Fault, err: &mut E)
     ensures { WasGiven (message fault.now) (E.state err.old ⇝ E.state err.new) }
 {
@@ -21,14 +21,14 @@ pub fn say_fault<E: Sink>(fault: &Fault, err: &mut E)
     }
 }
 
-/// Writes a line. Where that fails there is nobody left to tell.
+/// Writes a line. If that fails, there is nowhere left to report it.
 pub fn say<E: Sink>(line: &[u8], err: &mut E)
     ensures { WasGiven line.now (E.state err.old ⇝ E.state err.new) }
 {
     let _ = put(line, err);
 }
 
-/// Writes the line for a report that isn't read. Where that fails there is nobody left to tell.
+/// Writes the line for a report that is refused. If that fails, there is nowhere left to report it.
 pub fn say_refusal<E: Sink>(refusal: ReportRefusal, err: &mut E)
     ensures { WasGiven (report_message refusal) (E.state err.old ⇝ E.state err.new) }
 {
@@ -40,8 +40,8 @@ pub fn say_refusal<E: Sink>(refusal: ReportRefusal, err: &mut E)
     }
 }
 
-/// Writes the line for one of many reports that isn't read; reports are counted from 1. Where that
-/// fails there is nobody left to tell.
+/// Writes the line for one refused report of many; the first is report 1. If that fails, there is nowhere left to
+/// report it.
 pub fn say_merge_refusal<E: Sink>(number: u64, refusal: ReportRefusal, err: &mut E)
     ensures { WasGiven (merge_message number refusal) (E.state err.old ⇝ E.state err.new) }
 {
@@ -89,7 +89,7 @@ pub fn put_at<W: Sink>(
     put(&bytes[start..], sink)
 }
 
-// Builds a line up to the end of the buffer, and answers where it starts.
+// Builds a line up to the end of the buffer, and returns its start.
 fn build_line(bytes: &mut [u8; LONGEST], head: &[u8], number: u64, ending: &[u8]) -> usize
     requires head { length head.now ≤ 20 }
     requires ending { length ending.now ≤ 32 }

@@ -1,4 +1,4 @@
-//! A report as it is read: all its bytes first, and then its entries.
+//! How a report is read: all its bytes first, and then its entries.
 ghost use Rattle.std.specs.Prelude.{◌≡◌, ℕ, ◌+◌, ◌<◌, ◌≤◌, List, ◌++◌, length, Ok, true, false, ◌⊎◌, IfErr, OnOk, MatchResult};
 ghost use Rattle.std.specs.Io.KnownBytes.{Keeps};
 ghost use Rattle.trace.specs.Devices.{◌⇝◌, Gave, IsUsedUp, IsSteady, HasFailed};
@@ -9,7 +9,7 @@ use collect::{Report, ReportFault, read_report};
 use std::alloc::{AllocError, Global};
 use trace::{Failed, Source};
 
-/// The most bytes that a report may have.
+/// The greatest number of bytes of a report.
 pub const MOST_BYTES: usize = 67_108_864;
 
 /// Why there is no report.
@@ -19,9 +19,9 @@ pub enum ReportRefusal {
     Read,
     /// It has more bytes than a report may have.
     TooLarge,
-    /// The first line that may not stand where it stands. Lines are counted from 1.
+    /// The first line that may not be where it is. The first line is line 1.
     Bad { line: u64 },
-    /// A growth was refused.
+    /// The allocator refused a growth.
     NoMemory,
 }
 
@@ -52,7 +52,7 @@ impl From<AllocError> for ReportRefusal {
     }
 }
 
-/// Reads a report to its end. Of one that has too many bytes one byte too many is read, and no more.
+/// Reads a report to its end. If it is too long, it reads one byte more than the limit and stops.
 pub fn report_from<Q: Source>(alloc: Global, source: &mut Q) -> Result<Report, ReportRefusal>
     ensures { MatchResult result (GivesReport (Q.state source.old ⇝ Q.state source.new))
         (IsRefusal (Q.state source.old ⇝ Q.state source.new)) }
