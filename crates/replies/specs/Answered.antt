@@ -19,14 +19,14 @@ pub record HasAnswered (records depths : ℕ) (Says : List Record → List ℕ �
   pub took : Took text out
   pub silent : IsUntouched err
 
--- the trace was refused for a fault, which standard error was told, and nothing of an answer was written
+-- the trace was refused for a fault, standard error has its line, and nothing of an answer was written
 pub record HasRefused (IsWant : Fault → Type 0) (records depths : ℕ) (trace out err : Change) : Type 0 where
   pub fault : Fault
   pub refused : IsRefused IsWant records depths trace fault
   pub untouched : IsUntouched out
   pub said : WasGiven (message fault) err
 
--- the trace was read whole, and writing what answers the question failed, which standard error was told
+-- the trace was read whole, a write of the answer failed, and standard error has the line for that
 pub record FailedToWrite (records depths : ℕ) (Says : List Record → List ℕ → ℕ → Type 0)
     (trace out err : Change) : Type 0 where
   pub text : List ℕ
@@ -36,8 +36,8 @@ pub record FailedToWrite (records depths : ℕ) (Says : List Record → List ℕ
   pub said : WasGiven cannot_write err
 
 -- Status 0 or 1 is an answer, and status 2 is none. So a source that holds a trace and doesn't fail has status 2 only
--- where something was wanting, which standard error was told, or where standard output failed: by `honest` of the
--- refusal, and by `failed` of what standard output took.
+-- if memory or a thread was lacking, or if standard output failed. Either way standard error has the line: by
+-- `honest` of the refusal, and by `failed`.
 pub record IsAnswered (IsWant : Fault → Type 0) (records depths : ℕ) (Says : List Record → List ℕ → ℕ → Type 0)
     (trace out err : Change) (status : ℕ) : Type 0 where
   pub low : status ≤ 2
@@ -45,7 +45,7 @@ pub record IsAnswered (IsWant : Fault → Type 0) (records depths : ℕ) (Says :
   pub failed : status ≡ 2 → HasRefused IsWant records depths trace out err
       ⊎ FailedToWrite records depths Says trace out err
 
--- there is no report, which standard error was told, and nothing of an answer was written
+-- there is no report, standard error has the line for that, and nothing of an answer was written
 pub record HasNoReport (report out err : Change) (status : ℕ) : Type 0 where
   pub refusal : ReportRefusal
   pub refused : IsRefusal report refusal
@@ -59,8 +59,8 @@ pub record HasReport (records depths : ℕ) (trace report out err : Change) (sta
   pub given : GivesReport report entries
   pub answered : IsAnswered IsWantOfMemory records depths (AnswersConfirm entries) trace out err status
 
--- The report is read first; where there is none the trace isn't read. So a report and a trace from sources that hold
--- them and don't fail have status 2 only for want of memory, or where standard output failed.
+-- The program reads the report first; if there is none, it doesn't read the trace. So a report and a trace from
+-- sources that hold them and don't fail have status 2 only for lack of memory, or if standard output failed.
 abbrev pub IsConfirmed : (Unread : Type 0) → ℕ → ℕ → Change → Change → Change → Change → ℕ → Type 0
 IsConfirmed Unread records depths trace report out err status = (Unread × HasNoReport report out err status)
     ⊎ HasReport records depths trace report out err status

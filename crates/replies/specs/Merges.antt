@@ -1,4 +1,4 @@
--- Promised: how the program ends that was asked to merge reports.
+-- Promised: how the program ends when it merges reports.
 use Rattle.std.specs.Prelude.{◌≡◌, ◌⊎◌, ℕ, ◌+◌, List, [], ◌∷◌, ◌++◌, length, Option, Result, String, string_bytes}
 use Rattle.trace.specs.declared.faults.Fault.TheVariants.{NoMemory}
 use Rattle.trace.specs.Accesses.{RaceAt}
@@ -14,13 +14,13 @@ use Rattle.words.specs.declared.asking.Merge.{Merge}
 use Rattle.replies.specs.declared.input.Input.{Input}
 use Rattle.replies.specs.Inputs.{StandsFor, untried}
 
--- the status of a report: 1 where it has a race, 0 where it has none
+-- the status of a report: 1 if it has a race, 0 if it has none
 abbrev pub report_status : List RaceAt → ℕ
 report_status [] = 0
 report_status (r ∷ rs) = 1
 
--- The one report of these was written whole, with its status, or writing it failed; or there was no memory for it, which
--- standard error was told, and nothing was written.
+-- The one report of these was written whole, with its status, or writing it failed; or there was no memory for it,
+-- standard error has the line for that, and nothing was written.
 abbrev pub HasToldMerged : List (List RaceAt) → Change → Change → ℕ → Type 0
 HasToldMerged reports out err status = ((races : List RaceAt) × IsMerged reports races × Tells status (report_status races) (rtext races) out err)
     ⊎ ((status ≡ 2) × IsUntouched out × WasGiven (message NoMemory) err)
@@ -63,7 +63,7 @@ module _ {F E : Type 0} (Gives : List ℕ → Result F E → Type 0) (known : In
     pub read : HaveReadReports names reports
     pub told : HasToldMerged reports out err status
 
-  -- a report wasn't taken, which standard error was told, and nothing was written
+  -- a report was refused, standard error has the line for that, and nothing was written
   pub record HasNotMerged {A : Type 0} (names : List (String A)) (out err : Change) (status : ℕ) : Type 0 where
     pub number : ℕ
     pub refusal : ReportRefusal
@@ -72,7 +72,7 @@ module _ {F E : Type 0} (Gives : List ℕ → Result F E → Type 0) (known : In
     pub said : WasGiven (merge_message number refusal) err
     pub is_two : status ≡ 2
 
-  -- Status 0 or 1 is that of the one report of all that the names stand for, which was written whole. So reports from
-  -- sources that hold them and don't fail have status 2 only for want of memory, or where standard output failed.
+  -- Status 0 or 1 is that of the one report of all the named reports, which was written whole. So reports from
+  -- sources that hold them and don't fail have status 2 only for lack of memory, or if standard output failed.
   abbrev pub HasMergedOf : Merge → Change → Change → ℕ → Type 0
   HasMergedOf merge out err status = HasMerged merge.reports.items out err status ⊎ HasNotMerged merge.reports.items out err status

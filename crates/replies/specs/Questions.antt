@@ -21,8 +21,8 @@ use Rattle.words.specs.declared.asking.Question.{Question}
 use Rattle.words.specs.declared.asking.Question.TheVariants as question
 use Rattle.texts.specs.Texts.{pairs_text, explained_text, measure_text, confirm_text}
 
--- `check` of the whole: the report of the trace. The status is 0 where it has no race, and 1 exactly where some location
--- has one.
+-- `check` of the whole: the report of the trace. The status is 0 exactly if it has no race, and 1 exactly if some
+-- location has one.
 pub record AnswersCheck (w : List Record) (text : List ℕ) (status : ℕ) : Type 0 where
   pub races : List RaceAt
   pub reported : IsReportOf w races
@@ -34,8 +34,8 @@ pub record AnswersCheck (w : List Record) (text : List ℕ) (status : ℕ) : Typ
 abbrev pub IsRacyIn : Part → List Record → ℕ → Type 0
 IsRacyIn part w l = HasRace w l × (l % part.count ≡ part.index)
 
--- `check` of a part of the locations: the part's report. The status is 0 where it has no race, and 1 exactly where some
--- location of the part has one.
+-- `check` of a part of the locations: the part's report. The status is 0 exactly if it has no race, and 1 exactly if
+-- some location of the part has one.
 pub record AnswersPart (part : Part) (w : List Record) (text : List ℕ) (status : ℕ) : Type 0 where
   pub races : List RaceAt
   pub reported : IsPartReportOf part w races
@@ -48,7 +48,7 @@ pub record AnswersCheckOf (part : Part) (w : List Record) (text : List ℕ) (sta
   pub of_part : AnswersPart part w text status
   pub of_whole : part.count ≡ 1 → AnswersCheck w text status
 
--- `pairs`: each race of the location once; the status is 0 exactly where there is none, otherwise 1
+-- `pairs`: each race of the location once; the status is 0 exactly if there is none, otherwise 1
 pub record AnswersPairs (location : ℕ) (w : List Record) (text : List ℕ) (status : ℕ) : Type 0 where
   pub pairs : List (Access × Access)
   pub are_pairs : ArePairs w location pairs
@@ -56,7 +56,7 @@ pub record AnswersPairs (location : ℕ) (w : List Record) (text : List ℕ) (st
   pub zero : (status ≡ 0) ↔ (pairs ≡ [])
   pub one : (status ≡ 1) ↔ HasRace w location
 
--- `explain`: why the location is racy, or that it isn't; the status is 1 exactly where it is, otherwise 0
+-- `explain`: why the location is racy, or that it isn't; the status is 1 exactly if it is, otherwise 0
 pub record AnswersExplain (location : ℕ) (w : List Record) (text : List ℕ) (status : ℕ) : Type 0 where
   pub answer : Option Explained
   pub explains : Explains w location answer
@@ -76,7 +76,7 @@ abbrev pub status_of : Confirm → ℕ
 status_of Yes = 0
 status_of (No entry) = 1
 
--- `confirm`: yes where each entry tells a race of the trace, otherwise the first that doesn't
+-- `confirm`: yes if each entry is a race of the trace, otherwise the first that isn't
 pub record AnswersConfirm (entries : List RaceAt) (w : List Record) (text : List ℕ) (status : ℕ) : Type 0 where
   pub answer : Confirm
   pub confirms : Confirms w entries answer
@@ -90,7 +90,7 @@ Answers (question.Pairs p) w text status = AnswersPairs p.location w text status
 Answers (question.Explain e) w text status = AnswersExplain e.location w text status
 Answers (question.Measure m) w text status = AnswersMeasure w text status
 
--- what reading the trace may want: memory, and for `check`, which starts threads, a thread
+-- what reading the trace may lack: memory, and for `check`, which starts threads, a thread
 abbrev pub IsWant : Question → Fault → Type 0
 IsWant (question.Check c) = IsWantOfMemoryOrThread
 IsWant (question.Pairs p) = IsWantOfMemory

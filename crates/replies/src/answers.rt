@@ -23,11 +23,11 @@ use texts::{put, say, say_fault};
 use trace::{Fault, Limits, NoMemory, Sink, Source, WriteFault};
 use words::{Check, Question, WordsFault};
 
-/// The most records that a trace may have: 2^48.
+/// The greatest number of records of a trace: 2^48.
 pub const MOST_RECORDS: u64 = 1 << 48;
 
-/// Answers what is asked of a trace alone, and gives the exit status: 0 for no race, or for the numbers of a trace, 1
-/// for a race, 2 for a fault. For `check` this starts threads, and waits for them.
+/// Answers a question about a trace alone, and gives the exit status: 0 for no race or for the numbers of a trace, 1
+/// for a race, 2 for a fault. For `check` this starts threads and waits for them.
 pub fn answer<T: Threads + Wait + Sync, R: Source, W: Sink, E: Sink>(
     rt: &T,
     alloc: Global,
@@ -112,7 +112,7 @@ pub fn limits_of(depth: u32) -> Limits
     }
 }
 
-// The exit status of races that were found: 0 where there is none.
+// The exit status of the races found: 0 if there is none.
 pub(crate) fn status_of_found<X>(found: &[X]) -> u8
     ensures low { result < 2 }
     ensures zero { (result ≡ 0) ↔ (found.now ≡ []) }
@@ -120,7 +120,7 @@ pub(crate) fn status_of_found<X>(found: &[X]) -> u8
     if found.is_empty() { 0 } else { 1 }
 }
 
-// Ends an answer that was put into `out`: passes it on, and gives its status, or 2 where writing it failed.
+// Ends an answer in `out`: passes it on, and gives its status, or 2 if writing it failed.
 pub(crate) fn finish<W: Sink, E: Sink>(
     put: Result<(), WriteFault>,
     status: u8,
@@ -155,8 +155,8 @@ fn flush<W: Sink>(out: &mut W) -> Result<(), WriteFault>
     Ok(())
 }
 
-/// Answers words that ask for nothing that can be answered, and gives the exit status: 0 where they
-/// ask for help and get it, otherwise 2.
+/// Answers words that ask for nothing that the program can answer, and gives the exit status: 0 if they ask for help
+/// and get it, otherwise 2.
 pub fn refuse<W: Sink, E: Sink>(fault: &WordsFault, out: &mut W, err: &mut E) -> u8
     ensures refused { IfNone (help_of fault.now) ((result ≡ 2) × IsUntouched (W.state out.old ⇝ W.state out.new)
         × WasGiven (refusal fault.now) (E.state err.old ⇝ E.state err.new)) }

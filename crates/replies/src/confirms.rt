@@ -13,8 +13,8 @@ use std::alloc::Global;
 use texts::{put_confirm, report_from, say_fault, say_refusal};
 use trace::{Sink, Source};
 
-/// Answers whether every entry of a report is a race of a trace, and gives the exit status: 0 for yes, 1 for no, 2 for
-/// a fault. The report is read first, and where it is faulty the trace isn't read.
+/// Answers whether every entry of a report is a race of a trace, and gives the exit status: 0 for yes, 1 for no, 2
+/// for a fault. It reads the report first; if the report is faulty, it doesn't read the trace.
 pub fn answer_confirm<R: Source, Q: Source, W: Sink, E: Sink>(
     alloc: Global,
     asked: &words::Confirm,

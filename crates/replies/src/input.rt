@@ -1,4 +1,4 @@
-//! Where a trace and a report are read from.
+//! Where the program reads a trace and a report from.
 ghost use Rattle.std.specs.Prelude.{OnOk};
 ghost use Rattle.std.specs.Fn.{FnReturnsAt};
 ghost use Rattle.std.specs.Io.{ReadsAtMost};
@@ -15,13 +15,13 @@ pub enum Input<F> {
     File(F),
     /// Standard input.
     Standard(Stdin),
-    /// A file that can't be opened. Reading it fails.
+    /// A file that can't be opened. A read of it fails.
     Missing,
 }
 
 impl<F> Input<F> {
-    /// Opens what the name stands for: standard input where it is `-`, otherwise what `opener` gives of this very name.
-    /// Nothing is read yet.
+    /// Opens what the name stands for: standard input if it is `-`, otherwise what `opener` gives for this name. It
+    /// reads nothing yet.
     pub fn open<O: Fn(&str) -> io::Result<F>>(rt: &HostRuntime, name: &str, opener: &O) -> Input<F>
         requires { O.IsAlwaysCallable opener.now }
         ensures { StandsFor (FnReturnsAt O.Fn opener.now) name.now result }
@@ -53,7 +53,7 @@ impl<F: Read> Read for Input<F> {
     }
 }
 
-/// Opens the report that a trace is to confirm. Where the trace can't be opened the report isn't opened either.
+/// Opens the report to confirm. If the trace can't be opened, it doesn't open the report either.
 pub fn open_report<F, O: Fn(&str) -> io::Result<F>>(
     rt: &HostRuntime,
     trace: &Input<F>,

@@ -1,5 +1,4 @@
-//! The program's replies to what its words ask: what goes to standard output and to standard error, and the exit
-//! status.
+//! The program's replies to its words: what goes to standard output and to standard error, and the exit status.
 #![tactic(auto)]
 
 ghost use Rattle.std.specs.Fn.{FnReturnsAt};
@@ -25,7 +24,7 @@ use std::thread::Threads;
 use trace::{Counted, Sink};
 use words::{Asked, Confirm, Question, WordsFault};
 
-/// Answers what is asked, from the files of the system, and gives the exit status.
+/// Answers the words from the files of the system, and gives the exit status.
 pub fn answer_asked<T: Threads + Wait + Sync, W: Sink, E: Sink>(
     threads: &T,
     rt: &HostRuntime,
@@ -40,8 +39,8 @@ pub fn answer_asked<T: Threads + Wait + Sync, W: Sink, E: Sink>(
 // How many bytes are read ahead of a trace, so that a long one takes few calls of the system.
 const AHEAD: usize = 1 << 16;
 
-/// Answers what is asked of what the names stand for: standard input, or what `opener` gives of this very name. What
-/// `merge` reads is opened one after another.
+/// Answers the words from what the names stand for: standard input, or what `opener` gives for this name. It opens
+/// the reports of `merge` one after another.
 pub fn answer_from_files<T, F, O, W: Sink, E: Sink>(
     threads: &T,
     rt: &HostRuntime,

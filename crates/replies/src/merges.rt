@@ -21,12 +21,12 @@ use words::Merge;
 /// Why there is no merged report: one of the reports was refused.
 #[derive(Clone, Copy, Debug)]
 pub(crate) struct Refused {
-    /// Which one it is, from 1.
+    /// The number of the refused report; the first is report 1.
     pub(crate) number: u64,
     pub(crate) refusal: ReportRefusal,
 }
 
-/// Reads the reports one after another, each opened when its turn comes, and writes one report of them all.
+/// Reads the reports one after another, opens each at its turn, and writes one report of them all.
 pub(crate) fn merge_from_files<F, O, W: Sink, E: Sink>(
     rt: &HostRuntime,
     merge: &Merge,

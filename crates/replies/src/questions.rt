@@ -12,7 +12,7 @@ use std::alloc::Global;
 use texts::{put_explained, put_measure, put_pairs, say_fault};
 use trace::{Sink, Source};
 
-// All races of a location, and the exit status: 0 where there is none.
+// All races of a location, and the exit status: 0 if there is none.
 pub(crate) fn answer_pairs<R: Source, W: Sink, E: Sink>(
     alloc: Global,
     depth: u32,
@@ -38,7 +38,7 @@ pub(crate) fn answer_pairs<R: Source, W: Sink, E: Sink>(
     }
 }
 
-// Why a location is racy, and the exit status: 0 where it isn't.
+// Why a location is racy, and the exit status: 0 if it isn't.
 pub(crate) fn answer_explain<R: Source, W: Sink, E: Sink>(
     alloc: Global,
     depth: u32,
@@ -63,7 +63,7 @@ pub(crate) fn answer_explain<R: Source, W: Sink, E: Sink>(
     }
 }
 
-// The exit status of what is said of a location: 0 where it has no race.
+// The exit status of an explanation: 0 if the location has no race.
 fn status_of_explained(answer: &Option<Explained>) -> u8
     ensures low { result < 2 }
     ensures zero { (result ≡ 0) ↔ (answer.now ≡ None) }
