@@ -19,7 +19,7 @@ pub record IsRepeat (w : List Record) (k : ℕ) : Type 0 where
 abbrev pub RepeatsGo : List Record → (ℕ → Bool) → Type 0
 RepeatsGo w stays = (k : ℕ) → IsPlace w k → stays k ≡ false → IsRepeat w k
 
--- the records at the places that stay, where the first record has this place
+-- the records at the places that stay, if the first record has this place
 abbrev pub rest_from : (ℕ → Bool) → ℕ → List Record → List Record
 rest_from stays i [] = []
 rest_from stays i (r ∷ w) = if stays i then r ∷ rest_from stays (suc i) w else rest_from stays (suc i) w

@@ -1,4 +1,4 @@
-//! What a trace keeps when some of its repeats go.
+//! What stays true of a trace when some of its repeats go.
 
 ghost use Rattle.std.specs.Prelude.{◌≡◌, ℕ, ◌↔◌, Bool, true, List};
 ghost use Rattle.trace.specs.declared.records.Record.{Record};
@@ -6,9 +6,9 @@ ghost use Rattle.trace.specs.Traces.{IsWellNested};
 ghost use Rattle.trace.specs.Races.{IsSecond};
 ghost use Rattle.repeats.specs.Repeats.{rest, place_in_rest, RepeatsGo, HasRace};
 
-/// Of every well nested trace, and every choice of places that stay in it, where each other place is a repeat: the
-/// records at the places that stay are well nested, and have races on the same locations. Of each racy location the
-/// least second place of a race stays, and that record has the least second place in the rest too.
+/// For every well nested trace, and every choice of places that stay, if each other place is a repeat: the records at
+/// the places that stay are well nested, and have races on the same locations. For each racy location the least
+/// second place of a race stays, and its record has the least second place in the rest too.
 pub fn repeats()
     ensures well_nested { (w : List Record) (records depths : ℕ) (stays : ℕ → Bool) → IsWellNested w records depths
         → RepeatsGo w stays → IsWellNested (rest stays w) records depths }

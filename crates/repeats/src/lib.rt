@@ -1,4 +1,4 @@
-//! That a trace may leave out accesses that repeat earlier ones of their strand.
+//! A trace may leave out accesses that repeat earlier ones of their strand.
 #![tactic(auto)]
 
 pub mod laws;
