@@ -1,4 +1,4 @@
--- Promised: what a detector has taken of the records that came, and where it wants memory.
+-- Promised: what a detector has taken of the records that came, and when it needs memory.
 use Rattle.std.specs.Prelude.{◌≡◌, ℕ, ◌+◌, ◌≤◌, ◌↔◌, ◌⊎◌, Bool, true, false, List, [], ◌∷◌, ◌++◌, length, sum_by, ⊤}
 use Rattle.trace.specs.declared.records.Record.{Record}
 use Rattle.trace.specs.declared.records.Record.TheVariants.{Spawn, Call, Return, Sync, Read, Write}
@@ -53,7 +53,7 @@ IsOpening u Sync = ⊥
 IsOpening u (Read l) = (state_after u).kept l ≡ untouched
 IsOpening u (Write l) = (state_after u).kept l ≡ untouched
 
--- memory may be wanted at the record p after u: it is of that kind, or it tells a race
+-- the record p after u may need memory: it is of that kind, or it adds a race
 abbrev pub IsWant : List Placed → Placed → Type 0
 IsWant u p = IsOpening u p.what ⊎ ((r : RaceAt) × (found (u ++ p ∷ []) ≡ found u ++ r ∷ []))
 

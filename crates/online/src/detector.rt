@@ -23,23 +23,23 @@ use trace::{NoMemory, Placed, Race, Record};
 // The most records that a trace may have.
 const MOST_RECORDS: u64 = 1 << 48;
 
-/// Why a record was not taken.
+/// Why the detector didn't take a record.
 #[derive(Clone, Copy, Debug, PartialEq, Eq)]
 pub enum Refusal {
     /// The root has returned, so no record may come.
     AfterEnd,
-    /// 2^48 records were taken, so no record may come.
+    /// The detector has taken 2^48 records, so no record may come.
     TooMany,
-    /// A growth was refused, at this record or an earlier one.
+    /// The allocator refused a growth, at this record or an earlier one.
     NoMemory,
 }
 
-/// A detector in one thread: the records come one by one, and are numbered 1, 2, 3 and so on.
+/// A detector in one thread. The records come one by one, and have the places 1, 2, 3 and so on.
 #[derive(Drop)]
 pub struct Detector {
     shard: Shard<BuildHasherDefault<FoldHasher>>,
     collector: Collector,
-    /// Whether a growth was refused.
+    /// Whether the allocator has refused a growth.
     stopped: bool,
 }
 
@@ -67,7 +67,7 @@ impl Detector {
         })
     }
 
-    /// Takes the next record: the race that it tells, if any.
+    /// Takes the next record, and reports its race, if any.
     ///
     /// After a refused growth the detector stays stopped: it takes no record, and gives no report.
     pub fn take(&mut self, what: Record) -> Result<Option<Race>, Refusal>
@@ -85,7 +85,8 @@ impl Detector {
             → (result ≡ Err Refusal.TooMany) ↔ (length u ≡ most_records) }
         ensures unchanged { IfErr result (λ refusal. refusal ≢ Refusal.NoMemory → self.new ≡ self.old) }
 
-        // A refused growth comes only where memory may be wanted, and then the detector is stopped for good.
+        // The allocator can refuse a growth only if the record may need memory. Then the detector is stopped for
+        // good.
         ensures want { (u : List Record) → IsAfter u self.old → result ≡ Err Refusal.NoMemory → MayWant u what }
         ensures stops { result ≡ Err Refusal.NoMemory → IsStopped self.new }
         ensures stopped { IsStopped self.old → result ≡ Err Refusal.NoMemory }
@@ -140,7 +141,7 @@ impl Detector {
         }
     }
 
-    /// The report of the records that were taken. It refuses where a growth was refused.
+    /// The report of the records taken. It refuses if the allocator has refused a growth.
     pub fn finish(self) -> Result<Report, NoMemory>
         ensures races { IfOk result (λ report. (u : List Record) → IsAfter u self
             → report ≡ by_location (found (placed u))) }
