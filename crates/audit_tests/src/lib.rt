@@ -1,4 +1,4 @@
-//! Tests of `audit`. They stand in a crate of their own, since a crate with tests is proved once more with them.
+//! Tests of `audit`. They are in a crate of their own, since a crate with tests is proved once more with them.
 #![tactic(auto)]
 
 #[cfg(test)]

@@ -11,8 +11,8 @@ use std::io::{self, ErrorKind, Read};
 use std::process::Abort;
 use trace::{Access, Counted, Fault, Kind, Limits, NestFault, NestKind, TextFault, TextKind};
 
-/// Hands out the bytes up to the cut in pieces of the size, and then the others. One call fails, where that is asked:
-/// the calls after it go on as if it hadn't been.
+/// Hands out the bytes up to the cut in pieces of the size, and then the others. If asked to, one call fails, and the
+/// calls after it go on as if it hadn't been made.
 #[derive(Clone, Copy)]
 struct Parts<'a> {
     first: &'a [u8],
@@ -64,7 +64,7 @@ impl Read for Parts<'_> {
     }
 }
 
-/// What is asked beside the trace, and how deep it may be.
+/// A question beside the trace, and the greatest depth.
 #[derive(Clone, Copy)]
 struct Question<'a> {
     depth: u32,
@@ -72,7 +72,7 @@ struct Question<'a> {
     report: &'a [u8],
 }
 
-/// What the three questions answer.
+/// The answers to the three questions.
 type Answers = (
     Result<Measure, Fault>,
     Result<Vec<(Access, Access)>, Fault>,
@@ -182,7 +182,7 @@ const ROWS: [Row; 13] = [
     (CALL_SPAWNS, 1, b"races 0\n", (7, 7, 1, 2), &[]),
 ];
 
-/// Asserts what is answered of a row from these parts.
+/// Asserts the answers to a row from these parts.
 fn assert_answers(rt: &impl Abort, alloc: Global, row: Row, parts: Parts<'_>) {
     let (text, location, report, (work, span, spawns, depth), pairs) = row;
     let question = Question {
@@ -215,7 +215,7 @@ fn answers_of_pieces(rt: HostRuntime) {
     }
 }
 
-/// Asserts that there is this fault for an answer from these parts.
+/// Asserts this fault as the answer from these parts.
 fn assert_fault(rt: &impl Abort, alloc: Global, depth: u32, fault: Fault, parts: Parts<'_>) {
     let question = Question {
         depth,
@@ -228,7 +228,7 @@ fn assert_fault(rt: &impl Abort, alloc: Global, depth: u32, fault: Fault, parts:
     assert!(rt; confirmed.err() == Some(fault), "{:?}", parts.first);
 }
 
-/// Asserts that there is this fault for an answer from the text, cut at each place and after each byte.
+/// Asserts this fault as the answer from the text, cut at each place and after each byte.
 fn assert_fault_of_pieces(rt: &impl Abort, alloc: Global, depth: u32, text: &[u8], fault: Fault) {
     for cut in 0..=text.len() {
         assert_fault(rt, alloc, depth, fault, Parts::cut(text, cut));
@@ -279,7 +279,7 @@ fn faults_of_pieces(rt: HostRuntime) {
     }
 }
 
-/// Asserts that there is this fault for an answer from the text, of which the call after the last byte fails.
+/// Asserts this fault as the answer from the text, if the call after its last byte fails.
 fn assert_fault_at_end(rt: &impl Abort, alloc: Global, text: &[u8], fault: Fault) {
     let parts = Parts::byte_by_byte(text, Some(text.len()));
     assert_fault(rt, alloc, 9, fault, parts);

@@ -55,7 +55,7 @@ const DEEP_MEETING: &[u8] = b"trace 2\ncall\nspawn\ncall\nwrite 5\nreturn\nretur
 const RETURN_JOINS: &[u8] = b"trace 2\nspawn\nsync\nspawn\nread 7\nreturn\n\
     call\nspawn\nwrite 7\nreturn\nreturn\nread 7\nreturn\nsync\nreturn\n";
 
-/// What a trace measures. What is promised of the answers isn't needed here, and would make proofs long.
+/// What a trace measures. Without the promises of the answers the proofs are shorter.
 pub fn measured<R: Source>(
     alloc: Global,
     limits: Limits,
@@ -114,7 +114,7 @@ pub fn listed<R: Source>(
     pairs(alloc, limits, reader, location)
 }
 
-/// Whether these races were told, and no others.
+/// Whether these are the races listed, and no others.
 pub fn are_told(pairs: &[(Access, Access)], wanted: &[Told]) -> bool {
     let mut rest = wanted.iter();
     for (first, second) in pairs {
@@ -186,7 +186,7 @@ fn pairs_of_locations(rt: HostRuntime) {
     }
 }
 
-/// The answer, or `None` where the report's text is faulty.
+/// The answer, or `None` if the report's text is faulty.
 pub fn confirmed<R: Source>(
     alloc: Global,
     limits: Limits,
@@ -348,10 +348,10 @@ fn faults(rt: HostRuntime) {
     assert!(rt; answer.err() == Some(unfinished));
 }
 
-/// How a procedure was opened, and where.
+/// How and where a procedure was opened.
 type Link = (Opening, u64);
 
-/// The race that is told, its meeting procedure, the openers below that one for each access, and the join.
+/// The reported race, its meeting procedure, the openers below it for each access, and the join.
 type Why<'a> = (Told, u64, &'a [Link], &'a [Link], u64);
 
 /// Whether the openers are these.
@@ -363,14 +363,14 @@ fn are_links(openers: &[Opener], links: &[Link]) -> bool {
             .all(|(opener, link)| (opener.what, opener.place) == *link)
 }
 
-/// Whether the race is that of the location which was told.
+/// Whether the race is this one of the location.
 fn is_race(race: Race, location: u64, told: Told) -> bool {
     let first = (race.first.kind, race.first.place);
     let second = (race.second.kind, race.second.place);
     race.location == location && (first, second) == told
 }
 
-/// Whether a location is explained so.
+/// Whether this is the explanation of a location.
 fn is_why(explained: &Explained, location: u64, why: Why<'_>) -> bool {
     let (told, meeting, first, second, joined) = why;
     let is_so = is_race(explained.race, location, told);
@@ -385,7 +385,7 @@ fn explained(alloc: Global, text: &[u8], location: u64) -> Result<Option<Explain
     explain(alloc, LIMITS, &mut Counted::new(text), location)
 }
 
-/// Whether the location of the text is explained so.
+/// Whether this is the explanation of the location of the text.
 fn is_explained(alloc: Global, text: &[u8], location: u64, why: Why<'_>) -> bool {
     match explained(alloc, text, location) {
         Ok(Some(explained)) => is_why(&explained, location, why),
