@@ -32,7 +32,7 @@ fn run(bags: &mut Bags, records: &[Record]) -> Result<(), NoMemory> {
     Ok(())
 }
 
-/// The calls that records make so many times.
+/// The calls that records make, `times` times.
 fn repeat(bags: &mut Bags, times: u32, records: &[Record]) -> Result<(), NoMemory> {
     for _ in 0..times {
         run(bags, records)?;
@@ -40,17 +40,17 @@ fn repeat(bags: &mut Bags, times: u32, records: &[Record]) -> Result<(), NoMemor
     Ok(())
 }
 
-/// Whether this procedure executes, and so many are active, and so many there are.
+/// Whether this procedure executes, and these are the numbers of active procedures and of all.
 fn is_at(bags: &Bags, current: u64, active: u64, count: u64) -> bool {
     bags.current() == current && bags.active() == active && bags.count() == count
 }
 
-/// Whether so many are active, so many there are, and so many numbers are held.
+/// Whether these are the numbers of active procedures, of all procedures and of held numbers.
 fn has_sizes(bags: &Bags, active: u64, count: u64, held: u64) -> bool {
     bags.active() == active && bags.count() == count && bags.held() == held
 }
 
-/// Whether these procedures stand in a P-bag, and no others, and a look-up takes so many probes at most.
+/// Whether these procedures and no others are in a P-bag, and a look-up takes at most `most` probes.
 fn are_in_p(bags: &Bags, wanted: &[u64], most: u32) -> bool {
     let mut rest = wanted.iter();
     for procedure in 0..bags.count() {
@@ -62,7 +62,7 @@ fn are_in_p(bags: &Bags, wanted: &[u64], most: u32) -> bool {
     rest.next().is_none()
 }
 
-/// The same of procedure 1 and those that follow it by such steps.
+/// The same of procedure 1 and of those that follow it in steps of `step`.
 fn steps_are_in_p(bags: &Bags, step: u64, most: u32) -> bool {
     let mut next = 1u64;
     for procedure in 0..bags.count() {
@@ -86,7 +86,7 @@ fn most_probes(bags: &Bags) -> u32 {
     most
 }
 
-/// For a look-up whose probes aren't counted.
+/// The greatest number of probes if a test doesn't count them.
 const ANY: u32 = u32::MAX;
 
 // After each record: the executing procedure, how many are active, how many there are, and
