@@ -1,4 +1,4 @@
-//! Tests of `detect`. They stand in a crate of their own, since a crate with tests is proved once more with them.
+//! Tests of `detect`. They are in a crate of their own, since a crate with tests is proved once more with them.
 #![tactic(auto)]
 
 #[cfg(test)]

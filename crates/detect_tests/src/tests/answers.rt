@@ -16,7 +16,7 @@ use trace::{Counted, Failed, Fault, Limits, NoMemory, Part, Source};
 
 pub type Hasher = BuildHasherDefault<FoldHasher>;
 
-/// Hands out the bytes, so many at each call.
+/// Hands out the bytes, in pieces of one size.
 #[derive(Drop)]
 pub struct Pieces<'a> {
     pub bytes: &'a [u8],
@@ -47,7 +47,7 @@ pub fn text_plain(
     text_of(alloc, &report)
 }
 
-/// Detects with a thread for each shard, over lanes that hold so many items.
+/// Detects with a thread for each shard, over lanes of this capacity.
 pub fn run_from<T: Threads + Wait + Sync, R: Source, G: Gate + Sync>(
     rt: &T,
     alloc: Global,
@@ -73,14 +73,14 @@ pub fn run_from<T: Threads + Wait + Sync, R: Source, G: Gate + Sync>(
     )
 }
 
-/// What a run answers: the report's text, and how many records each shard took.
+/// The answer of a run: the report's text, and the number of records that each shard took.
 #[derive(Drop)]
 pub struct Answer {
     pub text: Vec<u8>,
     pub taken: Vec<u64>,
 }
 
-/// The answer of a run from the source. The lanes to its shards have the capacity that was asked for.
+/// The answer of a run from the source. It asserts the capacity of the lanes to the shards.
 pub fn answer_from<T: Threads + Wait + Sync + Abort, R: Source, G: Gate + Sync>(
     rt: &T,
     alloc: Global,
@@ -113,7 +113,7 @@ pub fn answer_of<T: Threads + Wait + Sync + Abort>(
     answer_from(rt, alloc, shards, capacity, limits, &mut pieces, &Open)
 }
 
-/// The report of a part of the locations by such a run, and how many records each shard took.
+/// The report of a part of the locations by the same kind of run, and the number of records that each shard took.
 pub fn answer_of_part<T: Threads + Wait + Sync + Abort>(
     rt: &T,
     alloc: Global,
@@ -135,7 +135,7 @@ pub fn assert_text<R: Abort>(rt: &R, text: &[u8], wanted: &[u8], name: &str, by:
     assert_eq!(rt; text, wanted, "{name} by {by}");
 }
 
-/// Asserts the fault of the row so.
+/// Asserts the fault of the row, in the same way.
 pub fn assert_fault<R: Abort>(rt: &R, fault: Option<Fault>, wanted: Fault, name: &str, by: usize) {
     assert_eq!(rt; fault, Some(wanted), "{name} by {by}");
 }

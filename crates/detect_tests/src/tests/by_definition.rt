@@ -1,8 +1,8 @@
-//! The report of a short trace, its races, its measure, and the first fault of a list of records that is none, by their
-//! definitions: the edges of the dag are built, and walked from each place. Nothing here knows of bags, nor of
-//! procedures that are active.
+//! The report of a short trace, its races, its measure, and the first fault of a list of records that isn't a trace,
+//! by their definitions: the code builds the edges of the dag, and walks them from each place. Nothing here uses bags
+//! or active procedures.
 //!
-//! Places are counted from 0 here, and told from 1.
+//! Places count from 0 here, and from 1 in what is reported.
 
 use audit::Measure;
 use trace::{Access, Kind, NestFault, NestKind, Record};
@@ -13,7 +13,7 @@ pub const MOST: usize = 7;
 /// For each two places, whether something leads from the first to the second.
 pub type Between = [[bool; MOST]; MOST];
 
-/// The race that is told of a location.
+/// The race that is reported of a location.
 #[derive(Clone, Copy, Debug, PartialEq, Eq)]
 pub struct Told {
     pub location: u64,
@@ -34,7 +34,7 @@ pub fn is_well_nested(records: &[Record], depth_limit: usize) -> bool {
     is_root_return(records, last) && depth(records, last) <= depth_limit
 }
 
-/// The first record that follows the root's return or opens a procedure too deep; else, where the root hasn't
+/// The first record that follows the root's return or opens a procedure too deep; otherwise, if the root hasn't
 /// returned, the place behind the records.
 pub fn first_fault(records: &[Record], depth_limit: usize) -> Option<NestFault> {
     for i in 0..records.len() {
@@ -306,8 +306,7 @@ fn kept_reader(records: &[Record], paths: &Between, location: u64, j: usize) -> 
     kept
 }
 
-/// The race whose second place is known: its first place is the last write where that is parallel, otherwise the
-/// kept reader.
+/// The race with this second place: its first place is the last write if that is parallel, otherwise the kept reader.
 pub fn race_ending_at(
     records: &[Record],
     paths: &Between,

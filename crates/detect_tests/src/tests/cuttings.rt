@@ -13,7 +13,7 @@ use std::sync::Wait;
 use std::thread::Threads;
 use trace::{Failed, Fault, Limits, Source};
 
-/// Where a text is cut. A call fails there, where that is asked, and then the bytes come one by one.
+/// Where a text is cut. If asked to, a call fails there, and then the bytes come one by one.
 #[derive(Clone, Copy)]
 struct Cut<'a> {
     text: &'a [u8],
@@ -21,7 +21,8 @@ struct Cut<'a> {
     fails: bool,
 }
 
-/// Hands out the bytes up to the cut, and then the others. The calls after one that fails go on as if it hadn't been.
+/// Hands out the bytes up to the cut, and then the others. The calls after a failed one go on as if it hadn't been
+/// made.
 #[derive(Drop)]
 struct TwoPieces<'a> {
     first: Pieces<'a>,
@@ -62,7 +63,7 @@ impl<'a> Source for TwoPieces<'a> {
     }
 }
 
-/// The text of the report by so many shards, or by one thread.
+/// The text of the report by this number of shards, or by one thread.
 fn text_from<T: Threads + Wait + Sync + Abort>(
     rt: &T,
     alloc: Global,

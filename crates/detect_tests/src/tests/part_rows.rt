@@ -12,10 +12,10 @@ use std::test::Fail;
 use std::thread::Threads;
 use trace::{Fault, Limits, Part, Race};
 
-/// How many parts the locations are divided into.
+/// The numbers of parts.
 const COUNTS: [u32; 5] = [1, 2, 3, 4, 5];
 
-/// How many shards each part is run with.
+/// The numbers of shards that each part is run with.
 const SHARDS: [u32; 2] = [1, 3];
 
 /// The first and the last location race, one between them does, and one is read alone.
@@ -73,7 +73,7 @@ fn races_of(alloc: Global, part: Part, report: &[u8]) -> Result<Vec<Race>, Fail>
     Ok(races)
 }
 
-/// Asserts the races of a part of the row of this name, with so many shards.
+/// Asserts the races of a part of the row of this name, with this number of shards.
 fn assert_races<R: Abort>(
     rt: &R,
     found: &Report,

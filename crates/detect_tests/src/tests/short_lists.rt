@@ -1,5 +1,5 @@
-//! Every list of at most 7 records over one location, and with calls every list of at most 6: what is detected, and
-//! what a shard answers at each place, is what the definitions tell.
+//! Every list of at most 7 records over one location, and with calls every list of at most 6: the detected races, and
+//! the answer of a shard at each place, are those of the definitions.
 
 use super::answers::Hasher;
 use super::by_definition::{
@@ -16,7 +16,7 @@ use trace::{
     write_record,
 };
 
-/// The records of which the lists are. The last one stands in version 2 alone.
+/// The records that the lists are made of. Only version 2 has the last one.
 const LETTERS: [Record; 6] = [
     Record::Spawn,
     Record::Return,
@@ -89,7 +89,7 @@ pub fn write_list(
     Ok(())
 }
 
-/// The race that the definitions tell, or the first fault. Only location 0 is accessed.
+/// The race by the definitions, or the first fault. All accesses are of location 0.
 fn expected(rt: &impl Abort, records: &[Record], depth: usize) -> Result<Option<Told>, Fault> {
     let fault = first_fault(records, depth);
     assert_eq!(rt;
@@ -167,7 +167,7 @@ fn assert_answer(
     assert_eq!(rt; answer, wanted, "place {place} of {records:?}");
 }
 
-/// Detects a list, whose text it is given.
+/// Detects a list from its text.
 fn check_list(
     rt: &impl Abort,
     alloc: Global,

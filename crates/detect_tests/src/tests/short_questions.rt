@@ -57,7 +57,7 @@ fn measured(alloc: Global, text: &[u8]) -> Result<Measure, Fault> {
     measure(alloc, LIMITS, &mut Counted::new(text))
 }
 
-/// The races of location 0 that are told of a text.
+/// The listed races of location 0 of a text.
 fn listed(alloc: Global, text: &[u8]) -> Result<Vec<(Access, Access)>, Fault> {
     pairs(alloc, LIMITS, &mut Counted::new(text), 0)
 }
@@ -76,7 +76,7 @@ fn check_confirm(
     Ok(())
 }
 
-/// Asks so of any two accesses of which one writes.
+/// Asserts this of any two accesses, if at least one writes.
 fn check_confirms(
     rt: &impl Abort,
     alloc: Global,

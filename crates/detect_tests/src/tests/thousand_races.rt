@@ -1,5 +1,5 @@
-//! A child and its parent write the same 1,000 locations: the same 1,000 races, in one thread and with shards; and none
-//! where the trace has a fault at its end.
+//! A child and its parent write the same 1,000 locations: the same 1,000 races, in one thread and with shards; and
+//! none if the trace has a fault at its end.
 
 use super::answers::{Pieces, answer_from, answer_of, assert_fault, assert_text, text_plain};
 use shard::Gate;

@@ -10,7 +10,7 @@ use std::test::Fail;
 use std::thread;
 use trace::{Failed, Source};
 
-/// How many turns a gate or a reader waits: a load of a flag, and a yield where it isn't set.
+/// How many turns a gate or a reader waits: a load of a flag, and a yield if it isn't set.
 const TURNS: u32 = 1_000_000;
 
 const REPORT: &[u8] = b"races 1\nrace 5 write 2 write 4\n";

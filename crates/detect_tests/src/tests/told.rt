@@ -1,4 +1,4 @@
-//! A source that tells its bytes: what is detected in it is said of these very bytes.
+//! A source that shows its bytes: the answer is about these very bytes.
 ghost use Rattle.std.specs.Prelude.{◌≡◌, ◌≤◌, ◌⊎◌, ℕ, List, Some, IfErr, MatchResult};
 ghost use Rattle.trace.specs.declared.records.Version.{Version};
 ghost use Rattle.trace.specs.declared.records.Record.{Record};
@@ -21,7 +21,7 @@ use std::test::Fail;
 use std::thread::Threads;
 use trace::{Failed, Fault, Limits, Source};
 
-/// Hands out the bytes, so many at each call, and tells those that are left. It never fails.
+/// Hands out the bytes, in pieces of one size, and shows those that are left. It never fails.
 #[derive(Drop)]
 struct Told<'a> {
     bytes: &'a [u8],
@@ -75,7 +75,7 @@ fn report_sharded<T: Threads + Wait + Sync>(
     Ok(run_from(rt, alloc, shards, 1, limits, &mut told, &Open)?.report)
 }
 
-/// The text of the report on told bytes by one thread, or the fault.
+/// The text of the report on shown bytes by one thread, or the fault.
 fn told_plain<R: Abort>(
     rt: &R,
     alloc: Global,
