@@ -195,7 +195,7 @@ fn capacities(rt: HostRuntime) -> Result<(), Fail> {
     Ok(())
 }
 
-/// That a receipt is of the lane whose sender was handed to the thread.
+/// The receipt is of the lane whose sender went to the thread.
 #[derive(Drop)]
 struct EndOf {
     sender: Snapshot<Sender<u32>>,
