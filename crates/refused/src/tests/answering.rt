@@ -52,8 +52,8 @@ impl Write for Room {
     }
 }
 
-/// Either the answer is the wanted one, or it is the message of a refusal, which is told. Only where threads are
-/// started may one be refused.
+/// The answer is the expected one, or it is the message of a refusal, and this reports it. A thread may be refused
+/// only if the call starts threads.
 fn judge<R: Print + Abort>(
     rt: &R,
     left: (u8, &[u8], &[u8]),

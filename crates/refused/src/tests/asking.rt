@@ -74,7 +74,7 @@ const ROWS: [Row; 4] = [
     },
 ];
 
-/// The answer, or else a refusal, which is told.
+/// The answer, or else a refusal, which this reports.
 fn answered<R: Print + Abort, T>(rt: &R, answer: Result<T, Fault>) -> Option<T> {
     match answer {
         Ok(answer) => Some(answer),

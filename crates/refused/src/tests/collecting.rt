@@ -94,7 +94,7 @@ fn collects_without(rt: HostRuntime) {
     let _ = collected(&rt, rt.alloc());
 }
 
-// The report is written where the writer takes no memory: into an array, which is too short for it.
+// The report is written into an array, which is too short for it: this writer takes no memory.
 #[test]
 fn collects_with(rt: HostRuntime) {
     if let Some(report) = collected(&rt, rt.alloc()) {

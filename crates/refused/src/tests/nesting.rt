@@ -50,8 +50,8 @@ fn in_p<R: Abort>(rt: &R, bags: &Bags, procedure: u64) -> bool {
     answer
 }
 
-/// Spawns or calls a hundred procedures, each by the one before it; with the other calls these are made too. Whatever
-/// has returned is parallel to its parent where it was spawned, and isn't where it was called.
+/// Spawns or calls a hundred procedures, each by the one before it; with the other calls it makes these too. A
+/// returned procedure is parallel to its parent if it was spawned, and isn't if it was called.
 fn nest<R: Print + Abort>(rt: &R, alloc: Global, is_called: bool, with: bool) {
     let Ok(mut bags) = Bags::new(alloc) else {
         tell(rt, "bags");

@@ -1,4 +1,4 @@
-//! Rows of which a call that is refused is made again. Each ends with the row's answer.
+//! Rows that repeat a refused call. Each ends with the row's answer.
 
 use super::collecting::{finish, take};
 use super::nesting::{call, ret, spawn};
@@ -146,7 +146,7 @@ fn parts(rt: HostRuntime) {
     }
 }
 
-/// Applies a record, whose place is one more than the count of those before it. A refusal changes nothing, and with
+/// Applies a record; its place is one more than the number of those before it. A refusal changes nothing, and with
 /// memory the same call succeeds.
 fn apply<R: Print + Abort>(rt: &R, shard: &mut Shard<Hasher>, placed: Placed) -> Option<Race> {
     for _ in 0..TRIES {

@@ -70,7 +70,7 @@ fn write<R: Print + Abort>(
     missed
 }
 
-/// Its parent writes them again. There is a race on each but the one that was missed, of which nothing may be kept.
+/// Its parent writes them again. Each has a race but the one that was missed; nothing may be kept of that one.
 fn write_again<R: Print + Abort>(
     rt: &R,
     shadow: &mut Shadow<Hasher>,
