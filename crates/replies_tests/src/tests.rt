@@ -36,7 +36,7 @@ pub struct Left<'a> {
     pub err: &'a str,
 }
 
-/// Runs the program on a trace, of which each call of its reader hands at most `step` bytes.
+/// Runs the program on a trace, with a reader that hands out at most `step` bytes a call.
 pub fn run<T: Threads + Wait + Sync>(
     rt: &T,
     alloc: Global,
@@ -61,7 +61,7 @@ pub fn run_with_report<T: Threads + Wait + Sync>(
     run_on(rt, alloc, line, &mut trace, &mut report, ENDLESS)
 }
 
-/// Runs the program on these devices, with so much room on standard output.
+/// Runs the program on these devices, with this room on standard output.
 pub fn run_on<T: Threads + Wait + Sync, R: Source, Q: Source>(
     rt: &T,
     alloc: Global,
@@ -85,7 +85,7 @@ pub fn run_on<T: Threads + Wait + Sync, R: Source, Q: Source>(
     Ok(Ran { status, out, err })
 }
 
-/// Answers what the words ask, whatever it is.
+/// Answers the words, whatever they ask.
 fn answer_words<T: Threads + Wait + Sync, R: Source, Q: Source, W: Sink, E: Sink>(
     rt: &T,
     alloc: Global,
@@ -132,8 +132,8 @@ pub fn assert_answer<T: Threads + Wait + Sync + Abort>(
     Ok(())
 }
 
-/// Answers what is asked of these sources; the report is read only where it is asked for. The reports that `merge`
-/// reads stand in files, which these are not.
+/// Answers a question from these sources. It reads the report only if the question needs it. The reports of `merge`
+/// are in files, and these are none.
 fn answer_any<T: Threads + Wait + Sync, R: Source, Q: Source, W: Sink, E: Sink>(
     rt: &T,
     alloc: Global,
@@ -150,7 +150,7 @@ fn answer_any<T: Threads + Wait + Sync, R: Source, Q: Source, W: Sink, E: Sink>(
     }
 }
 
-/// The words of a command line, which stand between spaces.
+/// The words of a command line, with spaces between them.
 pub fn words_of(alloc: Global, line: &str) -> Result<Vec<String>, AllocError> {
     let mut words = Vec::new(alloc);
     for word in line.split_whitespace() {
@@ -159,7 +159,7 @@ pub fn words_of(alloc: Global, line: &str) -> Result<Vec<String>, AllocError> {
     Ok(words)
 }
 
-/// The text of a trace whose records stand between commas.
+/// The text of a trace whose records have commas between them.
 pub fn trace_of(alloc: Global, records: &str) -> Result<Vec<u8>, AllocError> {
     text_of(alloc, b"trace 1\n", records)
 }

@@ -1,4 +1,4 @@
-//! Readers and writers that hand on little at a time, and of which one call fails.
+//! Readers and writers that hand on little at a time, and that fail in one call.
 use std::io;
 use std::io::{ErrorKind, Read, Write};
 
@@ -70,7 +70,7 @@ impl Read for Slow<'_> {
     }
 }
 
-/// A reader of many bytes, none of which is kept: they are those that the buffers hold.
+/// A reader of many bytes. It keeps none: they are those that the buffers hold.
 #[derive(Drop)]
 pub struct Large {
     pub left: usize,
@@ -84,7 +84,7 @@ impl Read for Large {
     }
 }
 
-/// A reader that hands one byte a call, and of which one call fails. It goes on as if that call hadn't been.
+/// A reader that hands out one byte a call, and fails in one call. It goes on as if that call hadn't been made.
 #[derive(Drop)]
 pub struct Halting<'a> {
     rest: Slow<'a>,
@@ -115,8 +115,8 @@ impl Read for Halting<'_> {
     }
 }
 
-/// How many bytes a writer takes before a call fails, and how that does: with an error, or where there is none by
-/// taking nothing.
+/// How many bytes a writer takes before a call fails, and how the call fails: with the error, or by taking no byte if
+/// there is no error.
 #[derive(Clone, Copy)]
 pub struct Room {
     pub bytes: usize,
@@ -129,7 +129,7 @@ pub const ENDLESS: Room = Room {
     error: None,
 };
 
-/// A writer that takes one byte a call. One call fails, and it goes on as if that call hadn't been.
+/// A writer that takes one byte a call. It fails in one call, and goes on as if that call hadn't been made.
 #[derive(Drop)]
 pub struct Full<'a> {
     held: &'a mut Vec<u8>,

@@ -1,4 +1,4 @@
-//! The traces of `examples/` with their answers: none of these is taken from the program's own output.
+//! The traces of `examples/` with their answers. No answer comes from the program's own output.
 mod calls;
 mod explained;
 mod matrices;

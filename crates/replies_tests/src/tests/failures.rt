@@ -1,4 +1,4 @@
-//! Readers of which each call fails in turn, with every kind of error, and writers that fail or take nothing.
+//! Readers that fail in each call in turn, with every kind of error, and writers that fail or take nothing.
 use super::devices::{ENDLESS, Full, Halting, KINDS, Room, Slow};
 use super::{Ran, assert_left, run_on, trace_of};
 use replies::refuse;

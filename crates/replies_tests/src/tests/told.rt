@@ -1,4 +1,4 @@
-//! A trace in memory, whose source tells its bytes: the answer is of these very bytes.
+//! A trace in memory, with a source that shows its bytes: the answer is about these very bytes.
 ghost use Rattle.std.specs.Prelude.{◌≡◌, ◌<◌, ℕ, List};
 ghost use Rattle.trace.specs.declared.records.Version.{Version};
 ghost use Rattle.trace.specs.declared.records.Record.{Record};

@@ -1,7 +1,7 @@
 //! What is said of races of `examples/`, and of locations that have none.
 use super::{Example, calls, matrices, others, sorts, sums};
 
-/// Examples, what is asked, and what is said.
+/// Examples, their questions and their answers.
 pub const EXPLAINED: [(Example, &str, &str); 10] = [
     (
         calls::FIB_WITHOUT_SYNC,
