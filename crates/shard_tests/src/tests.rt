@@ -56,7 +56,7 @@ fn told(race: Race) -> Told {
     )
 }
 
-/// The race that a shard tells of a record, at its second place.
+/// The race that a shard reports of a record, at its second place.
 fn apply(shard: &mut Shard<Hasher>, place: u64, what: Record) -> Result<Option<Told>, Fail> {
     if !shard.accepts(place) {
         return Err("not accepted".into());
@@ -68,7 +68,7 @@ fn apply(shard: &mut Shard<Hasher>, place: u64, what: Record) -> Result<Option<T
     }
 }
 
-/// The races that a shard tells along records.
+/// The races that a shard reports of records.
 fn apply_all(
     alloc: Global,
     shard: &mut Shard<Hasher>,
@@ -83,7 +83,7 @@ fn apply_all(
     Ok(all)
 }
 
-/// The races that a new shard tells along records, and how many records it took.
+/// The races that a new shard reports of records, and the number of records that it took.
 fn races(alloc: Global, records: &[(u64, Record)]) -> Result<(Vec<Told>, u64), Fail> {
     let mut shard = Shard::new(alloc, 0, Hasher::default())?;
     let all = apply_all(alloc, &mut shard, records)?;
@@ -99,7 +99,7 @@ fn placed(alloc: Global, records: &[Record]) -> Result<Vec<(u64, Record)>, Fail>
     Ok(all)
 }
 
-/// Records, and the races that are told of them.
+/// Records, and their reported races.
 const ROWS: [(&str, &[Record], &[Told]); 15] = [
     ("empty", &[RETURN], &[]),
     (
@@ -244,7 +244,7 @@ const ROWS: [(&str, &[Record], &[Told]); 15] = [
     ),
 ];
 
-/// Whether these races are told of the records, and all records taken.
+/// Whether these are the reported races of the records, and the shard took all records.
 fn are_races(alloc: Global, records: &[Record], wanted: &[Told]) -> Result<bool, Fail> {
     let placed = placed(alloc, records)?;
     let (found, taken) = races(alloc, &placed)?;
@@ -323,7 +323,7 @@ impl Passes {
         }
     }
 
-    /// Shard 7 has passed at each place from 1 on, so many times.
+    /// Shard 7 has passed at each place from 1 to `count`.
     fn are_by_seven(&self, count: u64) -> bool {
         let places = count.saturating_mul(count.saturating_add(1)) / 2;
         self.count.load(Ordering::SeqCst) == count
@@ -345,7 +345,7 @@ fn take_all(alloc: Global, taker: &mut Taker<Back>) -> Result<Vec<Item<Back>>, F
     Ok(items)
 }
 
-/// The ends of a lane to a worker and of one back, for so many items each.
+/// The ends of a lane to a worker and of one back, for this number of items each.
 fn lanes(
     alloc: Global,
     capacity: usize,
@@ -361,8 +361,8 @@ fn lanes(
     Ok((sender, taker, back, back_taker))
 }
 
-/// What a worker of shard 7 puts on its lane back that is given these records, and its count. At each
-/// record it passes the gate.
+/// What a worker of shard 7 puts on its lane back for these records, and its count. It passes the gate at each
+/// record.
 fn worked<R: Wait + Abort>(
     rt: &R,
     alloc: Global,
@@ -428,7 +428,8 @@ impl Promise<Worked<Hasher>> for WorkOf {
     ghost kept_by = { λ p r. DidWork p.taker.value p.back.value r };
 }
 
-/// Puts the next of the records, or else the mark, where the lane has room, and tells which record is then the next.
+/// Puts the next record, or the mark after the last one, if the lane has room, and returns the number of the record
+/// that is then the next.
 fn put_next(sender: &mut Sender<Placed>, records: &[Record], next: usize) -> usize
     ensures { lane_of sender.new ≡ lane_of sender.old }
 {
@@ -447,7 +448,7 @@ fn put_next(sender: &mut Sender<Placed>, records: &[Record], next: usize) -> usi
     }
 }
 
-/// Puts the records and the mark, while it takes what comes back up to the mark: how many races those are.
+/// Puts the records and the mark, while it takes what comes back up to the mark, and returns the number of races.
 fn exchange<R: Wait>(
     rt: &R,
     sender: &mut Sender<Placed>,
@@ -528,7 +529,7 @@ fn put_all(sender: &mut Sender<Placed>, records: &[Record])
     sender.flush();
 }
 
-/// Settles both lanes of a worker that has ended, and tells its count.
+/// Settles both lanes of a worker that has ended, and returns its count.
 fn settle(mut worked: Worked<Hasher>, sender: Sender<Placed>, mut back_taker: Taker<Back>) -> u64
     requires to { lane_of sender ≡ taker_lane worked.taker }
     requires back { end_lane worked.back ≡ taker_lane back_taker }
