@@ -11,8 +11,7 @@ use texts::{
 };
 use trace::{Access, Counted, Fault, Kind, Race, Sink, TextFault, TextKind, WriteFault};
 
-/// A reader of many bytes, none of which is kept: they are those that the buffers hold. Then it fails, or tells the
-/// end.
+/// A reader of many bytes. It keeps none: they are those that the buffers hold. Then it fails, or its input ends.
 #[derive(Drop)]
 struct Large {
     left: usize,
@@ -30,7 +29,8 @@ impl Read for Large {
     }
 }
 
-/// Takes one byte at each call. The call after so many fails, with an error or by taking none, and the next go on.
+/// Takes one byte a call. The call after `most` bytes fails, with an error or by taking none, and the later ones go
+/// on.
 #[derive(Drop)]
 struct Drip<'a> {
     held: &'a mut Vec<u8>,
@@ -99,7 +99,7 @@ const BAD: ReportRefusal = ReportRefusal::Bad { line: 7 };
 
 const LAST_BAD: ReportRefusal = ReportRefusal::Bad { line: u64::MAX - 1 };
 
-/// Writes a text; of those that tell nobody of a failure `Ok` is answered.
+/// Writes a text. For the texts that report no failure the answer is `Ok`.
 fn write<W: Sink>(text: Text, sink: &mut W) -> Result<(), WriteFault> {
     match text {
         Text::Pairs => return put_pairs(&[(FIRST, SECOND)], sink),
@@ -114,7 +114,7 @@ fn write<W: Sink>(text: Text, sink: &mut W) -> Result<(), WriteFault> {
     Ok(())
 }
 
-/// The texts, and whether a failure is told.
+/// The texts, and whether a failure is reported.
 const TEXTS: [(Text, &str, bool); 11] = [
     (Text::Pairs, "pairs 1\npair read 2 write 5\n", true),
     (Text::Numbers, "work 8\nspan 5\nspawns 2\ndepth 1\n", true),
@@ -145,7 +145,7 @@ const TEXTS: [(Text, &str, bool); 11] = [
     (Text::Line, "a line\n", false),
 ];
 
-/// Whether a text is written up to the byte that fails, and tells of that failure or doesn't.
+/// Whether a text is written up to the byte that fails, and whether it reports this failure, as expected.
 fn is_cut(alloc: Global, text: (Text, &str, bool), most: usize, error: Option<ErrorKind>) -> bool {
     let (text, want, tells) = text;
     let mut out = Vec::new(alloc);
@@ -201,7 +201,7 @@ fn opener(what: Opening, place: u64) -> Opener {
     Opener { what, place }
 }
 
-/// Whether what is said of a location is written up to the byte that fails, and the failure told.
+/// Whether the explanation of a location is written up to the byte that fails, and the failure is reported.
 fn is_explained(
     alloc: Global,
     answer: &Option<Explained>,
@@ -246,7 +246,7 @@ fn writes_explanations(rt: HostRuntime) -> Result<(), Fail> {
     Ok(())
 }
 
-/// How many races there are in the report that is read. What else is promised of it isn't needed here.
+/// The number of races in the report. Without the other promises the proofs are shorter.
 fn count_from<R: Read + Drop>(alloc: Global, reader: R) -> Result<usize, ReportRefusal> {
     match report_from(alloc, &mut Counted::new(reader)) {
         Ok(report) => Ok(report.races().len()),
