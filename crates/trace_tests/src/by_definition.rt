@@ -1,5 +1,5 @@
-//! Which places of a short list of records paths join, by the definition: the edges of the dag are built, and walked
-//! from each place. Nothing here knows how far a walk is above the least depth.
+//! The places of a short list of records that paths join, by the definition: the code builds the edges of the dag,
+//! and walks them from each place. Nothing here uses how far a walk is above the least depth.
 //!
 //! Places are counted from 0 here.
 

@@ -69,7 +69,7 @@ const LETTERS: [Record; 5] = [Spawn, Call, Return, Sync, Read(0)];
 /// How many lists there are of each length.
 const COUNTS: [usize; MOST] = [5, 25, 125, 625, 3125, 15625, 78125];
 
-/// Of how many pairs of places was told that they are parallel, and that they aren't.
+/// The number of pairs of places that are parallel, and of those that aren't.
 #[derive(Drop)]
 struct Tally {
     parallel: u64,
@@ -87,7 +87,7 @@ fn list_of(number: usize) -> [Record; MOST] {
     list
 }
 
-/// All pairs of places of a list, of which the later one neither syncs nor returns.
+/// All pairs of places of a list, if the later one is neither a sync nor a return.
 fn check_list(rt: &impl Abort, records: &[Record], tally: &mut Tally) {
     let paths = paths(records);
     for j in 0..records.len() {
