@@ -1,4 +1,4 @@
-//! Tests of `words`. They stand in a crate of their own, since a crate with tests is proved once more with them.
+//! Tests of `words`. They are in a crate of their own, since a crate with tests is proved once more with them.
 #![tactic(auto)]
 
 #[cfg(test)]
