@@ -17,7 +17,8 @@ PAGE = """\
 - `at, n` are the n bytes from `at` on.
 - `all(s)` are the bytes of a string with the zero at its end, `some(s, n)` at most n of these, and `end(s)` that zero.
 - `until(s, b, n)` ends with the first byte b. `alike(a, b, n)` are the bytes up to the first in which both differ.
-- `found(s, p, m, n)` ends m bytes after p, or after n if p is null.
+- `found(s, p, m, n)` are the bytes from s on that end m bytes after p, or n bytes if p is null. `after(s, p)` is p, or s
+  if p is null. `alike_by_letters` is `alike` without regard to case. `least(a, b)` is the lesser of both.
 - `integer` and `decimal` are the bytes of a number and the one behind it. `token` and `piece` are those up to a byte of
   the set; `cut` names that byte, unless the string ends there.
 - `strings of format` are those that %s prints.
