@@ -10,7 +10,7 @@ use Rattle.trace.specs.Accesses.{RaceAt}
 use Rattle.trace.specs.Shares.{goes, goes_placed, share}
 use Rattle.trace.specs.Parts.{numbered, numbered_at, records_of, races_of_part}
 use Rattle.trace.proofs.ShareLemmas.{share-append}
-use Rattle.route.specs.declared.routing.Router.{Router}
+use Rattle.route.specs.declared.router.Router.{Router}
 use Rattle.route.specs.Routers.{HasSent}
 
 -- one record more, of which the part has this

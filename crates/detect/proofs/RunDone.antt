@@ -14,7 +14,7 @@ use Rattle.trace.specs.Endings.{EndsReading, IsWantOfMemory, IsWantOfMemoryOrThr
 use Rattle.trace.proofs.Endings.{refused_for_want}
 use Rattle.lane.specs.Items.{IsBeginning}
 use Rattle.lane.specs.Lanes.{LaneId, taker_lane, taken_of}
-use Rattle.route.specs.declared.routing.Router.{Router}
+use Rattle.route.specs.declared.router.Router.{Router}
 use Rattle.route.specs.Routers.{lane_count, pending_of, marked_of, HasSent, IsOnLanes}
 use Rattle.shard.specs.declared.working.Worked.{Worked}
 use Rattle.detect.specs.declared.jobs.WorkOf.{WorkOf}

@@ -3,7 +3,7 @@ use Rattle.std.proofs.Common.{◌≡◌, List, [], ◌∷◌, ◌++◌, Option, 
 use Rattle.trace.specs.declared.records.Placed.{Placed}
 use Rattle.trace.specs.declared.records.Part.{Part}
 use Rattle.trace.specs.Parts.{records_of}
-use Rattle.route.specs.declared.routing.Router.{Router}
+use Rattle.route.specs.declared.router.Router.{Router}
 use Rattle.route.specs.Sending.{sent_whole}
 use Rattle.route.specs.Routers.{HasSent, IsOnLanes}
 use Rattle.detect.specs.declared.gathering.Gathering.{Gathering}

@@ -4,7 +4,7 @@ use Rattle.std.specs.List.{range_with_len, flat_map}
 use Rattle.lane.specs.declared.item.Item.{Item}
 use Rattle.lane.specs.declared.item.Item.TheVariants.{Finish}
 use Rattle.trace.specs.declared.records.Placed.{Placed}
-use Rattle.route.specs.declared.routing.Router.{Router}
+use Rattle.route.specs.declared.router.Router.{Router}
 use Rattle.route.specs.Routers.{lane_count, pending_of, turn_of, marked_of}
 use Rattle.route.specs.Runs.{Event, sending_of, put_event}
 

@@ -4,7 +4,7 @@ use Rattle.lane.specs.declared.item.Item.{Item}
 use Rattle.lane.specs.Lanes.{LaneId}
 use Rattle.trace.specs.declared.records.Placed.{Placed}
 use Rattle.trace.specs.Shares.{goes_placed}
-use Rattle.route.specs.declared.routing.Router.{Router}
+use Rattle.route.specs.declared.router.Router.{Router}
 use Rattle.route.specs.Senders.{lanes, puts, shown, capacities, rooms}
 use Rattle.route.specs.Sending.{put_on, AllSent}
 

@@ -4,7 +4,7 @@ ghost use Rattle.std.specs.Prelude.{◌≡◌, ℕ, ◌<◌, ◌⊎◌, true, Li
 ghost use Rattle.lane.specs.declared.item.Item.{Item};
 ghost use Rattle.lane.specs.Items.{has_mark, IsBeginning};
 ghost use Rattle.trace.specs.declared.records.Placed.{Placed};
-ghost use Rattle.route.specs.declared.routing.Router.{Router};
+ghost use Rattle.route.specs.declared.router.Router.{Router};
 ghost use Rattle.route.specs.Sending.{put_on};
 ghost use Rattle.route.specs.Routed.{IsRising, in_hand, IsRouted, HasRouted, HasShare, HasWholeShare, TakesShare};
 ghost use Rattle.route.specs.Routers.{puts_of, lane_count, pending_of, HasSent, IsUnchanged, IsOnLanes};

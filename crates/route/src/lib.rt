@@ -4,9 +4,8 @@
 
 pub mod laws;
 mod progress;
-mod puts;
-mod routing;
+mod router;
 mod turns;
 
 pub use progress::Progress;
-pub use routing::Router;
+pub use router::Router;

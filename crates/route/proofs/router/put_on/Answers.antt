@@ -2,7 +2,7 @@ use Rattle.std.proofs.Common.{rules}
 use Rattle.lane.specs.declared.item.Item.TheVariants.{One}
 use Rattle.lane.specs.Lanes.{lane_of, capacity_of}
 use Rattle.route.proofs.Lists.{map-set_like, puts_after, no_room, on_true, on_false}
-use Rattle.route.proofs.puts.put_on.Goals as goal
+use Rattle.route.proofs.router.put_on.Goals as goal
 
 pub returns-clause-puts : goal.returns-clause-puts
 returns-clause-puts c =

@@ -1,7 +1,7 @@
 use Rattle.std.proofs.Common.{◌≡◌, ℕ, ◌<◌, [], slice_index_or, vec_len}
 use Rattle.route.specs.Senders.{lanes, puts, shown, capacities}
 use Rattle.route.specs.Sending.{put_on}
-use Rattle.route.proofs.puts.flush_all.Given as goal
+use Rattle.route.proofs.router.flush_all.Given as goal
 
 abbrev pub invariant-loop-lane : goal.invariant-loop-lane
 invariant-loop-lane l = record {

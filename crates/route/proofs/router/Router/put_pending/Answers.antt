@@ -7,7 +7,7 @@ use Rattle.route.specs.Sending.{put_on, with_put, HaveMarks}
 use Rattle.route.proofs.Lists.{chosen, puts_counted}
 use Rattle.route.proofs.Sent.{step-next, step-last, marks-one, unmarked_at}
 use Rattle.route.proofs.SentSoFar.{step_event-next, step_event-last}
-use Rattle.route.proofs.routing.Router.put_pending.Goals as goal
+use Rattle.route.proofs.router.Router.put_pending.Goals as goal
 
 pub invariant_of-self-in-Some-clause-marks : goal.invariant_of-self-in-Some-clause-marks
 invariant_of-self-in-Some-clause-marks c =

@@ -2,7 +2,7 @@ use Rattle.std.proofs.Common.{rules}
 use Rattle.lane.specs.declared.item.Item.TheVariants.{Finish}
 use Rattle.lane.specs.Lanes.{lane_of, capacity_of}
 use Rattle.route.proofs.Lists.{map-set_like, puts_after, no_room}
-use Rattle.route.proofs.puts.mark_on.Goals as goal
+use Rattle.route.proofs.router.mark_on.Goals as goal
 
 pub returns-clause-puts : goal.returns-clause-puts
 returns-clause-puts c =

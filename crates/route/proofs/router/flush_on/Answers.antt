@@ -1,7 +1,7 @@
 use Rattle.std.proofs.Common.{rules, sym, ◌∙◌}
 use Rattle.lane.specs.Lanes.{lane_of, put_of, capacity_of}
 use Rattle.route.proofs.Lists.{map-set_like, shown_here, shown_others}
-use Rattle.route.proofs.puts.flush_on.Goals as goal
+use Rattle.route.proofs.router.flush_on.Goals as goal
 
 pub returns-clause-puts : goal.returns-clause-puts
 returns-clause-puts c = map-set_like put_of _ _ _ _ c.index_mut.ensures.value c.flush.ensures.put

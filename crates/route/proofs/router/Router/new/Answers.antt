@@ -5,7 +5,7 @@ use Rattle.lane.specs.Lanes.{put_of}
 use Rattle.trace.specs.declared.records.Placed.{Placed}
 use Rattle.route.specs.Senders.{puts}
 use Rattle.route.proofs.Sent.{all_empty}
-use Rattle.route.proofs.routing.Router.new.Goals as goal
+use Rattle.route.proofs.router.Router.new.Goals as goal
 
 pub invariant_of-result-clause-marks : goal.invariant_of-result-clause-marks
 invariant_of-result-clause-marks c = (all_empty (puts c.args.senders.items) (λ k h. All-map (λ (l : List (Item Placed)). l ≡ []) put_of c.args.senders.items c.requires.empty k [] h)).0

@@ -1,22 +1,75 @@
-//! The steps of a router.
-ghost use Rattle.std.specs.Prelude.{◌≡◌, ◌<◌, ◌+◌, ◌↔◌, ◌≢◌, ℕ, List, [], ◌∷◌, ◌++◌, map, is_some};
-ghost use Rattle.std.specs.Prelude.{IsFalse, if◌then◌else◌};
-ghost use Rattle.lane.specs.declared.item.Item.TheVariants.{One, Finish};
+//! The router: its state, and how it sends records and marks to the lanes.
+ghost use Rattle.std.specs.Prelude.{◌≡◌, ◌<◌, ◌≤◌, ◌+◌, ◌↔◌, ◌≢◌, ℕ, List, [], ◌∷◌, ◌++◌, length, map, All, true, false};
+ghost use Rattle.std.specs.Prelude.{IfOk, IsFalse, is_some, if◌then◌else◌, slice_index_or, vec_len, vec_capacity};
+ghost use Rattle.std.specs.Option.{ForSome};
 ghost use Rattle.trace.specs.declared.records.Placed.{Placed};
+ghost use Rattle.trace.specs.Bounds.{most_shards};
+ghost use Rattle.trace.specs.Shares.{goes_placed};
+ghost use Rattle.lane.specs.declared.item.Item.TheVariants.{One, Finish};
+ghost use Rattle.lane.specs.Items.{has_mark};
+ghost use Rattle.lane.specs.Lanes.{end_lane, all_put, put_of};
+ghost use Rattle.route.specs.Senders.{lanes, capacities, puts, shown, rooms};
 ghost use Rattle.route.specs.Sending.{first_lane, put_on, with_put, sent_whole, HaveMarks};
 ghost use Rattle.route.specs.Progresses.{OnIdle, OnMoved, IfBlocked};
-ghost use Rattle.route.specs.Routers.{puts_of, shown_on, lane_count, pending_of, turn_of, marked_of, capacity_on, room_on};
-ghost use Rattle.route.specs.Routers.{HasSent, IsOnLanes, IsUnchanged, IsLastLane, HasRefused, IsStuck};
 ghost use Rattle.route.specs.Runs.{put, put_event, sending_of};
-ghost use Rattle.route.specs.RouterRuns.{begun, run_of};
 
-use super::Router;
 use crate::progress::Progress;
-use crate::puts::{flush_all, mark_on, put_on};
 use crate::turns::{first_lane, lane_after};
-use trace::Placed;
+use lane::{End, Sender};
+use std::alloc::Global;
+use trace::{NoMemory, Placed};
+
+/// Sends records to lanes, each record to the lanes whose share has it, in the order of the lanes.
+#[derive(Drop)]
+pub struct Router {
+    senders: Vec<Sender<Placed>>,
+    // room for the receipts
+    ends: Vec<End<Placed>>,
+    pending: Option<Placed>,
+    // the lane whose turn it is
+    next: usize,
+    // how many lanes have their mark
+    marked: usize,
+    ghost some: { 1 ≤ vec_len senders },
+    ghost within: { vec_len senders ≤ most_shards },
+    ghost no_ends: { vec_len ends ≡ 0 },
+    ghost room: { vec_len senders ≤ vec_capacity ends },
+    ghost turn: { next < vec_len senders },
+    ghost aimed: { ForSome pending (λ p. goes_placed next (vec_len senders) p ≡ true) },
+    ghost unmarked: { ForSome pending (λ p. marked ≡ 0) },
+    ghost at_most_all: { marked ≤ vec_len senders },
+    ghost marks: { HaveMarks marked (puts senders.items) },
+}
 
 impl Router {
+    ghost use Rattle.route.specs.Routers.{lanes_of, puts_of, capacities_of, shown_on, lane_count, capacity_on, room_on};
+    ghost use Rattle.route.specs.Routers.{pending_of, turn_of, marked_of, HasSent, IsOnLanes, IsUnchanged, IsLastLane};
+    ghost use Rattle.route.specs.Routers.{HasRefused, IsStuck};
+    ghost use Rattle.route.specs.RouterRuns.{begun, run_of};
+
+    /// A router over lanes without items. It takes memory for the receipts now, and none later. A refusal drops the
+    /// senders.
+    pub fn new(alloc: Global, senders: Vec<Sender<Placed>>) -> Result<Router, NoMemory>
+        requires some { 1 ≤ vec_len senders }
+        requires within { vec_len senders ≤ most_shards }
+        requires empty { All (λ s. put_of s ≡ []) senders.items }
+        ensures lanes { IfOk result (λ r. lanes_of r ≡ lanes senders.items) }
+        ensures capacities { IfOk result (λ r. capacities_of r ≡ capacities senders.items) }
+        ensures count { IfOk result (λ r. lane_count r ≡ vec_len senders) }
+        ensures idle { IfOk result (λ r. pending_of r ≡ None) }
+        ensures unmarked { IfOk result (λ r. marked_of r ≡ 0) }
+        ensures sent { IfOk result (HasSent []) }
+    {
+        let ends = Vec::with_capacity(alloc, senders.len())?;
+        Ok(Router {
+            senders,
+            ends,
+            pending: None,
+            next: 0,
+            marked: 0,
+        })
+    }
+
     /// Whether an offered record still lacks a put.
     pub fn pending(&self) -> bool
         ensures { result ≡ is_some (pending_of self.now) }
@@ -215,4 +268,83 @@ impl Router {
         self.marked += 1;
         Progress::Moved
     }
+
+    /// The receipts of the senders, in their order.
+    pub fn into_ends(self) -> Vec<End<Placed>>
+        requires { marked_of self ≡ lane_count self }
+        ensures lanes { map end_lane result.items ≡ lanes_of self }
+        ensures puts { map all_put result.items ≡ puts_of self }
+        ensures count { vec_len result ≡ lane_count self }
+    {
+        let mut ends = self.ends;
+        for sender in self.senders {
+            ends.push_reserved(sender.end());
+        }
+        ends
+    }
+}
+
+// Puts the record on the lane; false if the lane is full.
+#[inline(always)]
+fn put_on(senders: &mut Vec<Sender<Placed>>, lane: usize, placed: Placed) -> bool
+    requires within { lane < vec_len senders.old }
+    requires unmarked { has_mark (put_on (puts senders.old.items) lane) ≡ false }
+    ensures puts { puts senders.new.items
+        ≡ (if result then with_put (puts senders.old.items) lane (One placed)
+        else puts senders.old.items) }
+    ensures lanes { lanes senders.new.items ≡ lanes senders.old.items }
+    ensures capacities { capacities senders.new.items ≡ capacities senders.old.items }
+    ensures len { vec_len senders.new ≡ vec_len senders.old }
+    ensures full { IsFalse result → slice_index_or (capacities senders.old.items) lane 0
+        ≤ length (put_on (puts senders.old.items) lane) }
+    ensures no_room { IsFalse result → (slice_index_or (rooms senders.old.items) lane 0 ≡ 0)
+        × (slice_index_or (rooms senders.new.items) lane 0 ≡ 0) }
+{
+    senders[lane].put(placed).is_ok()
+}
+
+// Puts the mark on the lane; false if the lane is full.
+fn mark_on(senders: &mut Vec<Sender<Placed>>, lane: usize) -> bool
+    requires within { lane < vec_len senders.old }
+    requires unmarked { has_mark (put_on (puts senders.old.items) lane) ≡ false }
+    ensures puts { puts senders.new.items
+        ≡ (if result then with_put (puts senders.old.items) lane Finish
+        else puts senders.old.items) }
+    ensures lanes { lanes senders.new.items ≡ lanes senders.old.items }
+    ensures capacities { capacities senders.new.items ≡ capacities senders.old.items }
+    ensures len { vec_len senders.new ≡ vec_len senders.old }
+    ensures full { IsFalse result → slice_index_or (capacities senders.old.items) lane 0
+        ≤ length (put_on (puts senders.old.items) lane) }
+    ensures no_room { IsFalse result → (slice_index_or (rooms senders.old.items) lane 0 ≡ 0)
+        × (slice_index_or (rooms senders.new.items) lane 0 ≡ 0) }
+{
+    senders[lane].mark()
+}
+
+// Shows each taker all items put on its lane.
+fn flush_all(senders: &mut Vec<Sender<Placed>>)
+    ensures puts { puts senders.new.items ≡ puts senders.old.items }
+    ensures lanes { lanes senders.new.items ≡ lanes senders.old.items }
+    ensures capacities { capacities senders.new.items ≡ capacities senders.old.items }
+    ensures len { vec_len senders.new ≡ vec_len senders.old }
+    ensures shown { (k : ℕ) → k < vec_len senders.old
+        → slice_index_or (shown senders.new.items) k [] ≡ put_on (puts senders.new.items) k }
+{
+    for lane in 0..senders.len() {
+        flush_on(senders, lane);
+    }
+}
+
+// Shows the taker of the lane all that was put on it.
+fn flush_on(senders: &mut Vec<Sender<Placed>>, lane: usize)
+    requires within { lane < vec_len senders.old }
+    ensures puts { puts senders.new.items ≡ puts senders.old.items }
+    ensures lanes { lanes senders.new.items ≡ lanes senders.old.items }
+    ensures capacities { capacities senders.new.items ≡ capacities senders.old.items }
+    ensures len { vec_len senders.new ≡ vec_len senders.old }
+    ensures here { slice_index_or (shown senders.new.items) lane [] ≡ put_on (puts senders.new.items) lane }
+    ensures others { (k : ℕ) → (k ≡ lane → ⊥)
+        → slice_index_or (shown senders.new.items) k [] ≡ slice_index_or (shown senders.old.items) k [] }
+{
+    senders[lane].flush();
 }

@@ -3,7 +3,7 @@ use Rattle.trace.specs.declared.records.Placed.{Placed}
 use Rattle.trace.specs.Shares.{goes_placed}
 use Rattle.route.specs.Sending.{put_on, AllSent}
 use Rattle.route.specs.Routers.{puts_of, lane_count, pending_of, marked_of, HasSent, IsOnLanes}
-use Rattle.route.proofs.routing.Router.send.Given as goal
+use Rattle.route.proofs.router.Router.send.Given as goal
 
 abbrev pub invariant-lanes : goal.invariant-lanes
 invariant-lanes l = record {

@@ -3,7 +3,7 @@ use Rattle.route.specs.Senders.{puts}
 use Rattle.route.specs.Sending.{first_lane}
 use Rattle.route.proofs.Lists.{puts_counted}
 use Rattle.route.proofs.SentSoFar.{step_event-offer}
-use Rattle.route.proofs.routing.Router.offer.Goals as goal
+use Rattle.route.proofs.router.Router.offer.Goals as goal
 
 pub returns-clause-run : goal.returns-clause-run
 returns-clause-run c =

@@ -5,7 +5,7 @@ use Rattle.route.specs.Sending.{with_put, HaveMarks}
 use Rattle.route.proofs.Lists.{chosen, puts_counted}
 use Rattle.route.proofs.Sent.{marks-finish}
 use Rattle.route.proofs.SentSoFar.{step_event-mark}
-use Rattle.route.proofs.routing.Router.mark_all_step.Goals as goal
+use Rattle.route.proofs.router.Router.mark_all_step.Goals as goal
 
 pub invariant_of-self-2-clause-marks : goal.invariant_of-self-2-clause-marks
 invariant_of-self-2-clause-marks c =

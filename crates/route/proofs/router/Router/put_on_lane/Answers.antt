@@ -4,7 +4,7 @@ use Rattle.trace.specs.Shares.{goes_placed}
 use Rattle.route.specs.Senders.{puts}
 use Rattle.route.specs.Sending.{put_on}
 use Rattle.route.proofs.Sent.{marks_either, unmarked_at}
-use Rattle.route.proofs.routing.Router.put_on_lane.Goals as goal
+use Rattle.route.proofs.router.Router.put_on_lane.Goals as goal
 
 pub invariant_of-self-clause-aimed : goal.invariant_of-self-clause-aimed
 invariant_of-self-clause-aimed c p pending =

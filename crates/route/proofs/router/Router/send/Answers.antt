@@ -5,7 +5,7 @@ use Rattle.route.specs.Sending.{put_on, with_put, sent_whole, AllSent}
 use Rattle.route.specs.Routers.{puts_of, lane_count, turn_of}
 use Rattle.route.proofs.Lists.{chosen}
 use Rattle.route.proofs.Sent.{step-last}
-use Rattle.route.proofs.routing.Router.send.Goals as goal
+use Rattle.route.proofs.router.Router.send.Goals as goal
 
 pub returns-in-None-clause-sent : goal.returns-in-None-clause-sent
 returns-in-None-clause-sent c w h =
