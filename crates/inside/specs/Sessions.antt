@@ -1,0 +1,107 @@
+-- Promised: what lies at a handle, and what a session has taken or gives.
+use Rattle.std.specs.Prelude.{◌≡◌, ◌≢◌, ◌↔◌, ℕ, ◌+◌, ◌<◌, ◌≤◌, List, [], ◌∷◌, ◌++◌, length, slice_index_or}
+use base.Fraction.{full_share}
+use base.Fml.{Fml, ftrue, fsep, fex}
+use denote.RattleType.{RattleType}
+use denote.RawPtr.{Ptr, lies_at}
+use Rattle.trace.specs.Bounds.{most_records}
+use Rattle.trace.specs.Faults.{HasEnded}
+use Rattle.trace.specs.Traces.{placed}
+use Rattle.trace.specs.declared.records.Record.{Record}
+use Rattle.trace.specs.declared.records.Record.TheVariants.{Spawn, Call, Return, Sync, Read, Write}
+use Rattle.shadow.specs.Found.{found, by_location}
+use Rattle.collect.specs.ReportText.{rtext}
+use Rattle.online.specs.Detectors.{IsAfter}
+use Rattle.inside.specs.declared.session.Session.{Session}
+use Rattle.inside.specs.declared.session.Session.TheVariants.{Taking, Giving, Stopped}
+
+-- what lies at p has the property P
+abbrev pub held : (R : RattleType) → Ptr → (R.Denot → Type 0) → Fml
+held R p P = fex R.Denot (λ d. fsep (lies_at R full_share p d) (fex (P d) (λ _. ftrue)))
+
+-- what step and report answer
+abbrev pub taken : ℕ
+taken = 0
+
+abbrev pub after_end : ℕ
+after_end = 1
+
+abbrev pub too_many : ℕ
+too_many = 2
+
+abbrev pub no_memory : ℕ
+no_memory = 3
+
+abbrev pub unknown_kind : ℕ
+unknown_kind = 4
+
+abbrev pub given : ℕ
+given = 5
+
+-- what next answers in place of a byte: that the text is at its end, and that there is no text
+abbrev pub at_end : ℕ
+at_end = 256
+
+abbrev pub no_text : ℕ
+no_text = 257
+
+-- the record that C names by this number and this location
+abbrev pub IsNamed : ℕ → ℕ → Record → Type 0
+IsNamed kind location Spawn = kind ≡ 0
+IsNamed kind location Call = kind ≡ 1
+IsNamed kind location Return = kind ≡ 2
+IsNamed kind location Sync = kind ≡ 3
+IsNamed kind location (Read l) = (kind ≡ 4) × (l ≡ location)
+IsNamed kind location (Write l) = (kind ≡ 5) × (l ≡ location)
+
+-- it has taken the records u as they came, and no growth was refused
+abbrev pub HasTaken : List Record → Session → Type 0
+HasTaken u (Taking d _) = IsAfter u d
+HasTaken u (Giving _ _) = ⊥
+HasTaken u Stopped = ⊥
+
+-- it has given this many bytes of this text
+abbrev pub HasGiven : List ℕ → ℕ → Session → Type 0
+HasGiven text count (Taking _ _) = ⊥
+HasGiven text count (Giving t n) = (t.items ≡ text) × (n ≡ count)
+HasGiven text count Stopped = ⊥
+
+-- the text of the report of the records u
+abbrev pub report_text : List Record → List ℕ
+report_text u = rtext (by_location (found (placed u)))
+
+-- What a step does, from one session to the next.
+pub record HasStepped (before : Session) (kind location : ℕ) (after : Session) (status : ℕ) : Type 0 where
+  -- it took the record that came
+  pub took : status ≡ taken → (u : List Record) (what : Record) → HasTaken u before
+      → IsNamed kind location what → HasTaken (u ++ what ∷ []) after
+  pub named : status ≡ taken → kind < 6
+  -- a record that it doesn't take changes nothing, but for a refused growth, which stops it for good
+  pub unchanged : status ≢ taken → status ≢ no_memory → after ≡ before
+  pub stops : status ≡ no_memory → after ≡ Stopped
+  pub stopped : before ≡ Stopped → status ≡ no_memory
+  pub ended : status ≡ after_end → (u : List Record) → HasTaken u before → HasEnded u
+  pub many : status ≡ too_many → (u : List Record) → HasTaken u before → length u ≡ most_records
+  pub unknown : status ≡ unknown_kind → 5 < kind
+  -- it answers so after the report was made, and only then
+  pub giving : (text : List ℕ) (count : ℕ) → HasGiven text count before → status ≡ given
+  pub taking : (u : List Record) → HasTaken u before → status ≢ given
+  pub within : status < 6
+
+-- What the call does that makes the text of the report.
+pub record HasReported (before after : Session) (status : ℕ) : Type 0 where
+  pub text : status ≡ taken → (u : List Record) → HasTaken u before → HasGiven (report_text u) 0 after
+  pub unchanged : status ≡ given → after ≡ before
+  pub stops : status ≢ taken → status ≢ given → (status ≡ no_memory) × (after ≡ Stopped)
+  pub stopped : before ≡ Stopped → status ≡ no_memory
+  pub giving : (text : List ℕ) (count : ℕ) → HasGiven text count before → status ≡ given
+  pub taking : (u : List Record) → HasTaken u before → status ≢ given
+
+-- What the call does that gives the next byte.
+pub record HasNext (before after : Session) (answer : ℕ) : Type 0 where
+  pub byte : (text : List ℕ) (count : ℕ) → HasGiven text count before → count < length text
+      → (answer ≡ slice_index_or text count 0) × HasGiven text (count + 1) after
+  pub end : (text : List ℕ) (count : ℕ) → HasGiven text count before → length text ≤ count
+      → (answer ≡ at_end) × HasGiven text count after
+  pub none : (u : List Record) → HasTaken u before → (answer ≡ no_text) × HasTaken u after
+  pub stopped : before ≡ Stopped → (answer ≡ no_text) × (after ≡ Stopped)

@@ -1,0 +1,65 @@
+//! What C calls. What lies at the handle is a session from `spbags_new` up to `spbags_free`.
+ghost use Rattle.std.specs.Prelude.{◌≢◌, ℕ, []};
+ghost use Rattle.std.specs.Borrow.{full_share, sem};
+ghost use Rattle.std.specs.Ptr.{lies_at, room_at};
+ghost use Rattle.inside.specs.declared.session.Session.{Session};
+ghost use Rattle.inside.specs.contracts.session.Session.{the_row};
+ghost use Rattle.inside.specs.Sessions.{held, HasTaken, HasStepped, HasReported, HasNext};
+
+use crate::session::Session;
+use std::alloc::Global;
+
+/// How many bytes C reserves for a session, at an address that 16 divides.
+#[unsafe(no_mangle)]
+pub extern "C" fn spbags_room() -> usize {
+    std::mem::size_of::<Session>()
+}
+
+/// Makes a session in this room: it has taken no record, or it has stopped.
+#[unsafe(no_mangle)]
+pub unsafe extern "C" fn spbags_new(alloc: Global, handle: *mut u8)
+    requires* { sem 𝓛 (room_at the_row handle) }
+    ensures* { sem 𝓛 (held the_row handle (λ after. after ≢ Session.Stopped → HasTaken [] after)) }
+{
+    std::ptr::write(handle as *mut Session, Session::new(alloc))
+}
+
+/// Takes the next record.
+#[unsafe(no_mangle)]
+pub unsafe extern "C" fn spbags_step(handle: *mut u8, kind: u8, location: u64) -> u8
+    ghost before: { Session }
+    requires* { sem 𝓛 (lies_at the_row full_share handle before) }
+    ensures* { sem 𝓛 (held the_row handle (λ after. HasStepped before kind location after result)) }
+{
+    Session::step(&mut *(handle as *mut Session), kind, location)
+}
+
+/// Makes the text of the report.
+#[unsafe(no_mangle)]
+pub unsafe extern "C" fn spbags_report(handle: *mut u8) -> u8
+    ghost before: { Session }
+    requires* { sem 𝓛 (lies_at the_row full_share handle before) }
+    ensures* { sem 𝓛 (held the_row handle (λ after. HasReported before after result)) }
+{
+    Session::report(&mut *(handle as *mut Session))
+}
+
+/// The next byte of that text, or what says that there is none.
+#[unsafe(no_mangle)]
+pub unsafe extern "C" fn spbags_next(handle: *mut u8) -> u16
+    ghost before: { Session }
+    requires* { sem 𝓛 (lies_at the_row full_share handle before) }
+    ensures* { sem 𝓛 (held the_row handle (λ after. HasNext before after result)) }
+{
+    Session::next(&mut *(handle as *mut Session))
+}
+
+/// Frees a session. The room is C's again.
+#[unsafe(no_mangle)]
+pub unsafe extern "C" fn spbags_free(handle: *mut u8)
+    ghost before: { Session }
+    requires* { sem 𝓛 (lies_at the_row full_share handle before) }
+    ensures* { sem 𝓛 (room_at the_row handle) }
+{
+    Session::close(std::ptr::read(handle as *mut Session))
+}

@@ -1,0 +1,170 @@
+//! A session: it takes records, and then gives the text of their report.
+ghost use Rattle.std.specs.Prelude.{◌≡◌, ◌≢◌, ◌↔◌, ℕ, ◌+◌, ◌<◌, ◌≤◌, List, [], ◌∷◌, ◌++◌, length, slice_index_or, IfOk, IfSome};
+ghost use Rattle.trace.specs.Bounds.{most_records};
+ghost use Rattle.trace.specs.Faults.{HasEnded};
+ghost use Rattle.trace.specs.declared.records.Record.{Record};
+ghost use Rattle.online.specs.Detectors.{IsAfter};
+ghost use Rattle.inside.specs.declared.session.Session.{Session};
+ghost use Rattle.inside.specs.Sessions.{taken, after_end, too_many, no_memory, unknown_kind, given, at_end, no_text, IsNamed, HasTaken, HasGiven, report_text};
+
+use crate::text::Text;
+use collect::write_report;
+use online::{Detector, Refusal};
+use std::alloc::Global;
+use trace::{NoMemory, Record};
+
+const TAKEN: u8 = 0;
+
+const AFTER_END: u8 = 1;
+
+const TOO_MANY: u8 = 2;
+
+const NO_MEMORY: u8 = 3;
+
+const UNKNOWN_KIND: u8 = 4;
+
+const GIVEN: u8 = 5;
+
+const AT_END: u16 = 256;
+
+const NO_TEXT: u16 = 257;
+
+/// What lies at a handle.
+#[derive(Drop)]
+pub enum Session {
+    /// It takes records.
+    Taking(Detector, Global),
+    /// It gives a text, and has given this many of its bytes.
+    Giving(Vec<u8>, usize),
+    /// A growth was refused.
+    Stopped,
+}
+
+impl Session {
+    /// A session that has taken no record, or has stopped.
+    pub(crate) fn new(alloc: Global) -> Session
+        ensures { result ≢ Session.Stopped → HasTaken [] result }
+    {
+        match Detector::new(alloc) {
+            Ok(detector) => Session::Taking(detector, alloc),
+            Err(NoMemory) => Session::Stopped,
+        }
+    }
+
+    /// Takes the record of this kind. The location is that of a read or a write.
+    pub(crate) fn step(&mut self, kind: u8, location: u64) -> u8
+        ensures took { result ≡ taken → (u : List Record) (what : Record) → HasTaken u self.old
+            → IsNamed kind location what → HasTaken (u ++ what ∷ []) self.new }
+        ensures named { result ≡ taken → kind < 6 }
+        ensures unchanged { result ≢ taken → result ≢ no_memory → self.new ≡ self.old }
+        ensures stops { result ≡ no_memory → self.new ≡ Session.Stopped }
+        ensures stopped { self.old ≡ Session.Stopped → result ≡ no_memory }
+        ensures after_end { result ≡ after_end → (u : List Record) → HasTaken u self.old → HasEnded u }
+        ensures too_many { result ≡ too_many → (u : List Record) → HasTaken u self.old → length u ≡ most_records }
+        ensures unknown { result ≡ unknown_kind → 5 < kind }
+        ensures giving { (text : List ℕ) (count : ℕ) → HasGiven text count self.old → result ≡ given }
+        ensures taking { (u : List Record) → HasTaken u self.old → result ≢ given }
+        ensures within { result < 6 }
+    {
+        match self {
+            Session::Taking(detector, _) => match record_of(kind, location) {
+                None => UNKNOWN_KIND,
+                Some(what) => match detector.take(what) {
+                    Ok(_) => TAKEN,
+                    Err(Refusal::AfterEnd) => AFTER_END,
+                    Err(Refusal::TooMany) => TOO_MANY,
+                    Err(Refusal::NoMemory) => {
+                        *self = Session::Stopped;
+                        NO_MEMORY
+                    }
+                },
+            },
+            Session::Giving(..) => GIVEN,
+            Session::Stopped => NO_MEMORY,
+        }
+    }
+
+    /// Makes the text of the report of what was taken. From then on the session gives it.
+    pub(crate) fn report(&mut self) -> u8
+        ensures text { result ≡ taken → (u : List Record) → HasTaken u self.old
+            → HasGiven (report_text u) 0 self.new }
+        ensures unchanged { result ≡ given → self.new ≡ self.old }
+        ensures stops { result ≢ taken → result ≢ given → (result ≡ no_memory) × (self.new ≡ Session.Stopped) }
+        ensures stopped { self.old ≡ Session.Stopped → result ≡ no_memory }
+        ensures giving { (text : List ℕ) (count : ℕ) → HasGiven text count self.old → result ≡ given }
+        ensures taking { (u : List Record) → HasTaken u self.old → result ≢ given }
+    {
+        match std::mem::replace(self, Session::Stopped) {
+            Session::Taking(detector, alloc) => match text_of(detector, alloc) {
+                Ok(text) => {
+                    *self = Session::Giving(text, 0);
+                    TAKEN
+                }
+                Err(NoMemory) => NO_MEMORY,
+            },
+            Session::Giving(text, count) => {
+                *self = Session::Giving(text, count);
+                GIVEN
+            }
+            _ => NO_MEMORY,
+        }
+    }
+
+    /// The next byte of the text.
+    pub(crate) fn next(&mut self) -> u16
+        ensures byte { (text : List ℕ) (count : ℕ) → HasGiven text count self.old → count < length text
+            → (result ≡ slice_index_or text count 0) × HasGiven text (count + 1) self.new }
+        ensures end { (text : List ℕ) (count : ℕ) → HasGiven text count self.old → length text ≤ count
+            → (result ≡ at_end) × HasGiven text count self.new }
+        ensures none { (u : List Record) → HasTaken u self.old → (result ≡ no_text) × HasTaken u self.new }
+        ensures stopped { self.old ≡ Session.Stopped → (result ≡ no_text) × (self.new ≡ Session.Stopped) }
+    {
+        match self {
+            Session::Giving(text, count) => {
+                if *count >= text.len() {
+                    return AT_END;
+                }
+                let byte = text[*count];
+                *count += 1;
+                byte as u16
+            }
+            _ => NO_TEXT,
+        }
+    }
+
+    /// Frees what it has.
+    pub(crate) fn close(self) {}
+}
+
+fn record_of(kind: u8, location: u64) -> Option<Record>
+    ensures named { IfSome result (λ r. (what : Record) → IsNamed kind location what → what ≡ r) }
+    ensures known { IfSome result (λ _. kind < 6) }
+    ensures unknown { result ≡ None → 5 < kind }
+{
+    match kind {
+        0 => Some(Record::Spawn),
+        1 => Some(Record::Call),
+        2 => Some(Record::Return),
+        3 => Some(Record::Sync),
+        4 => Some(Record::Read(location)),
+        5 => Some(Record::Write(location)),
+        _ => None,
+    }
+}
+
+fn text_of(detector: Detector, alloc: Global) -> Result<Vec<u8>, NoMemory>
+    ensures text { IfOk result (λ text. (u : List Record) → IsAfter u detector → text.items ≡ report_text u) }
+{
+    let report = detector.finish()?;
+    let mut text = Text {
+        bytes: Vec::new(alloc),
+        failed: 0,
+    };
+    match write_report(&report, &mut text) {
+        Ok(()) => {
+            let Text { bytes, failed: _ } = text;
+            Ok(bytes)
+        }
+        Err(_) => Err(NoMemory),
+    }
+}
