@@ -78,7 +78,7 @@ folder == "src" && /^(pub(\([a-z]+\))? )?(struct|enum|trait|type) / {
     if ($0 ~ /trait /)
         type = line
 }
-folder == "src" && /^ *(pub(\([a-z]+\))? )?(const |unsafe )?fn [a-z]/ {
+folder == "src" && /^ *(pub(\([a-z]+\))? )?(const |unsafe )?(extern "C" )?fn [a-z]/ {
     line = $0
     sub(/^.*fn /, "", line)
     sub(/[^A-Za-z0-9_].*$/, "", line)
@@ -92,7 +92,7 @@ folder == "src" && /^ *(pub(\([a-z]+\))? )?(const |unsafe )?fn [a-z]/ {
     print "fn", crate, func_name
 }
 # Closures in a body have contracts of their own.
-folder == "src" && in_head && /^ *(requires|ensures)( [a-z0-9_]+)? \{/ {
+folder == "src" && in_head && /^ *(requires|ensures)[*]?( [a-z0-9_]+)? \{/ {
     in_contract = 1
     if ($2 != "{")
         print "clause", crate, func_name, $2

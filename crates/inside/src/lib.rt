@@ -1,4 +1,5 @@
-//! The detector for a program in C, as a static library. `inside.h` says in words what its functions need and do.
+//! The detector for a program in C, as a static library. `tracer/include/spbags_inside.h`
+//! says what its functions need and do.
 #![tactic(auto)]
 
 mod exports;
