@@ -12,19 +12,20 @@ PROTOTYPE = re.compile(r"(?P<result>.*?)(?P<name>\w+)\((?P<parameters>.*)\)")
 PAGE = """\
 # Library calls that the tracer sees
 
-`library.py` makes this page from `library.table`, in the words of the table:
+`library.py` makes this page from `library.table`. `at, n` are n bytes from the address `at` on; `result` is what the
+function returns. The other words are numbers of bytes, or addresses:
 
-- `at, n` are the n bytes from `at` on.
-- `all(s)` are the bytes of a string with the zero at its end, `some(s, n)` at most n of these, and `end(s)` that zero.
-- `until(s, b, n)` ends with the first byte b. `alike(a, b, n)` are the bytes up to the first in which both differ.
-- `found(s, p, m, n)` are the bytes from s on that end m bytes after p, or n bytes if p is null. `after(s, p)` is p, or s
-  if p is null. `alike_by_letters` is `alike` without regard to case. `least(a, b)` is the lesser of both.
-- `integer` and `decimal` are the bytes of a number and the one behind it. `token` and `piece` are those up to a byte of
-  the set; `cut` names that byte, unless the string ends there.
-- `strings of format` are those that %s prints.
+- `all(s)` is a string with its zero, `some(s, n)` at most n bytes of it, and `end(s)` the address of the zero.
+- `until(s, b, n)` ends with the first byte b, or after n bytes. `alike(a, b, n)` ends with the first byte in which a and
+  b differ, with the zero, or after n bytes; `alike_by_letters` ignores case.
+- `found(s, p, m, n)` ends m bytes after p, or after n bytes if p is null. `after(s, p)` is p, or s if p is null.
+  `least(a, b)` is the lesser number.
+- `integer` and `decimal` are a number and the byte behind it. `token` and `piece` end with a byte of the set; `cut` is
+  the address of this byte, unless the string ends there.
+- `strings of format` are the strings that `%s` prints.
 
-The tracer sees the reads of a comparison function of `qsort` or `bsearch` when they happen. It doesn't record a
-stream's own memory, what a function keeps to itself, or constants of the program, which nothing writes.
+The [tracer](README.md) sees the reads of a comparison function of `qsort` or `bsearch` when they happen. It doesn't
+record the memory of a stream, a function's own state, or constants of the program, which nothing writes.
 """
 
 
