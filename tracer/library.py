@@ -25,7 +25,7 @@ function returns. The other words are numbers of bytes, or addresses:
 - `strings of format` are the strings that `%s` prints.
 
 The [tracer](README.md) sees the reads of a comparison function of `qsort` or `bsearch` when they happen. It doesn't
-record the memory of a stream, a function's own state, or constants of the program, which nothing writes.
+record the memory of a stream, a function's own state, or constants, which nothing writes.
 """
 
 
