@@ -16,8 +16,8 @@ PAGE = """\
 function returns. The other words are numbers of bytes, or addresses:
 
 - `all(s)` is a string with its zero, `some(s, n)` at most n bytes of it, and `end(s)` the address of the zero.
-- `until(s, b, n)` ends with the first byte b, or after n bytes. `alike(a, b, n)` ends with the first byte in which a and
-  b differ, with the zero, or after n bytes; `alike_by_letters` ignores case.
+- `until(s, b, n)` ends with the first byte b, or after n bytes. `alike(a, b, n)` ends with the first byte in which a
+  and b differ, with the zero, or after n bytes; `alike_by_letters` ignores case.
 - `found(s, p, m, n)` ends m bytes after p, or after n bytes if p is null. `after(s, p)` is p, or s if p is null.
   `least(a, b)` is the lesser number.
 - `integer` and `decimal` are a number and the byte behind it. `token` and `piece` end with a byte of the set; `cut` is
