@@ -4,25 +4,25 @@ use Rattle.std.specs.List.{AllByRecursion}
 use Rattle.std.specs.List.Sorted.{IsPartitionedBy, IsPartitionPoint}
 use denote.Enum.Bare.{sameb}
 use Rattle.std.proofs.lemmas.Bool.{cases_lt, cases_eq, and_parts, eqb-true, eq-eqb, ltb-true, ltb-false}
-use Rattle.trace.specs.contracts.records.Kind.{the_type}
+use Rattle.dag.specs.contracts.records.Kind.{the_type}
 use Rattle.std.proofs.lemmas.List.{append-nil}
 use Rattle.std.proofs.lemmas.List.Sorted.{IsPartitionedBy-ltb}
 use Rattle.std.proofs.lemmas.List.Kept.{AllPairs-from_increasing}
 use Rattle.std.specs.Option.{option_map}
 use Rattle.std.proofs.lemmas.Option.{slice_get_within, slice_get-get_or, get_or_from_slice_get, slice_get-map}
-use Rattle.trace.specs.declared.records.Record.{Record}
-use Rattle.trace.specs.declared.records.Record.TheVariants as records
-use Rattle.trace.specs.declared.records.Kind.{Kind}
-use Rattle.trace.specs.declared.records.Kind.TheVariants.{Read, Write}
-use Rattle.trace.specs.declared.records.Access.{Access}
-use Rattle.trace.specs.declared.records.Placed.{Placed}
-use Rattle.trace.specs.Accesses.{RaceAt, IsRaceShape}
-use Rattle.trace.specs.Traces.{at, depth, IsPlace, IsWellNested}
-use Rattle.trace.specs.Dag.{IsParallel}
-use Rattle.trace.specs.Races.{access, IsAccess, IsAccessPlace}
-use Rattle.trace.proofs.Paths.{access-place}
-use Rattle.trace.proofs.Readers.{IsAccessPlace-at}
-use Rattle.trace.proofs.Once.{kind_once}
+use Rattle.dag.specs.declared.records.Record.{Record}
+use Rattle.dag.specs.declared.records.Record.TheVariants as records
+use Rattle.dag.specs.declared.records.Kind.{Kind}
+use Rattle.dag.specs.declared.records.Kind.TheVariants.{Read, Write}
+use Rattle.dag.specs.declared.records.Access.{Access}
+use Rattle.dag.specs.declared.records.Placed.{Placed}
+use Rattle.dag.specs.Accesses.{RaceAt, IsRaceShape}
+use Rattle.dag.specs.Traces.{at, depth, IsPlace, IsWellNested}
+use Rattle.dag.specs.Dag.{IsParallel}
+use Rattle.dag.specs.Races.{access, IsAccess, IsAccessPlace}
+use Rattle.dag.proofs.Paths.{access-place}
+use Rattle.dag.proofs.Readers.{IsAccessPlace-at}
+use Rattle.dag.proofs.Once.{kind_once}
 use Rattle.collect.specs.Reports.{IsReportList, IsEntry, locations}
 use Rattle.audit.specs.declared.answers.Confirm.{Confirm}
 use Rattle.audit.specs.declared.answers.Confirm.TheVariants.{Yes, No}
@@ -33,9 +33,9 @@ use Rattle.audit.specs.declared.confirms.Standing.TheVariants.{Missing, Begun, C
 use Rattle.audit.specs.declared.confirms.Confirming.{Confirming}
 use Rattle.trace.specs.Watching.{ComesAfter}
 use Rattle.audit.specs.Following.{WhateverComes}
-use Rattle.audit.specs.Meetings.{HasMet, TellsParallel, Moves}
-use Rattle.audit.specs.Confirms.{TellsRace, Confirms}
-use Rattle.audit.specs.Entries.{entry_race, races_of, entry_of, AreAscending, HasBegun, Stands, AllStand, Touches, AnswersBy, HasConfirmed}
+use Rattle.audit.specs.Meetings.{HasMet, DecidesParallel, Moves}
+use Rattle.audit.specs.Confirms.{StatesRace, Confirms}
+use Rattle.audit.specs.Entries.{entry_race, races_of, entry_of, AreAscending, HasBegun, Stands, AllStand, Sees, AnswersBy, HasConfirmed}
 use Rattle.audit.proofs.ListLemmas.{record_there}
 use Rattle.audit.proofs.MeetingLemmas.{met_next}
 use Rattle.audit.proofs.PairLemmas.{race_by}
@@ -78,7 +78,7 @@ missing-at (r ∷ races) (suc k) e s = missing-at races k e s
 -- one place further
 
 -- an entry whose accesses don't stand at the place
-stays : (w : List Record) (t : ℕ) (e : RaceAt) (s : Standing) → (e.first.place ≡ suc t → IsAccess w e.location e.first.place e.first.kind → ⊥) → (e.second.place ≡ suc t → TellsRace w e → ⊥) → Stands w t e s → Stands w (suc t) e s
+stays : (w : List Record) (t : ℕ) (e : RaceAt) (s : Standing) → (e.first.place ≡ suc t → IsAccess w e.location e.first.place e.first.kind → ⊥) → (e.second.place ≡ suc t → StatesRace w e → ⊥) → Stands w t e s → Stands w (suc t) e s
 stays w t e Missing m n h = λ l a. elim (cases_eq e.first.place (suc t)) [
   | inl q ↦ m q a
   | inr q ↦ h (omega arith) a
@@ -122,7 +122,7 @@ stays_other w t e (Begun deep) a is p m n h = record {
 }
 stays_other w t e Confirmed a is p m n h = h
 
--- what a comparison of two accesses tells
+-- what a comparison of two accesses shows
 
 kind-true : (k q : Kind) → sameb the_type k q ≡ true → k ≡ q
 kind-true Read Read e = refl
@@ -155,7 +155,7 @@ pub begun_stays : (w : List Record) (t : ℕ) (r : RaceAt) (s : Standing) (deep 
 begun_stays w t r s deep a e is p n h = stays_other w t r s a is p (λ f. absurd (let z : Missing ≡ Begun deep = sym f ∙ e in cc)) (λ d f. n) h
 
 -- its first access is there
-pub begins : (m : Meetings) (u : List Record) (e : RaceAt) (a : Access) (deep : ℕ) → HasMet m u → IsRaceShape e.first e.second → a ≡ e.first → deep ≡ length m.waiting.items → a.place ≡ suc (length u)
+pub begins : (m : Meetings) (u : List Record) (e : RaceAt) (a : Access) (deep : ℕ) → HasMet m u → IsRaceShape e.first e.second → a ≡ e.first → deep ≡ length m.suspended.items → a.place ≡ suc (length u)
     → WhateverComes u (λ w. IsAccess w e.location a.place a.kind → HasBegun w (suc (length u)) e deep)
 begins m u e a deep met shape same level is w rest begins-with n d h p = record {
   first = subst (λ (z : Access). IsAccess w e.location z.place z.kind) same p;
@@ -181,23 +181,23 @@ module _ (m : Meetings) (u : List Record) (e : RaceAt) (a : Access) (deep : ℕ)
   next_place w p = subst (IsAccessPlace w) is (IsAccessPlace-at w e.location a.place a.kind p)
 
   -- its second access is there, and parallel
-  pub confirmed : TellsParallel u e.first.place deep true → WhateverComes u (λ w. IsAccess w e.location a.place a.kind → HasBegun w (length u) e deep → TellsRace w e)
-  confirmed tells w rest begins-with n d h p b = record {
+  pub confirmed : DecidesParallel u e.first.place deep true → WhateverComes u (λ w. IsAccess w e.location a.place a.kind → HasBegun w (length u) e deep → StatesRace w e)
+  confirmed decides w rest begins-with n d h p b = record {
     race = race_by w e.location e.first.place e.second.place e.first.kind e.second.kind shape.in_order b.first (second w p) shape.one_writes
         (subst (λ (z : ℕ). IsParallel w e.first.place z) (sym second_place)
-        ((tells w rest begins-with n d h (IsAccessPlace-at w e.location e.first.place e.first.kind b.first) b.upto b.at_depth (next_place w p)).0 refl));
+        ((decides w rest begins-with n d h (IsAccessPlace-at w e.location e.first.place e.first.kind b.first) b.upto b.at_depth (next_place w p)).0 refl));
     first_kind = b.first;
     second_kind = second w p;
   }
 
   -- its second access is there, but a path leads
-  pub not_confirmed : TellsParallel u e.first.place deep false → WhateverComes u (λ w. IsAccess w e.location a.place a.kind → HasBegun w (length u) e deep → HasBegun w (suc (length u)) e deep)
-  not_confirmed tells w rest begins-with n d h p b = record {
+  pub not_confirmed : DecidesParallel u e.first.place deep false → WhateverComes u (λ w. IsAccess w e.location a.place a.kind → HasBegun w (length u) e deep → HasBegun w (suc (length u)) e deep)
+  not_confirmed decides w rest begins-with n d h p b = record {
     first = b.first;
     upto = omega (arith, b.upto);
     at_depth = b.at_depth;
     not_yet = λ l r.
-        (let z : false ≡ true = (tells w rest begins-with n d h (IsAccessPlace-at w e.location e.first.place e.first.kind b.first) b.upto b.at_depth (next_place w p)).1
+        (let z : false ≡ true = (decides w rest begins-with n d h (IsAccessPlace-at w e.location e.first.place e.first.kind b.first) b.upto b.at_depth (next_place w p)).1
         (subst (λ (v : ℕ). IsParallel w e.first.place v) second_place r.race.parallel) in
         cc);
   }
@@ -234,9 +234,9 @@ other_location : (w : List Record) (l t : ℕ) (e : Entry) (a : Access) → a.pl
 other_location w l t e a is p apart h = stays_elsewhere w t (entry_race e) e.standing (λ k q. apart (one_location w e.location (suc t) l k a.kind q (subst (λ (z : ℕ). IsAccess w l z a.kind) is p))) h
 
 -- the entry of the location is looked at
-pub touched : (m : Meetings) (l : ℕ) (a : Access) (es : List Entry) (i : ℕ) (e : Entry) (next : Standing) → slice_get es i ≡ Some e → e.location ≡ l → NextStanding m e a next
-    → Touches m l a es (slice_set es i (record { location = e.location; first = e.first; second = e.second; standing = next }))
-touched m l a es i e next there on steps u met report is w rest begins-with n d h p all k f s = by_place (set-cases es i x k f s)
+pub seen_here : (m : Meetings) (l : ℕ) (a : Access) (es : List Entry) (i : ℕ) (e : Entry) (next : Standing) → slice_get es i ≡ Some e → e.location ≡ l → NextStanding m e a next
+    → Sees m l a es (slice_set es i (record { location = e.location; first = e.first; second = e.second; standing = next }))
+seen_here m l a es i e next there on steps u met report is w rest begins-with n d h p all k f s = by_place (set-cases es i x k f s)
   where
     x : Entry
     x = record { location = e.location; first = e.first; second = e.second; standing = next }
@@ -251,16 +251,16 @@ touched m l a es i e next there on steps u met report is w rest begins-with n d 
         apart z (inr c) = omega (arith, ascending es report i k e f (omega (arith, q)) there g)
 
 -- the same, where the entry was read twice
-pub touched_at : (m : Meetings) (l : ℕ) (a : Access) (es : List Entry) (i : ℕ) (e f : Entry) (next : Standing) → slice_get es i ≡ Some e → slice_get es i ≡ Some f → e.location ≡ l → NextStanding m e a next
-    → Touches m l a es (slice_set es i (record { location = f.location; first = f.first; second = f.second; standing = next }))
-touched_at m l a es i e f next there again on steps =
+pub seen_at : (m : Meetings) (l : ℕ) (a : Access) (es : List Entry) (i : ℕ) (e f : Entry) (next : Standing) → slice_get es i ≡ Some e → slice_get es i ≡ Some f → e.location ≡ l → NextStanding m e a next
+    → Sees m l a es (slice_set es i (record { location = f.location; first = f.first; second = f.second; standing = next }))
+seen_at m l a es i e f next there again on steps =
     let g : e ≡ f = (let z : Some e ≡ Some f = sym there ∙ again in cc) in
-    let P : Entry → Type 0 = λ x. Touches m l a es (slice_set es i (record { location = x.location; first = x.first; second = x.second; standing = next })) in
-    subst P g (touched m l a es i e next there on steps)
+    let P : Entry → Type 0 = λ x. Sees m l a es (slice_set es i (record { location = x.location; first = x.first; second = x.second; standing = next })) in
+    subst P g (seen_here m l a es i e next there on steps)
 
 -- no entry is on the location
-pub untouched : (m : Meetings) (l : ℕ) (a : Access) (es : List Entry) → (AreAscending es → (k : ℕ) (e : Entry) → slice_get es k ≡ Some e → e.location ≢ l) → Touches m l a es es
-untouched m l a es nowhere u met report is w rest begins-with n d h p all k f s = other_location w l (length u) f a is p (nowhere (ascending es report) k f s) (all k f s)
+pub unseen : (m : Meetings) (l : ℕ) (a : Access) (es : List Entry) → (AreAscending es → (k : ℕ) (e : Entry) → slice_get es k ≡ Some e → e.location ≢ l) → Sees m l a es es
+unseen m l a es nowhere u met report is w rest begins-with n d h p all k f s = other_location w l (length u) f a is p (nowhere (ascending es report) k f s) (all k f s)
 
 -- one record more
 
@@ -290,14 +290,14 @@ module _ (s s' : Confirming) (races : List RaceAt) (u : List Record) (p : Placed
   }
 
   -- an access
-  pub confirming_access : (l : ℕ) (a : Access) → p.what ≡ access a.kind l → a.place ≡ p.place → Touches s.meetings l a s.entries.items s'.entries.items → HasConfirmed races (u ++ p.what ∷ []) s'
-  confirming_access l a what place touches = confirming_next next
+  pub confirming_access : (l : ℕ) (a : Access) → p.what ≡ access a.kind l → a.place ≡ p.place → Sees s.meetings l a s.entries.items s'.entries.items → HasConfirmed races (u ++ p.what ∷ []) s'
+  confirming_access l a what place sees = confirming_next next
     where
       at_next : a.place ≡ suc (length u)
       at_next = omega (arith, c.place_is)
 
       next : (w rest : List Record) → w ≡ (u ++ p.what ∷ []) ++ rest → (n d : ℕ) → IsWellNested w n d → AllStand w (length u) s.entries.items → AllStand w (suc (length u)) s'.entries.items
-      next w rest is n d i all = touches u h.met (subst IsReportList (sym h.same_races) h.is_report) at_next w (p.what ∷ rest) (is ∙ append_assoc u (p.what ∷ []) rest) n d i
+      next w rest is n d i all = sees u h.met (subst IsReportList (sym h.same_races) h.is_report) at_next w (p.what ∷ rest) (is ∙ append_assoc u (p.what ∷ []) rest) n d i
           (ap (at w) at_next ∙ record_there w u rest p.what is ∙ ap (λ (z : Record). Some z) what) all
 
   -- another record
@@ -322,11 +322,11 @@ not_access r (inr (inr (inr e))) l Write f = cc
 
 -- the same, where no growth was refused
 
-pub confirming_access_if : {T E : Type 0} (s s' : Confirming) (p : Placed) (l : ℕ) (a : Access) (o : Result T E) → p.what ≡ access a.kind l → a.place ≡ p.place → races_of s'.entries.items ≡ races_of s.entries.items → Touches s.meetings l a s.entries.items s'.entries.items
+pub confirming_access_if : {T E : Type 0} (s s' : Confirming) (p : Placed) (l : ℕ) (a : Access) (o : Result T E) → p.what ≡ access a.kind l → a.place ≡ p.place → races_of s'.entries.items ≡ races_of s.entries.items → Sees s.meetings l a s.entries.items s'.entries.items
     → OnOk o (Moves p.place p.what s.meetings s'.meetings)
     → OnOk o ((first : Confirming) (u : List Record) → HasConfirmed (races_of first.entries.items) u s → ComesAfter u p → HasConfirmed (races_of first.entries.items) (u ++ p.what ∷ []) s')
-confirming_access_if s s' p l a (Ok t) what place same touches moves = λ first u h c. confirming_access s s' (races_of first.entries.items) u p h c same moves l a what place touches
-confirming_access_if s s' p l a (Err t) what place same touches moves = tt
+confirming_access_if s s' p l a (Ok t) what place same sees moves = λ first u h c. confirming_access s s' (races_of first.entries.items) u p h c same moves l a what place sees
+confirming_access_if s s' p l a (Err t) what place same sees moves = tt
 
 pub confirming_other_if : {T E : Type 0} (s s' : Confirming) (p : Placed) (o : Result T E) → ((l : ℕ) (k : Kind) → p.what ≢ access k l) → s'.entries.items ≡ s.entries.items
     → OnOk o (Moves p.place p.what s.meetings s'.meetings)
@@ -336,10 +336,10 @@ confirming_other_if s s' p (Err t) never es moves = tt
 
 -- the answer of a whole trace
 
-stands-race : (w : List Record) (t : ℕ) (e : RaceAt) (s : Standing) → s ≡ Confirmed → Stands w t e s → TellsRace w e
+stands-race : (w : List Record) (t : ℕ) (e : RaceAt) (s : Standing) → s ≡ Confirmed → Stands w t e s → StatesRace w e
 stands-race w t e s q h = subst (λ (z : Standing). Stands w t e z) q h
 
-stands-not_race : (w : List Record) (t : ℕ) (e : RaceAt) (s : Standing) → length w ≡ t → s ≢ Confirmed → Stands w t e s → TellsRace w e → ⊥
+stands-not_race : (w : List Record) (t : ℕ) (e : RaceAt) (s : Standing) → length w ≡ t → s ≢ Confirmed → Stands w t e s → StatesRace w e → ⊥
 stands-not_race w t e Missing l q h r =
     h (omega (arith, (access-place w e.first.place (IsAccessPlace-at w e.location e.first.place e.first.kind r.first_kind)).1)) r.first_kind
 stands-not_race w t e (Begun deep) l q h r =
@@ -357,7 +357,7 @@ race-of-at es k e s = slice_get-map entry_race es k ∙ ap (option_map entry_rac
 answer : (w : List Record) (es : List Entry) (a : Confirm) → AllStand w (length w) es → AnswersBy es a → Confirms w (races_of es) a
 answer w es Yes all by = λ k d l.
     (let q = race-at es k (get_or (races_of es) k d) (slice_get-get_or (races_of es) k d l) in
-    subst (TellsRace w) q.2 (stands-race w (length w) (entry_race q.0) q.0.standing (by k q.0 q.1) (all k q.0 q.1)))
+    subst (StatesRace w) q.2 (stands-race w (length w) (entry_race q.0) q.0.standing (by k q.0 q.1) (all k q.0 q.1)))
 answer w es (No entry) all by = record {
   before = by.before;
   from_one = by.from_one;
@@ -365,7 +365,7 @@ answer w es (No entry) all by = record {
   there = race-of-at es by.before by.found by.there;
   wrong = stands-not_race w (length w) (entry_race by.found) by.found.standing refl by.open_yet (all by.before by.found by.there);
   right_before = λ k r l s. (let q = race-at es k r s in
-      subst (TellsRace w) q.2 (stands-race w (length w) (entry_race q.0) q.0.standing (by.confirmed_before k q.0 l q.1) (all k q.0 q.1)));
+      subst (StatesRace w) q.2 (stands-race w (length w) (entry_race q.0) q.0.standing (by.confirmed_before k q.0 l q.1) (all k q.0 q.1)));
 }
 
 pub answer_of : (s : Confirming) (races : List RaceAt) (a : Confirm) (w : List Record) {n d : ℕ} → IsWellNested w n d → HasConfirmed races w s → AnswersBy s.entries.items a → Confirms w races a

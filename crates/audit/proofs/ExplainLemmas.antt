@@ -1,33 +1,33 @@
--- The race that is told of a location and why it is one, one record after another.
+-- The race that is reported of a location and why it is one, one record after another.
 use Rattle.std.proofs.Common.{◌≡◌, ◌≢◌, ℕ, suc, ◌≤◌, ◌↔◌, Bool, true, false, List, [], ◌∷◌, ◌++◌, length, drop, Option, Some, None, MatchOption, is_some, IfSome, IfNone, inl, inr, refl, sym, ◌∙◌, subst, ap, arith, append_assoc, length-append, Result, Ok, Err, OnOk}
 use Rattle.std.proofs.lemmas.Bool.{cases_eq, cases_order}
 use Rattle.std.proofs.lemmas.List.{append-nil}
-use Rattle.trace.specs.declared.records.Record.{Record}
-use Rattle.trace.specs.declared.records.Record.TheVariants as records
-use Rattle.trace.specs.declared.records.Kind.{Kind}
-use Rattle.trace.specs.declared.records.Kind.TheVariants.{Read, Write}
-use Rattle.trace.specs.declared.records.Access.{Access}
-use Rattle.trace.specs.declared.records.Placed.{Placed}
-use Rattle.trace.specs.Accesses.{writes, IsRaceShape}
-use Rattle.trace.specs.Bounds.{most_records}
-use Rattle.trace.specs.Traces.{at, depth, IsWellNested}
-use Rattle.trace.specs.Dag.{IsParallel, JoinsAt}
-use Rattle.trace.specs.Meeting.{level, Holds, IsMeeting}
-use Rattle.trace.specs.Races.{access, IsAccess, IsRead, IsWrite, IsAccessPlace, IsRace, IsTold, IsLastWrite, IsKeptReader, nothing_yet, no_read, first_read, replaces, stays}
+use Rattle.dag.specs.declared.records.Record.{Record}
+use Rattle.dag.specs.declared.records.Record.TheVariants as records
+use Rattle.dag.specs.declared.records.Kind.{Kind}
+use Rattle.dag.specs.declared.records.Kind.TheVariants.{Read, Write}
+use Rattle.dag.specs.declared.records.Access.{Access}
+use Rattle.dag.specs.declared.records.Placed.{Placed}
+use Rattle.dag.specs.Accesses.{writes, IsRaceShape}
+use Rattle.dag.specs.Bounds.{most_records}
+use Rattle.dag.specs.Traces.{at, depth, IsWellNested}
+use Rattle.dag.specs.Dag.{IsParallel, JoinsAt}
+use Rattle.dag.specs.Meeting.{level, Holds, IsMeeting}
+use Rattle.dag.specs.Races.{access, IsAccess, IsRead, IsWrite, IsAccessPlace, IsRace, IsReported, IsLastWrite, IsKeptReader, nothing_yet, no_read, first_read, replaces, stays}
 use Rattle.trace.specs.Watching.{ComesAfter}
-use Rattle.trace.proofs.Paths.{IsPlace-at, access-place, leads_or_parallel}
-use Rattle.trace.proofs.Meetings.{parallel-block}
-use Rattle.trace.proofs.Readers.{IsAccessPlace-at, read_or_write, kept_reads, NoneBefore, NoWrite, NoRead, last_write_parallel, told_by_write, told_by_reader, no_race_at_read, no_race_at_write, no_read_parallel}
+use Rattle.dag.proofs.Paths.{IsPlace-at, access-place, leads_or_parallel}
+use Rattle.dag.proofs.Meetings.{parallel-block}
+use Rattle.dag.proofs.Readers.{IsAccessPlace-at, read_or_write, kept_reads, NoneBefore, NoWrite, NoRead, last_write_parallel, reported_by_write, reported_by_reader, no_race_at_read, no_race_at_write, no_read_parallel}
 use Rattle.audit.specs.declared.answers.Opener.{Opener}
 use Rattle.audit.specs.declared.answers.Explained.{Explained}
 use Rattle.audit.specs.declared.meetings.Meetings.{Meetings}
 use Rattle.audit.specs.declared.explanations.Trail.{Trail}
-use Rattle.audit.specs.declared.explanations.Told.{Told}
+use Rattle.audit.specs.declared.explanations.Reported.{Reported}
 use Rattle.audit.specs.declared.explanations.Explaining.{Explaining}
 use Rattle.audit.specs.Following.{WhateverComes}
-use Rattle.audit.specs.Meetings.{HasMet, TellsParallel, Moves}
+use Rattle.audit.specs.Meetings.{HasMet, DecidesParallel, Moves}
 use Rattle.audit.specs.Explanations.{AreOpeners, WaitsAt, IsNextWait, AreJoined, IsExplained, Explains}
-use Rattle.audit.specs.Explaining.{IsTrail, Follows, KeepsWrite, KeepsReader, HasSought, IsUnjoined, told_race, HasTold, Stands, TellsNow, IsRival, Joins, NextJoined, TellsIt, Keeps, Touches, Seeks, HasExplained, explanation}
+use Rattle.audit.specs.Explaining.{IsTrail, Follows, KeepsWrite, KeepsReader, HasSought, IsUnjoined, reported_race, HasReported, Stands, DecidesNow, IsRival, Joins, NextJoined, ReportsIt, Keeps, Sees, Seeks, HasExplained, explanation}
 use Rattle.audit.proofs.ListLemmas.{place_there, record_there}
 use Rattle.audit.proofs.PathLemmas.{step_by, step_out}
 use Rattle.audit.proofs.MeetingLemmas.{met_next}
@@ -55,35 +55,35 @@ trail_access w h t b l Read y xs r = trail_next w h t b (records.Read l) xs xs y
 trail_access w h t b l Write y xs r = trail_next w h t b (records.Write l) xs xs y refl r
 
 -- an answer of an access that is kept
-told_kept : (m : Meetings) (u : List Record) (x : Trail) (b : Bool) → HasMet m u → TellsNow m b x → WhateverComes u (λ w. IsKept w (length u) x → IsAccessPlace w (suc (length u)) → (b ≡ true) ↔ IsParallel w x.place (suc (length u)))
-told_kept m u x b met tells w rest is n d h k p = tells u met w rest is n d h k.accesses k.upto (sym k.trail.all) p
+reported_kept : (m : Meetings) (u : List Record) (x : Trail) (b : Bool) → HasMet m u → DecidesNow m b x → WhateverComes u (λ w. IsKept w (length u) x → IsAccessPlace w (suc (length u)) → (b ≡ true) ↔ IsParallel w x.place (suc (length u)))
+reported_kept m u x b met decides w rest is n d h k p = decides u met w rest is n d h k.accesses k.upto (sym k.trail.all) p
 
-told_parallel : (m : Meetings) (u : List Record) (x : Trail) → HasMet m u → TellsNow m true x → WhateverComes u (λ w. IsKept w (length u) x → IsAccessPlace w (suc (length u)) → IsParallel w x.place (suc (length u)))
-told_parallel m u x met tells w rest is n d h k p = (told_kept m u x true met tells w rest is n d h k p).0 refl
+reported_parallel : (m : Meetings) (u : List Record) (x : Trail) → HasMet m u → DecidesNow m true x → WhateverComes u (λ w. IsKept w (length u) x → IsAccessPlace w (suc (length u)) → IsParallel w x.place (suc (length u)))
+reported_parallel m u x met decides w rest is n d h k p = (reported_kept m u x true met decides w rest is n d h k p).0 refl
 
-told_ordered : (m : Meetings) (u : List Record) (x : Trail) → HasMet m u → TellsNow m false x → WhateverComes u (λ w. IsKept w (length u) x → IsAccessPlace w (suc (length u)) → IsParallel w x.place (suc (length u)) → ⊥)
-told_ordered m u x met tells w rest is n d h k p q = let e : false ≡ true = (told_kept m u x false met tells w rest is n d h k p).1 q in cc
+reported_ordered : (m : Meetings) (u : List Record) (x : Trail) → HasMet m u → DecidesNow m false x → WhateverComes u (λ w. IsKept w (length u) x → IsAccessPlace w (suc (length u)) → IsParallel w x.place (suc (length u)) → ⊥)
+reported_ordered m u x met decides w rest is n d h k p q = let e : false ≡ true = (reported_kept m u x false met decides w rest is n d h k p).1 q in cc
 
 -- an access that is kept isn't parallel to place j
 abbrev pub IsOrdered : List Record → ℕ → Option Trail → Type 0
 IsOrdered w j kept = (x : Trail) → kept ≡ Some x → IsParallel w x.place j → ⊥
 
-ordered_write : (m : Meetings) (u : List Record) (l : ℕ) (kept : Option Trail) → HasMet m u → IfSome kept (TellsNow m false) → WhateverComes u (λ w. KeepsWrite w l (length u) kept → IsAccessPlace w (suc (length u)) → IsOrdered w (suc (length u)) kept)
-ordered_write m u l None met tells w rest is n d h k p x e = absurd (cc)
-ordered_write m u l (Some y) met tells w rest is n d h k p x e =
+ordered_write : (m : Meetings) (u : List Record) (l : ℕ) (kept : Option Trail) → HasMet m u → IfSome kept (DecidesNow m false) → WhateverComes u (λ w. KeepsWrite w l (length u) kept → IsAccessPlace w (suc (length u)) → IsOrdered w (suc (length u)) kept)
+ordered_write m u l None met decides w rest is n d h k p x e = absurd (cc)
+ordered_write m u l (Some y) met decides w rest is n d h k p x e =
     let s : y ≡ x = cc in
-    subst (λ (z : Trail). IsParallel w z.place (suc (length u)) → ⊥) s (told_ordered m u y met tells w rest is n d h (kept_write w l (length u) y k) p)
+    subst (λ (z : Trail). IsParallel w z.place (suc (length u)) → ⊥) s (reported_ordered m u y met decides w rest is n d h (kept_write w l (length u) y k) p)
 
-ordered_read : (m : Meetings) (u : List Record) (l : ℕ) (kept : Option Trail) → HasMet m u → IfSome kept (TellsNow m false) → WhateverComes u (λ w. KeepsReader w l (length u) kept → IsAccessPlace w (suc (length u)) → IsOrdered w (suc (length u)) kept)
-ordered_read m u l None met tells w rest is n d h k p x e = absurd (cc)
-ordered_read m u l (Some y) met tells w rest is n d h k p x e =
+ordered_read : (m : Meetings) (u : List Record) (l : ℕ) (kept : Option Trail) → HasMet m u → IfSome kept (DecidesNow m false) → WhateverComes u (λ w. KeepsReader w l (length u) kept → IsAccessPlace w (suc (length u)) → IsOrdered w (suc (length u)) kept)
+ordered_read m u l None met decides w rest is n d h k p x e = absurd (cc)
+ordered_read m u l (Some y) met decides w rest is n d h k p x e =
     let s : y ≡ x = cc in
-    subst (λ (z : Trail). IsParallel w z.place (suc (length u)) → ⊥) s (told_ordered m u y met tells w rest is n d h (kept_read w l (length u) y k) p)
+    subst (λ (z : Trail). IsParallel w z.place (suc (length u)) → ⊥) s (reported_ordered m u y met decides w rest is n d h (kept_read w l (length u) y k) p)
 
 -- the answers of `if_parallel`
 
-pub tells_now : (m : Meetings) (x : Trail) (deep : ℕ) (a b : Bool) → deep ≡ length x.openers.items → a ≡ b → ((u : List Record) → HasMet m u → TellsParallel u x.place deep a) → TellsNow m b x
-tells_now m x deep a b e q tells u met = subst (λ (z : ℕ). TellsParallel u x.place z b) e (subst (TellsParallel u x.place deep) q (tells u met))
+pub decides_now : (m : Meetings) (x : Trail) (deep : ℕ) (a b : Bool) → deep ≡ length x.openers.items → a ≡ b → ((u : List Record) → HasMet m u → DecidesParallel u x.place deep a) → DecidesNow m b x
+decides_now m x deep a b e q decides u met = subst (λ (z : ℕ). DecidesParallel u x.place z b) e (subst (DecidesParallel u x.place deep) q (decides u met))
 
 pub some_of : {A B : Type 0} (f : A → B) (P : B → Type 0) (o : Option A) → is_some o ≡ true → IfSome o (λ a. P (f a)) → (x : B) × P x
 some_of f P None e h = absurd (cc)
@@ -97,11 +97,11 @@ pub none_of : {A Q : Type 0} (o : Option A) → is_some o ≡ false → IfNone o
 none_of None e h = h
 none_of (Some a) e h = absurd (cc)
 
--- an access of the location, where no race is told
+-- an access of the location, where no race is reported
 
 module _ (w : List Record) {n d : ℕ} (h : IsWellNested w n d) (l t : ℕ) where
   none_before : (a b : Option Trail) → HasSought w l t a b → NoneBefore w l (suc t)
-  none_before a b s i k r c = s.none_told i k r (omega arith)
+  none_before a b s i k r c = s.none_reported i k r (omega arith)
 
   one_last_write : (i k : ℕ) → IsLastWrite w l (suc t) i → IsLastWrite w l (suc t) k → i ≡ k
   one_last_write i k a b = elim (cases_order i k) [
@@ -133,7 +133,7 @@ module _ (w : List Record) {n d : ℕ} (h : IsWellNested w n d) (l t : ℕ) wher
       let v : IsLastWrite w l (suc t) x.place × IsTrail w x.place x.openers.items = subst (KeepsWrite w l t) e s.writes in
       let q = p (kept_write w l t x v) in
       record {
-        told = told_by_write w l x.place (suc t) k (none_before a b s) c v.0 q;
+        reported = reported_by_write w l x.place (suc t) k (none_before a b s) c v.0 q;
         race = record { in_order = v.0.before; first = inr v.0.a_write; second = read_or_write w l (suc t) k c; one_writes = inl v.0.a_write; parallel = q };
         trail = v.1;
       }
@@ -145,17 +145,17 @@ module _ (w : List Record) {n d : ℕ} (h : IsWellNested w n d) (l t : ℕ) wher
       let q = p (kept_read w l t x v) in
       let y = kept_reads w l v.0 x.place refl in
       record {
-        told = told_by_reader w l x.place (suc t) (none_before a b s) c (no_last_write a s.writes o) v.0 q;
+        reported = reported_by_reader w l x.place (suc t) (none_before a b s) c (no_last_write a s.writes o) v.0 q;
         race = record { in_order = y.1; first = inl y.0; second = inr c; one_writes = inr c; parallel = q };
         trail = v.1;
       }
 
   -- what is kept, where none races
 
-  none_told_next : (a b : Option Trail) → HasSought w l t a b → ((i : ℕ) → IsRace w l i (suc t) → ⊥) → (i k : ℕ) → IsRace w l i k → k ≤ suc t → ⊥
-  none_told_next a b s none i k r c = elim (cases_eq k (suc t)) [
+  none_reported_next : (a b : Option Trail) → HasSought w l t a b → ((i : ℕ) → IsRace w l i (suc t) → ⊥) → (i k : ℕ) → IsRace w l i k → k ≤ suc t → ⊥
+  none_reported_next a b s none i k r c = elim (cases_eq k (suc t)) [
     | inl e ↦ none i (subst (λ (z : ℕ). IsRace w l i z) e r)
-    | inr e ↦ s.none_told i k r (omega arith)
+    | inr e ↦ s.none_reported i k r (omega arith)
   ]
 
   writes_same : (a : Option Trail) → KeepsWrite w l t a → (IsWrite w l (suc t) → ⊥) → KeepsWrite w l (suc t) a
@@ -182,7 +182,7 @@ module _ (w : List Record) {n d : ℕ} (h : IsWellNested w n d) (l t : ℕ) wher
   -- another record
   pub sought_other : (a b : Option Trail) → HasSought w l t a b → ((k : Kind) → IsAccess w l (suc t) k → ⊥) → HasSought w l (suc t) a b
   sought_other a b s none = record {
-    none_told = none_told_next a b s (λ i r. elim r.second [ inl c ↦ none Read c | inr c ↦ none Write c ]);
+    none_reported = none_reported_next a b s (λ i r. elim r.second [ inl c ↦ none Read c | inr c ↦ none Write c ]);
     writes = writes_same a s.writes (none Write);
     reads = reads_same b s.reads (none Read);
   }
@@ -190,7 +190,7 @@ module _ (w : List Record) {n d : ℕ} (h : IsWellNested w n d) (l t : ℕ) wher
   -- a write is kept
   pub sought_write : (a b : Option Trail) (x : Trail) → HasSought w l t a b → IsWrite w l (suc t) → ((i : ℕ) → IsRace w l i (suc t) → ⊥) → x.place ≡ suc t → IsTrail w (suc t) x.openers.items → HasSought w l (suc t) (Some x) b
   sought_write a b x s c none e r = record {
-    none_told = none_told_next a b s none;
+    none_reported = none_reported_next a b s none;
     writes = (
       record { before = omega arith; a_write = subst (IsWrite w l) (sym e) c; none_between = λ k q v y. omega arith },
       subst (λ (z : ℕ). IsTrail w z x.openers.items) (sym e) r,
@@ -201,7 +201,7 @@ module _ (w : List Record) {n d : ℕ} (h : IsWellNested w n d) (l t : ℕ) wher
   -- a read is kept, or not
   pub sought_read : (a b c : Option Trail) → HasSought w l t a b → IsRead w l (suc t) → ((i : ℕ) → IsRace w l i (suc t) → ⊥) → KeepsReader w l (suc t) c → HasSought w l (suc t) a c
   sought_read a b c s y none r = record {
-    none_told = none_told_next a b s none;
+    none_reported = none_reported_next a b s none;
     writes = writes_same a s.writes (λ z. read_no_write w l (suc t) y z);
     reads = r;
   }
@@ -230,24 +230,24 @@ module _ (w : List Record) {n d : ℕ} (h : IsWellNested w n d) (l t : ℕ) wher
 -- the answers of `rival`
 
 module _ (m : Meetings) (u : List Record) (l : ℕ) (a b : Option Trail) (met : HasMet m u) where
-  pub by_write : (k : Kind) (x : Trail) → a ≡ Some x → TellsNow m true x → WhateverComes u (λ w. IsAccess w l (suc (length u)) k → HasSought w l (length u) a b → IsRival w l Write x (record { kind = k; place = suc (length u) }))
-  by_write k x e tells w rest is n d h c s = rival_write w h l (length u) a b k x s c e (λ q. told_parallel m u x met tells w rest is n d h q (IsAccessPlace-at w l (suc (length u)) k c))
+  pub by_write : (k : Kind) (x : Trail) → a ≡ Some x → DecidesNow m true x → WhateverComes u (λ w. IsAccess w l (suc (length u)) k → HasSought w l (length u) a b → IsRival w l Write x (record { kind = k; place = suc (length u) }))
+  by_write k x e decides w rest is n d h c s = rival_write w h l (length u) a b k x s c e (λ q. reported_parallel m u x met decides w rest is n d h q (IsAccessPlace-at w l (suc (length u)) k c))
 
-  pub by_reader : (k : Kind) (x : Trail) → k ≡ Write → IfSome a (TellsNow m false) → b ≡ Some x → TellsNow m true x
+  pub by_reader : (k : Kind) (x : Trail) → k ≡ Write → IfSome a (DecidesNow m false) → b ≡ Some x → DecidesNow m true x
       → WhateverComes u (λ w. IsAccess w l (suc (length u)) k → HasSought w l (length u) a b → IsRival w l Read x (record { kind = k; place = suc (length u) }))
-  by_reader k x is-write ordered e tells w rest is n d h c s =
+  by_reader k x is-write ordered e decides w rest is n d h c s =
       let y : IsWrite w l (suc (length u)) = subst (IsAccess w l (suc (length u))) is-write c in
       let p : IsAccessPlace w (suc (length u)) = (l, inr y) in
       subst (λ (z : Kind). IsRival w l Read x (record { kind = z; place = suc (length u) })) (sym is-write)
-      (rival_reader w h l (length u) a b x s y (ordered_write m u l a met ordered w rest is n d h s.writes p) e (λ q. told_parallel m u x met tells w rest is n d h q p))
+      (rival_reader w h l (length u) a b x s y (ordered_write m u l a met ordered w rest is n d h s.writes p) e (λ q. reported_parallel m u x met decides w rest is n d h q p))
 
-  pub none_at_read : (k : Kind) → k ≡ Read → IfSome a (TellsNow m false) → WhateverComes u (λ w. IsAccess w l (suc (length u)) k → HasSought w l (length u) a b → (i : ℕ) → IsRace w l i (suc (length u)) → ⊥)
+  pub none_at_read : (k : Kind) → k ≡ Read → IfSome a (DecidesNow m false) → WhateverComes u (λ w. IsAccess w l (suc (length u)) k → HasSought w l (length u) a b → (i : ℕ) → IsRace w l i (suc (length u)) → ⊥)
   none_at_read k is-read ordered w rest is n d h c s =
       let y : IsRead w l (suc (length u)) = subst (IsAccess w l (suc (length u))) is-read c in
       let p : IsAccessPlace w (suc (length u)) = (l, inl y) in
       no_race_at_read w l (suc (length u)) y (no_write w h l (length u) a b s p (ordered_write m u l a met ordered w rest is n d h s.writes p))
 
-  pub none_at_write : (k : Kind) → k ≡ Write → IfSome a (TellsNow m false) → IfSome b (TellsNow m false) → WhateverComes u (λ w. IsAccess w l (suc (length u)) k → HasSought w l (length u) a b → (i : ℕ) → IsRace w l i (suc (length u)) → ⊥)
+  pub none_at_write : (k : Kind) → k ≡ Write → IfSome a (DecidesNow m false) → IfSome b (DecidesNow m false) → WhateverComes u (λ w. IsAccess w l (suc (length u)) k → HasSought w l (length u) a b → (i : ℕ) → IsRace w l i (suc (length u)) → ⊥)
   none_at_write k is-write first second w rest is n d h c s =
       let y : IsWrite w l (suc (length u)) = subst (IsAccess w l (suc (length u))) is-write c in
       let p : IsAccessPlace w (suc (length u)) = (l, inr y) in
@@ -273,11 +273,11 @@ module _ (s : Explaining) (a : Access) where
         subst (λ (z : Option Trail). HasSought w l (suc (length u)) z s'.kept_reader) (sym e)
         (sought_read w h l (length u) s.last_write s.kept_reader s'.kept_reader sought y (λ i q. none i (subst (λ (z : ℕ). IsRace w l i z) (sym is) q)) (next l u met is w rest begins n d h y v sought.reads))
 
-    pub keeps_no_read : (x : Trail) → s.kept_reader ≡ Some x → TellsNow s.meetings true x → s'.kept_reader ≡ s.kept_reader → Keeps s a s'
-    keeps_no_read x there tells f = keeps_read (λ l u met at-next w rest is n d h y v r. subst (KeepsReader w l (suc (length u))) (sym f)
-        (reader_stays w h l (length u) s.kept_reader x r y there (λ q. told_parallel s.meetings u x met tells w rest is n d h q (l, inl y))))
+    pub keeps_no_read : (x : Trail) → s.kept_reader ≡ Some x → DecidesNow s.meetings true x → s'.kept_reader ≡ s.kept_reader → Keeps s a s'
+    keeps_no_read x there decides f = keeps_read (λ l u met at-next w rest is n d h y v r. subst (KeepsReader w l (suc (length u))) (sym f)
+        (reader_stays w h l (length u) s.kept_reader x r y there (λ q. reported_parallel s.meetings u x met decides w rest is n d h q (l, inl y))))
 
-    pub keeps_this_read : (x : Trail) → IfSome s.kept_reader (TellsNow s.meetings false) → s'.kept_reader ≡ Some x → x.place ≡ a.place → x.openers.items ≡ s.openers.items → Keeps s a s'
+    pub keeps_this_read : (x : Trail) → IfSome s.kept_reader (DecidesNow s.meetings false) → s'.kept_reader ≡ Some x → x.place ≡ a.place → x.openers.items ≡ s.openers.items → Keeps s a s'
     keeps_this_read x ordered f place openers = keeps_read (λ l u met at-next w rest is n d h y v r. subst (KeepsReader w l (suc (length u))) (sym f)
         (reader_moves w h l (length u) s.kept_reader x r y (ordered_read s.meetings u l s.kept_reader met ordered w rest is n d h r (l, inl y)) (place ∙ at-next) (subst (IsTrail w (suc (length u))) (sym openers) v)))
 
@@ -341,9 +341,9 @@ module _ (w : List Record) {n c : ℕ} (h : IsWellNested w n c) (t : ℕ) where
         holds = λ z. (let x = s.holds (omega arith) in holds_on w m (suc t) x (no_less m p.what e z (x.inside (suc t) x.after (omega arith)) (λ i v. q.0 (sym lies ∙ i ∙ on) v)));
       })
 
-  told_next : (l deep : ℕ) (p : Placed) (d : Told) (next : Option ℕ) → depth w (suc t) ≡ deep → at w (suc t) ≡ Some p.what → p.place ≡ suc t → HasTold w l t d → NextJoined p deep d.level d.joined next → HasTold w l (suc t) (record d { joined = next })
-  told_next l deep p d next lies e place s q = record {
-    told = s.told;
+  reported_next : (l deep : ℕ) (p : Placed) (d : Reported) (next : Option ℕ) → depth w (suc t) ≡ deep → at w (suc t) ≡ Some p.what → p.place ≡ suc t → HasReported w l t d → NextJoined p deep d.level d.joined next → HasReported w l (suc t) (record d { joined = next })
+  reported_next l deep p d next lies e place s q = record {
+    reported = s.reported;
     race = s.race;
     meets = s.meets;
     on_level = s.on_level;
@@ -353,14 +353,14 @@ module _ (w : List Record) {n c : ℕ} (h : IsWellNested w n c) (t : ℕ) where
     joined = joined_next d.meeting d.second.place deep d.level p d.joined next s.upto s.on_level lies e place s.joined q;
   }
 
--- a race is told
+-- a race is reported
 
-module _ (d : Told) (xs ys : List Opener) (within : d.level ≤ length xs) (count : IsOpenerCount xs d.first.place d.level) (last : IsLastOpener xs d.level d.meeting)
+module _ (d : Reported) (xs ys : List Opener) (within : d.level ≤ length xs) (count : IsOpenerCount xs d.first.place d.level) (last : IsLastOpener xs d.level d.meeting)
     (firsts : d.level ≤ length ys → d.first_openers.items ≡ drop d.level ys) (seconds : d.level ≤ length xs → d.second_openers.items ≡ drop d.level xs) (joined : d.joined ≡ None)
-    (w : List Record) (l t : ℕ) {n c : ℕ} (h : IsWellNested w n c) (is : d.second.place ≡ suc t) (told : IsTold w (told_race l d)) (race : IsRace w l d.first.place d.second.place)
+    (w : List Record) (l t : ℕ) {n c : ℕ} (h : IsWellNested w n c) (is : d.second.place ≡ suc t) (reported : IsReported w (reported_race l d)) (race : IsRace w l d.first.place d.second.place)
     (first : IsTrail w d.first.place ys) (second : IsTrail w d.second.place xs) where
   from_one : 1 ≤ d.first.place
-  from_one = (access-place w d.first.place (IsAccessPlace-at w l d.first.place d.first.kind told.first_kind)).0
+  from_one = (access-place w d.first.place (IsAccessPlace-at w l d.first.place d.first.kind reported.first_kind)).0
 
   meeting : IsMeeting w d.first.place d.second.place d.meeting × (level w d.meeting ≡ d.level)
   meeting = meeting_at_last w d.first.place d.second.place d.level d.meeting xs second from_one race.in_order within count last
@@ -372,12 +372,12 @@ module _ (d : Told) (xs ys : List Opener) (within : d.level ≤ length xs) (coun
   unjoined = record {
     none = λ k x y z. omega arith;
     holds = λ b. (let x : Holds w d.meeting (suc t) = subst (Holds w d.meeting) is meeting.0.second in
-        holds_on w d.meeting (suc t) x (omega (arith, x.inside (suc t) x.after (omega arith), access_depth w h t l d.second.kind (sym (ap (at w) is) ∙ told.second_kind) b)));
+        holds_on w d.meeting (suc t) x (omega (arith, x.inside (suc t) x.after (omega arith), access_depth w h t l d.second.kind (sym (ap (at w) is) ∙ reported.second_kind) b)));
   }
 
-  pub tells_it : HasTold w l (suc t) d
-  tells_it = record {
-    told = told;
+  pub reports_it : HasReported w l (suc t) d
+  reports_it = record {
+    reported = reported;
     race = race;
     meets = meeting.0;
     on_level = meeting.1;
@@ -387,61 +387,61 @@ module _ (d : Told) (xs ys : List Opener) (within : d.level ≤ length xs) (coun
     joined = subst (λ (z : Option ℕ). MatchOption z (IsUnjoined w d.meeting d.second.place (suc t)) (IsNextWait w d.meeting d.second.place)) (sym joined) unjoined;
   }
 
--- one record more, where no race was told
+-- one record more, where no race was reported
 
--- what stands where no race is told
+-- what stands where no race is reported
 abbrev pub StandsOpen : List Record → ℕ → ℕ → Explaining → Type 0
 StandsOpen w l t s = HasSought w l t s.last_write s.kept_reader × (suc t ≤ length w → IsTrail w (suc t) s.openers.items)
 
-abbrev pub StandsBy : List Record → ℕ → ℕ → Explaining → Option Told → Type 0
-StandsBy w l t s told = MatchOption told (StandsOpen w l t s) (HasTold w l t)
+abbrev pub StandsBy : List Record → ℕ → ℕ → Explaining → Option Reported → Type 0
+StandsBy w l t s reported = MatchOption reported (StandsOpen w l t s) (HasReported w l t)
 
-stands_open : (w : List Record) (l t : ℕ) (s : Explaining) → s.told ≡ None → Stands w l t s → StandsOpen w l t s
+stands_open : (w : List Record) (l t : ℕ) (s : Explaining) → s.reported ≡ None → Stands w l t s → StandsOpen w l t s
 stands_open w l t s e x = subst (StandsBy w l t s) e x
 
-stands_told : (w : List Record) (l t : ℕ) (s : Explaining) (d : Told) → s.told ≡ Some d → Stands w l t s → HasTold w l t d
-stands_told w l t s d e x = subst (StandsBy w l t s) e x
+stands_reported : (w : List Record) (l t : ℕ) (s : Explaining) (d : Reported) → s.reported ≡ Some d → Stands w l t s → HasReported w l t d
+stands_reported w l t s d e x = subst (StandsBy w l t s) e x
 
 -- an access, which a kept one races with
-pub touches_told : (s : Explaining) (a : Access) (k : Kind) (first : Trail) (d : Told) (xs : List Opener) → s.openers.items ≡ xs → TellsIt k first a xs d
+pub sees_reported : (s : Explaining) (a : Access) (k : Kind) (first : Trail) (d : Reported) (xs : List Opener) → s.openers.items ≡ xs → ReportsIt k first a xs d
     → ((l : ℕ) (u : List Record) → HasMet s.meetings u → WhateverComes u (λ w. IsAccess w l (suc (length u)) a.kind → HasSought w l (length u) s.last_write s.kept_reader → IsRival w l k first (record { kind = a.kind; place = suc (length u) })))
-    → (l : ℕ) (u : List Record) → HasMet s.meetings u → a.place ≡ suc (length u) → s.told ≡ None → WhateverComes u (λ w. IsAccess w l a.place a.kind → Stands w l (length u) s → HasTold w l (suc (length u)) d)
-touches_told s a k first d xs same tells rival l u met is none w rest begins n c h y x =
+    → (l : ℕ) (u : List Record) → HasMet s.meetings u → a.place ≡ suc (length u) → s.reported ≡ None → WhateverComes u (λ w. IsAccess w l a.place a.kind → Stands w l (length u) s → HasReported w l (suc (length u)) d)
+sees_reported s a k first d xs same decides rival l u met is none w rest begins n c h y x =
     let v = stands_open w l (length u) s none x in
     let z : IsAccess w l (suc (length u)) a.kind = subst (λ (i : ℕ). IsAccess w l i a.kind) is y in
     let r : IsRival w l k first a = subst (λ (i : ℕ). IsRival w l k first (record { kind = a.kind; place = i })) (sym is) (rival l u met w rest begins n c h z v.0) in
     let q : IsTrail w a.place xs = subst (IsTrail w a.place) same (subst (λ (i : ℕ). IsTrail w i s.openers.items) (sym is) (v.1 (IsPlace-at w (suc (length u)) _ z).1)) in
-    tells w l (length u) n c h is r q
+    decides w l (length u) n c h is r q
 
 -- an access, which no kept one races with
-pub touches_kept : (s s' : Explaining) (a : Access) → s'.told ≡ s.told → s'.openers.items ≡ s.openers.items → Keeps s a s'
+pub sees_kept : (s s' : Explaining) (a : Access) → s'.reported ≡ s.reported → s'.openers.items ≡ s.openers.items → Keeps s a s'
     → ((l : ℕ) (u : List Record) → HasMet s.meetings u → WhateverComes u (λ w. IsAccess w l (suc (length u)) a.kind → HasSought w l (length u) s.last_write s.kept_reader → (i : ℕ) → IsRace w l i (suc (length u)) → ⊥))
-    → Touches s a s'
-touches_kept s s' a told openers keeps rival l u met is none w rest begins n c h y x =
+    → Sees s a s'
+sees_kept s s' a reported openers keeps rival l u met is none w rest begins n c h y x =
     let v = stands_open w l (length u) s none x in
     let z : IsAccess w l (suc (length u)) a.kind = subst (λ (i : ℕ). IsAccess w l i a.kind) is y in
     let q : IsTrail w a.place s.openers.items = subst (λ (i : ℕ). IsTrail w i s.openers.items) (sym is) (v.1 (IsPlace-at w (suc (length u)) _ z).1) in
-    subst (StandsBy w l (suc (length u)) s') (sym (told ∙ none)) (
+    subst (StandsBy w l (suc (length u)) s') (sym (reported ∙ none)) (
       keeps l u met is w rest begins n c h y (λ i r. rival l u met w rest begins n c h z v.0 i (subst (λ (j : ℕ). IsRace w l i j) is r)) q v.0,
       λ b. subst (IsTrail w (suc (suc (length u)))) (sym openers) (trail_access w h (length u) b l a.kind z s.openers.items (v.1 (omega arith))),
     )
 
 -- another record
-pub seeks_other : (s s' : Explaining) (p : Placed) → ((k : Kind) → p.what ≢ access k s.location) → s'.told ≡ s.told → s'.last_write ≡ s.last_write → s'.kept_reader ≡ s.kept_reader → Follows p.place p.what s.openers.items s'.openers.items → Seeks s p s'
-seeks_other s s' p never told writes reads follows u met is none w rest begins n c h y x =
+pub seeks_other : (s s' : Explaining) (p : Placed) → ((k : Kind) → p.what ≢ access k s.location) → s'.reported ≡ s.reported → s'.last_write ≡ s.last_write → s'.kept_reader ≡ s.kept_reader → Follows p.place p.what s.openers.items s'.openers.items → Seeks s p s'
+seeks_other s s' p never reported writes reads follows u met is none w rest begins n c h y x =
     let v = stands_open w s.location (length u) s none x in
     let z : at w (suc (length u)) ≡ Some p.what = sym (ap (at w) is) ∙ y in
     let f : Follows (suc (length u)) p.what s.openers.items s'.openers.items = subst (λ (i : ℕ). Follows i p.what s.openers.items s'.openers.items) is follows in
-    subst (StandsBy w s.location (suc (length u)) s') (sym (told ∙ none)) (
+    subst (StandsBy w s.location (suc (length u)) s') (sym (reported ∙ none)) (
       subst (λ (o : Option Trail). HasSought w s.location (suc (length u)) o s'.kept_reader) (sym writes) (subst (HasSought w s.location (suc (length u)) s.last_write) (sym reads)
           (sought_other w h s.location (length u) s.last_write s.kept_reader v.0 (λ k e. (let q : Some p.what ≡ Some (access k s.location) = sym z ∙ e in let i : p.what ≡ access k s.location = cc in never k i)))),
       λ b. trail_next w h (length u) b p.what s.openers.items s'.openers.items z f (v.1 (omega arith)),
     )
 
 -- an access of the location
-pub seeks_access : (s s' : Explaining) (p : Placed) (a : Access) → a.place ≡ p.place → p.what ≡ access a.kind s.location → Touches s a s' → Seeks s p s'
-seeks_access s s' p a place what touches u met is none w rest begins n c h y x =
-    touches s.location u met (place ∙ is) none w rest begins n c h (ap (at w) place ∙ y ∙ ap (λ (z : Record). Some z) what) x
+pub seeks_access : (s s' : Explaining) (p : Placed) (a : Access) → a.place ≡ p.place → p.what ≡ access a.kind s.location → Sees s a s' → Seeks s p s'
+seeks_access s s' p a place what sees u met is none w rest begins n c h y x =
+    sees s.location u met (place ∙ is) none w rest begins n c h (ap (at w) place ∙ y ∙ ap (λ (z : Record). Some z) what) x
 
 -- what follows where no growth was refused
 pub on_ok : {T E P Q : Type 0} (o : Result T E) → (P → Q) → OnOk o P → OnOk o Q
@@ -450,13 +450,13 @@ on_ok (Err e) f p = tt
 
 -- the records that were seen
 
-pub explaining_none : (s : Explaining) (l : ℕ) → s.location ≡ l → HasMet s.meetings [] → s.openers.items ≡ [] → s.last_write ≡ None → s.kept_reader ≡ None → s.told ≡ None → HasExplained l [] s
-explaining_none s l same met openers writes reads told = record {
+pub explaining_none : (s : Explaining) (l : ℕ) → s.location ≡ l → HasMet s.meetings [] → s.openers.items ≡ [] → s.last_write ≡ None → s.kept_reader ≡ None → s.reported ≡ None → HasExplained l [] s
+explaining_none s l same met openers writes reads reported = record {
   location_is = same;
   met = met;
-  stands = λ w rest is n d h. subst (StandsBy w l 0 s) (sym told) (
+  stands = λ w rest is n d h. subst (StandsBy w l 0 s) (sym reported) (
     subst (λ (o : Option Trail). HasSought w l 0 o s.kept_reader) (sym writes) (subst (HasSought w l 0 None) (sym reads) (record {
-      none_told = λ i k r b. omega (arith, r.in_order);
+      none_reported = λ i k r b. omega (arith, r.in_order);
       writes = λ i b y. omega (arith, (IsPlace-at w i _ y).0);
       reads = nothing_yet;
     })),
@@ -478,60 +478,60 @@ module _ (s s' : Explaining) (l : ℕ) (u : List Record) (p : Placed) (h : HasEx
     stands = λ w rest is n d i. subst (λ (z : ℕ). Stands w l z s') longer (next w rest is n d i (h.stands w (p.what ∷ rest) (is ∙ append_assoc u (p.what ∷ []) rest) n d i));
   }
 
-  -- a race was told
-  explaining_told : (d : Told) (next : Option ℕ) (deep : ℕ) → s.told ≡ Some d → s'.told ≡ Some (record d { joined = next }) → deep ≡ length s.meetings.waiting.items → NextJoined p deep d.level d.joined next → HasExplained l (u ++ p.what ∷ []) s'
-  explaining_told d next deep told now level q = explaining_next (λ w rest is n c i x. subst (StandsBy w l (suc (length u)) s') (sym now)
-      (told_next w i (length u) l deep p d next
+  -- a race was reported
+  explaining_reported : (d : Reported) (next : Option ℕ) (deep : ℕ) → s.reported ≡ Some d → s'.reported ≡ Some (record d { joined = next }) → deep ≡ length s.meetings.suspended.items → NextJoined p deep d.level d.joined next → HasExplained l (u ++ p.what ∷ []) s'
+  explaining_reported d next deep reported now level q = explaining_next (λ w rest is n c i x. subst (StandsBy w l (suc (length u)) s') (sym now)
+      (reported_next w i (length u) l deep p d next
       (sym (level ∙ (h.met w (p.what ∷ rest) (is ∙ append_assoc u (p.what ∷ []) rest) n c i (place_there w u rest p.what is)).active.level))
-      (record_there w u rest p.what is) at_next (stands_told w l (length u) s d told x) q))
+      (record_there w u rest p.what is) at_next (stands_reported w l (length u) s d reported x) q))
 
-  -- no race was told
-  explaining_sought : (now : Explaining) → s.told ≡ None → Seeks s p now → s'.told ≡ now.told → s'.last_write ≡ now.last_write → s'.kept_reader ≡ now.kept_reader → s'.openers.items ≡ now.openers.items → HasExplained l (u ++ p.what ∷ []) s'
-  explaining_sought now none seeks told writes reads openers = explaining_next (λ w rest is n c i x. moved w
+  -- no race was reported
+  explaining_sought : (now : Explaining) → s.reported ≡ None → Seeks s p now → s'.reported ≡ now.reported → s'.last_write ≡ now.last_write → s'.kept_reader ≡ now.kept_reader → s'.openers.items ≡ now.openers.items → HasExplained l (u ++ p.what ∷ []) s'
+  explaining_sought now none seeks reported writes reads openers = explaining_next (λ w rest is n c i x. moved w
       (subst (λ (z : ℕ). Stands w z (suc (length u)) now) h.location_is
       (seeks u h.met at_next none w (p.what ∷ rest) (is ∙ append_assoc u (p.what ∷ []) rest) n c i (ap (at w) at_next ∙ record_there w u rest p.what is)
       (subst (λ (z : ℕ). Stands w z (length u) s) (sym h.location_is) x))))
     where
-      by_told : (w : List Record) (o : Option Told) → StandsBy w l (suc (length u)) now o → StandsBy w l (suc (length u)) s' o
-      by_told w None x = (
+      by_reported : (w : List Record) (o : Option Reported) → StandsBy w l (suc (length u)) now o → StandsBy w l (suc (length u)) s' o
+      by_reported w None x = (
         subst (λ (o : Option Trail). HasSought w l (suc (length u)) o s'.kept_reader) (sym writes) (subst (HasSought w l (suc (length u)) now.last_write) (sym reads) x.0),
         λ b. subst (IsTrail w (suc (suc (length u)))) (sym openers) (x.1 b),
       )
-      by_told w (Some d) x = x
+      by_reported w (Some d) x = x
 
       moved : (w : List Record) → Stands w l (suc (length u)) now → Stands w l (suc (length u)) s'
-      moved w x = subst (StandsBy w l (suc (length u)) s') (sym told) (by_told w now.told x)
+      moved w x = subst (StandsBy w l (suc (length u)) s') (sym reported) (by_reported w now.reported x)
 
 -- the same, where no growth was refused
 
-pub explaining_told_if : {T E : Type 0} (s s' : Explaining) (p : Placed) (d d' : Told) (deep : ℕ) (o : Result T E) → s'.location ≡ s.location → s.told ≡ Some d → s'.told ≡ Some d' → d' ≡ record d { joined = d'.joined }
-    → deep ≡ length s.meetings.waiting.items → NextJoined p deep d.level d.joined d'.joined → OnOk o (Moves p.place p.what s.meetings s'.meetings)
+pub explaining_reported_if : {T E : Type 0} (s s' : Explaining) (p : Placed) (d d' : Reported) (deep : ℕ) (o : Result T E) → s'.location ≡ s.location → s.reported ≡ Some d → s'.reported ≡ Some d' → d' ≡ record d { joined = d'.joined }
+    → deep ≡ length s.meetings.suspended.items → NextJoined p deep d.level d.joined d'.joined → OnOk o (Moves p.place p.what s.meetings s'.meetings)
     → OnOk o ((first : Explaining) (u : List Record) → HasExplained first.location u s → ComesAfter u p → HasExplained first.location (u ++ p.what ∷ []) s')
-explaining_told_if s s' p d d' deep (Ok t) same told now rest level q moves = λ first u h c. explaining_told s s' first.location u p h c same moves d d'.joined deep told (now ∙ ap (λ (z : Told). Some z) rest) level q
-explaining_told_if s s' p d d' deep (Err t) same told now rest level q moves = tt
+explaining_reported_if s s' p d d' deep (Ok t) same reported now rest level q moves = λ first u h c. explaining_reported s s' first.location u p h c same moves d d'.joined deep reported (now ∙ ap (λ (z : Reported). Some z) rest) level q
+explaining_reported_if s s' p d d' deep (Err t) same reported now rest level q moves = tt
 
-pub explaining_sought_if : {T E : Type 0} (s s' : Explaining) (p : Placed) (now : Explaining) (o : Result T E) → s'.location ≡ s.location → s.told ≡ None → Seeks s p now
-    → s'.told ≡ now.told → s'.last_write ≡ now.last_write → s'.kept_reader ≡ now.kept_reader → s'.openers.items ≡ now.openers.items → OnOk o (Moves p.place p.what s.meetings s'.meetings)
+pub explaining_sought_if : {T E : Type 0} (s s' : Explaining) (p : Placed) (now : Explaining) (o : Result T E) → s'.location ≡ s.location → s.reported ≡ None → Seeks s p now
+    → s'.reported ≡ now.reported → s'.last_write ≡ now.last_write → s'.kept_reader ≡ now.kept_reader → s'.openers.items ≡ now.openers.items → OnOk o (Moves p.place p.what s.meetings s'.meetings)
     → OnOk o ((first : Explaining) (u : List Record) → HasExplained first.location u s → ComesAfter u p → HasExplained first.location (u ++ p.what ∷ []) s')
-explaining_sought_if s s' p now (Ok t) same none seeks told writes reads openers moves = λ first u h c. explaining_sought s s' first.location u p h c same moves now none seeks told writes reads openers
-explaining_sought_if s s' p now (Err t) same none seeks told writes reads openers moves = tt
+explaining_sought_if s s' p now (Ok t) same none seeks reported writes reads openers moves = λ first u h c. explaining_sought s s' first.location u p h c same moves now none seeks reported writes reads openers
+explaining_sought_if s s' p now (Err t) same none seeks reported writes reads openers moves = tt
 
 -- the answer of a whole trace
 
 stands_at_end : (s : Explaining) (l : ℕ) (w : List Record) {n d : ℕ} → IsWellNested w n d → HasExplained l w s → Stands w l (length w) s
 stands_at_end s l w h a = a.stands w [] (sym (append-nil w)) _ _ h
 
--- the race that is told has the shape of one
-pub race_shape : (s : Explaining) (l : ℕ) (w : List Record) {n d : ℕ} → IsWellNested w n d → n ≤ most_records → HasExplained l w s → IfSome s.told (λ d. IsRaceShape d.first d.second)
-race_shape s l w h b a = by_told s.told (stands_at_end s l w h a)
+-- the race that is reported has the shape of one
+pub race_shape : (s : Explaining) (l : ℕ) (w : List Record) {n d : ℕ} → IsWellNested w n d → n ≤ most_records → HasExplained l w s → IfSome s.reported (λ d. IsRaceShape d.first d.second)
+race_shape s l w h b a = by_reported s.reported (stands_at_end s l w h a)
   where
-    by_told : (o : Option Told) → StandsBy w l (length w) s o → IfSome o (λ d. IsRaceShape d.first d.second)
-    by_told None x = tt
-    by_told (Some d) x = record {
-      from_one = (access-place w d.first.place (IsAccessPlace-at w l d.first.place d.first.kind x.told.first_kind)).0;
+    by_reported : (o : Option Reported) → StandsBy w l (length w) s o → IfSome o (λ d. IsRaceShape d.first d.second)
+    by_reported None x = tt
+    by_reported (Some d) x = record {
+      from_one = (access-place w d.first.place (IsAccessPlace-at w l d.first.place d.first.kind x.reported.first_kind)).0;
       in_order = x.race.in_order;
       to_limit = omega (arith, x.upto, h.within);
-      one_writes = race_writes w l d.first.place d.second.place d.first.kind d.second.kind x.told.first_kind x.told.second_kind x.race;
+      one_writes = race_writes w l d.first.place d.second.place d.first.kind d.second.kind x.reported.first_kind x.reported.second_kind x.race;
     }
 
 joined_at_end : (w : List Record) (m j : ℕ) (o : Option ℕ) → MatchOption o (IsUnjoined w m j (length w)) (IsNextWait w m j) → AreJoined w m j o
@@ -543,22 +543,22 @@ joined_at_end w m j None x = λ k c z. x.none k c (within k z.1) z
 joined_at_end w m j (Some k) x = x
 
 pub explains : (s : Explaining) (l : ℕ) (answer : Option Explained) (w : List Record) {n d : ℕ} → IsWellNested w n d → HasExplained l w s
-    → MatchOption s.told (answer ≡ None) (λ d. answer ≡ Some (explanation s.location d)) → Explains w l answer
-explains s l answer w h a q = by_told s.told (stands_at_end s l w h a) q
+    → MatchOption s.reported (answer ≡ None) (λ d. answer ≡ Some (explanation s.location d)) → Explains w l answer
+explains s l answer w h a q = by_reported s.reported (stands_at_end s l w h a) q
   where
     no_race : StandsOpen w l (length w) s → (i j : ℕ) → IsRace w l i j → ⊥
-    no_race x i j r = x.0.none_told i j r (elim r.second [ inl e ↦ (IsPlace-at w j _ e).1 | inr e ↦ (IsPlace-at w j _ e).1 ])
+    no_race x i j r = x.0.none_reported i j r (elim r.second [ inl e ↦ (IsPlace-at w j _ e).1 | inr e ↦ (IsPlace-at w j _ e).1 ])
 
-    told_is : (d : Told) → HasTold w l (length w) d → IsExplained w (explanation l d)
-    told_is d x = record {
-      told = x.told;
+    reported_is : (d : Reported) → HasReported w l (length w) d → IsExplained w (explanation l d)
+    reported_is d x = record {
+      reported = x.reported;
       meets = x.meets;
       first = x.first;
       second = x.second;
-      unjoined = (parallel-block w h d.first.place d.second.place d.meeting (IsAccessPlace-at w l d.first.place d.first.kind x.told.first_kind) (IsAccessPlace-at w l d.second.place d.second.kind x.told.second_kind) x.race.in_order x.meets).0 x.race.parallel;
+      unjoined = (parallel-block w h d.first.place d.second.place d.meeting (IsAccessPlace-at w l d.first.place d.first.kind x.reported.first_kind) (IsAccessPlace-at w l d.second.place d.second.kind x.reported.second_kind) x.race.in_order x.meets).0 x.race.parallel;
       joined = joined_at_end w d.meeting d.second.place d.joined x.joined;
     }
 
-    by_told : (o : Option Told) → StandsBy w l (length w) s o → MatchOption o (answer ≡ None) (λ d. answer ≡ Some (explanation s.location d)) → Explains w l answer
-    by_told None x e = subst (Explains w l) (sym e) (no_race x)
-    by_told (Some d) x e = subst (Explains w l) (sym (e ∙ ap (λ (z : ℕ). Some (explanation z d)) a.location_is)) (refl, told_is d x)
+    by_reported : (o : Option Reported) → StandsBy w l (length w) s o → MatchOption o (answer ≡ None) (λ d. answer ≡ Some (explanation s.location d)) → Explains w l answer
+    by_reported None x e = subst (Explains w l) (sym e) (no_race x)
+    by_reported (Some d) x e = subst (Explains w l) (sym (e ∙ ap (λ (z : ℕ). Some (explanation z d)) a.location_is)) (refl, reported_is d x)

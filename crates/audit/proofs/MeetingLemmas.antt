@@ -5,22 +5,22 @@ use Rattle.std.proofs.lemmas.List.{length-take-le}
 use Rattle.std.proofs.lemmas.Option.{slice_get_within, slice_get-get_or, get_or_from_slice_get}
 use Rattle.std.specs.List.Sorted.{IsPartitionedBy, IsPartitionPoint}
 use Rattle.std.proofs.lemmas.List.Sorted.{IsPartitionedBy-ltb}
-use Rattle.trace.specs.declared.records.Record.{Record}
-use Rattle.trace.specs.declared.records.Record.TheVariants.{Spawn, Call, Return, Sync, Read, Write}
-use Rattle.trace.specs.declared.records.Placed.{Placed}
-use Rattle.trace.specs.Traces.{at, depth, IsPlace, IsWellNested}
-use Rattle.trace.specs.Dag.{IsParallel}
-use Rattle.trace.specs.Races.{IsAccessPlace}
-use Rattle.trace.specs.Meeting.{level, Opens, Holds, IsMeeting, IsOwn, InOneBlock}
-use Rattle.trace.proofs.Paths.{access-place}
-use Rattle.trace.proofs.Meetings.{level-at, opens-no_sync, root-holds, holds_from, holds-deeper, holds-shorter, Opened, opened_at, opened-holds, opened_below, opened-child, stand_of, OwnSync, own_sync-is, is_own_sync, block_same, block_less, stand-after, stand-le, before-stand, parallel-block}
+use Rattle.dag.specs.declared.records.Record.{Record}
+use Rattle.dag.specs.declared.records.Record.TheVariants.{Spawn, Call, Return, Sync, Read, Write}
+use Rattle.dag.specs.declared.records.Placed.{Placed}
+use Rattle.dag.specs.Traces.{at, depth, IsPlace, IsWellNested}
+use Rattle.dag.specs.Dag.{IsParallel}
+use Rattle.dag.specs.Races.{IsAccessPlace}
+use Rattle.dag.specs.Meeting.{level, Opens, Holds, IsMeeting, IsOwn, InOneBlock}
+use Rattle.dag.proofs.Paths.{access-place}
+use Rattle.dag.proofs.Meetings.{level-at, opens-no_sync, root-holds, holds_from, holds-deeper, holds-shorter, Opened, opened_at, opened-holds, opened_below, opened-child, stand_of, OwnSync, own_sync-is, is_own_sync, block_same, block_less, stand-after, stand-le, before-stand, parallel-block}
 use Rattle.audit.specs.declared.meetings.Active.{Active}
 use Rattle.audit.specs.declared.meetings.Turn.{Turn}
 use Rattle.audit.specs.declared.meetings.Meetings.{Meetings}
 use Rattle.trace.specs.Watching.{ComesAfter}
 use Rattle.audit.specs.Following.{WhateverComes}
-use Rattle.audit.specs.Meetings.{IsActive, AreActive, ActiveAt, waits, executes, IsActivesOwn, HasTurn, AreTurns, AreMet, HasMet, IsKeeper, TellsUnjoined, TellsUnjoinedAfter, TellsTurn, TellsParallel, EndsIn, TakesTurn, OpensChild, Leaves, Syncs, Moves}
-use Rattle.trace.proofs.Lists.{slice_get-front, slice_get-last, element_at}
+use Rattle.audit.specs.Meetings.{IsActive, AreActive, ActiveAt, waits, executes, IsActivesOwn, HasTurn, AreTurns, AreMet, HasMet, IsKeeper, DecidesUnjoined, DecidesUnjoinedAfter, DecidesTurn, DecidesParallel, EndsIn, TakesTurn, OpensChild, Leaves, Syncs, Moves}
+use Rattle.dag.proofs.Lists.{slice_get-front, slice_get-last, element_at}
 use Rattle.audit.proofs.ListLemmas.{slice_get-push, slice_get-take, take-slice_get, place_there, record_there}
 use Rattle.audit.proofs.PathLemmas.{step_by, step_out}
 
@@ -138,7 +138,7 @@ module _ (w : List Record) {n d : ℕ} (h : IsWellNested w n d) (t : ℕ) (e : A
     parallel-unjoined : IsParallel w i (suc t) → (k < depth w i) × (f.synced < i)
     parallel-unjoined z = unjoined (law.0 z)
 
-    module _ (ts : List Turn) (b : Bool) (turned : AreTurns w t e xs ts) (tells : TellsTurn ts i b) where
+    module _ (ts : List Turn) (b : Bool) (turned : AreTurns w t e xs ts) (decides : DecidesTurn ts i b) where
       -- no turn begins inside the child that holds the place
       none_inside : (s : ℕ) → Opened w (level w f.opened) i s → (j : ℕ) (y : Turn) → slice_get ts j ≡ Some y → s < y.opened → i ≤ y.opened
       none_inside s o j y g c = elim (cases_lt y.opened i) [
@@ -152,11 +152,11 @@ module _ (w : List Record) {n d : ℕ} (h : IsWellNested w n d) (t : ℕ) (e : A
               let late : i ≤ v.owner.opened = q.deeper v.on v.owner (omega (arith, v.on_level, keeper.on_level)) v.active in
               omega (arith, v.after)
 
-      -- the answer tells whether the child was spawned
+      -- the answer decides whether the child was spawned
       of_child : (s : ℕ) → Opened w (level w f.opened) i s → f.synced < s → (b ≡ true) ↔ (at w s ≡ Some Spawn)
       of_child s o c =
           let v : HasTurn w ts s = turned.children k f q.there s c (omega (arith, o.before)) (o.on ∙ keeper.on_level) o.opens in
-          let z : b ≡ v.turn.is_spawned = tells (turns_partitioned ts turned i) v.index v.turn v.there (omega (arith, v.begun, o.before)) (λ j y u g. none_inside s o j y g (v.last j y u g)) in
+          let z : b ≡ v.turn.is_spawned = decides (turns_partitioned ts turned i) v.index v.turn v.there (omega (arith, v.begun, o.before)) (λ j y u g. none_inside s o j y g (v.last j y u g)) in
           (λ g. v.kind.0 (sym z ∙ g), λ g. z ∙ v.kind.1 g)
 
       one_block : k < depth w i → f.synced < i → b ≡ true → InOneBlock w f.opened i (suc t)
@@ -192,55 +192,55 @@ module _ (w : List Record) {n d : ℕ} (h : IsWellNested w n d) (t : ℕ) (e : A
       (f.0, f.1, elim (cases_lt f.0.opened i) [ inl z ↦ z | inr z ↦ absurd (omega (arith, level-at w f.0.opened (omega arith), x.on_level)) ])
 
 -- what an answer has to be: whether the place lies deeper than its keeper, and behind the keeper's last sync
-abbrev pub Tells : Bool → ℕ → ℕ → ℕ → Active → Type 0
-Tells b k deep place f = (b ≡ true) ↔ ((k < deep) × (f.synced < place))
+abbrev pub Decides : Bool → ℕ → ℕ → ℕ → Active → Type 0
+Decides b k deep place f = (b ≡ true) ↔ ((k < deep) × (f.synced < place))
 
--- what both answers tell together
+-- what both answers decide together
 module _ (m : Meetings) (u : List Record) (place deep : ℕ) (met : HasMet m u) where
   -- a child of the keeper holds the place, and it hasn't synced since
-  pub told_unjoined : (a b : Bool) → a ≡ true → TellsUnjoinedAfter m u place deep a → TellsTurn m.turns.items place b → TellsParallel u place deep b
-  told_unjoined a b so tells turn w rest is n d h p l q r = (λ z. law.0 (omega (arith, lies.0), lies.1, z), λ z. (law.1 z).2)
+  pub decided_unjoined : (a b : Bool) → a ≡ true → DecidesUnjoinedAfter m u place deep a → DecidesTurn m.turns.items place b → DecidesParallel u place deep b
+  decided_unjoined a b so decides turn w rest is n d h p l q r = (λ z. law.0 (omega (arith, lies.0), lies.1, z), λ z. (law.1 z).2)
     where
       next : suc (length u) ≤ length w
       next = (access-place w _ r).1
 
-      all : AreMet w (length u) m.executing m.waiting.items m.turns.items
+      all : AreMet w (length u) m.executing m.suspended.items m.turns.items
       all = met w rest is n d h next
 
-      told : TellsUnjoined m.executing m.waiting.items place deep a
-      told = tells w rest is n d h (access-place w place p).0 next
+      decided : DecidesUnjoined m.executing m.suspended.items place deep a
+      decided = decides w rest is n d h (access-place w place p).0 next
 
-      lies : (told.on < deep) × (told.keeper.synced < place)
-      lies = told.tells.0 so
+      lies : (decided.on < deep) × (decided.keeper.synced < place)
+      lies = decided.decides.0 so
 
-      law : ((told.on < depth w place) × (told.keeper.synced < place) × (b ≡ true)) ↔ IsParallel w place (suc (length u))
-      law = parallel-keeper w h (length u) m.executing m.waiting.items all.active place told.on told.keeper p r l told.keeps m.turns.items b all.turned turn
+      law : ((decided.on < depth w place) × (decided.keeper.synced < place) × (b ≡ true)) ↔ IsParallel w place (suc (length u))
+      law = parallel-keeper w h (length u) m.executing m.suspended.items all.active place decided.on decided.keeper p r l decided.keeps m.turns.items b all.turned turn
 
   -- the keeper holds the place itself, or has synced since
-  pub told_joined : (a : Bool) → a ≡ false → TellsUnjoinedAfter m u place deep a → TellsParallel u place deep a
-  told_joined a so tells w rest is n d h p l q r = (λ z. absurd (let y : false ≡ true = sym so ∙ z in cc), back)
+  pub decided_joined : (a : Bool) → a ≡ false → DecidesUnjoinedAfter m u place deep a → DecidesParallel u place deep a
+  decided_joined a so decides w rest is n d h p l q r = (λ z. absurd (let y : false ≡ true = sym so ∙ z in cc), back)
     where
       next : suc (length u) ≤ length w
       next = (access-place w _ r).1
 
-      told : TellsUnjoined m.executing m.waiting.items place deep a
-      told = tells w rest is n d h (access-place w place p).0 next
+      decided : DecidesUnjoined m.executing m.suspended.items place deep a
+      decided = decides w rest is n d h (access-place w place p).0 next
 
       back : IsParallel w place (suc (length u)) → a ≡ true
       back z =
-          let y = parallel-unjoined w h (length u) m.executing m.waiting.items (met w rest is n d h next).active place told.on told.keeper p r l told.keeps z in
-          told.tells.1 (omega (arith, y.0), y.1)
+          let y = parallel-unjoined w h (length u) m.executing m.suspended.items (met w rest is n d h next).active place decided.on decided.keeper p r l decided.keeps z in
+          decided.decides.1 (omega (arith, y.0), y.1)
 
 -- the executing procedure keeps the place
-pub told_executing : (m : Meetings) (u : List Record) (place deep : ℕ) (b : Bool) → HasMet m u → m.executing.opened < place → Tells b (length m.waiting.items) deep place m.executing → TellsUnjoinedAfter m u place deep b
-told_executing m u place deep b met before s w rest is n d h p l =
-    record { on = length m.waiting.items; keeper = m.executing; keeps = record { there = executes refl refl; before = before; deeper = deeper }; tells = s }
+pub decided_executing : (m : Meetings) (u : List Record) (place deep : ℕ) (b : Bool) → HasMet m u → m.executing.opened < place → Decides b (length m.suspended.items) deep place m.executing → DecidesUnjoinedAfter m u place deep b
+decided_executing m u place deep b met before s w rest is n d h p l =
+    record { on = length m.suspended.items; keeper = m.executing; keeps = record { there = executes refl refl; before = before; deeper = deeper }; decides = s }
   where
-    deeper : (l : ℕ) (g : Active) → length m.waiting.items < l → ActiveAt m.executing m.waiting.items l g → place ≤ g.opened
-    deeper l g c (waits i) = absurd (omega (arith, slice_get_within m.waiting.items l g i))
+    deeper : (l : ℕ) (g : Active) → length m.suspended.items < l → ActiveAt m.executing m.suspended.items l g → place ≤ g.opened
+    deeper l g c (waits i) = absurd (omega (arith, slice_get_within m.suspended.items l g i))
     deeper l g c (executes i j) = absurd (omega arith)
 
--- how many of the waiting procedures were opened before a place
+-- how many of the suspended procedures were opened before a place
 abbrev pub IsCountBefore : List Active → ℕ → ℕ → Type 0
 IsCountBefore xs place n = IsPartitionedBy (λ (f : Active). nat_lt f.opened place) xs → IsPartitionPoint (λ (f : Active). nat_lt f.opened place ≡ true) (λ (f : Active). nat_lt f.opened place ≡ false) xs n
 
@@ -253,35 +253,35 @@ none_later e xs place n late point l g c (waits i) =
     omega (arith, ltb-false _ _ z)
 none_later e xs place n late point l g c (executes i j) = let y : g.opened ≡ e.opened = ap (λ (f : Active). f.opened) j in omega arith
 
--- a waiting procedure keeps it
-pub told_waiting : (m : Meetings) (u : List Record) (place deep n k : ℕ) (f : Active) (b : Bool) → HasMet m u → place ≤ m.executing.opened → n ≤ length m.waiting.items → IsCountBefore m.waiting.items place n → n ≡ suc k
-    → slice_get m.waiting.items k ≡ Some f → Tells b k deep place f → TellsUnjoinedAfter m u place deep b
-told_waiting m u place deep n k f b met late within count is there s w rest begins records depths h p l =
-    record { on = k; keeper = f; keeps = record { there = waits there; before = before; deeper = λ i g c. none_later m.executing m.waiting.items place n late point i g (omega arith) }; tells = s }
+-- a suspended procedure keeps it
+pub decided_suspended : (m : Meetings) (u : List Record) (place deep n k : ℕ) (f : Active) (b : Bool) → HasMet m u → place ≤ m.executing.opened → n ≤ length m.suspended.items → IsCountBefore m.suspended.items place n → n ≡ suc k
+    → slice_get m.suspended.items k ≡ Some f → Decides b k deep place f → DecidesUnjoinedAfter m u place deep b
+decided_suspended m u place deep n k f b met late within count is there s w rest begins records depths h p l =
+    record { on = k; keeper = f; keeps = record { there = waits there; before = before; deeper = λ i g c. none_later m.executing m.suspended.items place n late point i g (omega arith) }; decides = s }
   where
-    active : AreActive w (length u) m.executing m.waiting.items
+    active : AreActive w (length u) m.executing m.suspended.items
     active = (met w rest begins records depths h l).active
 
-    point : IsPartitionPoint (λ (f : Active). nat_lt f.opened place ≡ true) (λ (f : Active). nat_lt f.opened place ≡ false) m.waiting.items n
-    point = count (partitioned w h (length u) m.executing m.waiting.items active place)
+    point : IsPartitionPoint (λ (f : Active). nat_lt f.opened place ≡ true) (λ (f : Active). nat_lt f.opened place ≡ false) m.suspended.items n
+    point = count (partitioned w h (length u) m.executing m.suspended.items active place)
 
     before : f.opened < place
     before =
-        let z : nat_lt (get_or m.waiting.items k f).opened place ≡ true = point.0 k f (omega arith) (omega arith) in
-        let y : (get_or m.waiting.items k f).opened ≡ f.opened = ap (λ (g : Active). g.opened) (get_or_from_slice_get m.waiting.items k f f there) in
+        let z : nat_lt (get_or m.suspended.items k f).opened place ≡ true = point.0 k f (omega arith) (omega arith) in
+        let y : (get_or m.suspended.items k f).opened ≡ f.opened = ap (λ (g : Active). g.opened) (get_or_from_slice_get m.suspended.items k f f there) in
         omega (arith, ltb-true _ _ z)
 
 -- no procedure keeps it: that doesn't happen
-pub told_none : (m : Meetings) (u : List Record) (place deep n : ℕ) (b : Bool) → HasMet m u → place ≤ m.executing.opened → IsCountBefore m.waiting.items place n → n ≡ 0 → TellsUnjoinedAfter m u place deep b
-told_none m u place deep n b met late count is w rest begins records depths h p l =
-    absurd (let f = root_before w h (length u) m.executing m.waiting.items active place p in
-    omega (arith, none_later m.executing m.waiting.items place n late point 0 f.0 (omega arith) f.1, f.2))
+pub decided_none : (m : Meetings) (u : List Record) (place deep n : ℕ) (b : Bool) → HasMet m u → place ≤ m.executing.opened → IsCountBefore m.suspended.items place n → n ≡ 0 → DecidesUnjoinedAfter m u place deep b
+decided_none m u place deep n b met late count is w rest begins records depths h p l =
+    absurd (let f = root_before w h (length u) m.executing m.suspended.items active place p in
+    omega (arith, none_later m.executing m.suspended.items place n late point 0 f.0 (omega arith) f.1, f.2))
   where
-    active : AreActive w (length u) m.executing m.waiting.items
+    active : AreActive w (length u) m.executing m.suspended.items
     active = (met w rest begins records depths h l).active
 
-    point : IsPartitionPoint (λ (f : Active). nat_lt f.opened place ≡ true) (λ (f : Active). nat_lt f.opened place ≡ false) m.waiting.items n
-    point = count (partitioned w h (length u) m.executing m.waiting.items active place)
+    point : IsPartitionPoint (λ (f : Active). nat_lt f.opened place ≡ true) (λ (f : Active). nat_lt f.opened place ≡ false) m.suspended.items n
+    point = count (partitioned w h (length u) m.executing m.suspended.items active place)
 
 -- the last of the turns that began before a place
 last_begun : (ts : List Turn) (place n i : ℕ) (x : Turn) → n ≤ length ts → IsPartitionPoint (λ (y : Turn). nat_lt y.opened place ≡ true) (λ (y : Turn). nat_lt y.opened place ≡ false) ts n
@@ -307,16 +307,16 @@ last_begun ts place n i x within point there begun later = elim (cases_lt i n) [
 abbrev pub IsTurnCount : List Turn → ℕ → ℕ → Type 0
 IsTurnCount ts place n = IsPartitionedBy (λ (x : Turn). nat_lt x.opened place) ts → IsPartitionPoint (λ (x : Turn). nat_lt x.opened place ≡ true) (λ (x : Turn). nat_lt x.opened place ≡ false) ts n
 
-pub told_turn : (ts : List Turn) (place n k : ℕ) (y : Turn) → n ≤ length ts → IsTurnCount ts place n → n ≡ suc k → slice_get ts k ≡ Some y → TellsTurn ts place y.is_spawned
-told_turn ts place n k y within count is there sorted i x here begun later =
+pub decided_turn : (ts : List Turn) (place n k : ℕ) (y : Turn) → n ≤ length ts → IsTurnCount ts place n → n ≡ suc k → slice_get ts k ≡ Some y → DecidesTurn ts place y.is_spawned
+decided_turn ts place n k y within count is there sorted i x here begun later =
     let last : n ≡ suc i = last_begun ts place n i x within (count sorted) here begun later in
     let same : k ≡ i = omega arith in
     let q : Some y ≡ Some x = sym there ∙ ap (slice_get ts) same ∙ here in
     let z : y ≡ x = cc in
     ap (λ (v : Turn). v.is_spawned) z
 
-pub told_no_turn : (ts : List Turn) (place n : ℕ) (b : Bool) → n ≤ length ts → IsTurnCount ts place n → n ≡ 0 → TellsTurn ts place b
-told_no_turn ts place n b within count is sorted i x here begun later = absurd (let last : n ≡ suc i = last_begun ts place n i x within (count sorted) here begun later in omega arith)
+pub decided_no_turn : (ts : List Turn) (place n : ℕ) (b : Bool) → n ≤ length ts → IsTurnCount ts place n → n ≡ 0 → DecidesTurn ts place b
+decided_no_turn ts place n b within count is sorted i x here begun later = absurd (let last : n ≡ suc i = last_begun ts place n i x within (count sorted) here begun later in omega arith)
 
 -- no record was seen
 
@@ -455,7 +455,7 @@ module _ (w : List Record) {n d : ℕ} (h : IsWellNested w n d) (t : ℕ) where
       cut_owned : (x : Turn) → x.opened ≤ e.opened → IsActivesOwn w e xs x.opened → IsActivesOwn w e' xs' x.opened
       cut_owned x l o = record { on = o.on; owner = o.owner; active = still o.on o.owner o.active (omega (arith, o.after)); after = o.after; on_level = o.on_level }
 
-      -- a waiting procedure was opened before its turns
+      -- a suspended procedure was opened before its turns
       fewer : (k : ℕ) (f : Active) → slice_get xs k ≡ Some f → f.turns ≤ e.turns
       fewer k f s = elim (cases_lt e.turns f.turns) [
         | inr c ↦ c
@@ -481,7 +481,7 @@ module _ (w : List Record) {n d : ℕ} (h : IsWellNested w n d) (t : ℕ) where
       cut_behind k f (inl s) i x g l = v.behind k f (waits s) i x g l
       cut_behind k f (inr q) i x g l = omega (arith, q.0, v.behind (length xs) e executing i x g (omega (arith, q.1)))
 
-      -- the turn of a waiting procedure's child
+      -- the turn of a suspended procedure's child
       cut_turn : (k : ℕ) (f : Active) (c : ℕ) → slice_get xs k ≡ Some f → c ≤ t → depth w c ≡ k → HasTurn w ts c → HasTurn w (take e.turns ts) c
       cut_turn k f c s l y g = record {
         index = g.index;
@@ -740,34 +740,34 @@ module _ (w : List Record) {n d : ℕ} (h : IsWellNested w n d) (t : ℕ) where
   -- each record
 
   met_opened : (m m' : Meetings) (is_spawned : Bool) → depth w (suc (suc t)) ≡ suc (depth w (suc t)) → Opens (at w (suc t)) → (is_spawned ≡ true) ↔ (at w (suc t) ≡ Some Spawn)
-      → AreMet w t m.executing m.waiting.items m.turns.items → OpensChild (suc t) is_spawned m m' → AreMet w (suc t) m'.executing m'.waiting.items m'.turns.items
+      → AreMet w t m.executing m.suspended.items m.turns.items → OpensChild (suc t) is_spawned m m' → AreMet w (suc t) m'.executing m'.suspended.items m'.turns.items
   met_opened m m' is_spawned rises opens kind a moved =
-      subst (λ (e : Active). AreMet w (suc t) e m'.waiting.items m'.turns.items) (sym moved.executing)
-      (subst (λ (xs : List Active). AreMet w (suc t) (record { opened = suc t; synced = suc t; turns = length m'.turns.items }) xs m'.turns.items) (sym moved.waiting)
-      (met_open m.executing m.waiting.items m.turns.items a.active a.turned is_spawned m'.turns.items moved.turns rises opens kind))
+      subst (λ (e : Active). AreMet w (suc t) e m'.suspended.items m'.turns.items) (sym moved.executing)
+      (subst (λ (xs : List Active). AreMet w (suc t) (record { opened = suc t; synced = suc t; turns = length m'.turns.items }) xs m'.turns.items) (sym moved.suspended)
+      (met_open m.executing m.suspended.items m.turns.items a.active a.turned is_spawned m'.turns.items moved.turns rises opens kind))
 
-  met_left : (m m' : Meetings) → suc (suc t) ≤ length w → at w (suc t) ≡ Some Return → AreMet w t m.executing m.waiting.items m.turns.items → Leaves m m' → AreMet w (suc t) m'.executing m'.waiting.items m'.turns.items
+  met_left : (m m' : Meetings) → suc (suc t) ≤ length w → at w (suc t) ≡ Some Return → AreMet w t m.executing m.suspended.items m.turns.items → Leaves m m' → AreMet w (suc t) m'.executing m'.suspended.items m'.turns.items
   met_left m m' b s a moved =
-      subst (AreMet w (suc t) m'.executing m'.waiting.items) (sym moved.turns)
-      (met_return m.executing m.waiting.items m.turns.items a.active a.turned m'.executing m'.waiting.items b s moved.waiting)
+      subst (AreMet w (suc t) m'.executing m'.suspended.items) (sym moved.turns)
+      (met_return m.executing m.suspended.items m.turns.items a.active a.turned m'.executing m'.suspended.items b s moved.suspended)
 
-  met_synced : (m m' : Meetings) → depth w (suc (suc t)) ≡ depth w (suc t) → at w (suc t) ≡ Some Sync → AreMet w t m.executing m.waiting.items m.turns.items → Syncs (suc t) m m' → AreMet w (suc t) m'.executing m'.waiting.items m'.turns.items
+  met_synced : (m m' : Meetings) → depth w (suc (suc t)) ≡ depth w (suc t) → at w (suc t) ≡ Some Sync → AreMet w t m.executing m.suspended.items m.turns.items → Syncs (suc t) m m' → AreMet w (suc t) m'.executing m'.suspended.items m'.turns.items
   met_synced m m' q s a moved =
-      subst (λ (e : Active). AreMet w (suc t) e m'.waiting.items m'.turns.items) (sym moved.executing)
-      (subst (λ (xs : List Active). AreMet w (suc t) (record { opened = m.executing.opened; synced = suc t; turns = m.executing.turns }) xs m'.turns.items) (sym moved.waiting)
-      (subst (AreMet w (suc t) (record { opened = m.executing.opened; synced = suc t; turns = m.executing.turns }) m.waiting.items) (sym moved.turns)
-      (met_sync m.executing m.waiting.items m.turns.items a.active a.turned q s)))
+      subst (λ (e : Active). AreMet w (suc t) e m'.suspended.items m'.turns.items) (sym moved.executing)
+      (subst (λ (xs : List Active). AreMet w (suc t) (record { opened = m.executing.opened; synced = suc t; turns = m.executing.turns }) xs m'.turns.items) (sym moved.suspended)
+      (subst (AreMet w (suc t) (record { opened = m.executing.opened; synced = suc t; turns = m.executing.turns }) m.suspended.items) (sym moved.turns)
+      (met_sync m.executing m.suspended.items m.turns.items a.active a.turned q s)))
 
-  met_same : (m m' : Meetings) → depth w (suc (suc t)) ≡ depth w (suc t) → (at w (suc t) ≡ Some Sync → ⊥) → (Opens (at w (suc t)) → ⊥) → AreMet w t m.executing m.waiting.items m.turns.items → m' ≡ m → AreMet w (suc t) m'.executing m'.waiting.items m'.turns.items
+  met_same : (m m' : Meetings) → depth w (suc (suc t)) ≡ depth w (suc t) → (at w (suc t) ≡ Some Sync → ⊥) → (Opens (at w (suc t)) → ⊥) → AreMet w t m.executing m.suspended.items m.turns.items → m' ≡ m → AreMet w (suc t) m'.executing m'.suspended.items m'.turns.items
   met_same m m' q no_sync none a same =
-      subst (λ (z : Meetings). AreMet w (suc t) z.executing z.waiting.items z.turns.items) (sym same)
-      (record { active = same_active m.executing m.waiting.items m.turns.items a.active a.turned q no_sync; turned = same_turns m.executing m.waiting.items m.turns.items a.active a.turned none })
+      subst (λ (z : Meetings). AreMet w (suc t) z.executing z.suspended.items z.turns.items) (sym same)
+      (record { active = same_active m.executing m.suspended.items m.turns.items a.active a.turned q no_sync; turned = same_turns m.executing m.suspended.items m.turns.items a.active a.turned none })
 
-  pub met_more : (r : Record) (m m' : Meetings) → suc (suc t) ≤ length w → at w (suc t) ≡ Some r → AreMet w t m.executing m.waiting.items m.turns.items → Moves (suc t) r m m' → AreMet w (suc t) m'.executing m'.waiting.items m'.turns.items
+  pub met_more : (r : Record) (m m' : Meetings) → suc (suc t) ≤ length w → at w (suc t) ≡ Some r → AreMet w t m.executing m.suspended.items m.turns.items → Moves (suc t) r m m' → AreMet w (suc t) m'.executing m'.suspended.items m'.turns.items
   met_more Spawn m m' b s a moved = met_opened m m' true (step_by w h t Spawn b s) (inl s) (λ z. s, λ z. refl) a moved
   met_more Call m m' b s a moved = met_opened m m' false (step_by w h t Call b s) (inr s) (λ z. absurd (cc), λ z. absurd (other Call Spawn s (λ y. cc) z)) a moved
   met_more Return m m' b s a (inl z) =
-      absurd (let y : length m.waiting.items ≡ 0 = ap length z in h.no_earlier (suc t) b (record { a_return = s; at_zero = omega (arith, a.active.level) }))
+      absurd (let y : length m.suspended.items ≡ 0 = ap length z in h.no_earlier (suc t) b (record { a_return = s; at_zero = omega (arith, a.active.level) }))
   met_more Return m m' b s a (inr moved) = met_left m m' b s a moved
   met_more Sync m m' b s a moved = met_synced m m' (step_by w h t Sync b s) s a moved
   met_more (Read i) m m' b s a moved = met_same m m' (step_by w h t (Read i) b s) (other (Read i) Sync s (λ y. cc)) (opens_none (Read i) s (λ y. cc) (λ y. cc)) a moved
@@ -776,7 +776,7 @@ module _ (w : List Record) {n d : ℕ} (h : IsWellNested w n d) (t : ℕ) where
 -- the next record moves the active procedures
 pub met_next : (m m' : Meetings) (u : List Record) (p : Placed) → HasMet m u → ComesAfter u p → Moves p.place p.what m m' → HasMet m' (u ++ p.what ∷ [])
 met_next m m' u p met c moves w rest is n d h b =
-    subst (λ (z : ℕ). AreMet w z m'.executing m'.waiting.items m'.turns.items) longer
+    subst (λ (z : ℕ). AreMet w z m'.executing m'.suspended.items m'.turns.items) longer
     (met_more w h (length u) p.what m m' (omega (arith, longer)) (record_there w u rest p.what is)
     (met w (p.what ∷ rest) (is ∙ append_assoc u (p.what ∷ []) rest) n d h (place_there w u rest p.what is))
     (subst (λ (z : ℕ). Moves z p.what m m') place moves))

@@ -4,12 +4,12 @@ use Rattle.std.specs.List.{All, AllPairs, AllByRecursion}
 use Rattle.std.proofs.lemmas.Bool.{cases_order}
 use Rattle.std.proofs.lemmas.List.Elements.{recursion_from_All}
 use Rattle.std.proofs.lemmas.Option.{slice_get_within, get_or_from_slice_get}
-use Rattle.trace.specs.declared.records.Record.{Record}
-use Rattle.trace.specs.declared.records.Access.{Access}
-use Rattle.trace.specs.Accesses.{RaceAt}
-use Rattle.trace.specs.Meeting.{IsMeeting}
-use Rattle.trace.specs.Races.{IsRace}
-use Rattle.trace.proofs.Once.{In, In_from, Contains_from, told_once}
+use Rattle.dag.specs.declared.records.Record.{Record}
+use Rattle.dag.specs.declared.records.Access.{Access}
+use Rattle.dag.specs.Accesses.{RaceAt}
+use Rattle.dag.specs.Meeting.{IsMeeting}
+use Rattle.dag.specs.Races.{IsRace}
+use Rattle.dag.proofs.Once.{In, In_from, Contains_from, reported_once}
 use Rattle.audit.specs.declared.answers.Opener.{Opener}
 use Rattle.audit.specs.declared.answers.Explained.{Explained}
 use Rattle.audit.specs.Explanations.{AreOpeners, AreJoined, IsExplained, Explains, IsSameExplanation, IsSameAnswer}
@@ -19,7 +19,7 @@ use Rattle.audit.specs.declared.answers.Confirm.{Confirm}
 use Rattle.audit.specs.declared.answers.Confirm.TheVariants.{Yes, No}
 use Rattle.audit.specs.Measures.{IsMeasure}
 use Rattle.audit.specs.Pairs.{IsBefore, ArePairs}
-use Rattle.audit.specs.Confirms.{TellsRace, IsFirstWrong, Confirms}
+use Rattle.audit.specs.Confirms.{StatesRace, IsFirstWrong, Confirms}
 
 pub one_measure : (w : List Record) (m n : Measure) → IsMeasure w m → IsMeasure w n → m ≡ n
 one_measure w m n a b =
@@ -85,9 +85,9 @@ one_list_of_pairs w l ps qs a b = same_ordered IsBefore before_one_way ps qs (or
 
 -- ---- whether entries are races
 
-not_all : (w : List Record) (entries : List RaceAt) (n : ℕ) → All (TellsRace w) entries → IsFirstWrong w entries n → ⊥
+not_all : (w : List Record) (entries : List RaceAt) (n : ℕ) → All (StatesRace w) entries → IsFirstWrong w entries n → ⊥
 not_all w entries n a b =
-    b.wrong (subst (TellsRace w) (get_or_from_slice_get entries b.before b.race b.race b.there) (a b.before b.race (slice_get_within entries b.before b.race b.there)))
+    b.wrong (subst (StatesRace w) (get_or_from_slice_get entries b.before b.race b.race b.there) (a b.before b.race (slice_get_within entries b.before b.race b.there)))
 
 first_wrong_once : (w : List Record) (entries : List RaceAt) (m n : ℕ) → IsFirstWrong w entries m → IsFirstWrong w entries n → m ≡ n
 first_wrong_once w entries m n a b = elim (cases_order a.before b.before) [
@@ -131,7 +131,7 @@ one_join w m j (Some i) (Some k) x y = elim (cases_order i k) [
 
 same_explanation : (w : List Record) (l : ℕ) (a b : Explained) → a.race.location ≡ l → b.race.location ≡ l → IsExplained w a → IsExplained w b → IsSameExplanation a b
 same_explanation w l a b p q x y =
-    let race : a.race ≡ b.race = told_once w a.race b.race x.told y.told (p ∙ sym q) in
+    let race : a.race ≡ b.race = reported_once w a.race b.race x.reported y.reported (p ∙ sym q) in
     let meets : IsMeeting w a.race.first.place a.race.second.place b.meeting = subst (λ (r : RaceAt). IsMeeting w r.first.place r.second.place b.meeting) (sym race) y.meets in
     let meeting : a.meeting ≡ b.meeting = one_meeting w a.race.first.place a.race.second.place a.meeting b.meeting x.meets meets in
     record {
@@ -144,6 +144,6 @@ same_explanation w l a b p q x y =
 
 pub one_explanation : (w : List Record) (l : ℕ) (a b : Option Explained) → Explains w l a → Explains w l b → IsSameAnswer a b
 one_explanation w l None None x y = refl
-one_explanation w l None (Some b) x y = absurd (let r = y.1.told.second.race in x r.0 b.race.second.place (subst (λ (z : ℕ). IsRace w z r.0 b.race.second.place) y.0 r.1))
-one_explanation w l (Some a) None x y = absurd (let r = x.1.told.second.race in y r.0 a.race.second.place (subst (λ (z : ℕ). IsRace w z r.0 a.race.second.place) x.0 r.1))
+one_explanation w l None (Some b) x y = absurd (let r = y.1.reported.second.race in x r.0 b.race.second.place (subst (λ (z : ℕ). IsRace w z r.0 b.race.second.place) y.0 r.1))
+one_explanation w l (Some a) None x y = absurd (let r = x.1.reported.second.race in y r.0 a.race.second.place (subst (λ (z : ℕ). IsRace w z r.0 a.race.second.place) x.0 r.1))
 one_explanation w l (Some a) (Some b) x y = same_explanation w l a b x.0 y.0 x.1 y.1

@@ -5,27 +5,27 @@ use Rattle.std.proofs.lemmas.List.{append-nil}
 use Rattle.std.proofs.lemmas.List.Elements.{Contains-push, Contains-push_cases}
 use Rattle.std.proofs.lemmas.List.Quantifiers.{all_pairs_push}
 use Rattle.std.proofs.lemmas.Option.{slice_get_within, slice_get-get_or, get_or_from_slice_get}
-use Rattle.trace.specs.declared.records.Record.{Record}
-use Rattle.trace.specs.declared.records.Record.TheVariants as records
-use Rattle.trace.specs.declared.records.Kind.{Kind}
-use Rattle.trace.specs.declared.records.Kind.TheVariants.{Read, Write}
-use Rattle.trace.specs.declared.records.Access.{Access}
-use Rattle.trace.specs.declared.records.Placed.{Placed}
-use Rattle.trace.specs.Accesses.{writes}
-use Rattle.trace.specs.Traces.{at, depth, IsWellNested}
-use Rattle.trace.specs.Dag.{IsParallel}
-use Rattle.trace.specs.Races.{access, IsAccess, IsWrite, IsAccessPlace, IsRace}
-use Rattle.trace.proofs.Paths.{access-place}
-use Rattle.trace.proofs.Readers.{IsAccessPlace-at, read_or_write}
-use Rattle.trace.proofs.Once.{kind_once, same_access}
+use Rattle.dag.specs.declared.records.Record.{Record}
+use Rattle.dag.specs.declared.records.Record.TheVariants as records
+use Rattle.dag.specs.declared.records.Kind.{Kind}
+use Rattle.dag.specs.declared.records.Kind.TheVariants.{Read, Write}
+use Rattle.dag.specs.declared.records.Access.{Access}
+use Rattle.dag.specs.declared.records.Placed.{Placed}
+use Rattle.dag.specs.Accesses.{writes}
+use Rattle.dag.specs.Traces.{at, depth, IsWellNested}
+use Rattle.dag.specs.Dag.{IsParallel}
+use Rattle.dag.specs.Races.{access, IsAccess, IsWrite, IsAccessPlace, IsRace}
+use Rattle.dag.proofs.Paths.{access-place}
+use Rattle.dag.proofs.Readers.{IsAccessPlace-at, read_or_write}
+use Rattle.dag.proofs.Once.{kind_once, same_access}
 use Rattle.audit.specs.declared.meetings.Meetings.{Meetings}
-use Rattle.audit.specs.declared.location_races.Kept.{Kept}
+use Rattle.audit.specs.declared.location_races.KeptAccess.{KeptAccess}
 use Rattle.audit.specs.declared.location_races.Pairing.{Pairing}
 use Rattle.trace.specs.Watching.{ComesAfter}
-use Rattle.audit.specs.Meetings.{HasMet, TellsParallel, Moves}
+use Rattle.audit.specs.Meetings.{HasMet, DecidesParallel, Moves}
 use Rattle.audit.specs.Pairs.{IsPair, IsBefore, ArePairs}
 use Rattle.audit.specs.Pairing.{IsKept, IsAmong, AreKept, ArePairsTo, ArePairsWith, AddsPairs, HasPaired}
-use Rattle.trace.proofs.Lists.{slice_get-front, slice_get-last}
+use Rattle.dag.proofs.Lists.{slice_get-front, slice_get-last}
 use Rattle.audit.proofs.ListLemmas.{slice_get-push, place_there, record_there}
 use Rattle.audit.proofs.MeetingLemmas.{met_next}
 
@@ -68,7 +68,7 @@ contained_earlier xs x y (k, l, e) =
 
 -- one more access that is kept is compared
 
-module _ (w : List Record) (l t n : ℕ) (ks : List Kept) (b : Access) (a : Kept) (keeps : AreKept w l t ks) (is : b.place ≡ suc t) (there : slice_get ks n ≡ Some a) (second : IsAccess w l b.place b.kind) where
+module _ (w : List Record) (l t n : ℕ) (ks : List KeptAccess) (b : Access) (a : KeptAccess) (keeps : AreKept w l t ks) (is : b.place ≡ suc t) (there : slice_get ks n ≡ Some a) (second : IsAccess w l b.place b.kind) where
   first : IsKept w l t a
   first = keeps.each n a there
 
@@ -81,8 +81,8 @@ module _ (w : List Record) (l t n : ℕ) (ks : List Kept) (b : Access) (a : Kept
     | inr q ↦ inl (k, c, omega arith, s, e)
   ]
     where
-      same : (c : Kept) → slice_get ks n ≡ Some c → c.access.place ≡ i → a.access.place ≡ i
-      same c s e = let f : Some a ≡ Some c = sym there ∙ s in let g : a ≡ c = cc in ap (λ (z : Kept). z.access.place) g ∙ e
+      same : (c : KeptAccess) → slice_get ks n ≡ Some c → c.access.place ≡ i → a.access.place ≡ i
+      same c s e = let f : Some a ≡ Some c = sym there ∙ s in let g : a ≡ c = cc in ap (λ (z : KeptAccess). z.access.place) g ∙ e
 
   -- a race of place t + 1 whose first place is that of a
   the_pair : (p : Access × Access) → IsPair w l p → p.1.place ≡ suc t → a.access.place ≡ p.0.place → (a.access, b) ≡ p
@@ -131,17 +131,17 @@ module _ (w : List Record) (l t n : ℕ) (ks : List Kept) (b : Access) (a : Kept
         | inr y ↦ absurd (never (subst (λ (v : ℕ). IsRace w l a.access.place v) (z ∙ sym is) (subst (λ (v : ℕ). IsRace w l v p.1.place) (sym y) q.race)))
       ]
 
-module _ (m : Meetings) (ks : List Kept) (b : Access) (n : ℕ) (a : Kept) (there : slice_get ks n ≡ Some a) (old ps : List (Access × Access)) where
+module _ (m : Meetings) (ks : List KeptAccess) (b : Access) (n : ℕ) (a : KeptAccess) (there : slice_get ks n ≡ Some a) (old ps : List (Access × Access)) where
   -- it races with the access
-  pub adds_pair : (writes a.access.kind || writes b.kind) ≡ true → ((u : List Record) → HasMet m u → TellsParallel u a.access.place a.depth true) → AddsPairs m ks b n old ps → AddsPairs m ks b (n + 1) old (ps ++ (a.access, b) ∷ [])
-  adds_pair one tells adds l u met is w rest begins c d h keeps second to =
+  pub adds_pair : (writes a.access.kind || writes b.kind) ≡ true → ((u : List Record) → HasMet m u → DecidesParallel u a.access.place a.depth true) → AddsPairs m ks b n old ps → AddsPairs m ks b (n + 1) old (ps ++ (a.access, b) ∷ [])
+  adds_pair one decides adds l u met is w rest begins c d h keeps second to =
       pair_added w l (length u) n ks b a keeps is there second ps race (adds l u met is w rest begins c d h keeps second to)
     where
       kept : IsKept w l (length u) a
       kept = keeps.each n a there
 
       parallel : IsParallel w a.access.place (suc (length u))
-      parallel = (tells u met w rest begins c d h (IsAccessPlace-at w l a.access.place a.access.kind kept.access) kept.upto kept.at_depth
+      parallel = (decides u met w rest begins c d h (IsAccessPlace-at w l a.access.place a.access.kind kept.access) kept.upto kept.at_depth
           (subst (IsAccessPlace w) is (IsAccessPlace-at w l b.place b.kind second))).0 refl
 
       race : IsRace w l a.access.place b.place
@@ -156,8 +156,8 @@ module _ (m : Meetings) (ks : List Kept) (b : Access) (n : ℕ) (a : Kept) (ther
       both e = cc
 
   -- a path leads
-  pub adds_no_parallel : ((u : List Record) → HasMet m u → TellsParallel u a.access.place a.depth false) → AddsPairs m ks b n old ps → AddsPairs m ks b (n + 1) old ps
-  adds_no_parallel tells adds l u met is w rest begins c d h keeps second to =
+  pub adds_no_parallel : ((u : List Record) → HasMet m u → DecidesParallel u a.access.place a.depth false) → AddsPairs m ks b n old ps → AddsPairs m ks b (n + 1) old ps
+  adds_no_parallel decides adds l u met is w rest begins c d h keeps second to =
       pair_skipped w l (length u) n ks b a keeps is there second ps never (adds l u met is w rest begins c d h keeps second to)
     where
       kept : IsKept w l (length u) a
@@ -165,13 +165,13 @@ module _ (m : Meetings) (ks : List Kept) (b : Access) (n : ℕ) (a : Kept) (ther
 
       never : IsRace w l a.access.place b.place → ⊥
       never r =
-          let z : false ≡ true = (tells u met w rest begins c d h (IsAccessPlace-at w l a.access.place a.access.kind kept.access) kept.upto kept.at_depth
+          let z : false ≡ true = (decides u met w rest begins c d h (IsAccessPlace-at w l a.access.place a.access.kind kept.access) kept.upto kept.at_depth
           (subst (IsAccessPlace w) is (IsAccessPlace-at w l b.place b.kind second))).1 (subst (λ (v : ℕ). IsParallel w a.access.place v) is r.parallel) in
           cc
 
 -- one place further
 
-pub pairs_with_all : (w : List Record) (l t : ℕ) (ks : List Kept) (ps : List (Access × Access)) → AreKept w l t ks → ArePairsWith w l t (length ks) ks ps → ArePairsTo w l (suc t) ps
+pub pairs_with_all : (w : List Record) (l t : ℕ) (ks : List KeptAccess) (ps : List (Access × Access)) → AreKept w l t ks → ArePairsWith w l t (length ks) ks ps → ArePairsTo w l (suc t) ps
 pairs_with_all w l t ks ps keeps h = record { ascending = h.ascending; exactly = λ p. ((λ c. forth p ((h.exactly p).0 c)), (λ q. back p q.0 q.1)) }
   where
     forth : (p : Access × Access) → IsPair w l p × ((p.1.place ≤ t) ⊎ ((p.1.place ≡ suc t) × IsAmong (length ks) ks p.0.place)) → IsPair w l p × (p.1.place ≤ suc t)
@@ -193,10 +193,10 @@ pairs_same w l t ps never h = record { ascending = h.ascending; exactly = λ p. 
       | inr y ↦ (h.exactly p).1 (q, omega arith)
     ]
 
-kept_later : (w : List Record) (l t : ℕ) (a : Kept) → IsKept w l t a → IsKept w l (suc t) a
+kept_later : (w : List Record) (l t : ℕ) (a : KeptAccess) → IsKept w l t a → IsKept w l (suc t) a
 kept_later w l t a k = record { access = k.access; upto = omega (arith, k.upto); at_depth = k.at_depth }
 
-pub kept_same : (w : List Record) (l t : ℕ) (ks : List Kept) → ((k : Kind) → IsAccess w l (suc t) k → ⊥) → AreKept w l t ks → AreKept w l (suc t) ks
+pub kept_same : (w : List Record) (l t : ℕ) (ks : List KeptAccess) → ((k : Kind) → IsAccess w l (suc t) k → ⊥) → AreKept w l t ks → AreKept w l (suc t) ks
 kept_same w l t ks never h = record {
   each = λ k a s. kept_later w l t a (h.each k a s);
   all = λ i k z a. elim (cases_eq i (suc t)) [
@@ -206,14 +206,14 @@ kept_same w l t ks never h = record {
   ascending = h.ascending;
 }
 
-pub kept_push : (w : List Record) (l t : ℕ) (ks : List Kept) (b : Kept) → b.access.place ≡ suc t → IsAccess w l b.access.place b.access.kind → depth w b.access.place ≡ b.depth → AreKept w l t ks → AreKept w l (suc t) (ks ++ b ∷ [])
+pub kept_push : (w : List Record) (l t : ℕ) (ks : List KeptAccess) (b : KeptAccess) → b.access.place ≡ suc t → IsAccess w l b.access.place b.access.kind → depth w b.access.place ≡ b.depth → AreKept w l t ks → AreKept w l (suc t) (ks ++ b ∷ [])
 kept_push w l t ks b is here deep h = record {
   each = λ k a s. each k a (slice_get-push ks b k a s);
   all = all;
   ascending = λ j k a c z s y. ascending j k a c z s (slice_get-push ks b k c y);
 }
   where
-    each : (k : ℕ) (a : Kept) → (slice_get ks k ≡ Some a) ⊎ ((k ≡ length ks) × (b ≡ a)) → IsKept w l (suc t) a
+    each : (k : ℕ) (a : KeptAccess) → (slice_get ks k ≡ Some a) ⊎ ((k ≡ length ks) × (b ≡ a)) → IsKept w l (suc t) a
     each k a (inl s) = kept_later w l t a (h.each k a s)
     each k a (inr (s, e)) = subst (IsKept w l (suc t)) e (record { access = here; upto = omega arith; at_depth = deep })
 
@@ -226,18 +226,18 @@ kept_push w l t ks b is here deep h = record {
       | inr y ↦ later i (h.all i k (omega arith) a)
     ]
 
-    earlier : (j : ℕ) (a : Kept) → slice_get (ks ++ b ∷ []) j ≡ Some a → j < length ks → slice_get ks j ≡ Some a
+    earlier : (j : ℕ) (a : KeptAccess) → slice_get (ks ++ b ∷ []) j ≡ Some a → j < length ks → slice_get ks j ≡ Some a
     earlier j a s z = by_place (slice_get-push ks b j a s)
       where
         by_place : (slice_get ks j ≡ Some a) ⊎ ((j ≡ length ks) × (b ≡ a)) → slice_get ks j ≡ Some a
         by_place (inl y) = y
         by_place (inr y) = absurd (omega (arith, y.0))
 
-    ascending : (j k : ℕ) (a c : Kept) → j < k → slice_get (ks ++ b ∷ []) j ≡ Some a → (slice_get ks k ≡ Some c) ⊎ ((k ≡ length ks) × (b ≡ c)) → a.access.place < c.access.place
+    ascending : (j k : ℕ) (a c : KeptAccess) → j < k → slice_get (ks ++ b ∷ []) j ≡ Some a → (slice_get ks k ≡ Some c) ⊎ ((k ≡ length ks) × (b ≡ c)) → a.access.place < c.access.place
     ascending j k a c z s (inl y) = h.ascending j k a c z (earlier j a s (omega (arith, slice_get_within ks k c y))) y
     ascending j k a c z s (inr (y, e)) =
         let v : a.access.place ≤ t = (h.each j a (earlier j a s (omega arith))).upto in
-        let x : b.access.place ≡ c.access.place = ap (λ (q : Kept). q.access.place) e in
+        let x : b.access.place ≡ c.access.place = ap (λ (q : KeptAccess). q.access.place) e in
         omega arith
 
 -- what is seen of the next record
@@ -265,7 +265,7 @@ module _ (s s' : Pairing) (l : ℕ) (u : List Record) (p : Placed) (h : HasPaire
           never k (f ∙ ap (access k) (sym h.location_is))
 
   -- it is an access of the location
-  pub paired_access : (a : Access) (deep : ℕ) (ps : List (Access × Access)) → a.place ≡ p.place → p.what ≡ access a.kind s.location → deep ≡ length s.meetings.waiting.items
+  pub paired_access : (a : Access) (deep : ℕ) (ps : List (Access × Access)) → a.place ≡ p.place → p.what ≡ access a.kind s.location → deep ≡ length s.meetings.suspended.items
       → AddsPairs s.meetings s.kept.items a (length s.kept.items) s.pairs.items ps → s'.kept.items ≡ s.kept.items ++ record { access = a; depth = deep } ∷ [] → s'.pairs.items ≡ ps → HasPaired l (u ++ p.what ∷ []) s'
   paired_access a deep ps place what level adds ks qs = record {
     location_is = same ∙ h.location_is;
@@ -308,7 +308,7 @@ pub paired_other_if : {T E : Type 0} (s s' : Pairing) (p : Placed) (o : Result T
 paired_other_if s s' p (Ok t) same never ks ps moves = λ first u h c. paired_other s s' first.location u p h c same moves never ks ps
 paired_other_if s s' p (Err t) same never ks ps moves = tt
 
-pub paired_access_if : {T E : Type 0} (s s' : Pairing) (p : Placed) (a : Access) (deep : ℕ) (ps : List (Access × Access)) (o : Result T E) → s'.location ≡ s.location → a.place ≡ p.place → p.what ≡ access a.kind s.location → deep ≡ length s.meetings.waiting.items
+pub paired_access_if : {T E : Type 0} (s s' : Pairing) (p : Placed) (a : Access) (deep : ℕ) (ps : List (Access × Access)) (o : Result T E) → s'.location ≡ s.location → a.place ≡ p.place → p.what ≡ access a.kind s.location → deep ≡ length s.meetings.suspended.items
     → AddsPairs s.meetings s.kept.items a (length s.kept.items) s.pairs.items ps → s'.kept.items ≡ s.kept.items ++ record { access = a; depth = deep } ∷ [] → s'.pairs.items ≡ ps
     → OnOk o (Moves p.place p.what s.meetings s'.meetings)
     → OnOk o ((first : Pairing) (u : List Record) → HasPaired first.location u s → ComesAfter u p → HasPaired first.location (u ++ p.what ∷ []) s')

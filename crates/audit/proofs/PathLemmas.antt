@@ -1,15 +1,15 @@
 -- The longest paths of a well nested trace, one place after another.
 use Rattle.std.proofs.Common.{◌≡◌, ◌≢◌, ℕ, zero, suc, ◌<◌, ◌≤◌, max, Bool, true, false, List, [], ◌∷◌, length, Option, Some, ◌⊎◌, inl, inr, refl, sym, ◌∙◌, subst, ap, arith}
 use Rattle.std.proofs.lemmas.Bool.{cases_lt, cases_eq}
-use Rattle.trace.specs.declared.records.Record.{Record}
-use Rattle.trace.specs.declared.records.Record.TheVariants.{Spawn, Call, Return, Sync}
-use Rattle.trace.specs.Traces.{at, depth, IsPlace, IsWellNested}
-use Rattle.trace.specs.Dag.{Edge, continuation, spawn, call, comes_back, join, IsContinuation, IsComeback, IsJoin, JoinsAt, IsPath, end_of}
-use Rattle.trace.specs.Meeting.{Opens}
-use Rattle.trace.proofs.World.{Step, Reach, here, next, leaves, leaves_by, reach-return}
-use Rattle.trace.proofs.Traced.{traced, shape_of, is_call, opener_of, opener-is, shape-return, returns-shape, step_at, edge_from, edge_to, trace_edge}
-use Rattle.audit.specs.declared.measures.Waiting.{Waiting}
-use Rattle.audit.specs.LongestPaths.{PathTo, IsLongestTo, LastOn, IsReturnOf, LeadsOn, at_start, own, opened, came_back, IsUnjoined, IsLongestUnjoined, opened_by, IsWaiting}
+use Rattle.dag.specs.declared.records.Record.{Record}
+use Rattle.dag.specs.declared.records.Record.TheVariants.{Spawn, Call, Return, Sync}
+use Rattle.dag.specs.Traces.{at, depth, IsPlace, IsWellNested}
+use Rattle.dag.specs.Dag.{Edge, continuation, spawn, call, comes_back, join, IsContinuation, IsComeback, IsJoin, JoinsAt, IsPath, end_of}
+use Rattle.dag.specs.Meeting.{Opens}
+use Rattle.dag.proofs.World.{Step, Reach, here, next, leaves, leaves_by, reach-return}
+use Rattle.dag.proofs.Traced.{traced, shape_of, is_call, opener_of, opener-is, shape-return, returns-shape, step_at, edge_from, edge_to, trace_edge}
+use Rattle.audit.specs.declared.measures.Suspended.{Suspended}
+use Rattle.audit.specs.LongestPaths.{PathTo, IsLongestTo, LastOn, IsReturnOf, LeadsOn, at_start, own, opened, came_back, IsUnjoined, IsLongestUnjoined, opened_by, IsSuspended}
 
 -- paths that end at a place
 
@@ -276,8 +276,8 @@ module _ (w : List Record) {n d : ℕ} (h : IsWellNested w n d) where
     longest = l;
   }
 
-  -- a procedure goes on waiting, and begins to
-  pub waits_on : (t k : ℕ) (f : Waiting) → k < depth w (suc t) → IsLongestUnjoined w (suc t) k f.longest.unjoined → IsWaiting w t k f → IsWaiting w (suc t) k f
+  -- a procedure stays suspended, and becomes so
+  pub waits_on : (t k : ℕ) (f : Suspended) → k < depth w (suc t) → IsLongestUnjoined w (suc t) k f.longest.unjoined → IsSuspended w t k f → IsSuspended w (suc t) k f
   waits_on t k f b u l = record {
     own = record {
       last = l.own.last;
@@ -295,8 +295,8 @@ module _ (w : List Record) {n d : ℕ} (h : IsWellNested w n d) where
     unjoined = u;
   }
 
-  pub waits_here : (t k : ℕ) (f : Waiting) → suc t ≤ length w → depth w (suc t) ≡ k → at w (suc t) ≡ Some (opened_by f.calls) → IsLongestTo w (suc t) f.longest.own → IsLongestUnjoined w (suc t) k f.longest.unjoined
-      → IsWaiting w (suc t) k f
+  pub waits_here : (t k : ℕ) (f : Suspended) → suc t ≤ length w → depth w (suc t) ≡ k → at w (suc t) ≡ Some (opened_by f.calls) → IsLongestTo w (suc t) f.longest.own → IsLongestUnjoined w (suc t) k f.longest.unjoined
+      → IsSuspended w (suc t) k f
   waits_here t k f b e s l u = record {
     own = record {
       last = suc t;

@@ -4,12 +4,12 @@ use Rattle.std.proofs.lemmas.Bool.{cases_lt, cases_eq, cases_order, ltb-true, lt
 use Rattle.std.proofs.lemmas.Option.{slice_get_within, slice_get-get_or, get_or_from_slice_get}
 use Rattle.std.specs.List.Sorted.{IsPartitionedBy, IsPartitionPoint}
 use Rattle.std.proofs.lemmas.List.Sorted.{IsPartitionedBy-ltb}
-use Rattle.trace.specs.declared.records.Record.{Record}
-use Rattle.trace.specs.declared.records.Record.TheVariants as records
-use Rattle.trace.specs.Traces.{at, depth, IsWellNested}
-use Rattle.trace.specs.Meeting.{level, Opens, Holds, IsMeeting}
-use Rattle.trace.proofs.Lists.{element_at, slice_get-front}
-use Rattle.trace.proofs.Meetings.{level-at, root-holds, holds_from, holds-shorter}
+use Rattle.dag.specs.declared.records.Record.{Record}
+use Rattle.dag.specs.declared.records.Record.TheVariants as records
+use Rattle.dag.specs.Traces.{at, depth, IsWellNested}
+use Rattle.dag.specs.Meeting.{level, Opens, Holds, IsMeeting}
+use Rattle.dag.proofs.Lists.{element_at, slice_get-front}
+use Rattle.dag.proofs.Meetings.{level-at, root-holds, holds_from, holds-shorter}
 use Rattle.audit.specs.declared.answers.Opening.{Opening}
 use Rattle.audit.specs.declared.answers.Opening.TheVariants.{Spawn, Call}
 use Rattle.audit.specs.declared.answers.Opener.{Opener}

@@ -1,10 +1,10 @@
 -- Private: what is kept of the first records of a trace for the entries of a report.
 use Rattle.std.specs.Prelude.{◌≡◌, ◌≢◌, ℕ, suc, ◌<◌, ◌≤◌, List, length, map, slice_get, Some}
-use Rattle.trace.specs.declared.records.Record.{Record}
-use Rattle.trace.specs.declared.records.Access.{Access}
-use Rattle.trace.specs.Accesses.{RaceAt}
-use Rattle.trace.specs.Traces.{depth}
-use Rattle.trace.specs.Races.{IsAccess}
+use Rattle.dag.specs.declared.records.Record.{Record}
+use Rattle.dag.specs.declared.records.Access.{Access}
+use Rattle.dag.specs.Accesses.{RaceAt}
+use Rattle.dag.specs.Traces.{depth}
+use Rattle.dag.specs.Races.{IsAccess}
 use Rattle.collect.specs.Reports.{IsReportList}
 use Rattle.audit.specs.declared.answers.Confirm.{Confirm}
 use Rattle.audit.specs.declared.answers.Confirm.TheVariants.{Yes, No}
@@ -15,9 +15,9 @@ use Rattle.audit.specs.declared.confirms.Standing.TheVariants.{Missing, Begun, C
 use Rattle.audit.specs.declared.confirms.Confirming.{Confirming}
 use Rattle.audit.specs.Following.{WhateverComes}
 use Rattle.audit.specs.Meetings.{HasMet}
-use Rattle.audit.specs.Confirms.{TellsRace}
+use Rattle.audit.specs.Confirms.{StatesRace}
 
--- the race that an entry tells
+-- the race that an entry states
 abbrev pub entry_race : Entry → RaceAt
 entry_race e = record { location = e.location; first = e.first; second = e.second }
 
@@ -31,26 +31,26 @@ entry_of r = record { location = r.location; first = r.first; second = r.second;
 abbrev pub AreAscending : List Entry → Type 0
 AreAscending entries = (j k : ℕ) (e f : Entry) → j < k → slice_get entries j ≡ Some e → slice_get entries k ≡ Some f → e.location < f.location
 
--- the first access that an entry tells is there, among the first t places, at a depth
+-- the first access that an entry states is there, among the first t places, at a depth
 pub record HasBegun (w : List Record) (t : ℕ) (r : RaceAt) (deep : ℕ) : Type 0 where
   pub first : IsAccess w r.location r.first.place r.first.kind
   pub upto : r.first.place ≤ t
   pub at_depth : depth w r.first.place ≡ deep
-  pub not_yet : r.second.place ≤ t → TellsRace w r → ⊥
+  pub not_yet : r.second.place ≤ t → StatesRace w r → ⊥
 
--- how far the race that an entry tells was found among the first t places
+-- how far the race that an entry states was found among the first t places
 abbrev pub Stands : List Record → ℕ → RaceAt → Standing → Type 0
 Stands w t r Missing = r.first.place ≤ t → IsAccess w r.location r.first.place r.first.kind → ⊥
 Stands w t r (Begun deep) = HasBegun w t r deep
-Stands w t r Confirmed = TellsRace w r
+Stands w t r Confirmed = StatesRace w r
 
 -- each entry was found as far as it says
 abbrev pub AllStand : List Record → ℕ → List Entry → Type 0
 AllStand w t entries = (k : ℕ) (e : Entry) → slice_get entries k ≡ Some e → Stands w t (entry_race e) e.standing
 
 -- the entries of a report after an access of a location, which comes after the records u
-abbrev pub Touches : Meetings → ℕ → Access → List Entry → List Entry → Type 0
-Touches m l a old new = (u : List Record) → HasMet m u → IsReportList (races_of old) → a.place ≡ suc (length u)
+abbrev pub Sees : Meetings → ℕ → Access → List Entry → List Entry → Type 0
+Sees m l a old new = (u : List Record) → HasMet m u → IsReportList (races_of old) → a.place ≡ suc (length u)
     → WhateverComes u (λ w. IsAccess w l a.place a.kind → AllStand w (length u) old → AllStand w (suc (length u)) new)
 
 -- what the entries answer

@@ -1,22 +1,22 @@
--- Private: what is kept of the first records of a trace, so as to explain the race that is told of one location.
+-- Private: what is kept of the first records of a trace, so as to explain the race that is reported of one location.
 use Rattle.std.specs.Prelude.{◌≡◌, ℕ, suc, ◌<◌, ◌≤◌, Bool, List, [], ◌∷◌, ◌++◌, length, slice_get, Option, Some, None, MatchOption, ◌⊎◌}
-use Rattle.trace.specs.declared.records.Record.{Record}
-use Rattle.trace.specs.declared.records.Record.TheVariants.{Spawn, Call, Return, Sync, Read, Write}
-use Rattle.trace.specs.declared.records.Kind.{Kind}
-use Rattle.trace.specs.declared.records.Placed.{Placed}
-use Rattle.trace.specs.declared.records.Access.{Access}
-use Rattle.trace.specs.Accesses.{RaceAt}
-use Rattle.trace.specs.Traces.{at, depth, IsWellNested}
-use Rattle.trace.specs.Meeting.{level, Holds, IsMeeting}
-use Rattle.trace.specs.Races.{IsAccess, IsWrite, IsRace, IsLastWrite, IsKeptReader, IsTold}
+use Rattle.dag.specs.declared.records.Record.{Record}
+use Rattle.dag.specs.declared.records.Record.TheVariants.{Spawn, Call, Return, Sync, Read, Write}
+use Rattle.dag.specs.declared.records.Kind.{Kind}
+use Rattle.dag.specs.declared.records.Placed.{Placed}
+use Rattle.dag.specs.declared.records.Access.{Access}
+use Rattle.dag.specs.Accesses.{RaceAt}
+use Rattle.dag.specs.Traces.{at, depth, IsWellNested}
+use Rattle.dag.specs.Meeting.{level, Holds, IsMeeting}
+use Rattle.dag.specs.Races.{IsAccess, IsWrite, IsRace, IsLastWrite, IsKeptReader, IsReported}
 use Rattle.audit.specs.declared.answers.Opening.TheVariants as openings
 use Rattle.audit.specs.declared.answers.Opener.{Opener}
 use Rattle.audit.specs.declared.answers.Explained.{Explained}
 use Rattle.audit.specs.declared.explanations.Trail.{Trail}
-use Rattle.audit.specs.declared.explanations.Told.{Told}
+use Rattle.audit.specs.declared.explanations.Reported.{Reported}
 use Rattle.audit.specs.declared.explanations.Explaining.{Explaining}
 use Rattle.audit.specs.Following.{WhateverComes}
-use Rattle.audit.specs.Meetings.{HasMet, TellsParallel}
+use Rattle.audit.specs.Meetings.{HasMet, DecidesParallel}
 use Rattle.audit.specs.declared.meetings.Meetings.{Meetings}
 use Rattle.audit.specs.Explanations.{opening_record, AreOpeners, WaitsAt, IsNextWait}
 
@@ -50,7 +50,7 @@ KeepsReader w l t kept = MatchOption kept (IsKeptReader w l (suc t) None) (λ x.
 
 -- no race has its second place among the first t places, and these are the accesses that are kept of them
 pub record HasSought (w : List Record) (l t : ℕ) (last_write kept_reader : Option Trail) : Type 0 where
-  pub none_told : (h k : ℕ) → IsRace w l h k → k ≤ t → ⊥
+  pub none_reported : (h k : ℕ) → IsRace w l h k → k ≤ t → ⊥
   pub writes : KeepsWrite w l t last_write
   pub reads : KeepsReader w l t kept_reader
 
@@ -59,12 +59,12 @@ pub record IsUnjoined (w : List Record) (m j t : ℕ) : Type 0 where
   pub none : (k : ℕ) → j < k → k ≤ t → WaitsAt w m k → ⊥
   pub holds : suc t ≤ length w → Holds w m (suc t)
 
-abbrev pub told_race : ℕ → Told → RaceAt
-told_race l d = record { location = l; first = d.first; second = d.second }
+abbrev pub reported_race : ℕ → Reported → RaceAt
+reported_race l d = record { location = l; first = d.first; second = d.second }
 
--- the race is told, and the meeting procedure's next sync or return is looked for, up to place t
-pub record HasTold (w : List Record) (l t : ℕ) (d : Told) : Type 0 where
-  pub told : IsTold w (told_race l d)
+-- the race is reported, and the meeting procedure's next sync or return is looked for, up to place t
+pub record HasReported (w : List Record) (l t : ℕ) (d : Reported) : Type 0 where
+  pub reported : IsReported w (reported_race l d)
   pub race : IsRace w l d.first.place d.second.place
   pub meets : IsMeeting w d.first.place d.second.place d.meeting
   pub on_level : level w d.meeting ≡ d.level
@@ -75,15 +75,15 @@ pub record HasTold (w : List Record) (l t : ℕ) (d : Told) : Type 0 where
 
 -- what is known of the first t places
 abbrev pub Stands : List Record → ℕ → ℕ → Explaining → Type 0
-Stands w l t s = MatchOption s.told (HasSought w l t s.last_write s.kept_reader × (suc t ≤ length w → IsTrail w (suc t) s.openers.items)) (HasTold w l t)
+Stands w l t s = MatchOption s.reported (HasSought w l t s.last_write s.kept_reader × (suc t ≤ length w → IsTrail w (suc t) s.openers.items)) (HasReported w l t)
 
 -- whether an access that is kept is parallel to the next place
-abbrev pub TellsNow : Meetings → Bool → Trail → Type 0
-TellsNow m answer x = (u : List Record) → HasMet m u → TellsParallel u x.place (length x.openers.items) answer
+abbrev pub DecidesNow : Meetings → Bool → Trail → Type 0
+DecidesNow m answer x = (u : List Record) → HasMet m u → DecidesParallel u x.place (length x.openers.items) answer
 
--- a race on l with these accesses is the one that is told
+-- a race on l with these accesses is the one that is reported
 pub record IsRival (w : List Record) (l : ℕ) (first_kind : Kind) (first : Trail) (second : Access) : Type 0 where
-  pub told : IsTold w (record { location = l; first = record { kind = first_kind; place = first.place }; second = second })
+  pub reported : IsReported w (record { location = l; first = record { kind = first_kind; place = first.place }; second = second })
   pub race : IsRace w l first.place second.place
   pub trail : IsTrail w first.place first.openers.items
 
@@ -96,11 +96,11 @@ abbrev pub NextJoined : Placed → ℕ → ℕ → Option ℕ → Option ℕ →
 NextJoined p deep meeting_level old new = MatchOption old (((deep ≡ meeting_level) × Joins p.what × (new ≡ Some p.place))
     ⊎ ((deep ≡ meeting_level → Joins p.what → ⊥) × (new ≡ None))) (λ k. new ≡ Some k)
 
--- the race is told, where the first access has one of these kinds and trails, and the active procedures these openers
-abbrev pub TellsIt : Kind → Trail → Access → List Opener → Told → Type 0
-TellsIt first_kind first second openers d = (w : List Record) (l t : ℕ) (records depths : ℕ) → IsWellNested w records depths
+-- the race is reported, where the first access has one of these kinds and trails, and the active procedures these openers
+abbrev pub ReportsIt : Kind → Trail → Access → List Opener → Reported → Type 0
+ReportsIt first_kind first second openers d = (w : List Record) (l t : ℕ) (records depths : ℕ) → IsWellNested w records depths
     → second.place ≡ suc t → IsRival w l first_kind first second
-    → IsTrail w second.place openers → HasTold w l (suc t) d
+    → IsTrail w second.place openers → HasReported w l (suc t) d
 
 -- what is kept after an access with which none races
 abbrev pub Keeps : Explaining → Access → Explaining → Type 0
@@ -110,13 +110,13 @@ Keeps s a s' = (l : ℕ) (u : List Record) → HasMet s.meetings u → a.place �
     → HasSought w l (suc (length u)) s'.last_write s'.kept_reader)
 
 -- what is known after an access of the location
-abbrev pub Touches : Explaining → Access → Explaining → Type 0
-Touches s a s' = (l : ℕ) (u : List Record) → HasMet s.meetings u → a.place ≡ suc (length u) → s.told ≡ None
+abbrev pub Sees : Explaining → Access → Explaining → Type 0
+Sees s a s' = (l : ℕ) (u : List Record) → HasMet s.meetings u → a.place ≡ suc (length u) → s.reported ≡ None
     → WhateverComes u (λ w. IsAccess w l a.place a.kind → Stands w l (length u) s → Stands w l (suc (length u)) s')
 
 -- what is known after the next record
 abbrev pub Seeks : Explaining → Placed → Explaining → Type 0
-Seeks s p s' = (u : List Record) → HasMet s.meetings u → p.place ≡ suc (length u) → s.told ≡ None
+Seeks s p s' = (u : List Record) → HasMet s.meetings u → p.place ≡ suc (length u) → s.reported ≡ None
     → WhateverComes u (λ w. at w p.place ≡ Some p.what → Stands w s.location (length u) s → Stands w s.location (suc (length u)) s')
 
 -- the records u were seen, whatever well nested trace begins with them
@@ -125,6 +125,6 @@ pub record HasExplained (location : ℕ) (u : List Record) (s : Explaining) : Ty
   pub met : HasMet s.meetings u
   pub stands : WhateverComes u (λ w. Stands w location (length u) s)
 
--- what is told in the end
-abbrev pub explanation : ℕ → Told → Explained
-explanation l d = record { race = told_race l d; meeting = d.meeting; first = d.first_openers; second = d.second_openers; joined = d.joined }
+-- what is reported in the end
+abbrev pub explanation : ℕ → Reported → Explained
+explanation l d = record { race = reported_race l d; meeting = d.meeting; first = d.first_openers; second = d.second_openers; joined = d.joined }

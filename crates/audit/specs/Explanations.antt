@@ -1,11 +1,11 @@
 -- Promised: why the accesses of the race that is reported of a location are parallel.
 use Rattle.std.specs.Prelude.{◌≡◌, ℕ, ◌<◌, ◌↔◌, List, Option, None, Some, MatchOption, Contains, AllPairs}
-use Rattle.trace.specs.declared.records.Record.{Record}
-use Rattle.trace.specs.declared.records.Record.TheVariants as records
-use Rattle.trace.specs.Traces.{at}
-use Rattle.trace.specs.Dag.{JoinsAt}
-use Rattle.trace.specs.Meeting.{Holds, IsMeeting, IsOwn, InOneBlock}
-use Rattle.trace.specs.Races.{IsRace, IsTold}
+use Rattle.dag.specs.declared.records.Record.{Record}
+use Rattle.dag.specs.declared.records.Record.TheVariants as records
+use Rattle.dag.specs.Traces.{at}
+use Rattle.dag.specs.Dag.{JoinsAt}
+use Rattle.dag.specs.Meeting.{Holds, IsMeeting, IsOwn, InOneBlock}
+use Rattle.dag.specs.Races.{IsRace, IsReported}
 use Rattle.audit.specs.declared.answers.Opening.{Opening}
 use Rattle.audit.specs.declared.answers.Opening.TheVariants.{Spawn, Call}
 use Rattle.audit.specs.declared.answers.Opener.{Opener}
@@ -39,7 +39,7 @@ AreJoined w m j joined = MatchOption joined ((k : ℕ) → j < k → WaitsAt w m
 -- below it. The first access lies inside a child that this procedure spawned, and the procedure doesn't sync from
 -- there to the second access's stand.
 pub record IsExplained (w : List Record) (e : Explained) : Type 0 where
-  pub told : IsTold w e.race
+  pub reported : IsReported w e.race
   pub meets : IsMeeting w e.race.first.place e.race.second.place e.meeting
   pub first : AreOpeners w e.meeting e.race.first.place e.first.items
   pub second : AreOpeners w e.meeting e.race.second.place e.second.items

@@ -1,7 +1,7 @@
 -- Private: the records that were seen, and the traces that begin with them.
 use Rattle.std.specs.Prelude.{◌≡◌, ℕ, List, ◌++◌}
-use Rattle.trace.specs.declared.records.Record.{Record}
-use Rattle.trace.specs.Traces.{IsWellNested}
+use Rattle.dag.specs.declared.records.Record.{Record}
+use Rattle.dag.specs.Traces.{IsWellNested}
 
 -- of every well nested trace that begins with the records u
 abbrev pub WhateverComes : List Record → (List Record → Type 0) → Type 0

@@ -1,12 +1,12 @@
 -- Private: what measuring keeps of the first records of a trace: the longest paths in each active procedure.
 use Rattle.std.specs.Prelude.{◌≡◌, ◌≢◌, ℕ, suc, ◌+◌, ◌<◌, ◌≤◌, max, Bool, true, false, List, [], ◌∷◌, ◌++◌, length, count_by, slice_get, Some, ◌⊎◌}
-use Rattle.trace.specs.declared.records.Record.{Record}
-use Rattle.trace.specs.declared.records.Record.TheVariants.{Spawn, Call, Return, Sync, Read, Write}
-use Rattle.trace.specs.Traces.{at, depth, IsPlace}
-use Rattle.trace.specs.Dag.{IsOpenerOf, JoinsAt, IsPath, end_of}
-use Rattle.trace.specs.Meeting.{Opens}
+use Rattle.dag.specs.declared.records.Record.{Record}
+use Rattle.dag.specs.declared.records.Record.TheVariants.{Spawn, Call, Return, Sync, Read, Write}
+use Rattle.dag.specs.Traces.{at, depth, IsPlace}
+use Rattle.dag.specs.Dag.{IsOpenerOf, JoinsAt, IsPath, end_of}
+use Rattle.dag.specs.Meeting.{Opens}
 use Rattle.audit.specs.declared.measures.Longest.{Longest}
-use Rattle.audit.specs.declared.measures.Waiting.{Waiting}
+use Rattle.audit.specs.declared.measures.Suspended.{Suspended}
 use Rattle.audit.specs.declared.measures.Measuring.{Measuring}
 use Rattle.audit.specs.Measures.{is_spawn}
 use Rattle.audit.specs.Following.{WhateverComes}
@@ -67,17 +67,17 @@ opened_by true = Call
 opened_by false = Spawn
 
 -- after t records f waits at depth d: its last own place is the record that opened the child
-pub record IsWaiting (w : List Record) (t d : ℕ) (f : Waiting) : Type 0 where
+pub record IsSuspended (w : List Record) (t d : ℕ) (f : Suspended) : Type 0 where
   pub own : LastOn w t d f.longest.own
   pub opener : at w own.last ≡ Some (opened_by f.calls)
   pub unjoined : IsLongestUnjoined w t d f.longest.unjoined
 
 -- the active procedures before place t + 1, with their longest paths; those that wait stand by their depths
-pub record AreActive (w : List Record) (t : ℕ) (executing : Longest) (waiting : List Waiting) : Type 0 where
-  pub level : length waiting ≡ depth w (suc t)
+pub record AreActive (w : List Record) (t : ℕ) (executing : Longest) (suspended : List Suspended) : Type 0 where
+  pub level : length suspended ≡ depth w (suc t)
   pub own : LeadsOn w t (depth w (suc t)) executing.own
   pub unjoined : IsLongestUnjoined w t (depth w (suc t)) executing.unjoined
-  pub waits : (k : ℕ) (f : Waiting) → slice_get waiting k ≡ Some f → IsWaiting w t k f
+  pub waits : (k : ℕ) (f : Suspended) → slice_get suspended k ≡ Some f → IsSuspended w t k f
 
 -- no path to the first t places is longer
 pub record IsSpanTo (w : List Record) (t span : ℕ) : Type 0 where
@@ -93,7 +93,7 @@ pub record IsDepthTo (w : List Record) (t greatest : ℕ) : Type 0 where
 pub record HasMeasuredTo (w : List Record) (t : ℕ) (m : Measuring) : Type 0 where
   pub span : IsSpanTo w t m.span
   pub depth : IsDepthTo w t m.depth
-  pub active : suc t ≤ length w → AreActive w t m.executing m.waiting.items
+  pub active : suc t ≤ length w → AreActive w t m.executing m.suspended.items
 
 -- paths to the first n places have no more places
 pub record IsWithin (n : ℕ) (f : Longest) : Type 0 where
@@ -105,7 +105,7 @@ pub record HasMeasured (m : Measuring) (u : List Record) : Type 0 where
   pub work : m.work ≡ length u
   pub spawns : m.spawns ≡ count_by is_spawn u
   pub executing : IsWithin (length u) m.executing
-  pub waiting : (k : ℕ) (f : Waiting) → slice_get m.waiting.items k ≡ Some f → IsWithin (length u) f.longest
+  pub suspended : (k : ℕ) (f : Suspended) → slice_get m.suspended.items k ≡ Some f → IsWithin (length u) f.longest
   pub measured : WhateverComes u (λ w. HasMeasuredTo w (length u) m)
 
 -- the longest path to the next record of a procedure: a record that waits for children comes after their returns too
@@ -124,13 +124,13 @@ after_child x true f = record { own = x; unjoined = f.unjoined }
 after_child x false f = record { own = f.own; unjoined = max f.unjoined x }
 
 -- what becomes of the longest paths at a record to which the longest path has x places
-abbrev pub Advances : ℕ → Record → Longest → List Waiting → Longest → List Waiting → Type 0
-Advances x Spawn e waiting e' waiting' = (e' ≡ record { own = x; unjoined = 0 })
-    × (waiting' ≡ waiting ++ record { longest = record { own = x; unjoined = e.unjoined }; calls = false } ∷ [])
-Advances x Call e waiting e' waiting' = (e' ≡ record { own = x; unjoined = 0 })
-    × (waiting' ≡ waiting ++ record { longest = record { own = x; unjoined = e.unjoined }; calls = true } ∷ [])
-Advances x Return e waiting e' waiting' = ((waiting ≡ []) × (waiting' ≡ []) × (e' ≡ e))
-    ⊎ ((f : Waiting) × (waiting ≡ waiting' ++ f ∷ []) × (e' ≡ after_child x f.calls f.longest))
-Advances x Sync e waiting e' waiting' = (e' ≡ record { own = x; unjoined = 0 }) × (waiting' ≡ waiting)
-Advances x (Read l) e waiting e' waiting' = (e' ≡ record { own = x; unjoined = e.unjoined }) × (waiting' ≡ waiting)
-Advances x (Write l) e waiting e' waiting' = (e' ≡ record { own = x; unjoined = e.unjoined }) × (waiting' ≡ waiting)
+abbrev pub Advances : ℕ → Record → Longest → List Suspended → Longest → List Suspended → Type 0
+Advances x Spawn e suspended e' suspended' = (e' ≡ record { own = x; unjoined = 0 })
+    × (suspended' ≡ suspended ++ record { longest = record { own = x; unjoined = e.unjoined }; calls = false } ∷ [])
+Advances x Call e suspended e' suspended' = (e' ≡ record { own = x; unjoined = 0 })
+    × (suspended' ≡ suspended ++ record { longest = record { own = x; unjoined = e.unjoined }; calls = true } ∷ [])
+Advances x Return e suspended e' suspended' = ((suspended ≡ []) × (suspended' ≡ []) × (e' ≡ e))
+    ⊎ ((f : Suspended) × (suspended ≡ suspended' ++ f ∷ []) × (e' ≡ after_child x f.calls f.longest))
+Advances x Sync e suspended e' suspended' = (e' ≡ record { own = x; unjoined = 0 }) × (suspended' ≡ suspended)
+Advances x (Read l) e suspended e' suspended' = (e' ≡ record { own = x; unjoined = e.unjoined }) × (suspended' ≡ suspended)
+Advances x (Write l) e suspended e' suspended' = (e' ≡ record { own = x; unjoined = e.unjoined }) × (suspended' ≡ suspended)

@@ -1,9 +1,9 @@
 -- Promised: the measures of a trace.
 use Rattle.std.specs.Prelude.{◌≡◌, ℕ, ◌≤◌, Bool, true, false, List, length, count_by}
-use Rattle.trace.specs.declared.records.Record.{Record}
-use Rattle.trace.specs.declared.records.Record.TheVariants.{Spawn, Call, Return, Sync, Read, Write}
-use Rattle.trace.specs.Traces.{depth, IsPlace}
-use Rattle.trace.specs.Dag.{IsPath}
+use Rattle.dag.specs.declared.records.Record.{Record}
+use Rattle.dag.specs.declared.records.Record.TheVariants.{Spawn, Call, Return, Sync, Read, Write}
+use Rattle.dag.specs.Traces.{depth, IsPlace}
+use Rattle.dag.specs.Dag.{IsPath}
 use Rattle.audit.specs.declared.answers.Measure.{Measure}
 
 -- a path has this number of places, and none has more

@@ -1,8 +1,8 @@
 -- Promised: the races of one location.
 use Rattle.std.specs.Prelude.{◌≡◌, ℕ, ◌<◌, ◌↔◌, List, ◌⊎◌, Contains, AllPairs}
-use Rattle.trace.specs.declared.records.Record.{Record}
-use Rattle.trace.specs.declared.records.Access.{Access}
-use Rattle.trace.specs.Races.{IsAccess, IsRace}
+use Rattle.dag.specs.declared.records.Record.{Record}
+use Rattle.dag.specs.declared.records.Access.{Access}
+use Rattle.dag.specs.Races.{IsAccess, IsRace}
 
 -- two accesses of the location that race, with their kinds
 pub record IsPair (w : List Record) (l : ℕ) (p : Access × Access) : Type 0 where

@@ -33,7 +33,9 @@ pub enum Opening {
 /// A record that opened a procedure, and its place.
 #[derive(Clone, Copy, Debug, PartialEq, Eq)]
 pub struct Opener {
+    /// Whether it was a spawn or a call.
     pub what: Opening,
+    /// The place of that record: 1 to 2^48.
     pub place: u64,
 }
 

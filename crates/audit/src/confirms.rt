@@ -1,8 +1,8 @@
 //! Whether the entries of a report are races: what is kept of a trace for this, and the answer.
 ghost use Rattle.std.specs.Prelude.{◌≡◌, ◌≢◌, ◌<◌, ℕ, suc, List, [], length, map, slice_get, Some, IfSome, IfNone, IfOk, OnOk};
-ghost use Rattle.trace.specs.declared.records.Record.{Record};
-ghost use Rattle.trace.specs.Accesses.{IsRaceShape};
-ghost use Rattle.trace.specs.Races.{IsAccess};
+ghost use Rattle.dag.specs.declared.records.Record.{Record};
+ghost use Rattle.dag.specs.Accesses.{IsRaceShape};
+ghost use Rattle.dag.specs.Races.{IsAccess};
 ghost use Rattle.audit.specs.Following.{WhateverComes};
 ghost use Rattle.audit.specs.Meetings.{HasMet};
 ghost use Rattle.audit.specs.Entries.{AreAscending, Stands, AnswersBy, entry_of, entry_race};
@@ -46,7 +46,7 @@ pub(crate) struct Confirming {
 }
 
 impl Confirming {
-    ghost use Rattle.audit.specs.Entries.{HasConfirmed, Touches, races_of};
+    ghost use Rattle.audit.specs.Entries.{HasConfirmed, Sees, races_of};
 
     /// The state before the first record.
     pub(crate) fn new(alloc: Global, report: &Report) -> Result<Confirming, NoMemory>
@@ -58,9 +58,9 @@ impl Confirming {
         })
     }
 
-    /// Takes an access of a location. At most one entry has this location.
-    fn touch(&mut self, location: u64, access: Access)
-        ensures entries { Touches self.old.meetings location access self.old.entries.items self.new.entries.items }
+    /// Sees an access of a location. At most one entry has this location.
+    fn see_access(&mut self, location: u64, access: Access)
+        ensures entries { Sees self.old.meetings location access self.old.entries.items self.new.entries.items }
         ensures same_races { races_of self.new.entries.items ≡ races_of self.old.entries.items }
         ensures meetings { self.new.meetings ≡ self.old.meetings }
     {
@@ -76,17 +76,17 @@ impl Watch for Confirming {
 
     ghost has_seen = { λ first u now. HasConfirmed (races_of first.entries.items) u now };
 
-    fn take(&mut self, placed: Placed) -> Result<(), NoMemory> {
+    fn see(&mut self, placed: Placed) -> Result<(), NoMemory> {
         let place = placed.place;
         match placed.what {
-            Record::Read(location) => self.touch(
+            Record::Read(location) => self.see_access(
                 location,
                 Access {
                     kind: Kind::Read,
                     place,
                 },
             ),
-            Record::Write(location) => self.touch(
+            Record::Write(location) => self.see_access(
                 location,
                 Access {
                     kind: Kind::Write,
@@ -95,7 +95,7 @@ impl Watch for Confirming {
             ),
             Record::Spawn | Record::Call | Record::Sync | Record::Return => {}
         }
-        self.meetings.take(placed)
+        self.meetings.see(placed)
     }
 }
 
@@ -169,6 +169,15 @@ pub(crate) fn answer_of(entries: &[Entry]) -> Confirm
 /// these took from spawned children to called ones or back, and a few numbers for each entry. An access costs a
 /// search among the entries. The second access of an entry also costs one search among the active procedures and one
 /// among the turns. Any other record costs the same wherever it stands.
+///
+/// ```rust
+/// let text: &[u8] = b"trace 1\nspawn\nwrite 5\nreturn\nwrite 5\nreturn\n";
+/// let report = read_report(rt.alloc(), b"races 1\nrace 5 write 2 write 9\n")?;
+/// let (records, depth) = (1 << 48, 9);
+/// let limits = Limits { records, depth };
+/// let answer = confirm(rt.alloc(), limits, &mut Counted::new(text), &report)?;
+/// assert_eq!(rt; answer, Confirm::No { entry: 1 });
+/// ```
 pub fn confirm<R: Source>(
     alloc: Global,
     limits: Limits,

@@ -1,8 +1,8 @@
 //! Why the reported race of a location is one: the two accesses, with the openers of the procedures that hold them.
 ghost use Rattle.std.specs.Prelude.{◌≡◌, ◌≤◌, ◌↔◌, List, [], length, drop, true, false, Some, None, OnOk, IfOk, IfNone, IfSome, MatchOption};
-ghost use Rattle.trace.specs.declared.records.Record.{Record};
-ghost use Rattle.audit.specs.Explaining.{Follows, Joins, TellsIt, explanation};
-ghost use Rattle.trace.specs.Accesses.{IsRaceShape};
+ghost use Rattle.dag.specs.declared.records.Record.{Record};
+ghost use Rattle.audit.specs.Explaining.{Follows, Joins, ReportsIt, explanation};
+ghost use Rattle.dag.specs.Accesses.{IsRaceShape};
 ghost use Rattle.trace.specs.Devices.{◌⇝◌};
 ghost use Rattle.trace.specs.Endings.{EndsReading, IsWantOfMemory};
 ghost use Rattle.audit.specs.Explanations.{Explains};
@@ -24,7 +24,7 @@ pub(crate) struct Trail {
 
 /// The race to report, and its meeting procedure: the place of its opener, or 0 for the root, and its depth.
 #[derive(Drop)]
-pub(crate) struct Told {
+pub(crate) struct Reported {
     pub(crate) first: Access,
     pub(crate) second: Access,
     pub(crate) meeting: u64,
@@ -47,16 +47,16 @@ pub(crate) struct Explaining {
     pub(crate) openers: Vec<Opener>,
     pub(crate) last_write: Option<Trail>,
     pub(crate) kept_reader: Option<Trail>,
-    pub(crate) told: Option<Told>,
+    pub(crate) reported: Option<Reported>,
 }
 
 impl Explaining {
-    ghost use Rattle.trace.specs.Traces.{IsWellNested};
-    ghost use Rattle.trace.specs.Races.{IsAccess, IsRace};
+    ghost use Rattle.dag.specs.Traces.{IsWellNested};
+    ghost use Rattle.dag.specs.Races.{IsAccess, IsRace};
     ghost use Rattle.std.specs.Prelude.{ℕ, suc};
     ghost use Rattle.audit.specs.Following.{WhateverComes};
     ghost use Rattle.audit.specs.Meetings.{HasMet};
-    ghost use Rattle.audit.specs.Explaining.{HasExplained, HasSought, IsRival, TellsNow, Keeps, Touches, Seeks};
+    ghost use Rattle.audit.specs.Explaining.{HasExplained, HasSought, IsRival, DecidesNow, Keeps, Sees, Seeks};
 
     /// The state before the first record.
     pub(crate) fn new(alloc: Global, location: u64) -> Explaining
@@ -69,7 +69,7 @@ impl Explaining {
             openers: Vec::new(alloc),
             last_write: None,
             kept_reader: None,
-            told: None,
+            reported: None,
         }
     }
 
@@ -80,21 +80,21 @@ impl Explaining {
         ensures seeks { OnOk result (Seeks self.old placed self.new) }
     {
         match access_of(placed, self.location) {
-            Some(access) => self.touch(access),
+            Some(access) => self.see_access(access),
             None => follow(&mut self.openers, placed),
         }
     }
 
-    // Takes an access of the location: it completes the race, or it may be kept.
-    fn touch(&mut self, access: Access) -> Result<(), NoMemory>
+    // Sees an access of the location: it completes the race, or it may be kept.
+    fn see_access(&mut self, access: Access) -> Result<(), NoMemory>
         ensures location { self.new.location ≡ self.old.location }
         ensures meetings { self.new.meetings ≡ self.old.meetings }
-        ensures touches { OnOk result (Touches self.old access self.new) }
+        ensures sees { OnOk result (Sees self.old access self.new) }
     {
         match self.rival(access.kind) {
             Some((kind, first)) => {
-                let told = told_of(self.alloc, kind, first, access, &self.openers)?;
-                self.told = Some(told);
+                let reported = reported_of(self.alloc, kind, first, access, &self.openers)?;
+                self.reported = Some(reported);
                 self.openers = Vec::new(self.alloc);
                 self.last_write = None;
                 self.kept_reader = None;
@@ -125,8 +125,8 @@ impl Explaining {
 
     // An access that is kept, if it is parallel to the next place.
     fn if_parallel<'a>(&self, kept: &'a Option<Trail>) -> Option<&'a Trail>
-        ensures parallel { IfSome result (λ x. (kept.now ≡ Some x.now) × TellsNow self.now.meetings true x.now) }
-        ensures ordered { IfNone result (IfSome kept.now (TellsNow self.now.meetings false)) }
+        ensures parallel { IfSome result (λ x. (kept.now ≡ Some x.now) × DecidesNow self.now.meetings true x.now) }
+        ensures ordered { IfNone result (IfSome kept.now (DecidesNow self.now.meetings false)) }
     {
         match kept {
             Some(trail) if self.meetings.is_parallel(trail.place, trail.openers.len()) => {
@@ -162,7 +162,7 @@ impl Explaining {
     }
 }
 
-impl Told {
+impl Reported {
     ghost use Rattle.audit.specs.Explaining.{NextJoined};
 
     // Takes a later record, and how deep the procedure lies that executes it.
@@ -181,13 +181,13 @@ impl Watch for Explaining {
 
     ghost has_seen = { λ first u now. HasExplained first.location u now };
 
-    fn take(&mut self, placed: Placed) -> Result<(), NoMemory> {
+    fn see(&mut self, placed: Placed) -> Result<(), NoMemory> {
         let depth = self.meetings.depth();
-        match &mut self.told {
-            Some(told) => told.pass(placed, depth),
+        match &mut self.reported {
+            Some(reported) => reported.pass(placed, depth),
             None => self.seek(placed)?,
         }
-        self.meetings.take(placed)
+        self.meetings.see(placed)
     }
 }
 
@@ -225,21 +225,21 @@ fn joins(what: Record) -> bool
 
 /// The race of a kept access with the next one. They meet in the last active procedure that was opened before the
 /// first access.
-fn told_of(
+fn reported_of(
     alloc: Global,
     kind: Kind,
     first: &Trail,
     second: Access,
     openers: &[Opener],
-) -> Result<Told, NoMemory>
-    ensures { IfOk result (TellsIt kind first.now second openers.now) }
+) -> Result<Reported, NoMemory>
+    ensures { IfOk result (ReportsIt kind first.now second openers.now) }
 {
     let level = openers.partition_point(|opener| opener.place < first.place);
     let meeting = match level.checked_sub(1) {
         Some(last) => openers[last].place,
         None => 0,
     };
-    Ok(Told {
+    Ok(Reported {
         first: Access {
             kind,
             place: first.place,
@@ -268,6 +268,18 @@ fn openers_below(alloc: Global, level: usize, openers: &[Opener]) -> Result<Vec<
 /// the openers of the procedures that hold them. After it has found the race it keeps only the openers of this race.
 /// Until then an access of the location costs at most two searches among the active procedures and two among the
 /// turns, and a copy of the openers if it is kept. Any other record costs the same wherever it stands.
+///
+/// ```rust
+/// let text: &[u8] = b"trace 1\nspawn\nwrite 5\nreturn\nwrite 5\nreturn\n";
+/// let (records, depth) = (1 << 48, 9);
+/// let limits = Limits { records, depth };
+/// let answer = explain(rt.alloc(), limits, &mut Counted::new(text), 5)?;
+/// let explained = answer.ok_or("no race")?;
+/// assert!(rt; (explained.race.first.place, explained.race.second.place) == (2, 4));
+/// assert_eq!(rt; (explained.meeting, explained.joined), (0, Some(5)));
+/// let (what, place) = (Opening::Spawn, 1);
+/// assert!(rt; explained.first.as_slice() == [Opener { what, place }].as_slice());
+/// ```
 pub fn explain<R: Source>(
     alloc: Global,
     limits: Limits,
@@ -288,8 +300,8 @@ pub fn explain<R: Source>(
 
 /// The explanation after all records, if there is a race.
 fn explained(explaining: Explaining) -> Option<Explained>
-    requires { IfSome explaining.told (λ d. IsRaceShape d.first d.second) }
-    ensures { MatchOption explaining.told (result ≡ None)
+    requires { IfSome explaining.reported (λ d. IsRaceShape d.first d.second) }
+    ensures { MatchOption explaining.reported (result ≡ None)
         (λ d. result ≡ Some (explanation explaining.location d)) }
 {
     let Explaining {
@@ -299,18 +311,18 @@ fn explained(explaining: Explaining) -> Option<Explained>
         openers: _,
         last_write: _,
         kept_reader: _,
-        told,
+        reported,
     } = explaining;
-    let told = told?;
+    let reported = reported?;
     Some(Explained {
         race: Race {
             location,
-            first: told.first,
-            second: told.second,
+            first: reported.first,
+            second: reported.second,
         },
-        meeting: told.meeting,
-        first: told.first_openers,
-        second: told.second_openers,
-        joined: told.joined,
+        meeting: reported.meeting,
+        first: reported.first_openers,
+        second: reported.second_openers,
+        joined: reported.joined,
     })
 }

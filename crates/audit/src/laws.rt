@@ -1,9 +1,9 @@
 //! Each question about a trace has one answer.
 
 ghost use Rattle.std.specs.Prelude.{◌≡◌, ℕ, List, Option};
-ghost use Rattle.trace.specs.declared.records.Record.{Record};
-ghost use Rattle.trace.specs.declared.records.Access.{Access};
-ghost use Rattle.trace.specs.Accesses.{RaceAt};
+ghost use Rattle.dag.specs.declared.records.Record.{Record};
+ghost use Rattle.dag.specs.declared.records.Access.{Access};
+ghost use Rattle.dag.specs.Accesses.{RaceAt};
 ghost use Rattle.audit.specs.declared.answers.Measure.{Measure};
 ghost use Rattle.audit.specs.declared.answers.Confirm.{Confirm};
 ghost use Rattle.audit.specs.declared.answers.Explained.{Explained};

@@ -2,12 +2,12 @@
 //! of a location is one, and whether the entries of a report are races.
 #![tactic(auto)]
 
-pub mod answers;
-pub mod confirms;
-pub mod explanations;
+mod answers;
+mod confirms;
+mod explanations;
 pub mod laws;
-pub mod location_races;
-pub mod measures;
+mod location_races;
+mod measures;
 mod meetings;
 
 pub use answers::{Confirm, Explained, Measure, Opener, Opening};

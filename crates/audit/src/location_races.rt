@@ -1,9 +1,9 @@
 //! All races of one location: each access is compared with those before it.
 ghost use Rattle.std.specs.Prelude.{◌≡◌, ◌≢◌, ℕ, List, [], length, Bool, ◌||◌, OnOk, MatchOption};
-ghost use Rattle.trace.specs.declared.records.Record.{Record};
-ghost use Rattle.trace.specs.declared.records.Kind.{Kind};
-ghost use Rattle.trace.specs.Accesses.{writes};
-ghost use Rattle.trace.specs.Races.{access};
+ghost use Rattle.dag.specs.declared.records.Record.{Record};
+ghost use Rattle.dag.specs.declared.records.Kind.{Kind};
+ghost use Rattle.dag.specs.Accesses.{writes};
+ghost use Rattle.dag.specs.Races.{access};
 ghost use Rattle.audit.specs.Pairing.{AddsPairs};
 ghost use Rattle.trace.specs.Devices.{◌⇝◌};
 ghost use Rattle.trace.specs.Endings.{EndsReading, IsWantOfMemory};
@@ -15,7 +15,7 @@ use trace::{Access, Fault, Kind, Limits, NoMemory, Placed, Record, Source, Watch
 
 /// An access of the location, and the depth of the procedure that executes it.
 #[derive(Clone, Copy)]
-pub(crate) struct Kept {
+pub(crate) struct KeptAccess {
     pub(crate) access: Access,
     pub(crate) depth: usize,
 }
@@ -25,7 +25,7 @@ pub(crate) struct Kept {
 pub(crate) struct Pairing {
     pub(crate) location: u64,
     pub(crate) meetings: Meetings,
-    pub(crate) kept: Vec<Kept>,
+    pub(crate) kept: Vec<KeptAccess>,
     pub(crate) pairs: Vec<(Access, Access)>,
 }
 
@@ -50,20 +50,20 @@ impl Watch for Pairing {
 
     ghost has_seen = { λ first u now. HasPaired first.location u now };
 
-    fn take(&mut self, placed: Placed) -> Result<(), NoMemory> {
+    fn see(&mut self, placed: Placed) -> Result<(), NoMemory> {
         if let Some(access) = access_of(placed, self.location) {
             add_pairs(&self.meetings, &self.kept, access, &mut self.pairs)?;
             let depth = self.meetings.depth();
-            self.kept.push(Kept { access, depth })?;
+            self.kept.push(KeptAccess { access, depth })?;
         }
-        self.meetings.take(placed)
+        self.meetings.see(placed)
     }
 }
 
 /// Adds the races of an access with the earlier accesses.
 fn add_pairs(
     meetings: &Meetings,
-    kept: &[Kept],
+    kept: &[KeptAccess],
     second: Access,
     pairs: &mut Vec<(Access, Access)>,
 ) -> Result<(), NoMemory>
@@ -115,6 +115,16 @@ fn one_writes(first: Kind, second: Kind) -> bool
 /// these took from spawned children to called ones or back, and the accesses of the location with their depths. It
 /// compares each access of the location with all earlier ones, by one search among the active procedures and one
 /// among the turns. Any other record costs the same wherever it stands.
+///
+/// ```rust
+/// let text: &[u8] = b"trace 1\nread 9\nspawn\nread 9\nreturn\nwrite 9\nreturn\n";
+/// let (records, depth) = (1 << 48, 9);
+/// let limits = Limits { records, depth };
+/// let found = pairs(rt.alloc(), limits, &mut Counted::new(text), 9)?;
+/// assert_eq!(rt; found.len(), 1);
+/// let (first, second) = found[0];
+/// assert_eq!(rt; (first.place, second.place), (3, 5));
+/// ```
 pub fn pairs<R: Source>(
     alloc: Global,
     limits: Limits,

@@ -1,6 +1,6 @@
 //! The measures of a trace, by the longest paths in each active procedure.
 ghost use Rattle.std.specs.Prelude.{◌≡◌, ◌∷◌, ◌++◌, ◌<◌, ◌≤◌, ℕ, List, [], OnOk};
-ghost use Rattle.trace.specs.Bounds.{most_records};
+ghost use Rattle.dag.specs.Bounds.{most_records};
 ghost use Rattle.trace.specs.Devices.{◌⇝◌};
 ghost use Rattle.trace.specs.Endings.{EndsReading, IsWantOfMemory};
 ghost use Rattle.audit.specs.Measures.{IsMeasure};
@@ -37,12 +37,12 @@ impl Longest {
 
 /// A procedure that waits for a child to return: its longest paths, and whether it called the child.
 #[derive(Clone, Copy)]
-pub(crate) struct Waiting {
+pub(crate) struct Suspended {
     pub(crate) longest: Longest,
     pub(crate) calls: bool,
 }
 
-impl Waiting {
+impl Suspended {
     ghost use Rattle.audit.specs.LongestPaths.{after_child};
 
     /// The longest paths after the child's return; the longest path to that return has `length` records.
@@ -69,7 +69,7 @@ pub(crate) struct Measuring {
     /// The longest paths of the executing procedure.
     pub(crate) executing: Longest,
     /// The procedures above it, from the root on.
-    pub(crate) waiting: Vec<Waiting>,
+    pub(crate) suspended: Vec<Suspended>,
     pub(crate) work: u64,
     pub(crate) span: u64,
     pub(crate) spawns: u64,
@@ -88,7 +88,7 @@ impl Measuring {
                 own: 0,
                 unjoined: 0,
             },
-            waiting: Vec::new(alloc),
+            suspended: Vec::new(alloc),
             work: 0,
             span: 0,
             spawns: 0,
@@ -99,7 +99,8 @@ impl Measuring {
     /// Takes a record; the longest path to it has `length` records.
     fn advance(&mut self, what: Record, length: u64) -> Result<(), NoMemory>
         ensures paths { OnOk result
-            (Advances length what self.old.executing self.old.waiting.items self.new.executing self.new.waiting.items) }
+            (Advances length what self.old.executing self.old.suspended.items self.new.executing
+            self.new.suspended.items) }
         ensures work { self.new.work ≡ self.old.work }
         ensures span { self.new.span ≡ self.old.span }
         ensures spawns { self.new.spawns ≡ self.old.spawns }
@@ -107,21 +108,21 @@ impl Measuring {
     {
         match what {
             Record::Spawn | Record::Call => {
-                let parent = Waiting {
+                let parent = Suspended {
                     longest: Longest {
                         own: length,
                         unjoined: self.executing.unjoined,
                     },
                     calls: matches!(what, Record::Call),
                 };
-                self.waiting.push(parent)?;
+                self.suspended.push(parent)?;
                 self.executing = Longest {
                     own: length,
                     unjoined: 0,
                 };
             }
             Record::Return => {
-                if let Some(parent) = self.waiting.pop() {
+                if let Some(parent) = self.suspended.pop() {
                     self.executing = parent.after_child(length);
                 }
             }
@@ -142,11 +143,11 @@ impl Watch for Measuring {
 
     ghost has_seen = { λ _ u now. HasMeasured now u };
 
-    fn take(&mut self, placed: Placed) -> Result<(), NoMemory> {
+    fn see(&mut self, placed: Placed) -> Result<(), NoMemory> {
         let length = self.executing.through(placed.what);
         self.work = placed.place;
         self.span = self.span.max(length);
-        self.depth = self.depth.max(self.waiting.len());
+        self.depth = self.depth.max(self.suspended.len());
         if let Record::Spawn = placed.what {
             self.spawns += 1;
         }
@@ -158,6 +159,14 @@ impl Watch for Measuring {
 ///
 /// A fault is the whole answer. It keeps two numbers for each active procedure, and whether that waits for a call. So
 /// its memory grows with the depth alone, and a record costs the same wherever it stands.
+///
+/// ```rust
+/// let text: &[u8] = b"trace 1\nspawn\nwrite 5\nreturn\nwrite 5\nreturn\n";
+/// let (records, depth) = (1 << 48, 9);
+/// let limits = Limits { records, depth };
+/// let answer = measure(rt.alloc(), limits, &mut Counted::new(text))?;
+/// assert!(rt; (answer.work, answer.span, answer.spawns, answer.depth) == (5, 4, 1, 1));
+/// ```
 pub fn measure<R: Source>(alloc: Global, limits: Limits, source: &mut R) -> Result<Measure, Fault>
     // All bytes of the source are the text of a trace that is well nested within the limits, and these are its
     // numbers.

@@ -1,7 +1,7 @@
 //! Where two places meet: the active procedures, each with the places of its opener and its last sync, and which of
 //! their children were spawned.
 ghost use Rattle.std.specs.Prelude.{◌≡◌, ◌≤◌, List, [], length, true, OnOk};
-ghost use Rattle.trace.specs.declared.records.Record.{Record};
+ghost use Rattle.dag.specs.declared.records.Record.{Record};
 ghost use Rattle.audit.specs.Meetings.{EndsIn, TakesTurn};
 
 use std::alloc::Global;
@@ -29,7 +29,7 @@ pub(crate) struct Turn {
 pub(crate) struct Meetings {
     pub(crate) executing: Active,
     /// The procedures above it, from the root on.
-    pub(crate) waiting: Vec<Active>,
+    pub(crate) suspended: Vec<Active>,
     /// In the order of their places. A sync or return of a procedure removes what this procedure began.
     pub(crate) turns: Vec<Turn>,
 }
@@ -37,7 +37,8 @@ pub(crate) struct Meetings {
 impl Meetings {
     ghost use Rattle.std.specs.List.Sorted.{IsPartitionedBy, IsPartitionPoint};
     ghost use Rattle.std.specs.Prelude.{nat_lt, false};
-    ghost use Rattle.audit.specs.Meetings.{HasMet, Moves, OpensChild, TellsParallel, TellsTurn, TellsUnjoinedAfter};
+    ghost use Rattle.audit.specs.Meetings.{HasMet, Moves, OpensChild};
+    ghost use Rattle.audit.specs.Meetings.{DecidesParallel, DecidesTurn, DecidesUnjoinedAfter};
 
     /// The state before the first record.
     pub(crate) fn new(alloc: Global) -> Meetings
@@ -49,13 +50,13 @@ impl Meetings {
                 synced: 0,
                 turns: 0,
             },
-            waiting: Vec::new(alloc),
+            suspended: Vec::new(alloc),
             turns: Vec::new(alloc),
         }
     }
 
-    /// Takes the next record.
-    pub(crate) fn take(&mut self, placed: Placed) -> Result<(), NoMemory>
+    /// Sees the next record.
+    pub(crate) fn see(&mut self, placed: Placed) -> Result<(), NoMemory>
         ensures { OnOk result (Moves placed.place placed.what self.old self.new) }
     {
         match placed.what {
@@ -63,7 +64,7 @@ impl Meetings {
             Record::Call => self.open(placed.place, false)?,
             Record::Return => {
                 self.turns.truncate(self.executing.turns);
-                if let Some(parent) = self.waiting.pop() {
+                if let Some(parent) = self.suspended.pop() {
                     self.executing = parent;
                 }
             }
@@ -80,9 +81,9 @@ impl Meetings {
     fn open(&mut self, place: u64, is_spawned: bool) -> Result<(), NoMemory>
         ensures { OnOk result (OpensChild place is_spawned self.old self.new) }
     {
-        self.waiting.reserve(1)?;
+        self.suspended.reserve(1)?;
         take_turn(&mut self.turns, place, is_spawned)?;
-        self.waiting.push_reserved(self.executing);
+        self.suspended.push_reserved(self.executing);
         self.executing = Active {
             opened: place,
             synced: place,
@@ -93,47 +94,47 @@ impl Meetings {
 
     /// The depth of the executing procedure.
     pub(crate) fn depth(&self) -> usize
-        ensures { result ≡ length self.now.waiting.items }
+        ensures { result ≡ length self.now.suspended.items }
     {
-        self.waiting.len()
+        self.suspended.len()
     }
 
     /// Whether an earlier access, at a place and a depth, is parallel to an access that comes next. They meet in the
     /// last active procedure that was opened before the earlier one. They are parallel if the earlier one lies in a
     /// child that this procedure spawned, and this procedure hasn't synced since.
     pub(crate) fn is_parallel(&self, place: u64, depth: usize) -> bool
-        ensures { (u : List Record) → HasMet self.now u → TellsParallel u place depth result }
+        ensures { (u : List Record) → HasMet self.now u → DecidesParallel u place depth result }
     {
         self.is_unjoined(place, depth) && self.is_in_spawned_turn(place)
     }
 
     // Whether it lies deeper than the procedure in which they meet, so in a child, and that one hasn't synced since.
     fn is_unjoined(&self, place: u64, depth: usize) -> bool
-        ensures { (u : List Record) → HasMet self.now u → TellsUnjoinedAfter self.now u place depth result }
+        ensures { (u : List Record) → HasMet self.now u → DecidesUnjoinedAfter self.now u place depth result }
     {
         if self.executing.opened < place {
-            return self.waiting.len() < depth && self.executing.synced < place;
+            return self.suspended.len() < depth && self.executing.synced < place;
         }
         match self.holders(place).checked_sub(1) {
-            Some(meeting) => meeting < depth && self.waiting[meeting].synced < place,
+            Some(meeting) => meeting < depth && self.suspended[meeting].synced < place,
             None => false,
         }
     }
 
-    // The number of waiting procedures that were opened before a place, if they are in this order.
+    // The number of suspended procedures that were opened before a place, if they are in this order.
     fn holders(&self, place: u64) -> usize
-        ensures within { result ≤ length self.now.waiting.items }
-        ensures opened { IsPartitionedBy (λ f. nat_lt f.opened place) self.now.waiting.items
+        ensures within { result ≤ length self.now.suspended.items }
+        ensures opened { IsPartitionedBy (λ f. nat_lt f.opened place) self.now.suspended.items
             → IsPartitionPoint (λ f. nat_lt f.opened place ≡ true)
-            (λ f. nat_lt f.opened place ≡ false) self.now.waiting.items result }
+            (λ f. nat_lt f.opened place ≡ false) self.now.suspended.items result }
     {
-        self.waiting.partition_point(|f| f.opened < place)
+        self.suspended.partition_point(|f| f.opened < place)
     }
 
     // Whether the last turn that began before a place is one of spawned children, if they are in this order. It is
     // the turn of the child that holds the place, if its parent hasn't synced since.
     fn is_in_spawned_turn(&self, place: u64) -> bool
-        ensures { TellsTurn self.now.turns.items place result }
+        ensures { DecidesTurn self.now.turns.items place result }
     {
         let begun = self.turns.partition_point(|turn| turn.opened < place);
         match begun.checked_sub(1) {

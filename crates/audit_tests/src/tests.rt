@@ -2,3 +2,4 @@
 
 mod cuttings;
 mod rows;
+mod samples;

@@ -2,18 +2,18 @@
 use Rattle.std.proofs.Common.{◌≡◌, ℕ, zero, suc, ◌≤◌, ◌↔◌, Bool, true, false, ◌||◌, List, [], ◌∷◌, length, take, slice_get, Option, Some, None, inl, inr, refl, sym, ◌∙◌, subst, ap, arith}
 use Rattle.std.proofs.lemmas.Bool.{cases_Bool, both_ways, or_cases}
 use Rattle.std.specs.FinSet as set
-use Rattle.trace.specs.declared.records.Record.{Record}
-use Rattle.trace.specs.declared.records.Record.TheVariants.{Spawn, Call, Return, Sync, Read, Write}
-use Rattle.trace.specs.Traces.{at, placed, placed_from, depth, IsPlace, IsWellNested}
-use Rattle.trace.specs.Dag.{JoinsAt, Leads, IsParallel}
-use Rattle.trace.specs.Races.{IsAccessPlace}
-use Rattle.trace.proofs.World.{World, Shape, Step, spawn, call, joins}
-use Rattle.trace.proofs.Lists.{element_at}
-use Rattle.trace.proofs.Traced.{traced, is_call, opener_of, opener-is, shape_of, shape_at, called_shape, spawned_shape, step_at, not_joined}
-use Rattle.trace.proofs.Paths.{pending-parallel, parallel-pending, access-place, access-not_joins, IsPlace-at, leads_or_parallel}
+use Rattle.dag.specs.declared.records.Record.{Record}
+use Rattle.dag.specs.declared.records.Record.TheVariants.{Spawn, Call, Return, Sync, Read, Write}
+use Rattle.dag.specs.Traces.{at, placed, placed_from, depth, IsPlace, IsWellNested}
+use Rattle.dag.specs.Dag.{JoinsAt, Leads, IsParallel}
+use Rattle.dag.specs.Races.{IsAccessPlace}
+use Rattle.dag.proofs.World.{World, Shape, Step, spawn, call, joins}
+use Rattle.dag.proofs.Lists.{element_at}
+use Rattle.dag.proofs.Traced.{traced, is_call, opener_of, opener-is, shape_of, shape_at, called_shape, spawned_shape, step_at, not_joined}
+use Rattle.dag.proofs.Paths.{pending-parallel, parallel-pending, access-place, access-not_joins, IsPlace-at, leads_or_parallel}
 use Rattle.bags.specs.Procedures.{Active, Procedures, event, bags_from, bags_after, in_p, current, procedure_at}
-use Rattle.bags.specs.Paths.{TellsPaths, IsCompletedAt}
-use Rattle.trace.proofs.Standing.{Kept, Serial, kept-pending, serial-not_pending}
+use Rattle.bags.specs.Paths.{DecidesPaths, IsCompletedAt}
+use Rattle.dag.proofs.Standing.{Kept, Serial, kept-pending, serial-not_pending}
 use Rattle.bags.proofs.Stack.{AllStand, one_more, somewhere, Invariant, IsEnding, opening, closing, at_start, at_access, at_sync, at_return, at_enter}
 
 -- the bags after one record more
@@ -29,7 +29,7 @@ bags_after-more w t r e = bags_from-more _ 1 w t r e
 abbrev Stand : (w : List Record) {n d : ℕ} → IsWellNested w n d → ℕ → Procedures → Type 0
 Stand w h t s = Invariant (traced w h) (procedure_at w) t s.count s.active
 
--- what a shape tells of the record
+-- what a shape says of the record
 shape-call : (z : Bool) (o : Option Record) → shape_of z o ≡ call → o ≡ Some Call
 shape-call z None e = absurd (cc)
 shape-call z (Some Spawn) e = absurd (cc)
@@ -142,10 +142,10 @@ in_p-parallel_at w h i t a l b n = (λ q. forth q, λ q. back q)
 pub in_p-parallel : (w : List Record) {n d : ℕ} → IsWellNested w n d → (i t : ℕ) → IsPlace w i → i ≤ t → IsAccessPlace w (suc t) → (in_p (bags_after (take t (placed w))).active (procedure_at w i) ≡ true) ↔ IsParallel w i (suc t)
 in_p-parallel w h i t a l c = in_p-parallel_at w h i t a l (access-place w (suc t) c) (access-not_joins w (suc t) c)
 
--- the same, told of a completed procedure's return
-tells : (w : List Record) (n d t r p : ℕ) → IsWellNested w n d → IsPlace w (suc t) → (JoinsAt w (suc t) → ⊥) → IsCompletedAt w p r → r ≤ t
+-- the same, said of a completed procedure's return
+decides : (w : List Record) (n d t r p : ℕ) → IsWellNested w n d → IsPlace w (suc t) → (JoinsAt w (suc t) → ⊥) → IsCompletedAt w p r → r ≤ t
     → (in_p (bags_after (take t (placed w))).active p ≡ true) ↔ (Leads w r (suc t) → ⊥)
-tells w n d t r p h b j c l = (λ q. forth q, λ q. back q)
+decides w n d t r p h b j c l = (λ q. forth q, λ q. back q)
   where
     a : IsPlace w r
     a = IsPlace-at w r Return c.a_return
@@ -162,6 +162,6 @@ tells w n d t r p h b j c l = (λ q. forth q, λ q. back q)
       | inr x ↦ subst (λ (y : ℕ). in_p (bags_after (take t (placed w))).active y ≡ true) (sym c.its_own) (both.1 x)
     ]
 
-pub in_p-tells : (s : Procedures) (p : ℕ) (answer : Bool) → answer ≡ in_p s.active p → TellsPaths s p answer
-in_p-tells s p answer e w n d t r h f b j c l =
-    subst (λ (x : Bool). (x ≡ true) ↔ (Leads w r (suc t) → ⊥)) (sym (e ∙ ap (λ (z : Procedures). in_p z.active p) f)) (tells w n d t r p h b j c l)
+pub in_p-decides : (s : Procedures) (p : ℕ) (answer : Bool) → answer ≡ in_p s.active p → DecidesPaths s p answer
+in_p-decides s p answer e w n d t r h f b j c l =
+    subst (λ (x : Bool). (x ≡ true) ↔ (Leads w r (suc t) → ⊥)) (sym (e ∙ ap (λ (z : Procedures). in_p z.active p) f)) (decides w n d t r p h b j c l)

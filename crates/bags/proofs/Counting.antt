@@ -4,7 +4,7 @@ use Rattle.std.proofs.lemmas.Bool.{cases_eq, cases_lt, lt-ltb, le-ltb, eq-eqb, n
 use Rattle.std.specs.List.{list_any}
 use Rattle.std.specs.FinSet as bag
 use Rattle.std.proofs.lemmas.List.{length-take-le, length-reverse}
-use Rattle.trace.specs.Bounds.{most_records}
+use Rattle.dag.specs.Bounds.{most_records}
 use Rattle.bags.specs.Nested.{Nested}
 use Rattle.bags.specs.Procedures.{Active}
 use Rattle.bags.specs.Stretch.{Stretch}

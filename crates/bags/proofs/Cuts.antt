@@ -7,9 +7,9 @@ use Rattle.std.specs.Bool.{beq}
 use Rattle.std.specs.Option.{option_to_list}
 use Rattle.bags.specs.Nested.{Nested}
 use Rattle.bags.specs.Procedures.{Procedures, at_start, opened, entered, adopts, after_sync, after_return, in_p, event, current}
-use Rattle.trace.specs.declared.records.Record.TheVariants.{Sync, Return}
+use Rattle.dag.specs.declared.records.Record.TheVariants.{Sync, Return}
 use Rattle.bags.specs.Stretch.{Stretch}
-use Rattle.trace.specs.Bounds.{most_records}
+use Rattle.dag.specs.Bounds.{most_records}
 use Rattle.bags.specs.Search.{first_at}
 use Rattle.bags.specs.Held.{start, active_of, actives_of, procedures_of, AreTurns, AreCut, AreHeld}
 use Rattle.bags.proofs.Segments.{Ascends, AreGrown, any_of, after, turns_ascend, start_most, contains-bag_of, opened_is, synced_is, adopted, grown_wider, grown_longer, last_kind, first_at-start, start-both, at_keeper, first_at_is, first_at-drop, any_of-append, ascends-append}
@@ -247,7 +247,7 @@ moved_held count ss nested ys g d x held is more other first kind =
     not_both true false e = absurd (cc)
     not_both false true e = absurd (cc)
 
--- of two kinds that a test tells apart, each is the other turned round
+-- of two kinds that a test distinguishes, each is the other turned round
 pub kinds_same : (a b : Bool) → not (beq a b) ≡ false → a ≡ b
 kinds_same true true e = refl
 kinds_same false false e = refl
@@ -302,7 +302,7 @@ in_p-actives next ss (f ∷ fs) p h =
     turned_round : (a b : Bool) → (a || b) ≡ (b || a)
     turned_round a b = grind arith
 
--- the last stretch whose first number is not above p tells whether p stands in a P-bag
+-- the last stretch whose first number is not above p decides whether p stands in a P-bag
 pub in_p-keeper : (count : ℕ) (ss : List Stretch) (nested : List Nested) (k p : ℕ) (d : Stretch) → AreHeld count ss nested → k < length ss → p < count → first_at ss k ≤ p
     → (k + 1 < length ss → p < first_at ss (k + 1)) → (get_or ss k d).is_parallel ≡ in_p (procedures_of count ss nested).active p
 in_p-keeper count ss nested k p d held low known from upto =

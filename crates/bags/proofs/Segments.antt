@@ -30,7 +30,7 @@ side_by_side a b c q ab bc = grind (arith, nat_tests)
 same_bag : (x y : Bag) → ((q : ℕ) → bag.contains x q ≡ bag.contains y q) → x ≡ y
 same_bag x y h = bag.same_set nat_cmp_total bag.nat_cmp-IsAntisymmetric x y h
 
--- what a list of stretches holds of one kind, told of one procedure
+-- what a list of stretches holds of one kind, said of one procedure
 abbrev pub any_of : Bool → ℕ → List Stretch → ℕ → Bool
 any_of k next [] p = false
 any_of k next (s ∷ ss) p = (is_of k s && (leb s.first p && ltb p (start next ss))) || any_of k next ss p
@@ -301,7 +301,7 @@ pub none_after : (k : Bool) (next : ℕ) (ss : List Stretch) (p : ℕ) → Ascen
 none_after k next [] p h l = refl
 none_after k next (s ∷ ss) p h l = past_the_first k next s ss p (omega (arith, start_most next ss h.1)) ∙ none_after k next ss p h.1 l
 
--- the last stretch whose first number is not above p tells p's bag
+-- the last stretch whose first number is not above p decides p's bag
 pub at_keeper : (next : ℕ) (ss : List Stretch) (k p : ℕ) (d : Stretch) → Ascends next ss → k < length ss → p < next → first_at ss k ≤ p
     → (k + 1 < length ss → p < first_at ss (k + 1)) → any_of true next ss p ≡ (get_or ss k d).is_parallel
 at_keeper next [] k p d h low known from upto = absurd (omega arith)

@@ -6,9 +6,9 @@ use Rattle.std.specs.List.{list_any}
 use Rattle.std.specs.Cmp.{nat_cmp_total}
 use Rattle.std.specs.Ordering.{nat_cmp}
 use Rattle.std.specs.FinSet as set
-use Rattle.trace.proofs.World.{World, Shape, Step, spawn, call, spawned_return, called_return, joins, all_more}
+use Rattle.dag.proofs.World.{World, Shape, Step, spawn, call, spawned_return, called_return, joins, all_more}
 use Rattle.bags.specs.Procedures.{Bag, Active, opened, synced, adopts, after_sync, after_return, current}
-use Rattle.trace.proofs.Standing.{Kept, Serial, kept_stays, serial_stays, kept-above, kept_synced, returned, returned_call, serial_now, own-serial, own-kept}
+use Rattle.dag.proofs.Standing.{Kept, Serial, kept_stays, serial_stays, kept-above, kept_synced, returned, returned_call, serial_now, own-serial, own-kept}
 
 -- the record that opens a procedure, and the one that ends it
 abbrev pub opening : Bool → Shape

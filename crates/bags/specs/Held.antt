@@ -6,7 +6,7 @@ use Rattle.bags.specs.Nested.{Nested}
 use Rattle.bags.specs.Procedures.{Bag, Active, Procedures}
 use Rattle.bags.specs.Search.{Start, IsStart}
 use Rattle.bags.specs.Stretch.{Stretch}
-use Rattle.trace.specs.Bounds.{most_records}
+use Rattle.dag.specs.Bounds.{most_records}
 
 -- the procedures from one number up to another, which is not among them
 abbrev pub run : ℕ → ℕ → Bag

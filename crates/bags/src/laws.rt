@@ -1,9 +1,9 @@
 //! The paths of a trace from a completed procedure.
 
 ghost use Rattle.std.specs.Prelude.{ℕ, List};
-ghost use Rattle.trace.specs.declared.records.Record.{Record};
-ghost use Rattle.trace.specs.Traces.{IsWellNested};
-ghost use Rattle.trace.specs.Dag.{OneWayOut};
+ghost use Rattle.dag.specs.declared.records.Record.{Record};
+ghost use Rattle.dag.specs.Traces.{IsWellNested};
+ghost use Rattle.dag.specs.Dag.{OneWayOut};
 
 /// One way out: for a place in the part of a completed procedure and a later place outside that part, a path leads
 /// from the first to the second exactly if one leads from the procedure's return to the second.

@@ -5,17 +5,17 @@
 #![tactic(auto)]
 
 ghost use Rattle.std.specs.Prelude.{◌≡◌, ◌+◌, ◌*◌, ◌<◌, ◌≤◌, true, false, length, IfOk, OnOk, OnErr};
-ghost use Rattle.trace.specs.Bounds.{most_records};
+ghost use Rattle.dag.specs.Bounds.{most_records};
 ghost use Rattle.bags.specs.Stretches.{stretches};
 ghost use Rattle.bags.specs.Numbers.{digits};
 
+use dag::NoMemory;
 use look_up::look_up;
 use nested::Nested;
 use search::Start;
 use std::alloc::Global;
 use std::marker::Model;
 use stretch::Stretch;
-use trace::NoMemory;
 
 mod first;
 pub mod laws;
@@ -27,6 +27,16 @@ mod stretch;
 /// The bags of the active procedures of a serial run, which begins in its root.
 ///
 /// `current`, `count`, `active`, `held`, `in_p`, `in_p_counted`, `sync` and `ret` take no memory.
+///
+/// ```rust
+/// let mut bags = Bags::new(rt.alloc())?;
+/// bags.spawn()?;
+/// assert_eq!(rt; (bags.current(), bags.active(), bags.count()), (1, 2, 2));
+/// bags.ret();
+/// assert!(rt; bags.in_p(1));
+/// bags.sync();
+/// assert!(rt; !bags.in_p(1));
+/// ```
 #[derive(Drop)]
 pub struct Bags {
     /// The active procedures; the last one executes.
@@ -53,9 +63,9 @@ impl Model for Bags {
 }
 
 impl Bags {
-    ghost use Rattle.bags.specs.Paths.{TellsPaths};
+    ghost use Rattle.bags.specs.Paths.{DecidesPaths};
     ghost use Rattle.bags.specs.Procedures.{at_start, current, entered, event, in_p};
-    ghost use Rattle.trace.specs.declared.records.Record.TheVariants.{Sync, Return};
+    ghost use Rattle.dag.specs.declared.records.Record.TheVariants.{Sync, Return};
 
     /// The bags at the start: only the root is active.
     pub fn new(alloc: Global) -> Result<Bags, NoMemory>
@@ -179,7 +189,7 @@ impl Bags {
         ensures bags { result ≡ in_p self.now.active procedure }
         // After the records before a place that is neither a sync nor a return: a completed procedure is in a P-bag
         // exactly if no path leads from its return to that place.
-        ensures paths { TellsPaths self.now procedure result }
+        ensures paths { DecidesPaths self.now procedure result }
     {
         self.in_p_counted(procedure).0
     }
@@ -190,7 +200,7 @@ impl Bags {
     pub fn in_p_counted(&self, procedure: u64) -> (bool, u32)
         requires { procedure < self.now.count }
         ensures bags { result.0 ≡ in_p self.now.active procedure }
-        ensures paths { TellsPaths self.now procedure result.0 }
+        ensures paths { DecidesPaths self.now procedure result.0 }
         ensures probes { result.1 ≤ digits (stretches self.now) }
     {
         let (keeper, probes) = look_up(&self.stretches, self.start, procedure);

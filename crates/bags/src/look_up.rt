@@ -2,7 +2,7 @@
 #![tactic(auto)]
 
 ghost use Rattle.std.specs.Prelude.{◌≡◌, ◌+◌, ◌<◌, ◌≤◌, ◌^◌, length};
-ghost use Rattle.trace.specs.Bounds.{most_records};
+ghost use Rattle.dag.specs.Bounds.{most_records};
 ghost use Rattle.bags.specs.Search.{first_at, IsAscending, IsKeeper, IsStart};
 ghost use Rattle.bags.specs.Numbers.{digits};
 

@@ -2,7 +2,7 @@
 #![tactic(auto)]
 
 ghost use Rattle.std.specs.Prelude.{◌≡◌, ◌+◌, ◌<◌, ◌≤◌, ◌^◌, ◌↔◌, IsTrue};
-ghost use Rattle.trace.specs.Bounds.{most_records};
+ghost use Rattle.dag.specs.Bounds.{most_records};
 
 use crate::first::First;
 use crate::look_up::Probes;

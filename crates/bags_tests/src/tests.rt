@@ -89,6 +89,18 @@ fn most_probes(bags: &Bags) -> u32 {
 /// The greatest number of probes if a test doesn't count them.
 const ANY: u32 = u32::MAX;
 
+#[test]
+fn one_child(rt: HostRuntime) -> Result<(), Fail> {
+    let mut bags = Bags::new(rt.alloc())?;
+    bags.spawn()?;
+    assert_eq!(rt; (bags.current(), bags.active(), bags.count()), (1, 2, 2));
+    bags.ret();
+    assert!(rt; bags.in_p(1));
+    bags.sync();
+    assert!(rt; !bags.in_p(1));
+    Ok(())
+}
+
 // After each record: the executing procedure, how many are active, how many there are, and
 // which stand in a P-bag. The sync in procedure 2 leaves the root's P-bag alone.
 #[test]
@@ -175,7 +187,7 @@ const SPAWNED_THEN_CALLED: [Record; 4] = [
 ];
 
 // Row `call-mixed` after place 6, but for its accesses. The root's S-bag holds itself and the called one. Of the three
-// stretches each differs from its neighbours, so one comparison doesn't tell them all: some look-up takes two.
+// stretches each differs from its neighbours, so one comparison doesn't distinguish them all: some look-up takes two.
 #[test]
 fn called_after_spawned(rt: HostRuntime) -> Result<(), Fail> {
     let mut bags = Bags::new(rt.alloc())?;
@@ -187,7 +199,7 @@ fn called_after_spawned(rt: HostRuntime) -> Result<(), Fail> {
 }
 
 // The numbers of spawned children are odd. The 1,001 stretches alternate: no two neighbours give one answer, and nine
-// comparisons tell 512 of them apart at most. So some look-up takes ten, and one that makes more than it counts shows.
+// comparisons distinguish 512 of them at most. So some look-up takes ten, and one that makes more than it counts shows.
 #[test]
 fn calls_between_spawns(rt: HostRuntime) -> Result<(), Fail> {
     let mut bags = Bags::new(rt.alloc())?;

@@ -4,10 +4,10 @@ use Rattle.std.specs.Option.{option_map_or}
 use Rattle.std.proofs.lemmas.Bool.{eqb-true}
 use Rattle.std.proofs.lemmas.Bool.Decides.{nat_tests}
 use Rattle.std.proofs.lemmas.List.Sums.{fold-append}
-use Rattle.shard.specs.declared.Back.{Back}
-use Rattle.shard.specs.declared.Back.TheVariants.{Race, NoMemory}
-use Rattle.trace.specs.Accesses.{RaceAt}
-use Rattle.collect.specs.Collected.{races_of, fails, race_on, better, has_better, kept_after, best, Kept, KeepsBest}
+use Rattle.dag.specs.declared.back.Back.{Back}
+use Rattle.dag.specs.declared.back.Back.TheVariants.{Race, NoMemory}
+use Rattle.dag.specs.Accesses.{RaceAt}
+use Rattle.collect.specs.Collected.{races_of, fails, race_on, better, has_better, kept_after, best, Collection, KeepsBest}
 use Rattle.collect.proofs.Kept.{put, race_on-put}
 
 pub races_of-append : (g h : List Back) → races_of (g ++ h) ≡ races_of g ++ races_of h
@@ -65,20 +65,20 @@ kept_goes false o r h = refl
 no_later-on : (l : ℕ) (rs : List RaceAt) (r : RaceAt) (b : Bool) → has_better rs r ≡ b → eqb r.location l ≡ true → no_later (race_on l rs) r ≡ b
 no_later-on l rs r b h e = let same = eqb-true r.location l e in ap (λ m. no_later (race_on m rs) r) (sym same) ∙ h
 
-pub Holds-kept : (g : List Back) (c : Kept) (r : RaceAt) → has_better c.races r ≡ true → KeepsBest g c → KeepsBest (g ++ Race r ∷ []) c
+pub Holds-kept : (g : List Back) (c : Collection) (r : RaceAt) → has_better c.races r ≡ true → KeepsBest g c → KeepsBest (g ++ Race r ∷ []) c
 Holds-kept g c r b h = record {
   refused = h.refused ∙ sym (fails-push_race g r);
   best_on = λ l. sym (best-push_race l g r ∙ ap (λ o. kept_after l o r) (sym (h.best_on l)) ∙ kept_stays (eqb r.location l) (race_on l c.races) r (no_later-on l c.races r true b));
 }
 
-pub Holds-put : (g : List Back) (c d : Kept) (r : RaceAt) → has_better c.races r ≡ false → d.races ≡ put r c.races → d.refused ≡ c.refused → KeepsBest g c → KeepsBest (g ++ Race r ∷ []) d
+pub Holds-put : (g : List Back) (c d : Collection) (r : RaceAt) → has_better c.races r ≡ false → d.races ≡ put r c.races → d.refused ≡ c.refused → KeepsBest g c → KeepsBest (g ++ Race r ∷ []) d
 Holds-put g c d r b races same h = record {
   refused = same ∙ h.refused ∙ sym (fails-push_race g r);
   best_on = λ l. ap (race_on l) races ∙ race_on-put l r c.races
       ∙ sym (best-push_race l g r ∙ ap (λ o. kept_after l o r) (sym (h.best_on l)) ∙ kept_goes (eqb r.location l) (race_on l c.races) r (no_later-on l c.races r false b));
 }
 
-pub Holds-refused : (g : List Back) (c d : Kept) (back : Back) → back ≡ NoMemory → d.races ≡ c.races → d.refused ≡ true → KeepsBest g c → KeepsBest (g ++ back ∷ []) d
+pub Holds-refused : (g : List Back) (c d : Collection) (back : Back) → back ≡ NoMemory → d.races ≡ c.races → d.refused ≡ true → KeepsBest g c → KeepsBest (g ++ back ∷ []) d
 Holds-refused g c d back is races now h = rw is (record {
   refused = now ∙ sym (fails-push_none g);
   best_on = λ l. ap (race_on l) races ∙ h.best_on l ∙ sym (best-push_none l g);

@@ -3,9 +3,9 @@ use Rattle.std.proofs.Common.{◌≡◌, ◌≢◌, ℕ, ◌<◌, ◌≤◌, Boo
 use Rattle.std.specs.List.{AllByRecursion}
 use Rattle.std.specs.Option.{option_map_or}
 use Rattle.std.proofs.lemmas.Bool.{eqb-true, eqb-false, ltb-true, ltb-false}
-use Rattle.shard.specs.declared.Back.{Back}
-use Rattle.trace.specs.Accesses.{RaceAt}
-use Rattle.trace.proofs.Once.{In, In_from, Contains_from}
+use Rattle.dag.specs.declared.back.Back.{Back}
+use Rattle.dag.specs.Accesses.{RaceAt}
+use Rattle.dag.proofs.Once.{In, In_from, Contains_from}
 use Rattle.collect.specs.Collected.{races_of, race_on, better, kept_after, best, IsFirstLeast, AreFirstLeast, IsCollected}
 use Rattle.collect.proofs.Ascending.{Ascends, Ascends-from_increasing}
 use Rattle.collect.proofs.Sorted.{NoneOn, race_on-here, race_on-past}

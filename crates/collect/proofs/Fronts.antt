@@ -2,12 +2,12 @@
 use Rattle.std.proofs.Common.{◌≡◌, ℕ, suc, ◌<◌, ◌^◌, Bool, true, false, List, [], ◌∷◌, ◌++◌, length, get_or, take, drop, decimal, arith, refl, sym, ap, ◌∙◌, subst, take-append-drop, drop-cons}
 use Rattle.std.specs.Prelude.{codes, Option, Some, None, IfSome, IfNone, MatchOption, IsTrue}
 use Rattle.std.proofs.lemmas.List.{length-append, length-take, get_or-take}
-use Rattle.trace.specs.declared.records.Access.{Access}
-use Rattle.trace.specs.Accesses.{RaceAt, IsRaceShape}
+use Rattle.dag.specs.declared.records.Access.{Access}
+use Rattle.dag.specs.Accesses.{RaceAt, IsRaceShape}
 use Rattle.trace.specs.Text.{newline}
 use Rattle.collect.specs.Reports.{IsEntry}
 use Rattle.collect.specs.ReportText.{space, access_text, race_line}
-use Rattle.collect.proofs.Unique.{HasNo, same_parts, HasNo-decimal, same_number, same_told, race_line-parts, after_race, after_location, after_first}
+use Rattle.collect.proofs.Unique.{HasNo, same_parts, HasNo-decimal, same_number, same_spelled, race_line-parts, after_race, after_location, after_first}
 
 get_or-middle : (xs : List ℕ) (s : ℕ) (more : List ℕ) → get_or (xs ++ s ∷ more) (length xs) 0 ≡ s
 get_or-middle [] s more = refl
@@ -48,12 +48,12 @@ module _ (bs : List ℕ) (r : RaceAt) (more : List ℕ) (p : IsEntry r) (e : bs 
   pub rest_of_first : (b c d : List ℕ) (l : ℕ) (f : Access) → l < 2 ^ 64 → f.place < 2 ^ 64 → bs ≡ codes "race " ++ b → b ≡ decimal l ++ space ∷ c → c ≡ access_text f ++ space ∷ d
       → (f ≡ r.first) × (d ≡ after_first r more)
   rest_of_first b c d l f small fits found number first =
-      same_told space f r.first d (after_first r more) (omega arith) fits (let i = p.shape in omega arith) (sym first ∙ (rest_of_location b c l small found number).1)
+      same_spelled space f r.first d (after_first r more) (omega arith) fits (let i = p.shape in omega arith) (sym first ∙ (rest_of_location b c l small found number).1)
 
   pub rest_of_second : (b c d t : List ℕ) (l : ℕ) (f s : Access) → l < 2 ^ 64 → f.place < 2 ^ 64 → s.place < 2 ^ 64 → bs ≡ codes "race " ++ b → b ≡ decimal l ++ space ∷ c → c ≡ access_text f ++ space ∷ d → d ≡ access_text s ++ newline ∷ t
       → (s ≡ r.second) × (t ≡ more)
   rest_of_second b c d t l f s small fits ends found number first second =
-      same_told newline s r.second t more (omega arith) ends (let i = p.shape in omega arith) (sym second ∙ (rest_of_first b c d l f small fits found number first).1)
+      same_spelled newline s r.second t more (omega arith) ends (let i = p.shape in omega arith) (sym second ∙ (rest_of_first b c d l f small fits found number first).1)
 
 pub not_raced : (f g s t : Access) (b : Bool) → f ≡ g → s ≡ t → (IsRaceShape f s → IsTrue b) → b ≡ false → IsRaceShape g t → ⊥
 not_raced f g s t b p q test failed shape =

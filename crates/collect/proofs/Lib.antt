@@ -10,4 +10,5 @@ pub mod Unique
 pub mod Fronts
 pub mod Listed
 pub mod OneFault
+pub mod Refusals
 pub mod Merging

@@ -4,8 +4,8 @@ use Rattle.std.specs.List.{AllByRecursion, slice_get}
 use Rattle.std.specs.Option.{option_map_or}
 use Rattle.std.proofs.lemmas.Bool.{eqb-true, ltb-true, ltb-false}
 use Rattle.std.proofs.lemmas.List.{length-append}
-use Rattle.trace.specs.Accesses.{RaceAt}
-use Rattle.trace.proofs.Lists.{all-push, all-front}
+use Rattle.dag.specs.Accesses.{RaceAt}
+use Rattle.dag.proofs.Lists.{all-push, all-front}
 use Rattle.collect.specs.Reports.{IsEntry, IsReportList, may_follow}
 use Rattle.collect.specs.ReportText.{head, race_line, race_lines, rtext}
 use Rattle.collect.specs.ReportFaults.{IsFirstBadLine, no_head, no_race, no_end, OneList}
@@ -143,7 +143,7 @@ no_fault bs ss _ few h e (no_end rs rest some k is left) =
     let none : on.more ≡ [] = nothing_more rs on.more (ap length (sym on.list) ∙ sym lengths) in
     left (on.text ∙ ap (λ l. race_lines l ++ []) none)
 
--- ---- what the reader tells
+-- ---- what the reader answers
 
 pub few_races : (bs : List ℕ) (rs : List RaceAt) → length bs < 2 ^ 64 → bs ≡ rtext rs → length rs < 2 ^ 64
 few_races bs rs small e = omega (arith, ap length e, length-append (head (length rs)) (race_lines rs), length-race_lines rs)

@@ -2,9 +2,9 @@
 use Rattle.std.proofs.Common.{◌≡◌, ℕ, zero, suc, ◌<◌, ◌≤◌, ◌^◌, ◌*◌, List, [], ◌∷◌, length, map, set, get_or, refl, ap, arith}
 use Rattle.std.specs.List.{AllByRecursion}
 use Rattle.std.proofs.Math.Nat.{mul-lt-mul_of_pos_right}
-use Rattle.trace.specs.declared.records.Part.{Part}
-use Rattle.trace.specs.Accesses.{RaceAt}
-use Rattle.trace.specs.Parts.{location_at}
+use Rattle.dag.specs.declared.part.Part.{Part}
+use Rattle.dag.specs.Accesses.{RaceAt}
+use Rattle.dag.specs.Parts.{location_at}
 use Rattle.collect.specs.Reports.{IsEntry, IsReportList}
 use Rattle.collect.specs.Located.{located_at, HaveLocations}
 use Rattle.collect.proofs.Ascending.{Above, Ascends, Ascends-from_increasing, increasing_from_ascends}

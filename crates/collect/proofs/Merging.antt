@@ -3,13 +3,13 @@ use Rattle.std.proofs.Common.{◌≡◌, ◌≢◌, ℕ, ◌≤◌, ◌%◌, Boo
 use Rattle.std.specs.List.{AllByRecursion, filter}
 use Rattle.std.proofs.Math.Nat.{mod-lt}
 use Rattle.std.proofs.lemmas.Bool.{eq-eqb}
-use Rattle.shard.specs.declared.Back.{Back}
-use Rattle.shard.specs.declared.Back.TheVariants.{Race}
-use Rattle.trace.specs.declared.records.Part.{Part}
-use Rattle.trace.specs.Accesses.{RaceAt}
-use Rattle.trace.specs.Races.{IsReport}
-use Rattle.trace.specs.Parts.{races_of_part}
-use Rattle.trace.proofs.Once.{In, In_from, Contains_from}
+use Rattle.dag.specs.declared.back.Back.{Back}
+use Rattle.dag.specs.declared.back.Back.TheVariants.{Race}
+use Rattle.dag.specs.declared.part.Part.{Part}
+use Rattle.dag.specs.Accesses.{RaceAt}
+use Rattle.dag.specs.Races.{IsReport}
+use Rattle.dag.specs.Parts.{races_of_part}
+use Rattle.dag.proofs.Once.{In, In_from, Contains_from}
 use Rattle.collect.specs.Collected.{races_of, race_on, best, IsFirstLeast, IsCollected}
 use Rattle.collect.specs.Merged.{given_by, reports_of_parts, PartsMakeWhole, PartsMakeTrace, MergesWithItself, OrderIsFree}
 use Rattle.collect.proofs.Ascending.{Ascends, Ascends-from_increasing}

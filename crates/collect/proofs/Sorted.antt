@@ -4,8 +4,8 @@ use Rattle.std.specs.List.{AllByRecursion}
 use Rattle.std.specs.Option.{option_map_or}
 use Rattle.std.proofs.lemmas.Bool.{eqb-true, eq-eqb, ltb-true, ltb-false}
 use Rattle.std.proofs.lemmas.Bool.Decides.{nat_tests}
-use Rattle.shard.specs.declared.Back.{Back}
-use Rattle.trace.specs.Accesses.{RaceAt}
+use Rattle.dag.specs.declared.back.Back.{Back}
+use Rattle.dag.specs.Accesses.{RaceAt}
 use Rattle.collect.specs.Collected.{races_of, race_on, better, kept_after, best, IsCollected}
 use Rattle.collect.proofs.Ascending.{Above, Above-trans, Ascends, Ascends-from_increasing}
 use Rattle.collect.proofs.Kept.{cond_swap}

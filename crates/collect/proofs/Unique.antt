@@ -6,13 +6,13 @@ use Rattle.std.specs.List.{AllByRecursion}
 use Rattle.std.specs.Str.Parse.{AllDigits, digits_value}
 use Rattle.std.proofs.lemmas.Fmt.{digits_decimal, digits_value-decimal}
 use Rattle.std.proofs.lemmas.Str.Parse.{digit_from_value}
-use Rattle.trace.specs.declared.records.Kind.{Kind}
-use Rattle.trace.specs.declared.records.Kind.TheVariants.{Read, Write}
-use Rattle.trace.specs.declared.records.Access.{Access}
-use Rattle.trace.specs.Accesses.{RaceAt}
+use Rattle.dag.specs.declared.records.Kind.{Kind}
+use Rattle.dag.specs.declared.records.Kind.TheVariants.{Read, Write}
+use Rattle.dag.specs.declared.records.Access.{Access}
+use Rattle.dag.specs.Accesses.{RaceAt}
 use Rattle.trace.specs.Text.{newline}
 use Rattle.trace.proofs.Decimals.{decimal_numerals}
-use Rattle.trace.proofs.Once.{same_access, same_race}
+use Rattle.dag.proofs.Once.{same_access, same_race}
 use Rattle.collect.specs.Reports.{IsEntry}
 use Rattle.collect.specs.ReportText.{space, word, access_text, head, race_line, race_lines}
 
@@ -51,11 +51,11 @@ same_number s m n a b h p q e =
 -- ---- accesses
 
 -- an access, and what follows it
-abbrev pub told_before : ℕ → Access → List ℕ → List ℕ
-told_before s a rest = word a.kind ++ space ∷ (decimal a.place ++ s ∷ rest)
+abbrev pub spelled_before : ℕ → Access → List ℕ → List ℕ
+spelled_before s a rest = word a.kind ++ space ∷ (decimal a.place ++ s ∷ rest)
 
-pub told-before : (s : ℕ) (a : Access) (rest : List ℕ) → access_text a ++ s ∷ rest ≡ told_before s a rest
-told-before s a rest = append_assoc (word a.kind) (space ∷ decimal a.place) (s ∷ rest)
+pub spelled-before : (s : ℕ) (a : Access) (rest : List ℕ) → access_text a ++ s ∷ rest ≡ spelled_before s a rest
+spelled-before s a rest = append_assoc (word a.kind) (space ∷ decimal a.place) (s ∷ rest)
 
 same_first : (x y : ℕ) (xs ys : List ℕ) → x ∷ xs ≡ y ∷ ys → x ≡ y
 same_first x y xs ys e = cc
@@ -66,9 +66,9 @@ same_kind Read Write a b e = absurd (omega (arith, same_first 114 119 _ _ e))
 same_kind Write Read a b e = absurd (omega (arith, same_first 119 114 _ _ e))
 same_kind Write Write a b e = (refl, cc)
 
-pub same_told : (s : ℕ) (a b : Access) (x y : List ℕ) → s < 48 → a.place < 2 ^ 64 → b.place < 2 ^ 64 → access_text a ++ s ∷ x ≡ access_text b ++ s ∷ y → (a ≡ b) × (x ≡ y)
-same_told s a b x y h p q e =
-    let kinds = same_kind a.kind b.kind (decimal a.place ++ s ∷ x) (decimal b.place ++ s ∷ y) (sym (told-before s a x) ∙ e ∙ told-before s b y) in
+pub same_spelled : (s : ℕ) (a b : Access) (x y : List ℕ) → s < 48 → a.place < 2 ^ 64 → b.place < 2 ^ 64 → access_text a ++ s ∷ x ≡ access_text b ++ s ∷ y → (a ≡ b) × (x ≡ y)
+same_spelled s a b x y h p q e =
+    let kinds = same_kind a.kind b.kind (decimal a.place ++ s ∷ x) (decimal b.place ++ s ∷ y) (sym (spelled-before s a x) ∙ e ∙ spelled-before s b y) in
     let places = same_number s a.place b.place x y h p q kinds.1 in
     (same_access a b kinds.0 places.0, places.1)
 
@@ -95,8 +95,8 @@ same_line r s x y h k e =
     let lines : codes "race " ++ after_race r x ≡ codes "race " ++ after_race s y = sym (race_line-parts r x) ∙ e ∙ race_line-parts s y in
     let rests : after_race r x ≡ after_race s y = cc in
     let locations = same_number space r.location s.location (after_location r x) (after_location s y) (omega arith) h.fits k.fits rests in
-    let firsts = same_told space r.first s.first (after_first r x) (after_first s y) (omega arith) (let i = h.shape in omega arith) (let i = k.shape in omega arith) locations.1 in
-    let seconds = same_told newline r.second s.second x y (omega arith) (let i = h.shape in omega arith) (let i = k.shape in omega arith) firsts.1 in
+    let firsts = same_spelled space r.first s.first (after_first r x) (after_first s y) (omega arith) (let i = h.shape in omega arith) (let i = k.shape in omega arith) locations.1 in
+    let seconds = same_spelled newline r.second s.second x y (omega arith) (let i = h.shape in omega arith) (let i = k.shape in omega arith) firsts.1 in
     (same_race r s locations.0 firsts.0 seconds.0, seconds.1)
 
 pub head-parts : (n : ℕ) (rest : List ℕ) → head n ++ rest ≡ codes "races " ++ (decimal n ++ newline ∷ rest)

@@ -3,10 +3,10 @@ use Rattle.std.specs.Prelude.{◌≡◌, ℕ, ◌<◌, ◌≤◌, ◌↔◌, ◌
 use Rattle.std.specs.Prelude.{List, ◌∷◌, ◌++◌, Contains, Option, Some, None, find, fold, map}
 use Rattle.std.specs.List.{AllByRecursion}
 use Rattle.std.specs.Option.{option_map_or}
-use Rattle.shard.specs.declared.Back.{Back}
-use Rattle.shard.specs.declared.Back.TheVariants.{Race, NoMemory}
-use Rattle.trace.specs.Accesses.{RaceAt}
-pub use Rattle.shard.specs.Backs.{races_of, fails}
+use Rattle.dag.specs.declared.back.Back.{Back}
+use Rattle.dag.specs.declared.back.Back.TheVariants.{Race, NoMemory}
+use Rattle.dag.specs.Accesses.{RaceAt}
+pub use Rattle.dag.specs.Backs.{races_of, fails}
 use Rattle.collect.specs.Reports.{IsReportList}
 
 -- the first race on a location
@@ -30,23 +30,23 @@ abbrev pub best : ℕ → List RaceAt → Option RaceAt
 best l rs = fold (kept_after l) None rs
 
 -- the view of a collector: the races that it keeps, and whether it took a refused growth
-pub record Kept : Type 0 where
+pub record Collection : Type 0 where
   pub races : List RaceAt
   pub refused : Bool
 
 -- a race on a location without a kept race
-abbrev pub IsFirstOnLocation : Kept → Back → Type 0
+abbrev pub IsFirstOnLocation : Collection → Back → Type 0
 IsFirstOnLocation c (Race r) = race_on r.location c.races ≡ None
 IsFirstOnLocation c NoMemory = ⊥
 
 -- the collector was given exactly these, one after another
-pub record KeepsBest (g : List Back) (c : Kept) : Type 0 where
+pub record KeepsBest (g : List Back) (c : Collection) : Type 0 where
   pub refused : c.refused ≡ fails g
   pub best_on : (l : ℕ) → race_on l c.races ≡ best l (races_of g)
 
 -- The growth for one race of a list was refused: the races before it were taken, nothing else was, and none is kept on
 -- its location.
-pub record IsTakenInPart (races : List RaceAt) (c d : Kept) : Type 0 where
+pub record IsTakenInPart (races : List RaceAt) (c d : Collection) : Type 0 where
   pub before : List RaceAt
   pub refused_at : RaceAt
   pub after : List RaceAt

@@ -1,6 +1,6 @@
 -- Private: races by their locations, as a map keeps them.
 use Rattle.std.specs.Prelude.{◌≡◌, ℕ, List, map}
-use Rattle.trace.specs.Accesses.{RaceAt}
+use Rattle.dag.specs.Accesses.{RaceAt}
 use Rattle.collect.specs.Reports.{IsReportList}
 
 abbrev pub keyed : List RaceAt → List (ℕ × RaceAt)

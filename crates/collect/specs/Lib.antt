@@ -4,4 +4,5 @@ pub mod Collected
 pub mod ReportText
 pub mod Keyed
 pub mod ReportFaults
+pub mod ReportBytes
 pub mod Merged

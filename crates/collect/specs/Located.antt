@@ -1,9 +1,9 @@
 -- Promised: races whose locations are their numbers in a part, and the same races at their locations.
 use Rattle.std.specs.Prelude.{◌<◌, ◌^◌, List}
 use Rattle.std.specs.List.{AllByRecursion}
-use Rattle.trace.specs.declared.records.Part.{Part}
-use Rattle.trace.specs.Accesses.{RaceAt}
-use Rattle.trace.specs.Parts.{location_at}
+use Rattle.dag.specs.declared.part.Part.{Part}
+use Rattle.dag.specs.Accesses.{RaceAt}
+use Rattle.dag.specs.Parts.{location_at}
 
 -- a race by its location's number in the part, at that location
 abbrev pub located_at : Part → RaceAt → RaceAt

@@ -2,13 +2,13 @@
 use Rattle.std.specs.Prelude.{◌≡◌, ℕ, ◌<◌, List, [], ◌∷◌, Contains, ◌↔◌, map}
 use Rattle.std.specs.List.{flat_map}
 use Rattle.std.specs.List.Sorted.{IsStrictlyIncreasing}
-use Rattle.shard.specs.declared.Back.{Back}
-use Rattle.shard.specs.declared.Back.TheVariants.{Race}
-use Rattle.trace.specs.declared.records.Record.{Record}
-use Rattle.trace.specs.declared.records.Part.{Part}
-use Rattle.trace.specs.Accesses.{RaceAt}
-use Rattle.trace.specs.Parts.{races_of_part}
-use Rattle.trace.specs.Races.{IsReport}
+use Rattle.dag.specs.declared.back.Back.{Back}
+use Rattle.dag.specs.declared.back.Back.TheVariants.{Race}
+use Rattle.dag.specs.declared.records.Record.{Record}
+use Rattle.dag.specs.declared.part.Part.{Part}
+use Rattle.dag.specs.Accesses.{RaceAt}
+use Rattle.dag.specs.Parts.{races_of_part}
+use Rattle.dag.specs.Races.{IsReport}
 use Rattle.collect.specs.Collected.{IsCollected}
 use Rattle.collect.specs.Reports.{locations}
 

@@ -1,6 +1,6 @@
 -- Promised: the first faulty line of bytes that should be the text of a report. Lines are counted from 1.
 use Rattle.std.specs.Prelude.{◌≡◌, ◌≢◌, ℕ, ◌+◌, ◌<◌, ◌^◌, List, [], ◌∷◌, ◌++◌, length}
-use Rattle.trace.specs.Accesses.{RaceAt}
+use Rattle.dag.specs.Accesses.{RaceAt}
 use Rattle.collect.specs.declared.readers.ReportFault.{ReportFault}
 use Rattle.collect.specs.declared.readers.ReportFault.TheVariants.{Bad, NoMemory}
 use Rattle.collect.specs.Reports.{IsReportList}

@@ -3,7 +3,7 @@ use Rattle.std.specs.Prelude.{ℕ, ◌-◌, ◌<◌, ◌^◌, Bool, true, List, 
 use Rattle.std.specs.Option.{option_map_or}
 use Rattle.std.specs.List.{AllByRecursion}
 use Rattle.std.specs.List.Sorted.{IsStrictlyIncreasing}
-use Rattle.trace.specs.Accesses.{RaceAt, IsRaceShape}
+use Rattle.dag.specs.Accesses.{RaceAt, IsRaceShape}
 
 abbrev pub locations : List RaceAt → List ℕ
 locations rs = map (λ r. r.location) rs

@@ -1,14 +1,13 @@
 //! The races of all shards, by location.
 ghost use Rattle.std.specs.Prelude.{◌≡◌, List, [], ◌∷◌, ◌++◌, map, true, OnOk, OnErr, IfOk, IsErr};
-ghost use Rattle.shard.specs.declared.Back.{Back};
+ghost use Rattle.dag.specs.declared.back.Back.{Back};
 ghost use Rattle.collect.specs.Collected.{AreFirstLeast, KeepsBest, IsCollected, IsFirstOnLocation, IsTakenInPart, fails, has_better};
 
 use crate::reports::Report;
-use shard::Back;
 use std::alloc::Global;
 use std::collections::BTreeMap;
 use std::marker::Model;
-use trace::{NoMemory, Race};
+use trace::{Back, NoMemory, Race};
 
 /// Keeps for each location the race with the least second place; if two have the same places, the one that came
 /// first.
@@ -21,10 +20,10 @@ pub struct Collector {
 
 impl Model for Collector {
     ghost use Rattle.std.specs.BTreeMap.{values};
-    ghost use Rattle.collect.specs.Collected.{Kept};
+    ghost use Rattle.collect.specs.Collected.{Collection};
     ghost use Rattle.collect.specs.Keyed.{IsKeyed};
 
-    ghost Value = { Kept };
+    ghost Value = { Collection };
 
     ghost view = { λ c. record { races = values c.kept; refused = c.refused } };
 

@@ -1,13 +1,14 @@
 //! Reports: the races of a trace by ascending location, collected race by race, and their text.
 #![tactic(auto)]
 
-pub mod collectors;
+mod bounded;
+mod collectors;
 pub mod laws;
-mod lines;
-pub mod readers;
-pub mod reports;
-pub mod writers;
+mod readers;
+mod reports;
+mod writers;
 
+pub use bounded::{MOST_BYTES, ReportRefusal, report_from};
 pub use collectors::Collector;
 pub use readers::{ReportFault, read_report};
 pub use reports::Report;

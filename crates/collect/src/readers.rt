@@ -1,9 +1,9 @@
 //! The reader of a report's text.
 ghost use Rattle.std.specs.Prelude.{◌≡◌, ◌≢◌, ◌↔◌, ℕ, ◌+◌, ◌<◌, ◌≤◌, ◌^◌, List, [], ◌∷◌, ◌++◌, length, decimal};
 ghost use Rattle.std.specs.Prelude.{slice_index, IsTrue, IfSome, IfNone, IfOk, IfErr, MatchResult};
-ghost use Rattle.trace.specs.declared.records.Kind.{Kind};
-ghost use Rattle.trace.specs.declared.records.Access.{Access};
-ghost use Rattle.trace.specs.Accesses.{RaceAt, IsRaceShape};
+ghost use Rattle.dag.specs.declared.records.Kind.{Kind};
+ghost use Rattle.dag.specs.declared.records.Access.{Access};
+ghost use Rattle.dag.specs.Accesses.{RaceAt, IsRaceShape};
 ghost use Rattle.collect.specs.Reports.{IsEntry, IsReportList, may_follow};
 ghost use Rattle.collect.specs.ReportText.{space, word, access_text, head, race_line, rtext};
 ghost use Rattle.collect.specs.ReportFaults.{IsReportFault};

@@ -7,6 +7,16 @@ use std::marker::Model;
 use trace::{Part, Race};
 
 /// Races, strictly ascending by location.
+///
+/// ```rust
+/// let report = read_report(rt.alloc(), b"races 1\nrace 5 write 2 read 4\n")?;
+/// assert_eq!(rt; report.races().len(), 1);
+/// let race = report.races()[0];
+/// assert!(rt; (race.location, race.first.place, race.second.place) == (5, 2, 4));
+/// let mut text = Vec::new(rt.alloc());
+/// write_report(&report, &mut Counted::new(&mut text))?;
+/// assert!(rt; text.as_slice() == b"races 1\nrace 5 write 2 read 4\n".as_slice());
+/// ```
 #[derive(Drop)]
 pub struct Report {
     pub(crate) races: Vec<Race>,
@@ -14,7 +24,7 @@ pub struct Report {
 
 impl Model for Report {
     ghost use Rattle.std.specs.Prelude.{List};
-    ghost use Rattle.trace.specs.Accesses.{RaceAt};
+    ghost use Rattle.dag.specs.Accesses.{RaceAt};
     ghost use Rattle.collect.specs.Reports.{IsReportList};
 
     ghost Value = { List RaceAt };

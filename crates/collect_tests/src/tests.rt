@@ -1,13 +1,32 @@
-//! The rows of the report's text, the collector's example, and writers that fail.
+//! The rows of the report's text, the collector's example, and readers and writers that fail.
 
-use collect::{Collector, ReportFault, read_report, write_report};
-use shard::Back;
+use collect::{
+    Collector, MOST_BYTES, ReportFault, ReportRefusal, read_report, report_from, write_report,
+};
 use std::alloc::Global;
-use std::io::{self, ErrorKind, Write};
+use std::io::{self, ErrorKind, Read, Write};
 use std::test::Fail;
-use trace::{Access, Counted, Kind, NoMemory, Race};
+use trace::{Access, Back, Counted, Kind, NoMemory, Race};
 
 const WRITE_WRITE: &[u8] = b"races 1\nrace 5 write 2 write 4\n";
+
+// A reader of many bytes. It keeps none: they are those that the buffers hold. Then it fails, or its input ends.
+#[derive(Drop)]
+struct Large {
+    left: usize,
+    fails: bool,
+}
+
+impl Read for Large {
+    fn read(&mut self, buffer: &mut [u8]) -> io::Result<usize> {
+        if self.left == 0 && self.fails {
+            return Err(io::Error::from(ErrorKind::Other));
+        }
+        let count = self.left.min(buffer.len());
+        self.left -= count;
+        Ok(count)
+    }
+}
 
 // Takes one byte at each call. The call after so many fails, with an error or by taking none, and the next go on.
 #[derive(Drop)]
@@ -66,7 +85,19 @@ fn cut_after_each_byte(rt: HostRuntime) -> Result<(), Fail> {
     Ok(())
 }
 
-// How many races the bytes tell, or the number of their first faulty line.
+#[test]
+fn text_of_a_report(rt: HostRuntime) -> Result<(), Fail> {
+    let report = read_report(rt.alloc(), b"races 1\nrace 5 write 2 read 4\n")?;
+    assert_eq!(rt; report.races().len(), 1);
+    let race = report.races()[0];
+    assert!(rt; (race.location, race.first.place, race.second.place) == (5, 2, 4));
+    let mut text = Vec::new(rt.alloc());
+    write_report(&report, &mut Counted::new(&mut text))?;
+    assert!(rt; text.as_slice() == b"races 1\nrace 5 write 2 read 4\n".as_slice());
+    Ok(())
+}
+
+// How many races the bytes have, or the number of their first faulty line.
 fn read(alloc: Global, bytes: &[u8]) -> Result<usize, ReportFault> {
     Ok(read_report(alloc, bytes)?.races().len())
 }
@@ -175,4 +206,36 @@ fn shard_without_memory(rt: HostRuntime) -> Result<(), Fail> {
     collector.take(Back::Race(race(4, 1, 6).ok_or("no race")?))?;
     assert_eq!(rt; collector.finish().err(), Some(NoMemory));
     Ok(())
+}
+
+// The number of races in the report. Without the other promises the proofs are shorter.
+fn count_from<R: Read + Drop>(alloc: Global, reader: R) -> Result<usize, ReportRefusal> {
+    match report_from(alloc, &mut Counted::new(reader)) {
+        Ok(report) => Ok(report.races().len()),
+        Err(refusal) => Err(refusal),
+    }
+}
+
+#[test]
+fn reads_reports(rt: HostRuntime) {
+    let good: &[u8] = b"races 1\nrace 5 write 2 write 4\n";
+    assert!(rt; count_from(rt.alloc(), good) == Ok(1));
+    let bad: &[u8] = b"races 2\n";
+    assert!(rt; count_from(rt.alloc(), bad) == Err(ReportRefusal::Bad { line: 2 }));
+}
+
+#[test]
+fn limits_the_bytes_of_a_report(rt: HostRuntime) {
+    // The reader fails where more is read than shows that the report is too large.
+    let table = [
+        (MOST_BYTES - 1, true, ReportRefusal::Read),
+        (MOST_BYTES, true, ReportRefusal::Read),
+        (MOST_BYTES, false, ReportRefusal::Bad { line: 1 }),
+        (MOST_BYTES + 1, true, ReportRefusal::TooLarge),
+        (MOST_BYTES + 4096, true, ReportRefusal::TooLarge),
+    ];
+    for (left, fails, want) in table {
+        let found = count_from(rt.alloc(), Large { left, fails });
+        assert!(rt; found == Err(want), "{left}");
+    }
 }

@@ -1,6 +1,6 @@
 -- How readings that stand on one another end.
 use Rattle.std.proofs.Common.{◌≡◌, ℕ, List, Result, Ok, Err, subst}
-use Rattle.trace.specs.declared.records.Record.{Record}
+use Rattle.dag.specs.declared.records.Record.{Record}
 use Rattle.trace.specs.declared.faults.Fault.{Fault}
 use Rattle.trace.specs.Devices.{Change}
 use Rattle.trace.specs.Endings.{OfTrace, IsRefused, EndsReading}
@@ -14,7 +14,7 @@ module _ {T : Type 0} (IsWant : Fault → Type 0) (records depths : ℕ) (c : Ch
   refusal_of f is = let P : Result T Fault → Type 0 = EndsReading IsWant records depths c Says in subst P is ends
 
 -- more may be wanting, and other things are said of the same trace
-pub ends_with : {T : Type 0} (A B : Fault → Type 0) (records depths : ℕ) (c : Change) (Says Tells : T → List Record → Type 0) (r : Result T Fault) → ((f : Fault) → A f → B f) → ((answer : T) (w : List Record) → Says answer w → Tells answer w)
-    → EndsReading A records depths c Says r → EndsReading B records depths c Tells r
-ends_with A B records depths c Says Tells (Ok answer) more tells ends = record { trace = ends.trace; read = ends.read; says = tells answer ends.trace ends.says }
-ends_with A B records depths c Says Tells (Err f) more tells ends = refused_also A B more records depths c f ends
+pub ends_with : {T : Type 0} (A B : Fault → Type 0) (records depths : ℕ) (c : Change) (Says Also : T → List Record → Type 0) (r : Result T Fault) → ((f : Fault) → A f → B f) → ((answer : T) (w : List Record) → Says answer w → Also answer w)
+    → EndsReading A records depths c Says r → EndsReading B records depths c Also r
+ends_with A B records depths c Says Also (Ok answer) more also ends = record { trace = ends.trace; read = ends.read; says = also answer ends.trace ends.says }
+ends_with A B records depths c Says Also (Err f) more also ends = refused_also A B more records depths c f ends

@@ -4,15 +4,15 @@ use Rattle.std.specs.List.{AllByRecursion}
 use Rattle.std.proofs.lemmas.Bool.{cases_eq, cases_Bool, cond-false, eqb-true}
 use Rattle.std.proofs.lemmas.List.Sums.{fold-append}
 use Rattle.std.proofs.lemmas.List.{append-nil}
-use Rattle.shard.specs.declared.Back.{Back}
-use Rattle.shard.specs.declared.Back.TheVariants.{Race, NoMemory}
+use Rattle.dag.specs.declared.back.Back.{Back}
+use Rattle.dag.specs.declared.back.Back.TheVariants.{Race, NoMemory}
 use Rattle.lane.specs.declared.item.Item.{Item}
 use Rattle.lane.specs.declared.item.Item.TheVariants.{One, Finish}
 use Rattle.lane.specs.Items.{records}
 use Rattle.lane.proofs.Marks.{records_one, records-finish}
-use Rattle.trace.specs.Accesses.{RaceAt}
-use Rattle.trace.proofs.Lists.{all-front, all-last}
-use Rattle.collect.specs.Collected.{Kept, KeepsBest, races_of, fails, kept_after, best}
+use Rattle.dag.specs.Accesses.{RaceAt}
+use Rattle.dag.proofs.Lists.{all-front, all-last}
+use Rattle.collect.specs.Collected.{Collection, KeepsBest, races_of, fails, kept_after, best}
 use Rattle.collect.proofs.Best.{races_of-append, fails-push_race, best-push}
 use Rattle.detect.specs.Gathered.{all_given, AreAtHomeFrom, AreAtHome, Gathers}
 
@@ -156,7 +156,7 @@ best_more l lists k r lt h =
     (cases_eq (l % n) k)
     ∙ ap (λ o. kept_after l o r) (sym (best_of_lane l lists home))
 
-pub gathers-race : (lists : List (List (Item Back))) (k : ℕ) (r : RaceAt) (c c' : Kept) → k < length lists → ((g : List Back) → KeepsBest g c → KeepsBest (g ++ Race r ∷ []) c')
+pub gathers-race : (lists : List (List (Item Back))) (k : ℕ) (r : RaceAt) (c c' : Collection) → k < length lists → ((g : List Back) → KeepsBest g c → KeepsBest (g ++ Race r ∷ []) c')
     → Gathers lists false c → Gathers (set lists k (get_or lists k [] ++ One (Race r) ∷ [])) false c'
 gathers-race lists k r c c' lt taken h = record {
   none_failed = λ e. fails-race lists k r (h.none_failed refl);
@@ -169,11 +169,11 @@ gathers-race lists k r c c' lt taken h = record {
       };
 }
 
-pub gathers-finish : (lists : List (List (Item Back))) (k : ℕ) (refused : Bool) (c : Kept) → Gathers lists refused c → Gathers (set lists k (get_or lists k [] ++ Finish ∷ [])) refused c
+pub gathers-finish : (lists : List (List (Item Back))) (k : ℕ) (refused : Bool) (c : Collection) → Gathers lists refused c → Gathers (set lists k (get_or lists k [] ++ Finish ∷ [])) refused c
 gathers-finish lists k refused c h = record {
   none_failed = λ e. ap fails (all_given-finish lists k) ∙ h.none_failed e;
   holds = λ e home. let P : List Back → Type 0 = λ g. KeepsBest g c in subst P (sym (all_given-finish lists k)) (h.holds e (home-set lists k Finish home));
 }
 
-pub gathers-refused : (lists : List (List (Item Back))) (c : Kept) → Gathers lists true c
+pub gathers-refused : (lists : List (List (Item Back))) (c : Collection) → Gathers lists true c
 gathers-refused lists c = record { none_failed = λ e. absurd cc; holds = λ e home. absurd cc }

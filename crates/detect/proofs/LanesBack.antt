@@ -5,15 +5,15 @@ use Rattle.std.specs.Prelude.{Vec}
 use Rattle.std.specs.Vec.{with_item}
 use Rattle.std.proofs.lemmas.List.{map-set, get_or-map, get_or-set_same, set-set, length-map}
 use Rattle.std.proofs.Math.Seq.{map-set_same, take-suc}
-use Rattle.shard.specs.declared.Back.{Back}
-use Rattle.shard.specs.declared.Back.TheVariants.{Race, NoMemory}
+use Rattle.dag.specs.declared.back.Back.{Back}
+use Rattle.dag.specs.declared.back.Back.TheVariants.{Race, NoMemory}
 use Rattle.lane.specs.declared.waiting.Waiting.{Waiting}
 use Rattle.lane.specs.declared.item.Item.{Item}
 use Rattle.lane.specs.declared.item.Item.TheVariants.{One, Finish}
 use Rattle.lane.specs.declared.taker.Taker.{Taker}
 use Rattle.lane.specs.Items.{has_mark}
 use Rattle.lane.specs.Lanes.{taker_lane, taken_of}
-use Rattle.collect.specs.Collected.{Kept, KeepsBest}
+use Rattle.collect.specs.Collected.{Collection, KeepsBest}
 use Rattle.detect.specs.declared.gathering.Gathering.{Gathering}
 use Rattle.detect.specs.Gathered.{given_by, with_items, Gathers}
 use Rattle.detect.specs.LanesBack.{IsGathered, IsFurther}
@@ -38,7 +38,7 @@ marks_stay (xs ∷ lists) (suc k) zero ys h = h
 marks_stay (xs ∷ lists) (suc k) (suc j) ys h = marks_stay lists k j ys h
 
 -- items were taken, and perhaps given to the collector
-further_some : (old : Gathering) (k : ℕ) (s t : Taker Back) (xs : List (Item Back)) (refused : Bool) (collector : Kept) (waiting : Waiting) → k < length old.backs.items → s ≡ get_or old.backs.items k s → taker_lane t ≡ taker_lane s → taken_of t ≡ taken_of s ++ xs
+further_some : (old : Gathering) (k : ℕ) (s t : Taker Back) (xs : List (Item Back)) (refused : Bool) (collector : Collection) (waiting : Waiting) → k < length old.backs.items → s ≡ get_or old.backs.items k s → taker_lane t ≡ taker_lane s → taken_of t ≡ taken_of s ++ xs
     → (IsGathered old → Gathers (with_items (given_by old.backs.items) k xs) refused collector)
     → IsFurther old (record { backs = with_item old.backs k t; collector = collector; refused = refused; waiting = waiting })
 further_some old k s t xs refused collector waiting lt at lane more gathers =
@@ -54,7 +54,7 @@ further_some old k s t xs refused collector waiting lt at lane more gathers =
     }
 
 -- a race or the news of a refused growth came
-pub gathers_one : (lists : List (List (Item Back))) (k : ℕ) (back : Back) (refused refused' : Bool) (c c' : Kept) → k < length lists
+pub gathers_one : (lists : List (List (Item Back))) (k : ℕ) (back : Back) (refused refused' : Bool) (c c' : Collection) → k < length lists
     → (IsFalse refused' → IsFalse refused × ((g : List Back) → KeepsBest g c → KeepsBest (g ++ back ∷ []) c')) → (back ≡ NoMemory → refused' ≡ true)
     → Gathers lists refused c → Gathers (set lists k (get_or lists k [] ++ One back ∷ [])) refused' c'
 gathers_one lists k back refused true c c' lt given none h = gathers-refused (set lists k (get_or lists k [] ++ One back ∷ [])) c'
@@ -65,14 +65,14 @@ gathers_one lists k (Race r) refused false c c' lt given none h =
     gathers-race lists k r c c' lt now.1 (subst P now.0 h)
 
 -- the same, of an item that came
-pub gathers_item : (lists : List (List (Item Back))) (k : ℕ) (x : Item Back) (back : Back) (refused refused' : Bool) (c c' : Kept) → x ≡ One back → k < length lists
+pub gathers_item : (lists : List (List (Item Back))) (k : ℕ) (x : Item Back) (back : Back) (refused refused' : Bool) (c c' : Collection) → x ≡ One back → k < length lists
     → (IsFalse refused' → IsFalse refused × ((g : List Back) → KeepsBest g c → KeepsBest (g ++ back ∷ []) c')) → (back ≡ NoMemory → refused' ≡ true)
     → Gathers lists refused c → Gathers (set lists k (get_or lists k [] ++ x ∷ [])) refused' c'
 gathers_item lists k x back refused refused' c c' is lt given none h =
     let P : Item Back → Type 0 = λ y. Gathers (set lists k (get_or lists k [] ++ y ∷ [])) refused' c' in
     subst P (sym is) (gathers_one lists k back refused refused' c c' lt given none h)
 
-pub gathers_mark : (lists : List (List (Item Back))) (k : ℕ) (x : Item Back) (refused : Bool) (c : Kept) → x ≡ Finish → Gathers lists refused c → Gathers (set lists k (get_or lists k [] ++ x ∷ [])) refused c
+pub gathers_mark : (lists : List (List (Item Back))) (k : ℕ) (x : Item Back) (refused : Bool) (c : Collection) → x ≡ Finish → Gathers lists refused c → Gathers (set lists k (get_or lists k [] ++ x ∷ [])) refused c
 gathers_mark lists k x refused c is h =
     let P : Item Back → Type 0 = λ y. Gathers (set lists k (get_or lists k [] ++ y ∷ [])) refused c in
     subst P (sym is) (gathers-finish lists k refused c h)
@@ -99,10 +99,10 @@ within_items : (lists : List (List (Item Back))) (k : ℕ) (xs : List (Item Back
 within_items lists k xs lt = let e : length (with_items lists k xs) ≡ length lists = length-set lists k (get_or lists k [] ++ xs) in omega (arith, lt, e)
 
 -- the collector was given what the lanes gave before, and these are items more of a lane
-abbrev pub Continues : Bool → Kept → Bool → Kept → List (Item Back) → Type 0
+abbrev pub Continues : Bool → Collection → Bool → Collection → List (Item Back) → Type 0
 Continues refused c refused' c' xs = (lists : List (List (Item Back))) (k : ℕ) → k < length lists → Gathers lists refused c → Gathers (with_items lists k xs) refused' c'
 
-pub continues_next : (refused now next : Bool) (c d e : Kept) (items : List (Item Back)) (i : ℕ) (x : Item Back) → x ≡ slice_index_or items i x → i < length items → Continues refused c now d (take i items)
+pub continues_next : (refused now next : Bool) (c d e : Collection) (items : List (Item Back)) (i : ℕ) (x : Item Back) → x ≡ slice_index_or items i x → i < length items → Continues refused c now d (take i items)
     → Continues now d next e (x ∷ []) → Continues refused c next e (take (i + 1) items)
 continues_next refused now next c d e items i x is within before step lists k lt h =
     let P : List (List (Item Back)) → Type 0 = λ ls. Gathers ls next e in

@@ -1,102 +1,21 @@
--- The report of a part, from the races found in its records by their numbers.
-use Rattle.std.proofs.Common.{◌≡◌, ℕ, ◌%◌, ◌↔◌, Bool, true, eqb, filter, List, [], ◌∷◌, map, Result, Ok, Err, inl, inr, ⊎_elim, sym, ap, subst, ◌∙◌}
-use Rattle.std.specs.List.{AllByRecursion}
-use Rattle.std.proofs.lemmas.Bool.{cases_Bool, cond-true, cond-false, eq-eqb, eqb-true}
-use Rattle.trace.specs.declared.records.Record.{Record}
-use Rattle.trace.specs.declared.records.Version.{Version}
-use Rattle.trace.specs.declared.records.Placed.{Placed}
-use Rattle.trace.specs.declared.records.Part.{Part}
+-- The answer of a run for a part, from that of its numbers; and of the whole, from that of a part.
+use Rattle.std.proofs.Common.{◌≡◌, ℕ, List, map, Result, Ok, Err, subst, sym, ◌∙◌}
+use Rattle.dag.specs.declared.records.Record.{Record}
+use Rattle.dag.specs.declared.records.Placed.{Placed}
+use Rattle.dag.specs.declared.part.Part.{Part}
 use Rattle.trace.specs.declared.faults.Fault.{Fault}
-use Rattle.trace.specs.Accesses.{RaceAt}
+use Rattle.dag.specs.Accesses.{RaceAt}
 use Rattle.trace.specs.Devices.{Device, Change, ◌⇝◌}
 use Rattle.trace.specs.Endings.{OfTrace, EndsReading}
-use Rattle.trace.specs.Traces.{placed, IsWellNested}
-use Rattle.trace.specs.Text.{AllFit}
-use Rattle.trace.specs.Parts.{records_of, races_of_part}
-use Rattle.trace.proofs.Once.{In, In_from, Contains_from}
-use Rattle.shadow.specs.Found.{start, found, by_location, verdict}
-use Rattle.shadow.proofs.FoundLaws.{found_from-apart}
-use Rattle.shadow.proofs.Listed.{All-by_location}
-use Rattle.shadow.proofs.Headlines.{racy}
-use Rattle.shadow.proofs.Parted.{HasFit, found-part, fit-found}
-use Rattle.shadow.proofs.PartListed.{located-by_location, filter-by_location}
-use Rattle.collect.specs.Located.{located_at, HaveLocations}
-use Rattle.detect.specs.Racy.{HasRace, HasLocation}
-use Rattle.detect.specs.Reported.{IsPartReportOf}
+use Rattle.dag.specs.Traces.{placed, IsWellNested}
+use Rattle.shadow.specs.Found.{verdict}
+use Rattle.collect.specs.Located.{located_at}
+use Rattle.serial.proofs.Detected.{report_of}
+use Rattle.serial.proofs.PartRecords.{records_of-whole, races_of-whole}
+use Rattle.serial.proofs.PartReports.{part_report}
 use Rattle.detect.specs.declared.sharded.Run.{Run}
 use Rattle.detect.specs.RunReports.{RunAnswers, RunAnswersPart, TookSharesOf}
 use Rattle.detect.specs.RunFinds.{RunFindsPart}
-use Rattle.detect.proofs.Detected.{report_of}
-use Rattle.detect.proofs.PartRecords.{records_of-whole, races_of-whole}
-
-abbrev is_own : Part → RaceAt → Bool
-is_own part r = eqb (r.location % part.count) part.index
-
--- ---- what a filter keeps
-
-all-filter : (P : RaceAt → Type 0) (p : RaceAt → Bool) (rs : List RaceAt) → AllByRecursion P rs → AllByRecursion P (filter p rs)
-all-filter P p [] a = tt
-all-filter P p (r ∷ rs) a = ⊎_elim
-    (λ e. subst (AllByRecursion P) (sym (cond-true (p r) _ _ e)) (a.0, all-filter P p rs a.1))
-    (λ e. subst (AllByRecursion P) (sym (cond-false (p r) _ _ e)) (all-filter P p rs a.1))
-    (cases_Bool (p r))
-
-into-filter : (p : RaceAt → Bool) (x : RaceAt) (rs : List RaceAt) → In x rs → p x ≡ true → In x (filter p rs)
-into-filter p x [] h t = absurd h
-into-filter p x (r ∷ rs) (inl e) t = subst (In x) (sym (cond-true (p r) _ _ (ap p e ∙ t))) (inl e)
-into-filter p x (r ∷ rs) (inr h) t = ⊎_elim
-    (λ e. subst (In x) (sym (cond-true (p r) _ _ e)) (inr (into-filter p x rs h t)))
-    (λ e. subst (In x) (sym (cond-false (p r) _ _ e)) (into-filter p x rs h t))
-    (cases_Bool (p r))
-
-of-filter : (p : RaceAt → Bool) (x : RaceAt) (rs : List RaceAt) → In x (filter p rs) → In x rs × (p x ≡ true)
-of-filter p x [] h = absurd h
-of-filter p x (r ∷ rs) h = ⊎_elim
-    (λ e. ⊎_elim
-    (λ same. (inl same, sym (ap p same) ∙ e))
-    (λ later. let o = of-filter p x rs later in (inr o.0, o.1))
-    (subst (In x) (cond-true (p r) _ _ e) h))
-    (λ e. let o = of-filter p x rs (subst (In x) (cond-false (p r) _ _ e) h) in (inr o.0, o.1))
-    (cases_Bool (p r))
-
--- ---- the races of a part
-
--- the locations of a part's races that are racy
-pub racy_in_part : (part : Part) (w : List Record) {records depths : ℕ} → IsWellNested w records depths → (l : ℕ) → HasLocation (races_of_part part (verdict w)) l ↔ (HasRace w l × (l % part.count ≡ part.index))
-racy_in_part part w nested l = (
-  (λ h.
-      let o = of-filter (is_own part) h.0 (verdict w) (In_from _ h.0 h.1) in
-      let P : ℕ → Type 0 = λ m. m % part.count ≡ part.index in
-      ((racy w nested l).1 (h.0, Contains_from (verdict w) h.0 o.0, h.2), subst P h.2 (eqb-true (h.0.location % part.count) part.index o.1))),
-  (λ h.
-      let t = (racy w nested l).0 h.0 in
-      let P : ℕ → Type 0 = λ m. m % part.count ≡ part.index in
-      (t.0, Contains_from _ t.0 (into-filter (is_own part) t.0 (verdict w) (In_from (verdict w) t.0 t.1) (eq-eqb (t.0.location % part.count) part.index (subst P (sym t.2) h.1))), t.2)),
-)
-
--- the races found by their numbers, at their locations
-at_locations : (part : Part) (w : List Record) (rs : List RaceAt) → rs ≡ by_location (found (records_of part (placed w))) → map (located_at part) rs ≡ races_of_part part (verdict w)
-at_locations part w rs is =
-    ap (map (located_at part)) is
-    ∙ located-by_location part (found (records_of part (placed w)))
-    ∙ ap by_location (found-part part (placed w))
-    ∙ sym (filter-by_location (is_own part) (found (placed w)) (found_from-apart start (placed w)))
-
-have_locations : (part : Part) (rs : List RaceAt) → AllByRecursion HasFit (map (located_at part) rs) → HaveLocations part rs
-have_locations part [] a = tt
-have_locations part (r ∷ rs) a = (a.0, have_locations part rs a.1)
-
-pub fit_part : (part : Part) (v : Version) (w : List Record) (rs : List RaceAt) → AllFit v w → rs ≡ by_location (found (records_of part (placed w))) → HaveLocations part rs
-fit_part part v w rs fits is =
-    have_locations part rs (subst (AllByRecursion HasFit) (sym (at_locations part w rs is)) (all-filter HasFit (is_own part) (verdict w) (All-by_location HasFit (found (placed w)) (fit-found v w fits))))
-
-pub part_report : (part : Part) (w : List Record) {records depths : ℕ} (rs report : List RaceAt) → IsWellNested w records depths → rs ≡ by_location (found (records_of part (placed w))) → report ≡ map (located_at part) rs → IsPartReportOf part w report
-part_report part w rs report nested is moved =
-    let all = moved ∙ at_locations part w rs is in
-    let P : List RaceAt → Type 0 = λ xs. (l : ℕ) → HasLocation xs l ↔ (HasRace w l × (l % part.count ≡ part.index)) in
-    record { is_part = all; racy = subst P (sym all) (racy_in_part part w nested) }
-
--- ---- runs
 
 -- the report of the whole
 pub whole_answers : (part : Part) (n : ℕ) (w : List Record) {records depths : ℕ} (run : Run) → part.count ≡ 1 → IsWellNested w records depths → RunAnswersPart part n run w → RunAnswers n run w

@@ -39,11 +39,22 @@ module _ {S H : Type 0} where
   -- one worker's ends were compared
   pub same_set : (all now : List (Worked S H)) (k : ℕ) (w v : Worked S H) → w ≡ get_or now k w → taken_of v.taker ≡ taken_of w.taker → taker_lane v.taker ≡ taker_lane w.taker → all_put v.back ≡ all_put w.back → end_lane v.back ≡ end_lane w.back → v.shard ≡ w.shard
       → IsSameWork all now → IsSameWork all (set now k v)
-  same_set all now k w v at taken taker_lane_is told end_lane_is shard h = record {
+  same_set all now k w v at taken taker_lane_is backs end_lane_is shard h = record {
     count = length-set now k v ∙ h.count;
     taken = map-set_same (λ (x : Worked S H). taken_of x.taker) now k v w (taken ∙ ap (λ (x : Worked S H). taken_of x.taker) at) ∙ h.taken;
-    told = map-set_same (λ (x : Worked S H). all_put x.back) now k v w (told ∙ ap (λ (x : Worked S H). all_put x.back) at) ∙ h.told;
+    backs = map-set_same (λ (x : Worked S H). all_put x.back) now k v w (backs ∙ ap (λ (x : Worked S H). all_put x.back) at) ∙ h.backs;
     counts = map-set_same (λ (x : Worked S H). x.shard.taken) now k v w (ap (λ s. s.taken) shard ∙ ap (λ (x : Worked S H). x.shard.taken) at) ∙ h.counts;
     to_shards = map-set_same (λ (x : Worked S H). taker_lane x.taker) now k v w (taker_lane_is ∙ ap (λ (x : Worked S H). taker_lane x.taker) at) ∙ h.to_shards;
     from_shards = map-set_same (λ (x : Worked S H). end_lane x.back) now k v w (end_lane_is ∙ ap (λ (x : Worked S H). end_lane x.back) at) ∙ h.from_shards;
+  }
+
+  -- the same work twice over
+  pub same_work_trans : (a b c : List (Worked S H)) → IsSameWork a b → IsSameWork b c → IsSameWork a c
+  same_work_trans a b c h k = record {
+    count = k.count ∙ h.count;
+    taken = k.taken ∙ h.taken;
+    backs = k.backs ∙ h.backs;
+    counts = k.counts ∙ h.counts;
+    to_shards = k.to_shards ∙ h.to_shards;
+    from_shards = k.from_shards ∙ h.from_shards;
   }

@@ -1,11 +1,11 @@
 -- How a run's end is answered.
 use Rattle.std.proofs.Common.{◌≡◌, ℕ, List, Bool, true, false, IsTrue, IsFalse, Result, Ok, Err, OnOk, IsErrAnd, inl, refl, sym, subst, ◌∙◌}
-use Rattle.trace.specs.declared.records.Record.{Record}
-use Rattle.trace.specs.declared.records.Part.{Part}
+use Rattle.dag.specs.declared.records.Record.{Record}
+use Rattle.dag.specs.declared.part.Part.{Part}
 use Rattle.trace.specs.declared.faults.Fault.{Fault}
 use Rattle.trace.specs.declared.faults.Fault.TheVariants.{NoMemory}
-use Rattle.trace.specs.Traces.{placed}
-use Rattle.trace.specs.Parts.{records_of}
+use Rattle.dag.specs.Traces.{placed}
+use Rattle.dag.specs.Parts.{records_of}
 use Rattle.trace.specs.Devices.{Device, Change, ◌⇝◌}
 use Rattle.trace.specs.Endings.{OfTrace, IsRefused, EndsReading, IsWantOfMemoryOrThread}
 use Rattle.trace.proofs.Endings.{ends_refused, refused_for_want}
@@ -20,6 +20,13 @@ same_err r a b p q = let e = sym p ∙ q in cc
 
 not_both : (r : Result (Unit {0}) Fault) (v : Unit {0}) (e : Fault) → r ≡ Ok v → r ≡ Err e → ⊥
 not_both r v e p q = let x = sym p ∙ q in absurd cc
+
+-- why there is no answer, of the same refusal and the same outcome
+pub trouble_of : (b refused : Bool) (o outcome r : Result (Unit {0}) Fault) → b ≡ refused → o ≡ outcome → (IsTrue b → r ≡ Err NoMemory) → (IsFalse b → r ≡ o) → (IsTrue refused → r ≡ Err NoMemory) × (IsFalse refused → r ≡ outcome)
+trouble_of b refused o outcome r same is memory none =
+    let P : Bool → Type 0 = λ x. IsTrue x → r ≡ Err NoMemory in
+    let Q : Bool → Type 0 = λ x. IsFalse x → r ≡ o in
+    (subst P same memory, λ f. subst Q same none f ∙ is)
 
 -- nothing was refused, and the trace was read whole
 good_outcome : (refused : Bool) (outcome r : Result (Unit {0}) Fault) (v : Unit {0}) → r ≡ Ok v → (IsTrue refused → r ≡ Err NoMemory) → (IsFalse refused → r ≡ outcome) → (refused ≡ false) × (outcome ≡ Ok v)

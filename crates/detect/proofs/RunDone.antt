@@ -3,12 +3,12 @@ use Rattle.std.proofs.Common.{◌≡◌, ℕ, ◌<◌, List, length, map, vec_le
 use Rattle.std.proofs.lemmas.List.{length-map}
 use Rattle.std.proofs.lemmas.Simd.{map-map}
 use Rattle.std.specs.declared.thread.PromisedHandle.{PromisedHandle}
-use Rattle.trace.specs.declared.records.Placed.{Placed}
-use Rattle.trace.specs.declared.records.Part.{Part}
+use Rattle.dag.specs.declared.records.Placed.{Placed}
+use Rattle.dag.specs.declared.part.Part.{Part}
 use Rattle.trace.specs.declared.faults.Fault.{Fault}
 use Rattle.trace.specs.declared.faults.Fault.TheVariants.{NoThread}
-use Rattle.trace.specs.Traces.{placed}
-use Rattle.trace.specs.Parts.{records_of}
+use Rattle.dag.specs.Traces.{placed}
+use Rattle.dag.specs.Parts.{records_of}
 use Rattle.trace.specs.Devices.{Device, Change, ◌⇝◌}
 use Rattle.trace.specs.Endings.{EndsReading, IsWantOfMemory, IsWantOfMemoryOrThread}
 use Rattle.trace.proofs.Endings.{refused_for_want}
@@ -17,10 +17,10 @@ use Rattle.lane.specs.Lanes.{LaneId, taker_lane, taken_of}
 use Rattle.route.specs.declared.router.Router.{Router}
 use Rattle.route.specs.Routers.{lane_count, pending_of, marked_of, HasSent, IsOnLanes}
 use Rattle.shard.specs.declared.working.Worked.{Worked}
-use Rattle.detect.specs.declared.jobs.WorkOf.{WorkOf}
-use Rattle.detect.specs.declared.making.Made.{Made}
+use Rattle.detect.specs.declared.workers.WorkOf.{WorkOf}
+use Rattle.detect.specs.declared.setup.Made.{Made}
 use Rattle.detect.specs.declared.closing.Done.{Done}
-use Rattle.detect.specs.declared.making.Lists.{Lists}
+use Rattle.detect.specs.declared.setup.Lists.{Lists}
 use Rattle.detect.specs.Rooms.{HasRoom}
 use Rattle.detect.specs.LanesBack.{HasBackMark, IsFurther}
 use Rattle.detect.specs.Workers.{job_lanes, handle_lanes, AllDid}
@@ -33,7 +33,7 @@ use Rattle.detect.proofs.Receipts.{front_same, front_map}
 use Rattle.detect.proofs.Endings.{ends_with}
 use Rattle.detect.proofs.Sendings.{on_lanes_trans}
 use Rattle.detect.proofs.LanesBack.{further_trans}
-use Rattle.detect.proofs.RunEnds.{did_count, did_taker_lanes, did_told_lanes}
+use Rattle.detect.proofs.RunEnds.{did_count, did_taker_lanes, did_given_lanes}
 
 module _ {S H : Type 0} where
   pub finished : (n : ℕ) (made : Made S H) (done : Done S H) (router : Router) (hs : List (PromisedHandle (Worked S H) WorkOf)) (u : List Placed)
@@ -69,7 +69,7 @@ module _ {S H : Type 0} where
       record {
         marked = marked;
         to_shards = front_same _ _ _ _ (did_taker_lanes (map handle_lanes hs) done.workers.items did) (on.lanes ∙ sym ready.to_shards_are ∙ sym (map-map to_shard job_lanes made.jobs.items)) (front_map to_shard _ _ first);
-        from_shards = front_same _ _ _ _ (did_told_lanes (map handle_lanes hs) done.workers.items did) (further.lanes ∙ sym ready.from_shards_are ∙ sym (map-map from_shard job_lanes made.jobs.items)) (front_map from_shard _ _ first);
+        from_shards = front_same _ _ _ _ (did_given_lanes (map handle_lanes hs) done.workers.items did) (further.lanes ∙ sym ready.from_shards_are ∙ sym (map-map from_shard job_lanes made.jobs.items)) (front_map from_shard _ _ first);
       }
 
   -- no worker could be started

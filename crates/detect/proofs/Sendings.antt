@@ -1,8 +1,8 @@
 -- Sending one record, step by step.
 use Rattle.std.proofs.Common.{◌≡◌, List, [], ◌∷◌, ◌++◌, Option, Some, None, refl, sym, subst, ◌∙◌}
-use Rattle.trace.specs.declared.records.Placed.{Placed}
-use Rattle.trace.specs.declared.records.Part.{Part}
-use Rattle.trace.specs.Parts.{records_of}
+use Rattle.dag.specs.declared.records.Placed.{Placed}
+use Rattle.dag.specs.declared.part.Part.{Part}
+use Rattle.dag.specs.Parts.{records_of}
 use Rattle.route.specs.declared.router.Router.{Router}
 use Rattle.route.specs.Sending.{sent_whole}
 use Rattle.route.specs.Routers.{HasSent, IsOnLanes}

@@ -3,19 +3,19 @@ use Rattle.std.proofs.Common.{◌≡◌, ℕ, ◌+◌, false, List, [], ◌∷�
 use Rattle.std.specs.List.{All, AllByRecursion}
 use Rattle.std.proofs.lemmas.List.{map-append}
 use Rattle.std.proofs.lemmas.List.Elements.{All-push, All-nil}
-use Rattle.trace.specs.declared.records.Placed.{Placed}
-use Rattle.trace.proofs.Lists.{all-push}
+use Rattle.dag.specs.declared.records.Placed.{Placed}
+use Rattle.dag.proofs.Lists.{all-push}
 use Rattle.lane.specs.declared.sender.Sender.{Sender}
 use Rattle.lane.specs.declared.taker.Taker.{Taker}
 use Rattle.lane.specs.Lanes.{lane_of, put_of, taker_lane, taken_of}
 use Rattle.lane.specs.declared.item.Item.{Item}
 use Rattle.lane.specs.Items.{records}
-use Rattle.shard.specs.declared.Back.{Back}
-use Rattle.shard.specs.Backs.{fails}
-use Rattle.collect.specs.Collected.{Kept, KeepsBest}
+use Rattle.dag.specs.declared.back.Back.{Back}
+use Rattle.dag.specs.Backs.{fails}
+use Rattle.collect.specs.Collected.{Collection, KeepsBest}
 use Rattle.detect.specs.Gathered.{given_by, all_given, Gathers}
-use Rattle.detect.specs.declared.jobs.Job.{Job}
-use Rattle.detect.specs.declared.making.Ends.{Ends}
+use Rattle.detect.specs.declared.workers.Job.{Job}
+use Rattle.detect.specs.declared.setup.LaneEnds.{LaneEnds}
 use Rattle.detect.specs.Workers.{IsFreshJob, AllFresh, to_shards, from_shards}
 use Rattle.detect.specs.Readiness.{IsBetween, IsTied}
 
@@ -32,14 +32,14 @@ none_given : (backs : List (Taker Back)) → AllByRecursion (λ t. taken_of t �
 none_given [] h = refl
 none_given (t ∷ backs) h = ap₂ (λ (l : List (Item Back)) (g : List Back). records l ++ g) h.0 (none_given backs h.1)
 
-pub nothing_gathered : (backs : List (Taker Back)) (c : Kept) → AllByRecursion (λ t. taken_of t ≡ []) backs → KeepsBest [] c → Gathers (given_by backs) false c
+pub nothing_gathered : (backs : List (Taker Back)) (c : Collection) → AllByRecursion (λ t. taken_of t ≡ []) backs → KeepsBest [] c → Gathers (given_by backs) false c
 nothing_gathered backs c none holds = record {
   none_failed = λ e. ap fails (none_given backs none);
   holds = λ e home. let P : List Back → Type 0 = λ g. KeepsBest g c in subst P (sym (none_given backs none)) holds;
 }
 
 module _ {S H : Type 0} where
-  pub tied_none : (ends : Ends S H) → ends.senders.items ≡ [] → ends.jobs.items ≡ [] → ends.backs.items ≡ [] → IsTied 0 ends
+  pub tied_none : (ends : LaneEnds S H) → ends.senders.items ≡ [] → ends.jobs.items ≡ [] → ends.backs.items ≡ [] → IsTied 0 ends
   tied_none ends senders jobs backs =
       let P : List (Job S H) → Type 0 = AllFresh in
       let Q : List (Sender Placed) → Type 0 = All (λ s. put_of s ≡ []) in
@@ -55,7 +55,7 @@ module _ {S H : Type 0} where
         none_taken = subst R (sym backs) tt;
       }
 
-  pub tied_more : (n : ℕ) (old new : Ends S H) (sender : Sender Placed) (job : Job S H) (back : Taker Back)
+  pub tied_more : (n : ℕ) (old new : LaneEnds S H) (sender : Sender Placed) (job : Job S H) (back : Taker Back)
       → new.senders.items ≡ old.senders.items ++ sender ∷ [] → new.jobs.items ≡ old.jobs.items ++ job ∷ [] → new.backs.items ≡ old.backs.items ++ back ∷ []
       → IsBetween sender back job → IsTied n old → IsTied (n + 1) new
   tied_more n old new sender job back senders jobs backs between h =

@@ -4,19 +4,19 @@ use Rattle.std.specs.List.{AllByRecursion}
 use Rattle.std.proofs.lemmas.Bool.{cases_Bool, cond-true, cond-false, eqb-true}
 use Rattle.std.proofs.lemmas.Bool.Decides.{nat_tests}
 use Rattle.std.proofs.Math.Nat.{mod-lt}
-use Rattle.shard.specs.declared.Back.{Back}
+use Rattle.dag.specs.declared.back.Back.{Back}
 use Rattle.lane.specs.declared.item.Item.{Item}
-use Rattle.trace.specs.declared.records.Placed.{Placed}
-use Rattle.trace.specs.Accesses.{RaceAt}
-use Rattle.trace.specs.Shares.{share}
+use Rattle.dag.specs.declared.records.Placed.{Placed}
+use Rattle.dag.specs.Accesses.{RaceAt}
+use Rattle.dag.specs.Shares.{share}
 use Rattle.shadow.specs.Found.{start, found, put_in, by_location}
 use Rattle.shadow.proofs.FoundLaws.{found_from-apart}
 use Rattle.shadow.proofs.Sharing.{of_shard, found-share}
-use Rattle.collect.specs.Collected.{Kept, KeepsBest, IsCollected, races_of, kept_after, best}
+use Rattle.collect.specs.Collected.{Collection, KeepsBest, IsCollected, races_of, kept_after, best}
 use Rattle.collect.proofs.Sorted.{collected_is_sorted}
 use Rattle.detect.specs.Gathered.{all_given, AreAtHomeFrom, AreAtHome, Gathers}
 use Rattle.detect.proofs.Gathered.{on_lane, best_of_lane, other_location}
-use Rattle.detect.proofs.Detected.{apart}
+use Rattle.serial.proofs.Detected.{apart}
 
 home-filter : (n k : ℕ) (rs : List RaceAt) → AllByRecursion (λ r. r.location % n ≡ k) (filter (of_shard k n) rs)
 home-filter n k [] = tt
@@ -52,7 +52,7 @@ best_filtered l n o (r ∷ rs) = ⊎_elim
     not_here e same = let P : ℕ → Type 0 = λ m. eqb m (l % n) ≡ false in absurd (eqb-itself (l % n) (subst P same e))
 
 -- what the shards handed back, lane by lane, is the verdict by its locations
-pub verdict_of_shares : (n : ℕ) (lists : List (List (Item Back))) (w : List Placed) (c : Kept) (rs : List RaceAt) → 0 < n → length lists ≡ n
+pub verdict_of_shares : (n : ℕ) (lists : List (List (Item Back))) (w : List Placed) (c : Collection) (rs : List RaceAt) → 0 < n → length lists ≡ n
     → ((k : ℕ) → k < n → races_of (on_lane lists k) ≡ found (share k n w)) → Gathers lists false c → ((g : List Back) → KeepsBest g c → IsCollected g rs) → rs ≡ by_location (found w)
 verdict_of_shares n lists w c rs some len each gathers collected =
     let portions : (k : ℕ) → k < n → races_of (on_lane lists k) ≡ filter (of_shard k n) (found w) = λ k lt. each k lt ∙ found-share k n w in

@@ -2,14 +2,14 @@
 use Rattle.std.proofs.Common.{◌≡◌, ℕ, List, [], ◌∷◌, ◌++◌, map, refl, sym, ap, ap₂, subst, ◌∙◌, append_assoc}
 use Rattle.std.proofs.lemmas.List.{map-append, append-nil}
 use Rattle.std.specs.declared.thread.PromisedHandle.{PromisedHandle}
-use Rattle.trace.specs.declared.records.Placed.{Placed}
+use Rattle.dag.specs.declared.records.Placed.{Placed}
 use Rattle.lane.specs.declared.taker.Taker.{Taker}
 use Rattle.lane.specs.Items.{IsBeginning}
 use Rattle.lane.specs.Lanes.{LaneId, taken_of}
 use Rattle.shard.specs.declared.working.Worked.{Worked}
 use Rattle.shard.specs.Worked.{DidWork}
-use Rattle.detect.specs.declared.jobs.Job.{Job}
-use Rattle.detect.specs.declared.jobs.WorkOf.{WorkOf}
+use Rattle.detect.specs.declared.workers.Job.{Job}
+use Rattle.detect.specs.declared.workers.WorkOf.{WorkOf}
 use Rattle.detect.specs.Workers.{job_lanes, handle_lanes, DidOn, AllDid}
 use Rattle.detect.specs.Closing.{taken_by, counts_of}
 

@@ -1,10 +1,10 @@
 -- Private: what the workers and the receipts say, lane by lane.
 use Rattle.std.specs.Prelude.{◌≡◌, ℕ, true, List, [], length, map, slice_index_or}
-use Rattle.trace.specs.declared.records.Placed.{Placed}
+use Rattle.dag.specs.declared.records.Placed.{Placed}
 use Rattle.lane.specs.declared.item.Item.{Item}
 use Rattle.lane.specs.Items.{has_mark}
 use Rattle.lane.specs.Lanes.{LaneId, taker_lane, taken_of, end_lane, all_put}
-use Rattle.shard.specs.declared.Back.{Back}
+use Rattle.dag.specs.declared.back.Back.{Back}
 use Rattle.shard.specs.declared.working.Worked.{Worked}
 
 module _ {S H : Type 0} where
@@ -13,8 +13,8 @@ module _ {S H : Type 0} where
   taken_by workers = map (λ w. taken_of w.taker) workers
 
   -- what they put on the lanes back
-  abbrev pub told_by : List (Worked S H) → List (List (Item Back))
-  told_by workers = map (λ w. all_put w.back) workers
+  abbrev pub given_back : List (Worked S H) → List (List (Item Back))
+  given_back workers = map (λ w. all_put w.back) workers
 
   -- how many records each shard took
   abbrev pub counts_of : List (Worked S H) → List ℕ
@@ -23,17 +23,17 @@ module _ {S H : Type 0} where
   abbrev pub taker_lanes : List (Worked S H) → List LaneId
   taker_lanes workers = map (λ w. taker_lane w.taker) workers
 
-  abbrev pub told_lanes : List (Worked S H) → List LaneId
-  told_lanes workers = map (λ w. end_lane w.back) workers
+  abbrev pub given_lanes : List (Worked S H) → List LaneId
+  given_lanes workers = map (λ w. end_lane w.back) workers
 
-  -- the same was taken, told and counted, on the same lanes
+  -- the same was taken, given back and counted, on the same lanes
   pub record IsSameWork (old new : List (Worked S H)) : Type 0 where
     pub count : length new ≡ length old
     pub taken : taken_by new ≡ taken_by old
-    pub told : told_by new ≡ told_by old
+    pub backs : given_back new ≡ given_back old
     pub counts : counts_of new ≡ counts_of old
     pub to_shards : taker_lanes new ≡ taker_lanes old
-    pub from_shards : told_lanes new ≡ told_lanes old
+    pub from_shards : given_lanes new ≡ given_lanes old
 
 -- where the mark of the lane was taken, all that was put was taken
 abbrev pub IsSettled : {T : Type 0} → List (List (Item T)) → List (List (Item T)) → ℕ → Type 0

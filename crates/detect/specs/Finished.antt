@@ -1,9 +1,9 @@
 -- Private: what a run among its workers has come to.
 use Rattle.std.specs.Prelude.{◌≡◌, ℕ, ◌<◌, List, length, map, None}
-use Rattle.trace.specs.declared.records.Placed.{Placed}
-use Rattle.trace.specs.declared.records.Part.{Part}
-use Rattle.trace.specs.Traces.{placed}
-use Rattle.trace.specs.Parts.{records_of}
+use Rattle.dag.specs.declared.records.Placed.{Placed}
+use Rattle.dag.specs.declared.part.Part.{Part}
+use Rattle.dag.specs.Traces.{placed}
+use Rattle.dag.specs.Parts.{records_of}
 use Rattle.trace.specs.Devices.{Change}
 use Rattle.trace.specs.Endings.{EndsReading, IsWantOfMemoryOrThread}
 use Rattle.lane.specs.Items.{IsBeginning}
@@ -13,10 +13,10 @@ use Rattle.detect.specs.declared.closing.Done.{Done}
 use Rattle.detect.specs.Gathered.{given_by}
 use Rattle.detect.specs.LanesBack.{back_lanes, HasBackMark, IsGathered}
 use Rattle.detect.specs.Workers.{AllDid}
-use Rattle.detect.specs.Closing.{taker_lanes, told_lanes}
+use Rattle.detect.specs.Closing.{taker_lanes, given_lanes}
 
 module _ {S H : Type 0} where
-  -- the records u were sent and the marks after them; n workers have done their work, and all they told came
+  -- the records u were sent and the marks after them; n workers have done their work, and all they gave back came
   pub record IsFinished (n : ℕ) (done : Done S H) (u : List Placed) : Type 0 where
     pub sent : HasSent u done.sending.router
     pub count : lane_count done.sending.router ≡ n
@@ -35,7 +35,7 @@ module _ {S H : Type 0} where
   pub record IsClosed (done : Done S H) : Type 0 where
     pub marked : marked_of done.sending.router ≡ lane_count done.sending.router
     pub to_shards : IsBeginning (taker_lanes done.workers.items) (lanes_of done.sending.router)
-    pub from_shards : IsBeginning (told_lanes done.workers.items) (back_lanes done.sending.gathering)
+    pub from_shards : IsBeginning (given_lanes done.workers.items) (back_lanes done.sending.gathering)
 
   -- reading ended well, what the part has of the trace was sent, and all n workers ended; or the fault is why it didn't
   abbrev pub IsDone : Part → ℕ → ℕ → ℕ → Change → Done S H → Type 0

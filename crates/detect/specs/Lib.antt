@@ -1,6 +1,3 @@
-pub mod Racy
-pub mod Reported
-pub mod Detected
 pub mod Gathered
 pub mod LanesBack
 pub mod Sent

@@ -1,15 +1,15 @@
 -- Private: what a run begins with.
 use Rattle.std.specs.Prelude.{◌≡◌, ℕ, ◌≤◌, [], length, map, None, vec_len, vec_capacity}
 use Rattle.std.specs.List.{All, AllByRecursion}
-use Rattle.trace.specs.declared.records.Placed.{Placed}
+use Rattle.dag.specs.declared.records.Placed.{Placed}
 use Rattle.lane.specs.declared.sender.Sender.{Sender}
 use Rattle.lane.specs.declared.taker.Taker.{Taker}
 use Rattle.lane.specs.Lanes.{lane_of, put_of, taken_of, taker_lane}
-use Rattle.shard.specs.declared.Back.{Back}
+use Rattle.dag.specs.declared.back.Back.{Back}
 use Rattle.route.specs.Routers.{lanes_of, lane_count, pending_of, marked_of, HasSent}
-use Rattle.detect.specs.declared.jobs.Job.{Job}
-use Rattle.detect.specs.declared.making.Ends.{Ends}
-use Rattle.detect.specs.declared.making.Made.{Made}
+use Rattle.detect.specs.declared.workers.Job.{Job}
+use Rattle.detect.specs.declared.setup.LaneEnds.{LaneEnds}
+use Rattle.detect.specs.declared.setup.Made.{Made}
 use Rattle.detect.specs.LanesBack.{back_lanes, IsGathered}
 use Rattle.detect.specs.Workers.{IsFreshJob, AllFresh, to_shards, from_shards}
 
@@ -23,7 +23,7 @@ module _ {S H : Type 0} where
     pub none_taken : taken_of gatherer ≡ []
 
   -- the ends of the lanes of n shards, on which nothing was put
-  pub record IsTied (n : ℕ) (ends : Ends S H) : Type 0 where
+  pub record IsTied (n : ℕ) (ends : LaneEnds S H) : Type 0 where
     pub senders : length ends.senders.items ≡ n
     pub jobs : length ends.jobs.items ≡ n
     pub backs : length ends.backs.items ≡ n

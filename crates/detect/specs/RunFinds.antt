@@ -1,10 +1,10 @@
 -- Private: what a run has found in the records that were sent, by their own locations or by numbers in a part.
 use Rattle.std.specs.Prelude.{◌≡◌, ℕ, List}
-use Rattle.trace.specs.declared.records.Record.{Record}
-use Rattle.trace.specs.declared.records.Placed.{Placed}
-use Rattle.trace.specs.declared.records.Part.{Part}
-use Rattle.trace.specs.Traces.{placed}
-use Rattle.trace.specs.Parts.{records_of}
+use Rattle.dag.specs.declared.records.Record.{Record}
+use Rattle.dag.specs.declared.records.Placed.{Placed}
+use Rattle.dag.specs.declared.part.Part.{Part}
+use Rattle.dag.specs.Traces.{placed}
+use Rattle.dag.specs.Parts.{records_of}
 use Rattle.shadow.specs.Found.{by_location, found}
 use Rattle.detect.specs.declared.sharded.Run.{Run}
 use Rattle.detect.specs.RunReports.{TookSharesOf}

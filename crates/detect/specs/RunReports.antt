@@ -1,15 +1,15 @@
 -- Promised: what a run with shards answers.
 use Rattle.std.specs.Prelude.{◌≡◌, ℕ, ◌<◌, List, [], ◌∷◌, ◌++◌, length, map, slice_index, slice_index_or}
-use Rattle.trace.specs.declared.records.Record.{Record}
-use Rattle.trace.specs.declared.records.Placed.{Placed}
-use Rattle.trace.specs.declared.records.Part.{Part}
-use Rattle.trace.specs.Traces.{placed}
-use Rattle.trace.specs.Shares.{share}
-use Rattle.trace.specs.Parts.{records_of}
+use Rattle.dag.specs.declared.records.Record.{Record}
+use Rattle.dag.specs.declared.records.Placed.{Placed}
+use Rattle.dag.specs.declared.part.Part.{Part}
+use Rattle.dag.specs.Traces.{placed}
+use Rattle.dag.specs.Shares.{share}
+use Rattle.dag.specs.Parts.{records_of}
 use Rattle.lane.specs.declared.item.Item.TheVariants.{One, Finish}
 use Rattle.lane.specs.Lanes.{taken_of}
 use Rattle.detect.specs.declared.sharded.Run.{Run}
-use Rattle.detect.specs.Reported.{IsReportOf, IsPartReportOf}
+use Rattle.serial.specs.Reported.{IsReportOf, IsPartReportOf}
 
 -- of n shards each took its share of the records, each record once and in their order, and then the mark
 pub record TookSharesOf (n : ℕ) (u : List Placed) (run : Run) : Type 0 where

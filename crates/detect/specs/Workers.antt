@@ -1,17 +1,17 @@
 -- Private: what the workers are given, and what they have done.
 use Rattle.std.specs.Prelude.{◌≡◌, List, [], ◌∷◌, map, ⊤}
 use Rattle.std.specs.List.{AllByRecursion}
-use Rattle.trace.specs.declared.records.Placed.{Placed}
+use Rattle.dag.specs.declared.records.Placed.{Placed}
 use Rattle.lane.specs.declared.sender.Sender.{Sender}
 use Rattle.lane.specs.declared.taker.Taker.{Taker}
 use Rattle.lane.specs.Lanes.{LaneId, taker_lane, taken_of, lane_of, put_of}
 use Rattle.std.specs.declared.thread.PromisedHandle.{PromisedHandle}
-use Rattle.shard.specs.declared.Back.{Back}
+use Rattle.dag.specs.declared.back.Back.{Back}
 use Rattle.shard.specs.declared.working.Worked.{Worked}
 use Rattle.shard.specs.Shards.{IsFresh}
 use Rattle.shard.specs.Worked.{DidWork}
-use Rattle.detect.specs.declared.jobs.Job.{Job}
-use Rattle.detect.specs.declared.jobs.WorkOf.{WorkOf}
+use Rattle.detect.specs.declared.workers.Job.{Job}
+use Rattle.detect.specs.declared.workers.WorkOf.{WorkOf}
 
 module _ {S H : Type 0} where
   -- the shard is new, and nothing was taken or put

@@ -1,23 +1,27 @@
-//! The answer of a run.
-ghost use Rattle.std.specs.Prelude.{◌≡◌, ◌≤◌, ℕ, Err, OnOk, IsTrue, IsFalse, map, vec_len};
-ghost use Rattle.trace.specs.Bounds.{most_records};
-ghost use Rattle.trace.specs.declared.records.Part.{Part};
+//! The end of a run: its receipts are compared, and it is answered.
+ghost use Rattle.std.specs.Prelude.{◌≡◌, ◌<◌, ◌≤◌, ℕ, Err, OnOk, IsTrue, IsFalse, map, vec_len};
+ghost use Rattle.dag.specs.Bounds.{most_records};
+ghost use Rattle.dag.specs.declared.part.Part.{Part};
 ghost use Rattle.trace.specs.declared.faults.Fault.TheVariants.{NoMemory};
 ghost use Rattle.trace.specs.Devices.{Change};
 ghost use Rattle.trace.specs.Endings.{EndsReading, IsWantOfMemoryOrThread};
-ghost use Rattle.lane.specs.Lanes.{taken_of};
-ghost use Rattle.detect.specs.Closing.{taken_by, counts_of};
+ghost use Rattle.lane.specs.Items.{IsBeginning};
+ghost use Rattle.lane.specs.Lanes.{taken_of, end_lane, taker_lane, all_put};
+ghost use Rattle.route.specs.Routers.{puts_of};
+ghost use Rattle.detect.specs.Gathered.{given_by};
+ghost use Rattle.detect.specs.Closing.{taken_by, given_back, counts_of, taker_lanes};
+ghost use Rattle.detect.specs.Closing.{given_lanes, IsSameWork, IsSettled};
 ghost use Rattle.detect.specs.Finished.{IsClosed, IsDone};
 ghost use Rattle.detect.specs.RunFinds.{RunFindsPart};
 ghost use Rattle.detect.specs.Rooms.{HasRoom};
 
-use crate::making::Lists;
+use crate::gathering::Gathering;
 use crate::sending::Sending;
-use crate::settling::{settle_backs, settle_shards};
+use crate::setup::Lists;
 use crate::sharded::Run;
 use collect::Report;
-use lane::Taker;
-use shard::Worked;
+use lane::{End, Taker};
+use shard::{Back, Worked};
 use std::hash::BuildHasher;
 use trace::{Fault, Placed};
 
@@ -29,6 +33,14 @@ pub(crate) struct Done<S: BuildHasher + Drop> {
     pub(crate) workers: Vec<Worked<S>>,
 }
 
+/// What is left of a run once its receipts are compared.
+#[derive(Drop)]
+struct Settled<S: BuildHasher + Drop> {
+    outcome: Result<(), Fault>,
+    gathering: Gathering,
+    workers: Vec<Worked<S>>,
+}
+
 /// Compares the receipts of a run, whatever its result, and reports the races of the records that were sent.
 pub(crate) fn close<S: BuildHasher + Drop>(done: Done<S>, lists: Lists) -> Result<Run, Fault>
     requires room { OnOk done.outcome (HasRoom (vec_len done.workers) lists) }
@@ -36,6 +48,29 @@ pub(crate) fn close<S: BuildHasher + Drop>(done: Done<S>, lists: Lists) -> Resul
     ensures { (part : Part) (n records depths : ℕ) (change : Change) → 1 ≤ n → records ≤ most_records
         → IsDone part n records depths change done
         → EndsReading IsWantOfMemoryOrThread records depths change (RunFindsPart part n) result }
+{
+    let Settled {
+        outcome,
+        gathering,
+        workers,
+    } = settle(done);
+    first_trouble(gathering.refused, outcome)?;
+    let report = gathering.collector.finish()?;
+    Ok(run_of(report, workers, lists))
+}
+
+// Compares what each worker took with what the router put on its lane, and what came back with what the worker put,
+// however reading ended.
+fn settle<S: BuildHasher + Drop>(done: Done<S>) -> Settled<S>
+    requires closed { IsClosed done }
+    ensures taken { (k : ℕ) → k < vec_len done.workers
+        → IsSettled (taken_by done.workers.items) (puts_of done.sending.router) k }
+    ensures given { (k : ℕ) → k < vec_len done.workers
+        → IsSettled (given_by done.sending.gathering.backs.items) (given_back done.workers.items) k }
+    ensures same { IsSameWork done.workers.items result.workers.items }
+    ensures outcome { result.outcome ≡ done.outcome }
+    ensures refused { result.gathering.refused ≡ done.sending.gathering.refused }
+    ensures collector { result.gathering.collector ≡ done.sending.gathering.collector }
 {
     let Done {
         outcome,
@@ -50,9 +85,36 @@ pub(crate) fn close<S: BuildHasher + Drop>(done: Done<S>, lists: Lists) -> Resul
     let mut ends = router.into_ends();
     settle_shards(&mut workers, &mut ends);
     settle_backs(&mut workers, &mut gathering.backs);
-    first_trouble(gathering.refused, outcome)?;
-    let report = gathering.collector.finish()?;
-    Ok(run_of(report, workers, lists))
+    Settled {
+        outcome,
+        gathering,
+        workers,
+    }
+}
+
+// Compares the items that each worker took with the router's receipt of its lane. Each of the first lanes has a
+// worker.
+fn settle_shards<S: BuildHasher + Drop>(workers: &mut Vec<Worked<S>>, ends: &mut Vec<End<Placed>>)
+    requires { IsBeginning (taker_lanes workers.old.items) (map end_lane ends.old.items) }
+    ensures same { IsSameWork workers.old.items workers.new.items }
+    ensures settled { (k : ℕ) → k < vec_len workers.old
+        → IsSettled (taken_by workers.old.items) (map all_put ends.old.items) k }
+{
+    for shard in 0..workers.len() {
+        workers[shard].taker.settle(&mut ends[shard]);
+    }
+}
+
+// Compares the items taken from each lane back with the worker's receipt of it.
+fn settle_backs<S: BuildHasher + Drop>(workers: &mut Vec<Worked<S>>, backs: &mut Vec<Taker<Back>>)
+    requires { IsBeginning (given_lanes workers.old.items) (map taker_lane backs.old.items) }
+    ensures same { IsSameWork workers.old.items workers.new.items }
+    ensures settled { (k : ℕ) → k < vec_len workers.old
+        → IsSettled (given_by backs.old.items) (given_back workers.old.items) k }
+{
+    for shard in 0..workers.len() {
+        backs[shard].settle(&mut workers[shard].back);
+    }
 }
 
 // Want of memory comes before a refused start and before a fault of the trace.

@@ -1,8 +1,8 @@
 //! The lanes back from the shards, and the races that came over them.
 ghost use Rattle.std.specs.Prelude.{◌≡◌, ◌<◌, ◌≤◌, ◌++◌, ℕ, ◌∷◌, vec_len, length, List, [], IsTrue, IsFalse};
 ghost use Rattle.lane.specs.declared.item.Item.{Item};
-ghost use Rattle.shard.specs.declared.Back.{Back};
-ghost use Rattle.shard.specs.declared.Back.TheVariants.{NoMemory};
+ghost use Rattle.dag.specs.declared.back.Back.{Back};
+ghost use Rattle.dag.specs.declared.back.Back.TheVariants.{NoMemory};
 ghost use Rattle.collect.specs.Collected.{KeepsBest};
 ghost use Rattle.detect.specs.Gathered.{Gathers, with_items};
 ghost use Rattle.detect.specs.LanesBack.{IsFurther, HasBackMark};
@@ -26,11 +26,11 @@ pub(crate) struct Gathering {
 
 impl Gathering {
     /// Takes from each lane in turn what is there.
-    pub(crate) fn take_turns(&mut self)
+    pub(crate) fn take_from_all(&mut self)
         ensures { IsFurther self.old self.new }
     {
         for shard in 0..self.backs.len() {
-            self.take_turn(shard);
+            self.take_from(shard);
         }
     }
 
@@ -38,7 +38,7 @@ impl Gathering {
     pub(crate) fn wait<R: Wait>(&mut self, rt: &R)
         ensures { IsFurther self.old self.new }
     {
-        self.take_turns();
+        self.take_from_all();
         self.waiting.wait(rt);
     }
 
@@ -71,7 +71,7 @@ impl Gathering {
             if self.backs[shard].ended() {
                 return;
             }
-            if !self.take_turn(shard) {
+            if !self.take_from(shard) {
                 self.waiting.wait(rt);
             }
         }
@@ -79,7 +79,7 @@ impl Gathering {
     }
 
     // Takes a block of the items on the lane; false if there was none.
-    fn take_turn(&mut self, shard: usize) -> bool
+    fn take_from(&mut self, shard: usize) -> bool
         requires { shard < vec_len self.old.backs }
         ensures { IsFurther self.old self.new }
     {

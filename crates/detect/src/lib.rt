@@ -1,20 +1,13 @@
-//! Determinacy races of a trace: the rules of SP-bags find exactly the races of the dag.
+//! Determinacy races of a trace, with a thread for each shard.
 #![tactic(auto)]
 
 mod closing;
-mod detector;
 mod gathering;
-mod jobs;
-pub mod laws;
-mod making;
-pub mod plain;
-mod plan;
-mod running;
 mod sending;
-mod settling;
-pub mod sharded;
+mod setup;
+mod sharded;
 mod workers;
 
-pub use plain::{detect_plain, detect_plain_part};
-pub use plan::Plan;
+pub use serial::{detect_plain, detect_plain_part, laws};
+pub use setup::Plan;
 pub use sharded::{Run, detect, detect_part};

@@ -1,12 +1,13 @@
 //! From the source to the shards: the reading thread sends the records, and at last the marks.
 ghost use Rattle.std.specs.Prelude.{◌≡◌, ◌++◌, ◌∷◌, [], List};
 ghost use Rattle.std.specs.Option.{option_to_list};
-ghost use Rattle.trace.specs.declared.records.Placed.{Placed};
-ghost use Rattle.trace.specs.Traces.{placed};
-ghost use Rattle.trace.specs.Parts.{records_of};
+ghost use Rattle.dag.specs.declared.records.Placed.{Placed};
+ghost use Rattle.dag.specs.Traces.{placed};
+ghost use Rattle.dag.specs.Parts.{records_of};
 ghost use Rattle.trace.specs.Devices.{◌⇝◌};
+ghost use Rattle.trace.specs.Feeding.{GivesNext, HasSameLimits};
 ghost use Rattle.trace.specs.Endings.{EndsReading, IsWantOfMemory};
-ghost use Rattle.route.specs.Routers.{lane_count, pending_of, marked_of, HasSent, IsUnchanged};
+ghost use Rattle.route.specs.Routers.{lane_count, pending_of, marked_of, HasSent, IsUnchanged, ShowsAll};
 ghost use Rattle.detect.specs.Sent.{MaySend, GoesOn};
 
 use crate::gathering::Gathering;
@@ -42,15 +43,28 @@ impl Sending {
             match intake.next_known() {
                 Some(placed) => self.send(rt, placed),
                 None => {
-                    // Reading may have to wait for the source, and the shards aren't to wait for it.
                     self.router.flush();
-                    match intake.next_from(source)? {
+                    match self.read_on(&mut intake, source)? {
                         None => return Ok(()),
                         Some(placed) => self.send(rt, placed),
                     }
                 }
             }
         }
+    }
+
+    // The next record of the source. It may have to wait for the source, and the shards aren't to wait meanwhile.
+    #[inline(always)]
+    fn read_on<R: Source>(
+        &self,
+        intake: &mut Intake,
+        source: &mut R,
+    ) -> Result<Option<Placed>, Fault>
+        requires { ShowsAll self.now.router }
+        ensures fed { GivesNext intake.old intake.new (R.state source.old ⇝ R.state source.new) result }
+        ensures limits { HasSameLimits intake.old intake.new }
+    {
+        intake.next_from(source)
     }
 
     // Sends what the part has of the record.
@@ -135,6 +149,7 @@ impl Sending {
     #[cold]
     #[inline(never)]
     fn wait<T: Wait>(&mut self, rt: &T)
+        ensures shown { ShowsAll self.new.router }
         ensures unchanged { IsUnchanged self.old.router self.new.router }
         ensures sent { (w : List Placed) → HasSent w self.old.router → HasSent w self.new.router }
         ensures goes_on { GoesOn self.old self.new }
@@ -152,6 +167,6 @@ fn taken_by(part: Part, placed: Placed) -> Option<Placed>
     if part.count == 1 {
         Some(placed)
     } else {
-        part.take(placed)
+        part.of_record(placed)
     }
 }

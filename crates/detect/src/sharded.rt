@@ -7,9 +7,8 @@ ghost use Rattle.detect.specs.Finished.{IsClosed, IsDone};
 ghost use Rattle.detect.specs.RunReports.{RunAnswers, RunAnswersPart};
 
 use crate::closing::{Done, close};
-use crate::making::{make, make_lists};
-use crate::plan::Plan;
-use crate::running::run;
+use crate::setup::{Made, Plan, make, make_lists};
+use crate::workers::{join_all, start_all};
 use collect::Report;
 use lane::Taker;
 use shard::Gate;
@@ -17,8 +16,8 @@ use std::alloc::Global;
 use std::hash::BuildHasher;
 use std::sync::Wait;
 use std::thread;
-use std::thread::Threads;
-use trace::{Fault, Part, Placed, Source};
+use std::thread::{Scope, Threads};
+use trace::{Fault, Limits, Part, Placed, Source};
 
 /// The result of a run with shards.
 #[derive(Drop)]
@@ -37,6 +36,19 @@ pub struct Run {
 ///
 /// It first makes everything but what the shards and the collector add later, then starts the workers, then reads the
 /// trace. A fault is the whole answer: no race comes with it. Every started worker is joined.
+///
+/// ```rust
+/// let text: &[u8] = b"trace 1\nspawn\nwrite 5\nreturn\nwrite 5\nreturn\n";
+/// let (records, depth) = (1 << 48, 9);
+/// let plan = Plan::new(2, 1024, Limits { records, depth });
+/// let hasher = BuildHasherDefault::<FoldHasher>::default();
+/// let hashers = vec![in rt.alloc(); hasher, hasher]?;
+/// let mut source = Counted::new(text);
+/// let run = detect(&rt, rt.alloc(), plan, &mut source, &Open, hashers)?;
+/// assert_eq!(rt; run.report.races().len(), 1);
+/// let race = run.report.races()[0];
+/// assert!(rt; (race.location, race.first.place, race.second.place) == (5, 2, 4));
+/// ```
 pub fn detect<T: Threads + Wait + Sync, R: Source, G: Gate + Sync, S: BuildHasher + Send + Drop>(
     rt: &T,
     alloc: Global,
@@ -97,7 +109,7 @@ where
             ensures closed { IsClosed result.0 }
             ensures source { result.1.ghost_name ≡ source.entry.ghost_name }
         {
-            let done = run(rt, scope, plan.limits, &mut *source, gate, made);
+            let done = run_workers(rt, scope, plan.limits, &mut *source, gate, made);
             (done, source)
         },
     );
@@ -107,4 +119,48 @@ where
         taken: found.taken,
         lanes: found.lanes,
     })
+}
+
+// Starts the workers, reads the trace, sends what the part has of it, and joins all started workers. If the start of
+// a worker is refused, it reads nothing. Only the collector takes memory here.
+fn run_workers<
+    's,
+    E,
+    T: Threads + Wait + Sync,
+    R: Source,
+    G: Gate + Sync,
+    S: BuildHasher + Send + Drop + 's,
+>(
+    rt: &'s T,
+    scope: &Scope<'s, E>,
+    limits: Limits,
+    source: &mut R,
+    gate: &'s G,
+    made: Made<S>,
+) -> Done<S>
+where
+    S::Hasher: Send,
+    requires { IsReady (vec_len made.jobs) made }
+    ensures done { IsDone made.sending.part (vec_len made.jobs) limits.records limits.depth
+        (R.state source.old ⇝ R.state source.new) result }
+    ensures closed { IsClosed result }
+{
+    let Made {
+        mut sending,
+        jobs,
+        mut handles,
+        mut workers,
+    } = made;
+    let outcome = match start_all(rt, scope, gate, jobs, &mut handles) {
+        Ok(()) => sending.send_all(rt, limits, source),
+        Err(refused) => Err(refused),
+    };
+    sending.mark_all(rt);
+    sending.gathering.finish_lanes(rt, handles.len());
+    join_all(rt, handles, &mut workers);
+    Done {
+        outcome,
+        sending,
+        workers,
+    }
 }

@@ -1,16 +1,36 @@
-//! The workers: each starts in the scope of the run, and is joined at its end.
+//! The workers: their jobs and their promise. Each starts in the scope of the run, and is joined at its end.
 ghost use Rattle.std.specs.Prelude.{◌≡◌, ◌≤◌, ℕ, map, vec_len, vec_capacity, IfErr, OnOk, MatchResult};
 ghost use Rattle.trace.specs.declared.faults.Fault.TheVariants.{NoThread};
 ghost use Rattle.lane.specs.Items.{IsBeginning};
+ghost use Rattle.shard.specs.Worked.{DidWork};
 ghost use Rattle.detect.specs.Workers.{IsFreshJob, AllFresh, job_lanes, handle_lanes, DidOn, AllDid};
 
-use crate::jobs::{Job, WorkOf};
-use shard::{Gate, Worked, work};
+use lane::{Sender, Taker};
+use shard::{Back, Gate, Shard, Worked, work};
 use std::hash::BuildHasher;
 use std::snapshot::Snapshot;
 use std::sync::Wait;
-use std::thread::{PromisedHandle, Scope, Threads};
-use trace::Fault;
+use std::thread::{Promise, PromisedHandle, Scope, Threads};
+use trace::{Fault, Placed};
+
+/// A shard, the lane to it, and the lane back.
+#[derive(Drop)]
+pub(crate) struct Job<S: BuildHasher + Drop> {
+    pub(crate) shard: Shard<S>,
+    pub(crate) taker: Taker<Placed>,
+    pub(crate) back: Sender<Back>,
+}
+
+/// The promise of a worker: it has done its work on its lanes.
+#[derive(Drop)]
+pub(crate) struct WorkOf {
+    pub(crate) taker: Snapshot<Taker<Placed>>,
+    pub(crate) back: Snapshot<Sender<Back>>,
+}
+
+impl<S: BuildHasher + Drop> Promise<Worked<S>> for WorkOf {
+    ghost kept_by = { λ p r. DidWork p.taker.value p.back.value r };
+}
 
 /// Starts a worker on each job. The handles are in the order of the jobs. After a refused start it drops the jobs
 /// that are left.

@@ -4,11 +4,11 @@ use base.Fraction.{full_share}
 use base.Fml.{Fml, ftrue, fsep, fex}
 use denote.RattleType.{RattleType}
 use denote.RawPtr.{Ptr, lies_at}
-use Rattle.trace.specs.Bounds.{most_records}
+use Rattle.dag.specs.Bounds.{most_records}
 use Rattle.trace.specs.Faults.{HasEnded}
-use Rattle.trace.specs.Traces.{placed}
-use Rattle.trace.specs.declared.records.Record.{Record}
-use Rattle.trace.specs.declared.records.Record.TheVariants.{Spawn, Call, Return, Sync, Read, Write}
+use Rattle.dag.specs.Traces.{placed}
+use Rattle.dag.specs.declared.records.Record.{Record}
+use Rattle.dag.specs.declared.records.Record.TheVariants.{Spawn, Call, Return, Sync, Read, Write}
 use Rattle.shadow.specs.Found.{found, by_location}
 use Rattle.collect.specs.ReportText.{rtext}
 use Rattle.online.specs.Detectors.{IsAfter}

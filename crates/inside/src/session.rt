@@ -1,8 +1,8 @@
 //! A session: it takes records, and then gives the text of their report.
 ghost use Rattle.std.specs.Prelude.{◌≡◌, ◌≢◌, ℕ, ◌+◌, ◌<◌, ◌≤◌, List, [], ◌∷◌, ◌++◌, length, slice_index_or, IfOk, IfSome};
-ghost use Rattle.trace.specs.Bounds.{most_records};
+ghost use Rattle.dag.specs.Bounds.{most_records};
 ghost use Rattle.trace.specs.Faults.{HasEnded};
-ghost use Rattle.trace.specs.declared.records.Record.{Record};
+ghost use Rattle.dag.specs.declared.records.Record.{Record};
 ghost use Rattle.online.specs.Detectors.{IsAfter};
 ghost use Rattle.inside.specs.declared.session.Session.{Session};
 ghost use Rattle.inside.specs.Sessions.{taken, after_end, too_many, no_memory, unknown_kind, given, at_end, no_text};

@@ -44,8 +44,8 @@ pub struct End<T> {
 impl<T: Copy + Send> Sender<T> {
     ghost use Rattle.lane.specs.Lanes.{lane_of, end_lane, put_of, shown_of, staged_of, all_put, capacity_of, room_of};
 
-    /// Puts the value behind those put before, or hands it back if the lane is full. It shows values to the taker
-    /// together: at the latest when `most_staged` of them are staged, or in `flush`.
+    /// Puts the value behind those put before, or hands it back if the lane is full, when the taker is shown all items
+    /// put. It shows values to the taker together: at the latest when `most_staged` of them are staged, or in `flush`.
     #[inline(always)]
     #[tactic(auto, using(crate::proofs::Marks::has_mark_more))]
     pub fn put(&mut self, value: T) -> Result<(), T>
@@ -57,6 +57,7 @@ impl<T: Copy + Send> Sender<T> {
         ensures no_room { IfErr result (λ _. (room_of self.old ≡ 0) × (room_of self.new ≡ 0)) }
         ensures room { room_of self.old ≤ room_of self.new + 1 }
         ensures staged { length (staged_of self.new) < most_staged (capacity_of self.new) }
+        ensures shown { IfErr result (λ _. staged_of self.new ≡ []) }
         ensures unmarked { has_mark (put_of self.new) ≡ false }
     {
         if self.limit == 0 && !self.look() {

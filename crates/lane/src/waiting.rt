@@ -65,7 +65,7 @@ const IN_TIME: u32 = 256;
 const FEW: usize = 64;
 
 // A lane of fewer items may be filled or emptied while other threads of this program run.
-const TELLING: usize = 512;
+const LARGE: usize = 512;
 
 impl Waiting {
     /// An end that hasn't waited yet.
@@ -129,7 +129,7 @@ impl Waiting {
     }
 
     fn learn_from_look(&mut self, shown: usize, capacity: usize) {
-        if TELLING <= capacity && capacity - capacity / 4 <= shown {
+        if LARGE <= capacity && capacity - capacity / 4 <= shown {
             self.nap_for_long();
         } else {
             self.came_in_time();

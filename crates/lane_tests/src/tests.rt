@@ -64,19 +64,15 @@ fn takes_block<R: Abort>(
 #[test]
 fn lane_of_two(rt: HostRuntime) -> Result<(), Fail> {
     let (mut sender, mut taker) = lane::<u32>(rt.alloc(), 2)?;
-    puts(&rt, &mut sender, 1, Ok(()));
-    puts(&rt, &mut sender, 2, Ok(()));
-    puts(&rt, &mut sender, 3, Err(3));
-    takes(&rt, &mut taker, Some(Item::One(1)));
-    puts(&rt, &mut sender, 3, Ok(()));
-    marks(&rt, &mut sender, false);
-    takes(&rt, &mut taker, Some(Item::One(2)));
-    marks(&rt, &mut sender, true);
-    takes(&rt, &mut taker, Some(Item::One(3)));
-    assert!(rt; !taker.ended());
-    takes(&rt, &mut taker, Some(Item::Finish));
-    assert!(rt; taker.ended());
-    takes(&rt, &mut taker, None);
+    assert!(rt; (sender.put(1), sender.put(2), sender.put(3)) == (Ok(()), Ok(()), Err(3)));
+    assert_eq!(rt; taker.take(), Some(Item::One(1)));
+    assert_eq!(rt; sender.put(3), Ok(()));
+    assert!(rt; !sender.mark());
+    assert_eq!(rt; taker.take(), Some(Item::One(2)));
+    assert!(rt; sender.mark());
+    assert_eq!(rt; taker.take(), Some(Item::One(3)));
+    assert_eq!(rt; taker.take(), Some(Item::Finish));
+    assert_eq!(rt; taker.take(), None);
     Ok(())
 }
 
@@ -246,7 +242,7 @@ fn send<R: Wait>(rt: &R, mut sender: Sender<u32>, count: u32) -> End<u32>
     mark_waiting(rt, sender)
 }
 
-// Takes up to the mark: the numbers from 1 on. The last one is told.
+// Takes up to the mark: the numbers from 1 on. The last one is checked.
 fn receive<R: Wait + Abort>(rt: &R, taker: &mut Taker<u32>) -> u32
     ensures { taker_lane taker.new ≡ taker_lane taker.old }
 {

@@ -4,21 +4,21 @@ use Rattle.std.specs.Option.{option_to_list}
 use Rattle.std.specs.List.{sum_by}
 use Rattle.std.proofs.lemmas.Bool.{cases_Bool, eq-eqb, eqb-true}
 use Rattle.std.proofs.lemmas.List.Sums.{sum_by-append}
-use Rattle.trace.specs.declared.records.Record.{Record}
-use Rattle.trace.specs.declared.records.Record.TheVariants.{Spawn, Call, Return, Sync, Read, Write}
-use Rattle.trace.specs.declared.records.Placed.{Placed}
-use Rattle.trace.specs.Bounds.{most_records}
+use Rattle.dag.specs.declared.records.Record.{Record}
+use Rattle.dag.specs.declared.records.Record.TheVariants.{Spawn, Call, Return, Sync, Read, Write}
+use Rattle.dag.specs.declared.records.Placed.{Placed}
+use Rattle.dag.specs.Bounds.{most_records}
 use Rattle.trace.specs.Faults.{HasEnded}
-use Rattle.trace.specs.Traces.{placed, depth, opens, closes}
+use Rattle.dag.specs.Traces.{placed, depth, opens, closes}
 use Rattle.trace.proofs.Places.{depth-next, ended_by, ended_after}
 use Rattle.bags.specs.Procedures.{Procedures, Active, event, after_sync, after_return, bags_from}
 use Rattle.shadow.specs.Memory.{Memory, HaveSeen, MayGrow, kept_of}
 use Rattle.shadow.specs.Found.{found, state_after}
 use Rattle.shadow.proofs.FoundLaws.{bags-state_after}
 use Rattle.shard.specs.Shards.{ShardState, Accepts, IsFresh, is_root_return, capped_count}
-use Rattle.collect.specs.Collected.{Kept, KeepsBest}
-use Rattle.detect.specs.Detected.{HasDetected}
-use Rattle.detect.proofs.Detected.{placed-next}
+use Rattle.collect.specs.Collected.{Collection, KeepsBest}
+use Rattle.serial.specs.Detected.{HasDetected}
+use Rattle.serial.proofs.Detected.{placed-next}
 use Rattle.online.specs.Detectors.{DetectorState, AreActive, IsAfter, IsOpening}
 
 -- nothing has ended where nothing came
@@ -42,7 +42,7 @@ after_none d fresh keeps going = record {
   going = going;
 }
 
--- so the races found in them are told and kept
+-- so the races found in them are reported and kept
 pub detected : {u : List Record} {d : DetectorState} → IsAfter u d → HasDetected (placed u) d.shard.bags d.shard.memory d.kept
 detected h = record { seen = h.seen; given = h.given; holds = h.holds; none_failed = h.none_failed; races = h.races }
 

@@ -1,23 +1,23 @@
 -- Promised: what a detector has taken of the records that came, and when it needs memory.
 use Rattle.std.specs.Prelude.{◌≡◌, ℕ, ◌+◌, ◌≤◌, ◌↔◌, ◌⊎◌, Bool, true, false, List, [], ◌∷◌, ◌++◌, length, sum_by, ⊤}
-use Rattle.trace.specs.declared.records.Record.{Record}
-use Rattle.trace.specs.declared.records.Record.TheVariants.{Spawn, Call, Return, Sync, Read, Write}
-use Rattle.trace.specs.declared.records.Placed.{Placed}
-use Rattle.trace.specs.Accesses.{RaceAt}
-use Rattle.trace.specs.Bounds.{most_records}
+use Rattle.dag.specs.declared.records.Record.{Record}
+use Rattle.dag.specs.declared.records.Record.TheVariants.{Spawn, Call, Return, Sync, Read, Write}
+use Rattle.dag.specs.declared.records.Placed.{Placed}
+use Rattle.dag.specs.Accesses.{RaceAt}
+use Rattle.dag.specs.Bounds.{most_records}
 use Rattle.trace.specs.Faults.{HasEnded}
-use Rattle.trace.specs.Traces.{placed, opens, closes}
+use Rattle.dag.specs.Traces.{placed, opens, closes}
 use Rattle.shadow.specs.Cells.{untouched}
 use Rattle.shadow.specs.Found.{found, state_after}
 use Rattle.shadow.specs.Memory.{HaveSeen}
-use Rattle.shard.specs.declared.Back.{Back}
+use Rattle.dag.specs.declared.back.Back.{Back}
 use Rattle.shard.specs.Shards.{ShardState}
-use Rattle.collect.specs.Collected.{Kept, KeepsBest, races_of, fails}
+use Rattle.collect.specs.Collected.{Collection, KeepsBest, races_of, fails}
 
 -- its shard, the races that are kept for the report, and whether a growth was refused
 pub record DetectorState : Type 0 where
   pub shard : ShardState
-  pub kept : Kept
+  pub kept : Collection
   pub stopped : Bool
 
 -- a growth was refused

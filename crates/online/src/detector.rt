@@ -1,16 +1,16 @@
 //! The detector and its answers.
 ghost use Rattle.std.specs.Prelude.{◌≡◌, ◌≢◌, ◌↔◌, ◌+◌, ◌<◌, ℕ, List, [], ◌∷◌, ◌++◌, length, IfOk, IfSome, IfErr, IsErr, OnOk, OnErr};
 ghost use Rattle.std.specs.Option.{option_to_list};
-ghost use Rattle.trace.specs.Bounds.{most_records};
-ghost use Rattle.trace.specs.declared.records.Record.{Record};
-ghost use Rattle.trace.specs.declared.records.Placed.{Placed};
-ghost use Rattle.trace.specs.Traces.{placed, IsWellNested};
+ghost use Rattle.dag.specs.Bounds.{most_records};
+ghost use Rattle.dag.specs.declared.records.Record.{Record};
+ghost use Rattle.dag.specs.declared.records.Placed.{Placed};
+ghost use Rattle.dag.specs.Traces.{placed, IsWellNested};
 ghost use Rattle.trace.specs.Faults.{HasEnded};
 ghost use Rattle.shadow.specs.Found.{found, by_location};
 ghost use Rattle.shadow.specs.Memory.{HaveSeen};
 ghost use Rattle.shard.specs.Shards.{Accepts, is_root_return, capped_count};
-ghost use Rattle.detect.specs.Detected.{HasDetected};
-ghost use Rattle.detect.specs.Reported.{IsReportOf};
+ghost use Rattle.serial.specs.Detected.{HasDetected};
+ghost use Rattle.serial.specs.Reported.{IsReportOf};
 ghost use Rattle.online.specs.Detectors.{IsAfter, IsStopped, IsWant, MayWant};
 
 use collect::{Collector, Report};

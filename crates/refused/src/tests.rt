@@ -15,16 +15,16 @@ use trace::Race;
 pub type Hasher = BuildHasherDefault<FoldHasher>;
 
 /// A race: its location, and the places of its accesses.
-pub type Told = (u64, u64, u64);
+pub type Reported = (u64, u64, u64);
 
 /// How often a call is made before it has to succeed: a run refuses two growths at most.
 pub const TRIES: u32 = 3;
 
-/// Tells that a call was refused.
-pub fn tell<R: Print>(rt: &R, what: &str) {
+/// Prints that a call was refused.
+pub fn print_refused<R: Print>(rt: &R, what: &str) {
     let _ = rt.println(format_args!("refused {what}"));
 }
 
-pub fn told(race: Race) -> Told {
+pub fn reported(race: Race) -> Reported {
     (race.location, race.first.place, race.second.place)
 }

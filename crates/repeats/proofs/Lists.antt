@@ -4,8 +4,8 @@ use Rattle.std.specs.List.{sum_by}
 use Rattle.std.proofs.lemmas.Bool.{cases_Bool}
 use Rattle.std.proofs.Math.Seq.{take-length, take-nil}
 use Rattle.std.proofs.lemmas.List.Sums.{sum_by-append}
-use Rattle.trace.specs.declared.records.Record.{Record}
-use Rattle.trace.specs.Traces.{opens, closes, placed_from}
+use Rattle.dag.specs.declared.records.Record.{Record}
+use Rattle.dag.specs.Traces.{opens, closes, placed_from}
 use Rattle.bags.specs.Procedures.{Procedures, event, bags_from}
 use Rattle.repeats.specs.Repeats.{rest_from}
 

@@ -2,12 +2,12 @@
 use Rattle.std.proofs.Common.{◌≡◌, ℕ, zero, suc, ◌+◌, ◌-◌, ◌<◌, ◌≤◌, Bool, true, false, List, length, take, Some, inl, inr, refl, sym, ap, subst, ◌∙◌, arith}
 use Rattle.std.specs.List.{sum_by}
 use Rattle.std.proofs.lemmas.Bool.{cases_Bool, cases_lt}
-use Rattle.trace.specs.declared.records.Record.{Record}
-use Rattle.trace.specs.declared.records.Record.TheVariants.{Return, Read, Write}
-use Rattle.trace.specs.Traces.{at, depth, opens, closes, IsPlace, IsRootReturn, IsWellNested}
-use Rattle.trace.specs.Races.{IsAccessPlace}
-use Rattle.trace.proofs.Lists.{element_at}
-use Rattle.trace.proofs.Paths.{IsPlace-at}
+use Rattle.dag.specs.declared.records.Record.{Record}
+use Rattle.dag.specs.declared.records.Record.TheVariants.{Return, Read, Write}
+use Rattle.dag.specs.Traces.{at, depth, opens, closes, IsPlace, IsRootReturn, IsWellNested}
+use Rattle.dag.specs.Races.{IsAccessPlace}
+use Rattle.dag.proofs.Lists.{element_at}
+use Rattle.dag.proofs.Paths.{IsPlace-at}
 use Rattle.repeats.specs.Repeats.{IsRepeat, RepeatsGo, rest}
 use Rattle.repeats.proofs.Lists.{passed, IsStill, StillGo, still_go, still-take, rest-at, rest-take, rest-opens, rest-closes, rest-shorter, passed-le, passed-next, passed-all, comes_from}
 

@@ -1,10 +1,10 @@
 -- Where only repeats go the same locations have races.
 use Rattle.std.proofs.Common.{◌≡◌, ℕ, zero, suc, ◌-◌, ◌<◌, ◌≤◌, ◌↔◌, Bool, true, List, ◌⊎◌, inl, inr, refl, sym, subst, ◌∙◌, arith}
 use Rattle.std.proofs.lemmas.Bool.{cases_Bool, cases_lt}
-use Rattle.trace.specs.declared.records.Record.{Record}
-use Rattle.trace.specs.Traces.{at, IsWellNested}
-use Rattle.trace.specs.Races.{IsAccessPlace, IsRead, IsWrite, IsRace, IsSecond}
-use Rattle.trace.proofs.Paths.{access-place}
+use Rattle.dag.specs.declared.records.Record.{Record}
+use Rattle.dag.specs.Traces.{at, IsWellNested}
+use Rattle.dag.specs.Races.{IsAccessPlace, IsRead, IsWrite, IsRace, IsSecond}
+use Rattle.dag.proofs.Paths.{access-place}
 use Rattle.bags.specs.Procedures.{at_start}
 use Rattle.repeats.specs.Repeats.{IsRepeat, RepeatsGo, rest, place_in_rest, HasRace}
 use Rattle.repeats.proofs.Lists.{passed, passed-le, passed-lt, passed-next, rest-at, rest-bags}
@@ -191,7 +191,7 @@ module _ (w : List Record) (n d : ℕ) (stays : ℕ → Bool) (h : IsWellNested 
   pub same-racy : HasRace (rest stays w) l ↔ HasRace w l
   same-racy = ((λ r. up r.0 r.1 r.2), (λ r. down r.0 r.1 r.2))
 
-  -- the second access of the told race
+  -- the second access of the reported race
 
   passed_here : (t : ℕ) → stays (suc t) ≡ true → Accesses w l (suc t) → passed stays 1 (suc t) w ≡ suc (passed stays 1 t w)
   passed_here t y a = omega (arith, passed_before t (suc t) (omega arith) y a, passed-next stays 1 t w)

@@ -1,13 +1,13 @@
 -- Accesses of one strand: the same bags, and a path from each to the next.
 use Rattle.std.proofs.Common.{◌≡◌, ℕ, zero, suc, ◌+◌, ◌<◌, ◌≤◌, true, ◌↔◌, List, [], ◌∷◌, length, take, inl, inr, refl, sym, ap, subst, ◌∙◌, arith}
 use Rattle.std.proofs.lemmas.Bool.{cases_lt}
-use Rattle.trace.specs.declared.records.Record.{Record}
-use Rattle.trace.specs.declared.records.Record.TheVariants.{Read, Write}
-use Rattle.trace.specs.Traces.{depth, placed, IsWellNested}
-use Rattle.trace.specs.Dag.{Edge, continuation, Leads, IsParallel}
-use Rattle.trace.specs.Races.{IsAccessPlace}
-use Rattle.trace.proofs.Openers.{stays_deep}
-use Rattle.trace.proofs.Paths.{access-place, access-not_joins}
+use Rattle.dag.specs.declared.records.Record.{Record}
+use Rattle.dag.specs.declared.records.Record.TheVariants.{Read, Write}
+use Rattle.dag.specs.Traces.{depth, placed, IsWellNested}
+use Rattle.dag.specs.Dag.{Edge, continuation, Leads, IsParallel}
+use Rattle.dag.specs.Races.{IsAccessPlace}
+use Rattle.dag.proofs.Openers.{stays_deep}
+use Rattle.dag.proofs.Paths.{access-place, access-not_joins}
 use Rattle.bags.specs.Procedures.{Procedures, bags_after, in_p, current}
 use Rattle.bags.proofs.BagPaths.{bags_after-more, in_p-parallel}
 
@@ -53,7 +53,7 @@ strand_leads w h (suc k) s t e f a =
     let p = access-place w (suc t) a in
     (suc (suc s) ∷ q.0, (one_edge w h (suc s) (f (suc s) (omega arith) (omega arith)) (omega (arith, p.1)), q.1), q.2)
 
--- whether two accesses are parallel is told by the bags before each of them
+-- whether two accesses are parallel is known by the bags before each of them
 pub parallel-bags : (w : List Record) {n d : ℕ} → IsWellNested w n d → (s t : ℕ) → s < t → IsAccessPlace w (suc s) → IsAccessPlace w (suc t)
     → (in_p (bags_at w t).active (current (bags_at w s).active) ≡ true) ↔ IsParallel w (suc s) (suc t)
 parallel-bags w h s t l a b = in_p-parallel w h (suc s) t (access-place w (suc s) a) (omega arith) b

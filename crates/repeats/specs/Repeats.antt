@@ -1,8 +1,8 @@
 -- Promised: which records are repeats, and what is left of a trace when some of them go.
 use Rattle.std.specs.Prelude.{◌≡◌, ℕ, suc, ◌<◌, ◌⊎◌, Bool, false, if◌then◌else◌, List, [], ◌∷◌, length, take}
-use Rattle.trace.specs.declared.records.Record.{Record}
-use Rattle.trace.specs.Traces.{IsPlace}
-use Rattle.trace.specs.Races.{IsAccessPlace, IsRead, IsWrite, IsRace}
+use Rattle.dag.specs.declared.records.Record.{Record}
+use Rattle.dag.specs.Traces.{IsPlace}
+use Rattle.dag.specs.Races.{IsAccessPlace, IsRead, IsWrite, IsRace}
 
 -- Record k is a repeat: an earlier record accesses the same location, only accesses stand between the two, and the
 -- earlier one writes or k reads.

@@ -1,9 +1,9 @@
 //! What stays true of a trace when some of its repeats go.
 
 ghost use Rattle.std.specs.Prelude.{◌≡◌, ℕ, ◌↔◌, Bool, true, List};
-ghost use Rattle.trace.specs.declared.records.Record.{Record};
-ghost use Rattle.trace.specs.Traces.{IsWellNested};
-ghost use Rattle.trace.specs.Races.{IsSecond};
+ghost use Rattle.dag.specs.declared.records.Record.{Record};
+ghost use Rattle.dag.specs.Traces.{IsWellNested};
+ghost use Rattle.dag.specs.Races.{IsSecond};
 ghost use Rattle.repeats.specs.Repeats.{rest, place_in_rest, RepeatsGo, HasRace};
 
 /// For every well nested trace, and every choice of places that stay, if each other place is a repeat: the records at

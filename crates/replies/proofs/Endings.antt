@@ -1,17 +1,17 @@
--- How an answer ends: with what was put and passed on, or with a fault that was told.
+-- How an answer ends: with what was put and passed on, or with the line for a fault.
 use Rattle.std.proofs.Common.{◌≡◌, ℕ, ◌<◌, List, refl, sym, subst, inl, inr, arith}
 use Rattle.std.proofs.KnownBytes.{Keeps-refl}
-use Rattle.trace.specs.declared.records.Record.{Record}
+use Rattle.dag.specs.declared.records.Record.{Record}
 use Rattle.trace.specs.declared.faults.Fault.{Fault}
 use Rattle.trace.specs.Devices.{Device, Change, ◌⇝◌}
 use Rattle.trace.specs.Writers.{IsUntouched, WasGiven}
-use Rattle.trace.specs.Traces.{IsWellNested}
+use Rattle.dag.specs.Traces.{IsWellNested}
 use Rattle.trace.specs.Endings.{OfTrace, ReadsWhole, IsRefused}
 use Rattle.trace.proofs.Feedings.{at_limits}
 use Rattle.audit.specs.declared.answers.Confirm.{Confirm}
 use Rattle.audit.specs.declared.answers.Confirm.TheVariants.{Yes, No}
 use Rattle.texts.specs.Messages.{message}
-use Rattle.texts.specs.Sinks.{Tells}
+use Rattle.texts.specs.Sinks.{EndsAnswer}
 use Rattle.replies.specs.Questions.{status_of}
 use Rattle.replies.specs.Answered.{IsAnswered}
 
@@ -34,7 +34,7 @@ says_of_nested {records} {depths} {c} limit depth e f so run =
 
 module _ {IsWant : Fault → Type 0} {records depths : ℕ} {Says : List Record → List ℕ → ℕ → Type 0} {trace out err : Change} where
   -- what was put and passed on is the answer
-  pub answered : (result status : ℕ) (text : List ℕ) → status < 2 → OfTrace records depths trace (λ w. Says w text status) → Tells result status text out err → IsAnswered IsWant records depths Says trace out err result
+  pub answered : (result status : ℕ) (text : List ℕ) → status < 2 → OfTrace records depths trace (λ w. Says w text status) → EndsAnswer result status text out err → IsAnswered IsWant records depths Says trace out err result
   answered result status text low run (inl whole) =
       let P : ℕ → Type 0 = λ s. OfTrace records depths trace (λ w. Says w text s) in
       record {
@@ -48,14 +48,14 @@ module _ {IsWant : Fault → Type 0} {records depths : ℕ} {Says : List Record 
     failed = λ _. inr (record { text = text; status = status; read = run; took = front.1; said = front.2 });
   }
 
-  -- a fault that was told is why there is no answer
+  -- a fault whose line was written is why there is no answer
   pub refused : {limit depth : ℕ} {f : Fault} → limit ≡ records → depth ≡ depths → IsRefused IsWant limit depth trace f → IsUntouched out → WasGiven (message f) err → IsAnswered IsWant records depths Says trace out err 2
-  refused {limit} {depth} {f} e e' why untouched told =
+  refused {limit} {depth} {f} e e' why untouched given =
       let At : ℕ → ℕ → Type 0 = λ r d. IsRefused IsWant r d trace f in
       record {
         low = omega arith;
         answered = λ less. absurd (omega (arith, less));
-        failed = λ _. inl (record { fault = f; refused = at_limits At limit records depth depths e e' why; untouched = untouched; said = told });
+        failed = λ _. inl (record { fault = f; refused = at_limits At limit records depth depths e e' why; untouched = untouched; said = given });
       }
 
 pub status_low : (answer : Confirm) → status_of answer < 2

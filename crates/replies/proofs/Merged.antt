@@ -2,11 +2,11 @@
 use Rattle.std.proofs.Common.{◌≡◌, ◌↔◌, ℕ, suc, ◌+◌, ◌<◌, ◌≤◌, List, [], ◌∷◌, ◌++◌, length, map, get_or, take, drop, Option, Result, String, string_bytes, refl, sym, ap, ◌∙◌, subst, arith, take-append-drop, drop-cons, length-take-le}
 use native.Mathlib.Decide.{dec_le}
 use Rattle.std.proofs.lemmas.List.{take_more, flat_map_more}
-use Rattle.shard.specs.declared.Back.{Back}
-use Rattle.shard.specs.declared.Back.TheVariants.{Race}
-use Rattle.trace.specs.Accesses.{RaceAt}
-use Rattle.texts.specs.declared.reports.ReportRefusal.{ReportRefusal}
-use Rattle.collect.specs.Collected.{Kept, KeepsBest}
+use Rattle.dag.specs.declared.back.Back.{Back}
+use Rattle.dag.specs.declared.back.Back.TheVariants.{Race}
+use Rattle.dag.specs.Accesses.{RaceAt}
+use Rattle.collect.specs.declared.bounded.ReportRefusal.{ReportRefusal}
+use Rattle.collect.specs.Collected.{Collection, KeepsBest}
 use Rattle.collect.specs.Merged.{given_by}
 use Rattle.replies.specs.declared.input.Input.{Input}
 use Rattle.replies.specs.Merges.{report_status, HasReadReport, IsRefusedReport, HaveReadReports, IsFirstRefused}
@@ -30,7 +30,7 @@ module _ {F E : Type 0} (Gives : List ℕ → Result F E → Type 0) (known : In
   read_more (n ∷ names) name (rs ∷ reports) entries more one = (more.0, read_more names name reports entries more.1 one)
 
   -- one more report was taken
-  pub taken_more : (names : List (String A)) (i : ℕ) (name : String A) (c d : Kept) → i < length names → name ≡ get_or names i name → HaveTaken Gives known (take i names) c → HasTaken Gives known (string_bytes name) c d
+  pub taken_more : (names : List (String A)) (i : ℕ) (name : String A) (c d : Collection) → i < length names → name ≡ get_or names i name → HaveTaken Gives known (take i names) c → HasTaken Gives known (string_bytes name) c d
       → HaveTaken Gives known (take (i + 1) names) d
   taken_more names i name c d within is before one =
       let all : take (i + 1) names ≡ take i names ++ name ∷ [] = take_more names i name within ∙ ap (λ n. take i names ++ n ∷ []) (sym is) in
@@ -43,7 +43,7 @@ module _ {F E : Type 0} (Gives : List ℕ → Result F E → Type 0) (known : In
       }
 
   -- the reports before this one were taken, and it wasn't
-  pub first_refused : (names : List (String A)) (i number : ℕ) (name : String A) (c : Kept) (refusal : ReportRefusal) → i < length names → name ≡ get_or names i name → number ≡ i → HaveTaken Gives known (take i names) c
+  pub first_refused : (names : List (String A)) (i number : ℕ) (name : String A) (c : Collection) (refusal : ReportRefusal) → i < length names → name ≡ get_or names i name → number ≡ i → HaveTaken Gives known (take i names) c
       → IsRefusedReport Gives known (string_bytes name) refusal → IsFirstRefused Gives known names (number + 1) refusal
   first_refused names i number name c refusal within is counted before why = record {
     before = take i names;

@@ -6,17 +6,17 @@ use Rattle.std.specs.Io.Buffered.{reader_inner, reader_buffer, reader_capacity, 
 use Rattle.std.proofs.KnownBytes.{prepend_known-nil}
 use Rattle.std.specs.Io.KnownBytes.{prepend_known}
 use Rattle.trace.specs.declared.faults.Fault.TheVariants.{NoMemory}
-use Rattle.trace.specs.Bounds.{most_records}
+use Rattle.dag.specs.Bounds.{most_records}
 use Rattle.trace.specs.Devices.{Device, Change, ◌⇝◌}
 use Rattle.trace.specs.Writers.{IsUntouched, WasGiven}
 use Rattle.trace.proofs.Endings.{refused_for_want}
 use Rattle.words.specs.declared.asking.Question.{Question}
 use Rattle.words.specs.declared.asking.Question.TheVariants as question
-use Rattle.words.specs.declared.asking.Confirm.{Confirm}
+use Rattle.words.specs.declared.asking.ConfirmWords.{ConfirmWords}
 use Rattle.words.specs.Asked.{depth_of, trace_name}
-use Rattle.texts.specs.declared.reports.ReportRefusal.TheVariants as refusals
+use Rattle.collect.specs.declared.bounded.ReportRefusal.TheVariants as refusals
+use Rattle.collect.proofs.Refusals.{refused_for}
 use Rattle.texts.specs.Messages.{message}
-use Rattle.texts.proofs.Refusals.{refused_for}
 use Rattle.replies.specs.Questions.{Answers, IsWant}
 use Rattle.replies.specs.Answered.{IsAnswered, IsConfirmed}
 use Rattle.replies.specs.declared.input.Input.{Input}
@@ -39,17 +39,17 @@ untouched_too f (inr both) = inr both
 module _ {F E : Type 0} (Gives : List ℕ → Result F E → Type 0) (known : Input F → Option (List ℕ)) {out err : Change} where
   -- nothing was read of a trace, for want of memory
   pub trace_unread : (q : Question) (trace : Input F) → StandsFor Gives (trace_name q) trace → IsUntouched out → WasGiven (message NoMemory) err → HasAnsweredOf Gives known q out err 2
-  trace_unread q trace stands untouched told = record {
+  trace_unread q trace stands untouched given = record {
     trace = trace;
     stands = stands;
     left = untried (known trace);
-    answered = refused refl refl (refused_for_want (IsWant q) most_records (depth_of q) (untried (known trace) ⇝ untried (known trace)) NoMemory (wants_memory q)) untouched told;
+    answered = refused refl refl (refused_for_want (IsWant q) most_records (depth_of q) (untried (known trace) ⇝ untried (known trace)) NoMemory (wants_memory q)) untouched given;
   }
 
   -- nor of a report
-  pub report_unread : (c : Confirm) (trace report : Input F) → StandsFor Gives (string_bytes c.trace) trace → StandsBeside Gives (string_bytes c.report) trace report
+  pub report_unread : (c : ConfirmWords) (trace report : Input F) → StandsFor Gives (string_bytes c.trace) trace → StandsBeside Gives (string_bytes c.report) trace report
       → IsUntouched out → WasGiven (message NoMemory) err → HasConfirmedOf Gives known c out err 2
-  report_unread c trace report stands beside untouched told = record {
+  report_unread c trace report stands beside untouched given = record {
     trace = trace;
     report = report;
     trace_stands = stands;
@@ -62,7 +62,7 @@ module _ {F E : Type 0} (Gives : List ℕ → Result F E → Type 0) (known : In
         refusal = refusals.NoMemory;
         refused = refused_for (untried (known report) ⇝ untried (known report)) refusals.NoMemory tt;
         untouched = untouched;
-        said = told;
+        said = given;
         is_two = refl;
       },
     );
@@ -76,7 +76,7 @@ module _ {F E : Type 0} (Gives : List ℕ → Result F E → Type 0) (known : In
       record { trace = trace; stands = stands; left = after; answered = subst P is answered }
 
   -- a report and a trace were answered for
-  pub answered_both : (c : Confirm) (trace report : Input F) {R : Type 0} (state : R → Device) (status : ℕ) (before after : R) (report_before report_after : Device)
+  pub answered_both : (c : ConfirmWords) (trace report : Input F) {R : Type 0} (state : R → Device) (status : ℕ) (before after : R) (report_before report_after : Device)
       → StandsFor Gives (string_bytes c.trace) trace → StandsBeside Gives (string_bytes c.report) trace report → state before ≡ untried (known trace) → report_before ≡ untried (known report)
       → IsConfirmed (after ≡ before) most_records c.depth (state before ⇝ state after) (report_before ⇝ report_after) out err status → HasConfirmedOf Gives known c out err status
   answered_both c trace report {R} state status before after report_before report_after stands beside is is' confirmed =

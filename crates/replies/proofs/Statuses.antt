@@ -2,20 +2,20 @@
 use Rattle.std.proofs.Common.{◌≡◌, ◌↔◌, ℕ, ◌<◌, List, [], ◌∷◌, Option, None, Some, refl, arith, subst, ◌≤◌, ◌⊎◌, inl, inr}
 use native.Mathlib.Decide.{dec_le}
 use Rattle.std.specs.List.{Contains}
-use Rattle.trace.specs.declared.records.Record.{Record}
-use Rattle.trace.specs.declared.records.Part.{Part}
-use Rattle.trace.specs.Traces.{IsWellNested}
-use Rattle.trace.specs.Accesses.{RaceAt}
-use Rattle.trace.specs.declared.records.Kind.{Kind}
-use Rattle.trace.specs.declared.records.Kind.TheVariants.{Read, Write}
-use Rattle.trace.specs.declared.records.Access.{Access}
-use Rattle.trace.specs.Races.{IsAccess, IsRead, IsWrite, IsRace}
-use Rattle.trace.proofs.Lists.{Contains-nil}
+use Rattle.dag.specs.declared.records.Record.{Record}
+use Rattle.dag.specs.declared.part.Part.{Part}
+use Rattle.dag.specs.Traces.{IsWellNested}
+use Rattle.dag.specs.Accesses.{RaceAt}
+use Rattle.dag.specs.declared.records.Kind.{Kind}
+use Rattle.dag.specs.declared.records.Kind.TheVariants.{Read, Write}
+use Rattle.dag.specs.declared.records.Access.{Access}
+use Rattle.dag.specs.Races.{IsAccess, IsRead, IsWrite, IsRace}
+use Rattle.dag.proofs.Lists.{Contains-nil}
 use Rattle.audit.specs.declared.answers.Explained.{Explained}
 use Rattle.audit.specs.Pairs.{IsPair, ArePairs}
 use Rattle.audit.specs.Explanations.{Explains}
 use Rattle.collect.specs.ReportText.{rtext}
-use Rattle.detect.specs.Racy.{HasRace, HasLocation}
+use Rattle.serial.specs.Racy.{HasRace, HasLocation}
 use Rattle.detect.specs.declared.sharded.Run.{Run}
 use Rattle.detect.specs.RunReports.{RunAnswers, RunAnswersPart}
 use Rattle.detect.proofs.PartReports.{whole_answers}
@@ -102,7 +102,7 @@ explain_one status w l (Some e) says low zero = (λ one. has, λ race. is_one (d
   where
     has : HasRace w l
     has =
-        let race = says.1.told.second.race in
+        let race = says.1.reported.second.race in
         let At : ℕ → Type 0 = λ m. IsRace w m race.0 e.race.second.place in
         (race.0, e.race.second.place, subst At says.0 race.1)
 

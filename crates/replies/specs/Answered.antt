@@ -1,14 +1,14 @@
 -- Promised: how the program ends that was asked of a trace: what it wrote, and its exit status.
 use Rattle.std.specs.Prelude.{◌≡◌, ◌⊎◌, ℕ, ◌<◌, ◌≤◌, List}
-use Rattle.trace.specs.declared.records.Record.{Record}
+use Rattle.dag.specs.declared.records.Record.{Record}
 use Rattle.trace.specs.declared.faults.Fault.{Fault}
-use Rattle.trace.specs.Accesses.{RaceAt}
+use Rattle.dag.specs.Accesses.{RaceAt}
 use Rattle.trace.specs.Devices.{Change}
 use Rattle.trace.specs.Writers.{IsUntouched, Took, TookFront, WasGiven}
 use Rattle.trace.specs.Endings.{OfTrace, IsRefused, IsWantOfMemory}
-use Rattle.texts.specs.declared.reports.ReportRefusal.{ReportRefusal}
+use Rattle.collect.specs.declared.bounded.ReportRefusal.{ReportRefusal}
+use Rattle.collect.specs.ReportBytes.{GivesReport, IsRefusal}
 use Rattle.texts.specs.Messages.{message, report_message, cannot_write}
-use Rattle.texts.specs.ReportBytes.{GivesReport, IsRefusal}
 use Rattle.replies.specs.Questions.{AnswersConfirm}
 
 -- the trace was read whole, what answers the question was written, and nothing beside it
@@ -20,7 +20,7 @@ pub record HasAnswered (records depths : ℕ) (Says : List Record → List ℕ �
   pub silent : IsUntouched err
 
 -- the trace was refused for a fault, standard error has its line, and nothing of an answer was written
-pub record HasRefused (IsWant : Fault → Type 0) (records depths : ℕ) (trace out err : Change) : Type 0 where
+pub record HasFault (IsWant : Fault → Type 0) (records depths : ℕ) (trace out err : Change) : Type 0 where
   pub fault : Fault
   pub refused : IsRefused IsWant records depths trace fault
   pub untouched : IsUntouched out
@@ -42,7 +42,7 @@ pub record IsAnswered (IsWant : Fault → Type 0) (records depths : ℕ) (Says :
     (trace out err : Change) (status : ℕ) : Type 0 where
   pub low : status ≤ 2
   pub answered : status < 2 → HasAnswered records depths Says trace out err status
-  pub failed : status ≡ 2 → HasRefused IsWant records depths trace out err
+  pub failed : status ≡ 2 → HasFault IsWant records depths trace out err
       ⊎ FailedToWrite records depths Says trace out err
 
 -- there is no report, standard error has the line for that, and nothing of an answer was written

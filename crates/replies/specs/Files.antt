@@ -1,11 +1,11 @@
 -- Promised: what the names stand for that were asked with, and how the answer ends of what they stand for.
 use Rattle.std.specs.Prelude.{◌≡◌, ℕ, List, Option, Result, string_bytes}
-use Rattle.trace.specs.Bounds.{most_records}
+use Rattle.dag.specs.Bounds.{most_records}
 use Rattle.trace.specs.Devices.{Device, Change, ◌⇝◌}
 use Rattle.words.specs.declared.asking.Asked.{Asked}
 use Rattle.words.specs.declared.asking.Asked.TheVariants as asked
 use Rattle.words.specs.declared.asking.Question.{Question}
-use Rattle.words.specs.declared.asking.Confirm.{Confirm}
+use Rattle.words.specs.declared.asking.ConfirmWords.{ConfirmWords}
 use Rattle.words.specs.Asked.{depth_of, trace_name}
 use Rattle.replies.specs.declared.input.Input.{Input}
 pub use Rattle.replies.specs.Inputs.{untried}
@@ -23,7 +23,7 @@ module _ {F E : Type 0} (Gives : List ℕ → Result F E → Type 0) (known : In
     pub answered : IsAnswered (IsWant question) most_records (depth_of question) (Answers question) (untried (known trace) ⇝ left) out err status
 
   -- the same of the report and the trace that their names stand for
-  pub record HasConfirmedOf (confirm : Confirm) (out err : Change) (status : ℕ) : Type 0 where
+  pub record HasConfirmedOf (confirm : ConfirmWords) (out err : Change) (status : ℕ) : Type 0 where
     pub trace : Input F
     pub report : Input F
     pub trace_stands : StandsFor Gives (string_bytes confirm.trace) trace

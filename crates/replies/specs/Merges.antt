@@ -1,16 +1,16 @@
 -- Promised: how the program ends when it merges reports.
 use Rattle.std.specs.Prelude.{◌≡◌, ◌⊎◌, ℕ, ◌+◌, List, [], ◌∷◌, ◌++◌, length, Option, Result, String, string_bytes}
 use Rattle.trace.specs.declared.faults.Fault.TheVariants.{NoMemory}
-use Rattle.trace.specs.Accesses.{RaceAt}
+use Rattle.dag.specs.Accesses.{RaceAt}
 use Rattle.trace.specs.Devices.{Device, Change, ◌⇝◌}
 use Rattle.trace.specs.Writers.{IsUntouched, WasGiven}
 use Rattle.collect.specs.ReportText.{rtext}
 use Rattle.collect.specs.Merged.{IsMerged}
-use Rattle.texts.specs.declared.reports.ReportRefusal.{ReportRefusal}
+use Rattle.collect.specs.declared.bounded.ReportRefusal.{ReportRefusal}
+use Rattle.collect.specs.ReportBytes.{GivesReport, IsRefusal}
 use Rattle.texts.specs.Messages.{message, merge_message}
-use Rattle.texts.specs.ReportBytes.{GivesReport, IsRefusal}
-use Rattle.texts.specs.Sinks.{Tells}
-use Rattle.words.specs.declared.asking.Merge.{Merge}
+use Rattle.texts.specs.Sinks.{EndsAnswer}
+use Rattle.words.specs.declared.asking.MergeWords.{MergeWords}
 use Rattle.replies.specs.declared.input.Input.{Input}
 use Rattle.replies.specs.Inputs.{StandsFor, untried}
 
@@ -21,8 +21,8 @@ report_status (r ∷ rs) = 1
 
 -- The one report of these was written whole, with its status, or writing it failed; or there was no memory for it,
 -- standard error has the line for that, and nothing was written.
-abbrev pub HasToldMerged : List (List RaceAt) → Change → Change → ℕ → Type 0
-HasToldMerged reports out err status = ((races : List RaceAt) × IsMerged reports races × Tells status (report_status races) (rtext races) out err)
+abbrev pub HasWrittenMerged : List (List RaceAt) → Change → Change → ℕ → Type 0
+HasWrittenMerged reports out err status = ((races : List RaceAt) × IsMerged reports races × EndsAnswer status (report_status races) (rtext races) out err)
     ⊎ ((status ≡ 2) × IsUntouched out × WasGiven (message NoMemory) err)
 
 module _ {F E : Type 0} (Gives : List ℕ → Result F E → Type 0) (known : Input F → Option (List ℕ)) where
@@ -61,7 +61,7 @@ module _ {F E : Type 0} (Gives : List ℕ → Result F E → Type 0) (known : In
   pub record HasMerged {A : Type 0} (names : List (String A)) (out err : Change) (status : ℕ) : Type 0 where
     pub reports : List (List RaceAt)
     pub read : HaveReadReports names reports
-    pub told : HasToldMerged reports out err status
+    pub written : HasWrittenMerged reports out err status
 
   -- a report was refused, standard error has the line for that, and nothing was written
   pub record HasNotMerged {A : Type 0} (names : List (String A)) (out err : Change) (status : ℕ) : Type 0 where
@@ -74,5 +74,5 @@ module _ {F E : Type 0} (Gives : List ℕ → Result F E → Type 0) (known : In
 
   -- Status 0 or 1 is that of the one report of all the named reports, which was written whole. So reports from
   -- sources that hold them and don't fail have status 2 only for lack of memory, or if standard output failed.
-  abbrev pub HasMergedOf : Merge → Change → Change → ℕ → Type 0
+  abbrev pub HasMergedOf : MergeWords → Change → Change → ℕ → Type 0
   HasMergedOf merge out err status = HasMerged merge.reports.items out err status ⊎ HasNotMerged merge.reports.items out err status

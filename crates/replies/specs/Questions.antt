@@ -1,14 +1,14 @@
 -- Promised: what answers the questions of a trace: the text, and the exit status.
 use Rattle.std.specs.Prelude.{◌≡◌, ℕ, ◌%◌, ◌↔◌, List, [], Option, None}
-use Rattle.trace.specs.declared.records.Record.{Record}
-use Rattle.trace.specs.declared.records.Access.{Access}
-use Rattle.trace.specs.declared.records.Part.{Part}
+use Rattle.dag.specs.declared.records.Record.{Record}
+use Rattle.dag.specs.declared.records.Access.{Access}
+use Rattle.dag.specs.declared.part.Part.{Part}
 use Rattle.trace.specs.declared.faults.Fault.{Fault}
 use Rattle.trace.specs.Endings.{IsWantOfMemory, IsWantOfMemoryOrThread}
-use Rattle.trace.specs.Accesses.{RaceAt}
+use Rattle.dag.specs.Accesses.{RaceAt}
 use Rattle.collect.specs.ReportText.{rtext}
-use Rattle.detect.specs.Racy.{HasRace}
-use Rattle.detect.specs.Reported.{IsReportOf, IsPartReportOf}
+use Rattle.serial.specs.Racy.{HasRace}
+use Rattle.serial.specs.Reported.{IsReportOf, IsPartReportOf}
 use Rattle.audit.specs.declared.answers.Measure.{Measure}
 use Rattle.audit.specs.declared.answers.Explained.{Explained}
 use Rattle.audit.specs.declared.answers.Confirm.{Confirm}

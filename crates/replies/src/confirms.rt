@@ -3,21 +3,22 @@ ghost use Rattle.std.specs.Prelude.{◌≡◌};
 ghost use Rattle.trace.specs.Devices.{◌⇝◌};
 ghost use Rattle.trace.specs.Endings.{IsWantOfMemory};
 ghost use Rattle.replies.specs.Questions.{AnswersConfirm, status_of};
-ghost use Rattle.trace.specs.Bounds.{most_records};
+ghost use Rattle.dag.specs.Bounds.{most_records};
 ghost use Rattle.replies.specs.Answered.{IsAnswered, IsConfirmed};
 
-use crate::answers::{finish, limits_of};
+use crate::checks::{finish, limits_of};
 use audit::{Confirm, confirm};
-use collect::Report;
+use collect::{Report, report_from};
 use std::alloc::Global;
-use texts::{put_confirm, report_from, say_fault, say_refusal};
+use texts::{put_confirm, say_fault, say_refusal};
 use trace::{Sink, Source};
+use words::ConfirmWords;
 
 /// Answers whether every entry of a report is a race of a trace, and gives the exit status: 0 for yes, 1 for no, 2
 /// for a fault. It reads the report first; if the report is faulty, it doesn't read the trace.
 pub fn answer_confirm<R: Source, Q: Source, W: Sink, E: Sink>(
     alloc: Global,
-    asked: &words::Confirm,
+    asked: &ConfirmWords,
     trace: &mut R,
     report: &mut Q,
     out: &mut W,

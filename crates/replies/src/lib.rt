@@ -6,13 +6,13 @@ ghost use Rattle.trace.specs.Devices.{◌⇝◌};
 ghost use Rattle.replies.specs.Files.{HasAnsweredOf, HasConfirmedOf, IsAnsweredOf};
 ghost use Rattle.replies.specs.Inputs.{known_bytes};
 
-mod answers;
+mod checks;
 mod confirms;
 mod input;
 mod merges;
 mod questions;
 
-pub use answers::{MOST_RECORDS, answer, limits_of, refuse};
+pub use checks::{MOST_RECORDS, answer, limits_of, refuse};
 pub use confirms::answer_confirm;
 pub use input::{Input, open_report};
 use merges::merge_from_files;
@@ -22,7 +22,7 @@ use std::io::{BufReader, Read};
 use std::sync::Wait;
 use std::thread::Threads;
 use trace::{Counted, Sink};
-use words::{Asked, Confirm, Question, WordsFault};
+use words::{Asked, ConfirmWords, Question, WordsFault};
 
 /// Answers the words from the files of the system, and gives the exit status.
 pub fn answer_asked<T: Threads + Wait + Sync, W: Sink, E: Sink>(
@@ -93,7 +93,7 @@ where
 // Opens the trace and then the report, and answers of both. Without memory to read ahead nothing is read.
 fn confirm_from_files<F, O, W: Sink, E: Sink>(
     rt: &HostRuntime,
-    confirm: &Confirm,
+    confirm: &ConfirmWords,
     opener: &O,
     out: &mut W,
     err: &mut E,

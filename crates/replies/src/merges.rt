@@ -1,22 +1,22 @@
 //! The answer to `merge`.
 ghost use Rattle.std.specs.Prelude.{[], List, MatchResult};
 ghost use Rattle.std.specs.Fn.{FnReturnsAt};
-ghost use Rattle.trace.specs.Accesses.{RaceAt};
+ghost use Rattle.dag.specs.Accesses.{RaceAt};
 ghost use Rattle.trace.specs.Devices.{◌⇝◌};
 ghost use Rattle.collect.specs.Collected.{KeepsBest};
 ghost use Rattle.collect.specs.Merged.{given_by};
 ghost use Rattle.replies.specs.Inputs.{known_bytes};
-ghost use Rattle.replies.specs.Merges.{HasMergedOf, HasToldMerged, IsFirstRefused, IsRefusedReport};
+ghost use Rattle.replies.specs.Merges.{HasMergedOf, HasWrittenMerged, IsFirstRefused, IsRefusedReport};
 ghost use Rattle.replies.specs.Merging.{HasTaken, HaveTaken};
 
-use crate::answers::{finish, status_of_found};
+use crate::checks::{finish, status_of_found};
 use crate::input::Input;
-use collect::{Collector, write_report};
+use collect::{Collector, ReportRefusal, report_from, write_report};
 use std::io;
 use std::io::Read;
-use texts::{ReportRefusal, report_from, say, say_merge_refusal};
+use texts::{say, say_merge_refusal};
 use trace::{Counted, NoMemory, Sink};
-use words::Merge;
+use words::MergeWords;
 
 /// Why there is no merged report: one of the reports was refused.
 #[derive(Clone, Copy, Debug)]
@@ -29,7 +29,7 @@ pub(crate) struct Refused {
 /// Reads the reports one after another, opens each at its turn, and writes one report of them all.
 pub(crate) fn merge_from_files<F, O, W: Sink, E: Sink>(
     rt: &HostRuntime,
-    merge: &Merge,
+    merge: &MergeWords,
     opener: &O,
     out: &mut W,
     err: &mut E,
@@ -105,7 +105,7 @@ where
 // Writes the report of what a collector was given.
 fn answer_merged<W: Sink, E: Sink>(collector: Collector, out: &mut W, err: &mut E) -> u8
     ensures { (reports : List (List RaceAt)) → KeepsBest (given_by reports) collector
-        → HasToldMerged reports (W.state out.old ⇝ W.state out.new) (E.state err.old ⇝ E.state err.new) result }
+        → HasWrittenMerged reports (W.state out.old ⇝ W.state out.new) (E.state err.old ⇝ E.state err.new) result }
 {
     match collector.finish() {
         Ok(report) => {

@@ -3,10 +3,10 @@ ghost use Rattle.std.specs.Prelude.{◌≡◌, ◌<◌, ◌↔◌, None};
 ghost use Rattle.trace.specs.Devices.{◌⇝◌};
 ghost use Rattle.trace.specs.Endings.{IsWantOfMemory};
 ghost use Rattle.replies.specs.Questions.{AnswersPairs, AnswersExplain, AnswersMeasure};
-ghost use Rattle.trace.specs.Bounds.{most_records};
+ghost use Rattle.dag.specs.Bounds.{most_records};
 ghost use Rattle.replies.specs.Answered.{IsAnswered};
 
-use crate::answers::{finish, limits_of, status_of_found};
+use crate::checks::{finish, limits_of, status_of_found};
 use audit::{Explained, explain, measure, pairs};
 use std::alloc::Global;
 use texts::{put_explained, put_measure, put_pairs, say_fault};

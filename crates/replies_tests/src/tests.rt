@@ -6,9 +6,9 @@ mod examples;
 mod explanations;
 mod failures;
 mod files;
+mod known;
 mod questions;
 mod rows;
-mod told;
 
 use devices::{ENDLESS, Full, Room, Slow};
 use replies::{answer, answer_confirm, refuse};

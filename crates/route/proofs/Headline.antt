@@ -5,9 +5,9 @@ use Rattle.lane.specs.declared.item.Item.{Item}
 use Rattle.lane.specs.declared.item.Item.TheVariants.{One, Finish}
 use Rattle.lane.specs.Items.{has_mark, mark_last, records, IsBeginning}
 use Rattle.lane.proofs.Marks.{records_append, all_taken, mark_last_more, no_mark_in}
-use Rattle.trace.specs.declared.records.Placed.{Placed}
-use Rattle.trace.specs.Shares.{goes_placed, share}
-use Rattle.trace.proofs.Once.{AllAbove, Rises, Rises-from, increasing-from_rises}
+use Rattle.dag.specs.declared.records.Placed.{Placed}
+use Rattle.dag.specs.Shares.{goes_placed, share}
+use Rattle.dag.proofs.Once.{AllAbove, Rises, Rises-from, increasing-from_rises}
 use Rattle.route.specs.Routed.{IsRising, HasShare, TakesShare}
 use Rattle.route.proofs.Rising.{rising_front}
 use Rattle.route.proofs.LaneShares.{Routes}

@@ -6,12 +6,12 @@ use Rattle.std.proofs.lemmas.List.Elements.{All-filter, All-contains, All-contai
 use Rattle.lane.specs.declared.item.Item.{Item}
 use Rattle.lane.specs.declared.item.Item.TheVariants.{One, Finish}
 use Rattle.lane.specs.Items.{has_mark, records, IsBeginning}
-use Rattle.trace.specs.declared.records.Record.{Record}
-use Rattle.trace.specs.declared.records.Record.TheVariants.{Spawn, Call, Return, Sync, Read, Write}
-use Rattle.trace.specs.declared.records.Placed.{Placed}
-use Rattle.trace.specs.Shares.{goes, goes_placed, share}
-use Rattle.trace.proofs.Lists.{Contains-nil}
-use Rattle.trace.proofs.ShareLemmas.{share-push, goes_somewhere}
+use Rattle.dag.specs.declared.records.Record.{Record}
+use Rattle.dag.specs.declared.records.Record.TheVariants.{Spawn, Call, Return, Sync, Read, Write}
+use Rattle.dag.specs.declared.records.Placed.{Placed}
+use Rattle.dag.specs.Shares.{goes, goes_placed, share}
+use Rattle.dag.proofs.Lists.{Contains-nil}
+use Rattle.dag.proofs.ShareLemmas.{share-push, goes_somewhere}
 use Rattle.route.specs.Sending.{portion, AllSent}
 use Rattle.route.specs.Routed.{IsRising, in_hand, IsOnSome, IsRouted, IsBeingSent, HasShare, HasWholeShare, HasRouted}
 use Rattle.route.proofs.Rising.{Contains-here, Contains-later, Contains-cases, Ordered-from_rising, rising_front, last_above, same_records}
@@ -30,12 +30,12 @@ has_mark-ones [] true = refl
 has_mark-ones [] false = refl
 has_mark-ones (x ∷ xs) b = has_mark-ones xs b
 
-module _ (n : ℕ) (on : ℕ → List (Item Placed)) (w : List Placed) (turn : ℕ) (pending : Option Placed) (marked : ℕ) where
-  pub records-sent : AllSent n w turn pending marked on → (k : ℕ) → k < n → records (on k) ≡ share k n w ++ portion k n turn pending
-  records-sent all k l = ap records (all k l) ∙ records-ones (share k n w ++ portion k n turn pending) (nat_lt k marked)
+module _ (n : ℕ) (on : ℕ → List (Item Placed)) (w : List Placed) (next : ℕ) (pending : Option Placed) (marked : ℕ) where
+  pub records-sent : AllSent n w next pending marked on → (k : ℕ) → k < n → records (on k) ≡ share k n w ++ portion k n next pending
+  records-sent all k l = ap records (all k l) ∙ records-ones (share k n w ++ portion k n next pending) (nat_lt k marked)
 
-  pub has_mark-sent : AllSent n w turn pending marked on → (k : ℕ) → k < n → has_mark (on k) ≡ nat_lt k marked
-  has_mark-sent all k l = ap has_mark (all k l) ∙ has_mark-ones (share k n w ++ portion k n turn pending) (nat_lt k marked)
+  pub has_mark-sent : AllSent n w next pending marked on → (k : ℕ) → k < n → has_mark (on k) ≡ nat_lt k marked
+  has_mark-sent all k l = ap has_mark (all k l) ∙ has_mark-ones (share k n w ++ portion k n next pending) (nat_lt k marked)
 
 -- members of a share
 in_either : (b : Bool) (p q : Placed) (l : List Placed) → Contains l q → Contains (cond b (p ∷ l) l) q
@@ -87,9 +87,9 @@ module _ (n : ℕ) (on : ℕ → List (Item Placed)) (w : List Placed) (some : 0
     marks = λ k l h. record { whole = marked k l h; none_sent = none_sent };
   }
 
--- a record that goes to all lanes stands on those before the turn
-module _ (n : ℕ) (on : ℕ → List (Item Placed)) (w : List Placed) (turn : ℕ) (p : Placed) (rising : IsRising (w ++ p ∷ [])) (all : (k : ℕ) → goes_placed k n p ≡ true) (begun : 0 < turn) (within : turn < n)
-    (has : (k : ℕ) → k < turn → records (on k) ≡ share k n w ++ p ∷ []) (lacks : (k : ℕ) → turn ≤ k → k < n → records (on k) ≡ share k n w) where
+-- a record that goes to all lanes stands on those before the next one
+module _ (n : ℕ) (on : ℕ → List (Item Placed)) (w : List Placed) (next : ℕ) (p : Placed) (rising : IsRising (w ++ p ∷ [])) (all : (k : ℕ) → goes_placed k n p ≡ true) (begun : 0 < next) (within : next < n)
+    (has : (k : ℕ) → k < next → records (on k) ≡ share k n w ++ p ∷ []) (lacks : (k : ℕ) → next ≤ k → k < n → records (on k) ≡ share k n w) where
   share-all : (k : ℕ) → share k n w ++ p ∷ [] ≡ share k n (w ++ p ∷ [])
   share-all k = sym (share-push k n w p ∙ ap (λ (l : List Placed). share k n w ++ l) (cond-true (goes_placed k n p) (p ∷ []) [] (all k)))
 
@@ -102,7 +102,7 @@ module _ (n : ℕ) (on : ℕ → List (Item Placed)) (w : List Placed) (turn : �
   is_being_sent : IsBeingSent n on p
   is_being_sent = record {
     begun = is_begun;
-    unfinished = (turn, within, all turn, λ m. let P : List Placed → Type 0 = λ l. Contains l p in not_before (Contains-unfilter (goes_placed turn n) w p (subst P (lacks turn (omega arith) within) m)));
+    unfinished = (next, within, all next, λ m. let P : List Placed → Type 0 = λ l. Contains l p in not_before (Contains-unfilter (goes_placed next n) w p (subst P (lacks next (omega arith) within) m)));
   }
 
   to_lane : (q : Placed) → Contains (w ++ p ∷ []) q → IsOnSome n on q
@@ -110,28 +110,28 @@ module _ (n : ℕ) (on : ℕ → List (Item Placed)) (w : List Placed) (turn : �
       let P : List Placed → Type 0 = λ l. Contains l q in
       ⊎_elim
       (λ (m : Contains w q). let g = on_its_lane n w q (omega arith) m in
-      (g.0, g.1, ⊎_elim (λ (x : g.0 < turn). subst P (sym (has g.0 x)) (Contains-append_left (share g.0 n w) (p ∷ []) q g.2)) (λ (x : turn ≤ g.0). subst P (sym (lacks g.0 x g.1)) g.2) (cases_lt g.0 turn)))
+      (g.0, g.1, ⊎_elim (λ (x : g.0 < next). subst P (sym (has g.0 x)) (Contains-append_left (share g.0 n w) (p ∷ []) q g.2)) (λ (x : next ≤ g.0). subst P (sym (lacks g.0 x g.1)) g.2) (cases_lt g.0 next)))
       (λ (m : Contains (p ∷ []) q). ⊎_elim (λ (e : p ≡ q). subst (IsOnSome n on) e is_begun) (λ (m : Contains [] q). absurd (Contains-nil q m)) (Contains-cases p q [] m)) (Contains-append_cases w (p ∷ []) q m)
 
   from_lane : (q : Placed) → IsOnSome n on q → Contains (w ++ p ∷ []) q
   from_lane q (k, l, m) =
       let P : List Placed → Type 0 = λ l. Contains l q in
-      ⊎_elim (λ (x : k < turn). Contains-unfilter (goes_placed k n) (w ++ p ∷ []) q (subst P (has k x ∙ share-all k) m))
-      (λ (x : turn ≤ k). Contains-append_left w (p ∷ []) q (Contains-unfilter (goes_placed k n) w q (subst P (lacks k x l) m))) (cases_lt k turn)
+      ⊎_elim (λ (x : k < next). Contains-unfilter (goes_placed k n) (w ++ p ∷ []) q (subst P (has k x ∙ share-all k) m))
+      (λ (x : next ≤ k). Contains-append_left w (p ∷ []) q (Contains-unfilter (goes_placed k n) w q (subst P (lacks k x l) m))) (cases_lt k next)
 
   routes_begun : ((k : ℕ) → k < n → has_mark (on k) ≡ false) → Routes n on (w ++ p ∷ [])
   routes_begun unmarked = record {
     routed = record { rising = rising; exact = λ q. (to_lane q, from_lane q) };
-    shares = λ k l. ⊎_elim (λ (x : k < turn). inl (has k x ∙ share-all k))
-        (λ (x : turn ≤ k). inr (p, ap (λ (l : List Placed). l ++ p ∷ []) (lacks k x l) ∙ share-all k, is_being_sent)) (cases_lt k turn);
+    shares = λ k l. ⊎_elim (λ (x : k < next). inl (has k x ∙ share-all k))
+        (λ (x : next ≤ k). inr (p, ap (λ (l : List Placed). l ++ p ∷ []) (lacks k x l) ∙ share-all k, is_being_sent)) (cases_lt k next);
     marks = λ k l h. absurd (true≢false (sym h ∙ unmarked k l));
   }
 
-only_turn : (k turn j : ℕ) → (j == turn) ≡ true → (nat_lt k turn && (j == k)) ≡ false
-only_turn k turn j h = grind (arith, nat_tests)
+only_next : (k next j : ℕ) → (j == next) ≡ true → (nat_lt k next && (j == k)) ≡ false
+only_next k next j h = grind (arith, nat_tests)
 
--- where the turn is at a lane that the record goes to: no lane before it gets the record, or all lanes do
-early : (n turn : ℕ) (r : Record) → goes turn n r ≡ true → ((k : ℕ) → (nat_lt k turn && goes k n r) ≡ false) ⊎ (((k : ℕ) → goes k n r ≡ true) × (0 < turn))
+-- where the next lane is one that the record goes to: no lane before it gets the record, or all lanes do
+early : (n next : ℕ) (r : Record) → goes next n r ≡ true → ((k : ℕ) → (nat_lt k next && goes k n r) ≡ false) ⊎ (((k : ℕ) → goes k n r ≡ true) × (0 < next))
 early n zero Spawn h = inl (λ k. and_left (nat_lt k 0) true (le-ltb k 0 (omega arith)))
 early n zero Call h = inl (λ k. and_left (nat_lt k 0) true (le-ltb k 0 (omega arith)))
 early n (suc t) Spawn h = inr (λ k. refl, omega arith)
@@ -140,17 +140,17 @@ early n zero Return h = inl (λ k. and_left (nat_lt k 0) true (le-ltb k 0 (omega
 early n (suc t) Return h = inr (λ k. refl, omega arith)
 early n zero Sync h = inl (λ k. and_left (nat_lt k 0) true (le-ltb k 0 (omega arith)))
 early n (suc t) Sync h = inr (λ k. refl, omega arith)
-early n turn (Read l) h = inl (λ k. only_turn k turn (l % n) h)
-early n turn (Write l) h = inl (λ k. only_turn k turn (l % n) h)
+early n next (Read l) h = inl (λ k. only_next k next (l % n) h)
+early n next (Write l) h = inl (λ k. only_next k next (l % n) h)
 
--- the records of w were sent whole, and the pending one to the lanes before the turn
-pub record IsUnderWay (n : ℕ) (on : ℕ → List (Item Placed)) (w : List Placed) (turn : ℕ) (pending : Option Placed) (marked : ℕ) : Type 0 where
+-- the records of w were sent whole, and the pending one to the lanes before the next one
+pub record IsUnderWay (n : ℕ) (on : ℕ → List (Item Placed)) (w : List Placed) (next : ℕ) (pending : Option Placed) (marked : ℕ) : Type 0 where
   pub some : 0 < n
   pub rising : IsRising (in_hand w pending)
-  pub within : (p : Placed) → pending ≡ Some p → turn < n
-  pub aimed : (p : Placed) → pending ≡ Some p → goes_placed turn n p ≡ true
+  pub within : (p : Placed) → pending ≡ Some p → next < n
+  pub aimed : (p : Placed) → pending ≡ Some p → goes_placed next n p ≡ true
   pub unmarked : (p : Placed) → pending ≡ Some p → marked ≡ 0
-  pub sent : AllSent n w turn pending marked on
+  pub sent : AllSent n w next pending marked on
 
 -- the list that was routed
 pub record Outcome (n : ℕ) (on : ℕ → List (Item Placed)) (w : List Placed) (pending : Option Placed) : Type 0 where
@@ -158,48 +158,48 @@ pub record Outcome (n : ℕ) (on : ℕ → List (Item Placed)) (w : List Placed)
   pub routes : Routes n on list
   pub either : (list ≡ w) ⊎ (list ≡ in_hand w pending)
 
-module _ (n : ℕ) (on : ℕ → List (Item Placed)) (w : List Placed) (turn marked : ℕ) where
-  whole_marked : AllSent n w turn None marked on → (k : ℕ) → k < n → has_mark (on k) ≡ true → on k ≡ map One (share k n w) ++ Finish ∷ []
+module _ (n : ℕ) (on : ℕ → List (Item Placed)) (w : List Placed) (next marked : ℕ) where
+  whole_marked : AllSent n w next None marked on → (k : ℕ) → k < n → has_mark (on k) ≡ true → on k ≡ map One (share k n w) ++ Finish ∷ []
   whole_marked all k l h =
       all k l
       ∙ ap₂ (λ (xs : List Placed) (ms : List (Item Placed)). map One xs ++ ms) (append-nil (share k n w))
-      (cond-true (nat_lt k marked) (Finish ∷ []) [] (sym (has_mark-sent n on w turn None marked all k l) ∙ h))
+      (cond-true (nat_lt k marked) (Finish ∷ []) [] (sym (has_mark-sent n on w next None marked all k l) ∙ h))
 
-  outcome-none : IsUnderWay n on w turn None marked → Outcome n on w None
+  outcome-none : IsUnderWay n on w next None marked → Outcome n on w None
   outcome-none s = record {
     list = w;
-    routes = routes_whole n on w s.some (λ k l. records-sent n on w turn None marked s.sent k l ∙ append-nil (share k n w)) (subst IsRising (append-nil w) s.rising) (whole_marked s.sent);
+    routes = routes_whole n on w s.some (λ k l. records-sent n on w next None marked s.sent k l ∙ append-nil (share k n w)) (subst IsRising (append-nil w) s.rising) (whole_marked s.sent);
     either = inl refl;
   }
 
-  no_mark : (p : Placed) → IsUnderWay n on w turn (Some p) marked → (k : ℕ) → k < n → has_mark (on k) ≡ false
-  no_mark p s k l = has_mark-sent n on w turn (Some p) marked s.sent k l ∙ le-ltb k marked (omega (arith, s.unmarked p refl))
+  no_mark : (p : Placed) → IsUnderWay n on w next (Some p) marked → (k : ℕ) → k < n → has_mark (on k) ≡ false
+  no_mark p s k l = has_mark-sent n on w next (Some p) marked s.sent k l ∙ le-ltb k marked (omega (arith, s.unmarked p refl))
 
-  outcome-some : (p : Placed) → IsUnderWay n on w turn (Some p) marked → Outcome n on w (Some p)
+  outcome-some : (p : Placed) → IsUnderWay n on w next (Some p) marked → Outcome n on w (Some p)
   outcome-some p s =
-      let sent : (k : ℕ) → k < n → records (on k) ≡ share k n w ++ portion k n turn (Some p) = records-sent n on w turn (Some p) marked s.sent in
+      let sent : (k : ℕ) → k < n → records (on k) ≡ share k n w ++ portion k n next (Some p) = records-sent n on w next (Some p) marked s.sent in
       ⊎_elim
-      (λ (none : (k : ℕ) → (nat_lt k turn && goes k n p.what) ≡ false). record {
+      (λ (none : (k : ℕ) → (nat_lt k next && goes k n p.what) ≡ false). record {
         list = w;
         routes =
             routes_whole n on w s.some
-            (λ k l. sent k l ∙ ap (λ (x : List Placed). share k n w ++ x) (cond-false (nat_lt k turn && goes_placed k n p) (p ∷ []) [] (none k)) ∙ append-nil (share k n w))
+            (λ k l. sent k l ∙ ap (λ (x : List Placed). share k n w ++ x) (cond-false (nat_lt k next && goes_placed k n p) (p ∷ []) [] (none k)) ∙ append-nil (share k n w))
             (rising_front w (p ∷ []) s.rising) (λ k l h. absurd (true≢false (sym h ∙ no_mark p s k l)));
         either = inl refl;
       })
-      (λ (all : ((k : ℕ) → goes k n p.what ≡ true) × (0 < turn)). record {
+      (λ (all : ((k : ℕ) → goes k n p.what ≡ true) × (0 < next)). record {
         list = w ++ p ∷ [];
         routes =
-            routes_begun n on w turn p s.rising all.0 all.1 (s.within p refl)
-            (λ k x. sent k (omega (arith, s.within p refl)) ∙ ap (λ (x : List Placed). share k n w ++ x) (cond-true (nat_lt k turn && goes_placed k n p) (p ∷ []) [] (and_from (nat_lt k turn) (goes_placed k n p) (lt-ltb k turn x) (all.0 k))))
-            (λ k x l. sent k l ∙ ap (λ (x : List Placed). share k n w ++ x) (cond-false (nat_lt k turn && goes_placed k n p) (p ∷ []) [] (and_left (nat_lt k turn) (goes_placed k n p) (le-ltb k turn x))) ∙ append-nil (share k n w))
+            routes_begun n on w next p s.rising all.0 all.1 (s.within p refl)
+            (λ k x. sent k (omega (arith, s.within p refl)) ∙ ap (λ (x : List Placed). share k n w ++ x) (cond-true (nat_lt k next && goes_placed k n p) (p ∷ []) [] (and_from (nat_lt k next) (goes_placed k n p) (lt-ltb k next x) (all.0 k))))
+            (λ k x l. sent k l ∙ ap (λ (x : List Placed). share k n w ++ x) (cond-false (nat_lt k next && goes_placed k n p) (p ∷ []) [] (and_left (nat_lt k next) (goes_placed k n p) (le-ltb k next x))) ∙ append-nil (share k n w))
             (no_mark p s);
         either = inr refl;
-      }) (early n turn p.what (s.aimed p refl))
+      }) (early n next p.what (s.aimed p refl))
 
-pub outcome : (n : ℕ) (on : ℕ → List (Item Placed)) (w : List Placed) (turn : ℕ) (pending : Option Placed) (marked : ℕ) → IsUnderWay n on w turn pending marked → Outcome n on w pending
-outcome n on w turn None marked s = outcome-none n on w turn marked s
-outcome n on w turn (Some p) marked s = outcome-some n on w turn marked p s
+pub outcome : (n : ℕ) (on : ℕ → List (Item Placed)) (w : List Placed) (next : ℕ) (pending : Option Placed) (marked : ℕ) → IsUnderWay n on w next pending marked → Outcome n on w pending
+outcome n on w next None marked s = outcome-none n on w next marked s
+outcome n on w next (Some p) marked s = outcome-some n on w next marked p s
 
 -- of the one list that was routed
 pub routes_of : (n : ℕ) (on : ℕ → List (Item Placed)) (w u : List Placed) (pending : Option Placed) → Outcome n on w pending → IsRouted n on u → Routes n on u

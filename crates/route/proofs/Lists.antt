@@ -7,7 +7,7 @@ use Rattle.std.proofs.Math.Seq.{map-set_same}
 use Rattle.lane.specs.declared.item.Item.{Item}
 use Rattle.lane.specs.declared.sender.Sender.{Sender}
 use Rattle.lane.specs.Lanes.{put_of, shown_of, room_of}
-use Rattle.trace.specs.declared.records.Placed.{Placed}
+use Rattle.dag.specs.declared.records.Placed.{Placed}
 use Rattle.route.specs.Senders.{puts, shown, rooms}
 use Rattle.route.specs.Sending.{put_on, with_put}
 
@@ -15,7 +15,7 @@ use Rattle.route.specs.Sending.{put_on, with_put}
 pub puts_counted : (ss : Vec (Sender Placed) Global) → length (puts ss.items) ≡ vec_len ss
 puts_counted ss = omega (arith, length-map ss.items put_of, ss.ok.0)
 
--- the place holds s, and t comes there, which f can't tell from s
+-- the place holds s, and t comes there, which f maps as it maps s
 pub map-set_like : {L : Type 0} (f : Sender Placed → L) (ss : List (Sender Placed)) (k : ℕ) (s t : Sender Placed) → s ≡ get_or ss k s → f t ≡ f s → map f (set ss k t) ≡ map f ss
 map-set_like f ss k s t at same = map-set_same f ss k t s (same ∙ ap f at)
 

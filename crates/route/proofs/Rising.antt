@@ -5,8 +5,8 @@ use Rattle.std.specs.List.Sorted.{IsStrictlyIncreasing}
 use Rattle.std.proofs.lemmas.List.{get_or-map, get_or_append_left, map-append, length-append, length-map}
 use Rattle.std.proofs.lemmas.List.Elements.{Contains-push}
 use Rattle.std.proofs.lemmas.List.Kept.{AllPairs-from_increasing}
-use Rattle.trace.specs.declared.records.Placed.{Placed}
-use Rattle.trace.proofs.Lists.{Contains-nil}
+use Rattle.dag.specs.declared.records.Placed.{Placed}
+use Rattle.dag.proofs.Lists.{Contains-nil}
 use Rattle.route.specs.Routed.{IsRising}
 
 pub Contains-here : {A : Type 0} (p : A) (u : List A) → Contains (p ∷ u) p

@@ -4,36 +4,36 @@ use Rattle.std.proofs.lemmas.Bool.{lt-ltb, ltb-true}
 use Rattle.lane.specs.declared.item.Item.{Item}
 use Rattle.lane.specs.declared.item.Item.TheVariants.{One, Finish}
 use Rattle.lane.specs.Items.{has_mark, IsBeginning}
-use Rattle.trace.specs.declared.records.Placed.{Placed}
-use Rattle.trace.specs.Shares.{share}
+use Rattle.dag.specs.declared.records.Placed.{Placed}
+use Rattle.dag.specs.Shares.{share}
 use Rattle.route.specs.declared.router.Router.{Router}
 use Rattle.route.specs.Sending.{put_on}
 use Rattle.route.specs.Routed.{IsRising, in_hand}
-use Rattle.route.specs.Routers.{puts_of, lane_count, pending_of, turn_of, marked_of, HasSent, IsUnchanged, IsOnLanes}
+use Rattle.route.specs.Routers.{puts_of, lane_count, pending_of, next_of, marked_of, HasSent, IsUnchanged, IsOnLanes}
 use Rattle.route.specs.Runs.{Event, IsRun, of_lane, put_list}
 use Rattle.route.specs.RouterRuns.{sent_so_far, run_of}
 use Rattle.route.proofs.Headline.{mark_of_front, takes_share}
 use Rattle.route.proofs.LaneShares.{has_mark-sent}
 use Rattle.route.proofs.Lists.{puts_counted}
 use Rattle.route.proofs.RunLists.{puts_in-events, front_of, outcome_of, front_run}
-use Rattle.route.proofs.SentSoFar.{sent_front, sent_on, told-same}
+use Rattle.route.proofs.SentSoFar.{sent_front, sent_on, events-same}
 
 pub counted : (r : Router) → vec_len r.senders ≡ lane_count r
 counted r = sym (puts_counted r.senders)
 
 pub router_run : (r : Router) (w : List Placed) → IsRising (in_hand w (pending_of r)) → IsRun (lane_count r) (in_hand w (pending_of r)) (run_of w r)
 router_run r w rising =
-    let front = sent_front (lane_count r) w (pending_of r) (turn_of r) (marked_of r) (omega (arith, counted r, r.turn)) (omega (arith, counted r, r.at_most_all)) r.unmarked in
-    front_run (lane_count r) (in_hand w (pending_of r)) (sent_so_far (lane_count r) w (pending_of r) (turn_of r) (marked_of r)) (omega (arith, counted r, r.some)) rising front
+    let front = sent_front (lane_count r) w (pending_of r) (next_of r) (marked_of r) (omega (arith, counted r, r.next_within)) (omega (arith, counted r, r.at_most_all)) r.unmarked in
+    front_run (lane_count r) (in_hand w (pending_of r)) (sent_so_far (lane_count r) w (pending_of r) (next_of r) (marked_of r)) (omega (arith, counted r, r.some)) rising front
 
 pub router_puts : (r : Router) (w : List Placed) → HasSent w r → (k : ℕ) → k < lane_count r → put_list (run_of w r) k ≡ put_on (puts_of r) k
 router_puts r w sent k l =
-    ap (of_lane k) (puts_in-events (sent_so_far (lane_count r) w (pending_of r) (turn_of r) (marked_of r)))
-    ∙ sent_on (lane_count r) k w (pending_of r) (turn_of r) (marked_of r) l ∙ sym (sent k l)
+    ap (of_lane k) (puts_in-events (sent_so_far (lane_count r) w (pending_of r) (next_of r) (marked_of r)))
+    ∙ sent_on (lane_count r) k w (pending_of r) (next_of r) (marked_of r) l ∙ sym (sent k l)
 
 pub router_still : (old new : Router) (w : List Placed) → IsUnchanged old new → IsOnLanes old new → run_of w new ≡ run_of w old
 router_still old new w same lanes =
-    told-same w (lane_count new) (lane_count old) (pending_of new) (pending_of old) (turn_of new) (turn_of old) (marked_of new) (marked_of old) lanes.count same.pending same.turn same.marked
+    events-same w (lane_count new) (lane_count old) (pending_of new) (pending_of old) (next_of new) (next_of old) (marked_of new) (marked_of old) lanes.count same.pending same.next same.marked
 
 none_pending : (pending : Option Placed) (marked : ℕ) → ((p : Placed) → pending ≡ Some p → marked ≡ 0) → 0 < marked → pending ≡ None
 none_pending None marked unmarked h = refl
@@ -44,7 +44,7 @@ pub run_took : (n k : ℕ) (w : List Placed) (es : List Event) (taken : List (It
 run_took n k w es taken run l front marked =
     let f = front_of n w es run in
     let o = outcome_of n w es run f in
-    let among : k < f.marked = ltb-true k f.marked (sym (has_mark-sent n (put_list es) f.v f.turn f.pending f.marked f.sent k l) ∙ mark_of_front taken (put_list es k) front marked) in
+    let among : k < f.marked = ltb-true k f.marked (sym (has_mark-sent n (put_list es) f.v f.next f.pending f.marked f.sent k l) ∙ mark_of_front taken (put_list es k) front marked) in
     let none : f.pending ≡ None = none_pending f.pending f.marked f.unmarked (omega arith) in
     let whole : w ≡ in_hand f.v f.pending = f.whole ∙ ap (λ (r : List Placed). in_hand f.v f.pending ++ r) (f.ended (omega arith)) ∙ append-nil (in_hand f.v f.pending) in
     let all : o.list ≡ w = ⊎_elim (λ (h : o.list ≡ f.v). h ∙ sym (whole ∙ ap (in_hand f.v) none ∙ append-nil f.v)) (λ (h : o.list ≡ in_hand f.v f.pending). h ∙ sym whole) o.either in
@@ -57,5 +57,5 @@ router_took r w k taken sent none marks rising l same =
     let at_rest : in_hand w (pending_of r) ≡ w = ap (in_hand w) none ∙ append-nil w in
     let run = router_run r w (subst IsRising (sym at_rest) rising) in
     let put : put_list (run_of w r) k ≡ taken = router_puts r w sent k l ∙ sym same in
-    let marked : has_mark taken ≡ true = ap has_mark same ∙ has_mark-sent (lane_count r) (put_on (puts_of r)) w (turn_of r) (pending_of r) (marked_of r) sent k l ∙ lt-ltb k (marked_of r) (omega arith) in
+    let marked : has_mark taken ≡ true = ap has_mark same ∙ has_mark-sent (lane_count r) (put_on (puts_of r)) w (next_of r) (pending_of r) (marked_of r) sent k l ∙ lt-ltb k (marked_of r) (omega arith) in
     run_took (lane_count r) k (in_hand w (pending_of r)) (run_of w r) taken run l ([], put ∙ sym (append-nil taken)) marked ∙ ap (λ (u : List Placed). map One (share k (lane_count r) u) ++ Finish ∷ []) at_rest

@@ -7,10 +7,10 @@ use Rattle.std.proofs.lemmas.List.{nil_from_length, take_at, length-append}
 use Rattle.std.proofs.lemmas.List.FromFn.{take-map-range_with_len, length-map-range_with_len}
 use Rattle.lane.specs.declared.item.Item.{Item}
 use Rattle.lane.specs.declared.item.Item.TheVariants.{One, Finish}
-use Rattle.trace.specs.declared.records.Record.{Record}
-use Rattle.trace.specs.declared.records.Record.TheVariants.{Spawn, Call, Return, Sync, Read, Write}
-use Rattle.trace.specs.declared.records.Placed.{Placed}
-use Rattle.trace.specs.Shares.{goes, goes_placed, share}
+use Rattle.dag.specs.declared.records.Record.{Record}
+use Rattle.dag.specs.declared.records.Record.TheVariants.{Spawn, Call, Return, Sync, Read, Write}
+use Rattle.dag.specs.declared.records.Placed.{Placed}
+use Rattle.dag.specs.Shares.{goes, goes_placed, share}
 use Rattle.route.specs.Sending.{portion, mark_of, AllSent}
 use Rattle.route.specs.Routed.{in_hand}
 use Rattle.route.specs.Runs.{of_lane, sending_of, sending}
@@ -62,26 +62,26 @@ of_sending n k place Sync l = on_first (One (record { place = place; what = Sync
 of_sending n k place (Read j) l = refl
 of_sending n k place (Write j) l = refl
 
--- a record of which some lanes lack it: the turn, and what stands on the lanes
+-- a record of which some lanes lack it: the next lane, and what stands on the lanes
 record PortionSent (n : ℕ) (p : Placed) (s : Sends) : Type 0 where
-  turn : ℕ
-  within : turn < n
-  aimed : goes_placed turn n p ≡ true
-  on : (k : ℕ) → of_lane k s ≡ map One (portion k n turn (Some p))
+  next : ℕ
+  within : next < n
+  aimed : goes_placed next n p ≡ true
+  on : (k : ℕ) → of_lane k s ≡ map One (portion k n next (Some p))
 
 both : (a b : Bool) (p : Placed) → b ≡ true → cond a (One p ∷ []) [] ≡ map One (cond (a && b) (p ∷ []) [])
 both true true p h = refl
 both false true p h = refl
 both a false p h = absurd (cc)
 
-portion-all : (k n turn : ℕ) (p : Placed) → goes_placed k n p ≡ true → cond (nat_lt k turn) (One p ∷ []) [] ≡ map One (portion k n turn (Some p))
-portion-all k n turn p h = both (nat_lt k turn) (goes_placed k n p) p h
+portion-all : (k n next : ℕ) (p : Placed) → goes_placed k n p ≡ true → cond (nat_lt k next) (One p ∷ []) [] ≡ map One (portion k n next (Some p))
+portion-all k n next p h = both (nat_lt k next) (goes_placed k n p) p h
 
 -- a record that goes to all lanes
 of_all : (n : ℕ) (p : Placed) (s : Sends) → ((k : ℕ) → goes_placed k n p ≡ true) → s ≡ take (length s) (map (λ j. (j, One p)) (range_with_len 0 n)) → length s < length {A = ℕ × Item Placed} (map (λ j. (j, One p)) (range_with_len 0 n)) → PortionSent n p s
 of_all n p s all e l =
     let within : length s < n = omega (arith, length-map-range_with_len {X = ℕ × Item Placed} (λ j. (j, One p)) 0 n) in record {
-      turn = length s;
+      next = length s;
       within = within;
       aimed = all (length s);
       on = λ k. on_cut (One p) k n s e (omega arith) ∙ portion-all k n (length s) p (all k);
@@ -94,7 +94,7 @@ not_before k j = grind (arith, nat_tests)
 of_none : (n j : ℕ) (p : Placed) (s : Sends) → j < n → ((k : ℕ) → goes_placed k n p ≡ (j == k)) → s ≡ take (length s) ((j, One p) ∷ []) → length s < 1 → PortionSent n p s
 of_none n j p s within is e l =
     let none : s ≡ [] = nil_from_length s (omega arith) in record {
-      turn = j;
+      next = j;
       within = within;
       aimed = is j ∙ eq-eqb j j refl;
       on = λ k. ap (of_lane k) none ∙ ap (λ (b : Bool). map One (cond b (p ∷ []) [])) (sym (ap (λ (b : Bool). nat_lt k j && b) (is k) ∙ not_before k j));
@@ -111,16 +111,16 @@ portion_sent n place (Write j) s some e l = of_none n (j % n) (record { place = 
 -- where a run stands after the puts s: v was sent whole, and the pending record in portion
 pub record Front (n : ℕ) (w : List Placed) (s : Sends) : Type 0 where
   pub v : List Placed
-  pub turn : ℕ
+  pub next : ℕ
   pub pending : Option Placed
   pub marked : ℕ
   pub rest : List Placed
   pub whole : w ≡ in_hand v pending ++ rest
-  pub within : (p : Placed) → pending ≡ Some p → turn < n
-  pub aimed : (p : Placed) → pending ≡ Some p → goes_placed turn n p ≡ true
+  pub within : (p : Placed) → pending ≡ Some p → next < n
+  pub aimed : (p : Placed) → pending ≡ Some p → goes_placed next n p ≡ true
   pub unmarked : (p : Placed) → pending ≡ Some p → marked ≡ 0
   pub ended : 0 < marked → rest ≡ []
-  pub sent : AllSent n v turn pending marked (λ k. of_lane k s)
+  pub sent : AllSent n v next pending marked (λ k. of_lane k s)
 
 pub mark_of-none : (k : ℕ) → mark_of k 0 ≡ []
 mark_of-none k = cond-false (nat_lt k 0) (Finish ∷ []) [] (le-ltb k 0 (omega arith))
@@ -133,7 +133,7 @@ front_marks : (n : ℕ) (s r : Sends) → s ++ r ≡ map (λ k. (k, Finish)) (ra
 front_marks n s r e =
     let cut : (s ≡ take (length s) (map (λ k. (k, Finish)) (range_with_len 0 n))) × (length s ≤ n) = cut_front s r (map (λ k. (k, Finish)) (range_with_len 0 n)) n (length-map-range_with_len {X = ℕ × Item Placed} (λ k. (k, Finish)) 0 n) e in record {
       v = [];
-      turn = 0;
+      next = 0;
       pending = None;
       marked = length s;
       rest = [];
@@ -149,16 +149,16 @@ front_marks n s r e =
 front_portion : (n : ℕ) (p : Placed) (w : List Placed) (s : Sends) → PortionSent n p s → Front n (p ∷ w) s
 front_portion n p w s h = record {
   v = [];
-  turn = h.turn;
+  next = h.next;
   pending = Some p;
   marked = 0;
   rest = w;
   whole = refl;
   within = λ q e. h.within;
-  aimed = λ q e. let P : Placed → Type 0 = λ x. goes_placed h.turn n x ≡ true in let same : p ≡ q = cc in subst P same h.aimed;
+  aimed = λ q e. let P : Placed → Type 0 = λ x. goes_placed h.next n x ≡ true in let same : p ≡ q = cc in subst P same h.aimed;
   unmarked = λ q e. refl;
   ended = λ h. absurd (omega arith);
-  sent = λ k l. h.on k ∙ sym (ap (λ (ms : List (Item Placed)). map One (portion k n h.turn (Some p)) ++ ms) (mark_of-none k) ∙ append-nil (map One (portion k n h.turn (Some p))));
+  sent = λ k l. h.on k ∙ sym (ap (λ (ms : List (Item Placed)). map One (portion k n h.next (Some p)) ++ ms) (mark_of-none k) ∙ append-nil (map One (portion k n h.next (Some p))));
 }
 
 with_one : (b : Bool) (p : Placed) (xs ys : List Placed) (ms : List (Item Placed)) → cond b (One p ∷ []) [] ++ (map One (xs ++ ys) ++ ms) ≡ map One (cond b (p ∷ xs) xs ++ ys) ++ ms
@@ -169,7 +169,7 @@ with_one false p xs ys ms = refl
 front_more : (n : ℕ) (p : Placed) (w : List Placed) (t : Sends) → Front n w t → Front n (p ∷ w) (sending_of n p ++ t)
 front_more n p w t h = record {
   v = p ∷ h.v;
-  turn = h.turn;
+  next = h.next;
   pending = h.pending;
   marked = h.marked;
   rest = h.rest;
@@ -180,7 +180,7 @@ front_more n p w t h = record {
   ended = h.ended;
   sent = λ k l.
       of_lane-append k (sending_of n p) t ∙ ap₂ (λ (a b : List (Item Placed)). a ++ b) (of_sending n k p.place p.what l) (h.sent k l)
-      ∙ with_one (goes_placed k n p) p (share k n h.v) (portion k n h.turn h.pending) (mark_of k h.marked);
+      ∙ with_one (goes_placed k n p) p (share k n h.v) (portion k n h.next h.pending) (mark_of k h.marked);
 }
 
 pub front : (n : ℕ) (w : List Placed) (s r : Sends) → 0 < n → s ++ r ≡ sending n w → Front n w s

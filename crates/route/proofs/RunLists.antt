@@ -7,7 +7,7 @@ use Rattle.std.proofs.lemmas.List.{length-append, map-append}
 use Rattle.lane.specs.declared.item.Item.{Item}
 use Rattle.lane.specs.declared.item.Item.TheVariants.{Finish}
 use Rattle.lane.specs.Items.{has_mark, IsBeginning}
-use Rattle.trace.specs.declared.records.Placed.{Placed}
+use Rattle.dag.specs.declared.records.Placed.{Placed}
 use Rattle.route.specs.Routed.{IsRising}
 use Rattle.route.specs.Runs.{Event, put, take, puts_in, takes_in, of_lane, put_list, taken_list, held_after, held, IsAllowed, IsRun, put_event, sending_of, sending}
 use Rattle.route.proofs.LaneShares.{Outcome, outcome}
@@ -94,7 +94,7 @@ front_of n w es run = front n w (puts_in es) run.in_order.0 run.some (sym run.in
 
 pub outcome_of : (n : ℕ) (w : List Placed) (es : List Event) → IsRun n w es → (f : Front n w (puts_in es)) → Outcome n (put_list es) f.v f.pending
 outcome_of n w es run f =
-    outcome n (put_list es) f.v f.turn f.pending f.marked
+    outcome n (put_list es) f.v f.next f.pending f.marked
     (record { some = run.some; rising = rising_front _ f.rest (subst IsRising f.whole run.rising); within = f.within; aimed = f.aimed; unmarked = f.unmarked; sent = f.sent })
 
 -- the puts, one event each

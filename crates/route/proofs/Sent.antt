@@ -6,9 +6,9 @@ use Rattle.lane.specs.declared.item.Item.{Item}
 use Rattle.lane.specs.declared.item.Item.TheVariants.{One, Finish}
 use Rattle.lane.specs.Items.{has_mark}
 use Rattle.lane.proofs.Marks.{has_mark_more}
-use Rattle.trace.specs.declared.records.Placed.{Placed}
-use Rattle.trace.specs.Shares.{goes_placed, share}
-use Rattle.trace.proofs.ShareLemmas.{share-push}
+use Rattle.dag.specs.declared.records.Placed.{Placed}
+use Rattle.dag.specs.Shares.{goes_placed, share}
+use Rattle.dag.proofs.ShareLemmas.{share-push}
 use Rattle.route.specs.Sending.{put_on, with_put, portion, mark_of, AllSent, sent_whole, HaveMarks}
 
 abbrev pub Items : Type 0
@@ -16,7 +16,7 @@ Items = List (Item Placed)
 
 -- the same of a list of put lists, a lane each
 abbrev pub OnPuts : List Placed → ℕ → Option Placed → ℕ → List Items → Type 0
-OnPuts w turn pending marked puts = AllSent (length puts) w turn pending marked (put_on puts)
+OnPuts w next pending marked puts = AllSent (length puts) w next pending marked (put_on puts)
 
 -- one of two different numbers is the lesser
 apart : (k i : ℕ) → (k ≡ i → ⊥) → (k < i) ⊎ (i < k)
@@ -51,7 +51,7 @@ add_all xs ys us marks none e =
 same_records : (xs ys : List Placed) (marks : Items) (l : Items) → l ≡ map One xs ++ marks → xs ≡ ys → l ≡ map One ys ++ marks
 same_records xs ys marks l h e = h ∙ ap (λ (zs : List Placed). map One zs ++ marks) e
 
--- the pending record was put on the lane whose turn it was, and the turn goes on
+-- the pending record was put on the next lane, and another one is next
 pub sent-next : (puts : List Items) (w : List Placed) (i : ℕ) (p : Placed) (m : ℕ) → m ≡ 0 → i < length puts → goes_placed i (length puts) p ≡ true → OnPuts w i (Some p) m puts → OnPuts w (i + 1) (Some p) m (with_put puts i (One p))
 sent-next puts w i p m none h goes all =
     let n : ℕ = length puts in

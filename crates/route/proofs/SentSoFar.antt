@@ -8,10 +8,10 @@ use Rattle.std.proofs.lemmas.List.FromFn.{take-map-range_with_len, map-range_wit
 use Rattle.lane.specs.declared.item.Item.{Item}
 use Rattle.lane.specs.declared.item.Item.TheVariants.{One, Finish}
 use Rattle.lane.specs.Items.{IsBeginning}
-use Rattle.trace.specs.declared.records.Record.{Record}
-use Rattle.trace.specs.declared.records.Record.TheVariants.{Spawn, Call, Return, Sync, Read, Write}
-use Rattle.trace.specs.declared.records.Placed.{Placed}
-use Rattle.trace.specs.Shares.{goes, goes_placed, share}
+use Rattle.dag.specs.declared.records.Record.{Record}
+use Rattle.dag.specs.declared.records.Record.TheVariants.{Spawn, Call, Return, Sync, Read, Write}
+use Rattle.dag.specs.declared.records.Placed.{Placed}
+use Rattle.dag.specs.Shares.{goes, goes_placed, share}
 use Rattle.route.specs.Sending.{first_lane, portion, mark_of, sent_whole}
 use Rattle.route.specs.Routed.{in_hand}
 use Rattle.route.specs.Runs.{Event, put, of_lane, lanes_for, sending_of, sending, put_event}
@@ -67,7 +67,7 @@ to_all_or_one n Sync = inl (refl, refl, λ k. refl)
 to_all_or_one n (Read l) = inr (refl, λ k. refl)
 to_all_or_one n (Write l) = inr (refl, λ k. refl)
 
--- nothing was begun where the turn is at the first lane
+-- nothing was begun where the first lane is the next one
 begun_none : (n : ℕ) (p : Placed) → begun n (Some p) (first_lane n p.what) ≡ []
 begun_none n p =
     let None : List ℕ → Type 0 = λ ks. before (first_lane n p.what) (map (on_lane (One p)) ks) ≡ [] in
@@ -121,12 +121,12 @@ no_marks m h = ap first_marks h
 
 -- what was sent so far is a beginning of all that is sent
 pub sent_front : (n : ℕ) (w : List Placed) (pending : Option Placed) (t m : ℕ) → t ≤ n → m ≤ n → ((p : Placed) → pending ≡ Some p → m ≡ 0) → IsBeginning (sent_so_far n w pending t m) (sending n (in_hand w pending))
-sent_front n w None t m turn marked none =
+sent_front n w None t m next marked none =
     let S : Sends = flat_map (sending_of n) w in
     (drop m (first_marks n), ap (sending n) (append-nil w) ∙ ap (λ (l : Sends). S ++ l) (all_cut Finish m n marked) ∙ sym (append_assoc S (first_marks m) (drop m (first_marks n))))
-sent_front n w (Some p) t m turn marked none =
+sent_front n w (Some p) t m next marked none =
     let S : Sends = flat_map (sending_of n) w in
-    let f = begun_front n t p turn in
+    let f = begun_front n t p next in
     let whole : flat_map (sending_of n) (w ++ p ∷ []) ≡ S ++ (begun n (Some p) t ++ f.0) = flat_map-append (sending_of n) w (p ∷ []) ∙ ap (λ (l : Sends). S ++ l) (append-nil (sending_of n p) ∙ f.1) in
     (f.0 ++ first_marks n, ap (λ (l : Sends). l ++ first_marks n) whole ∙ at_none S (begun n (Some p) t) f.0 (first_marks m) (first_marks n) (no_marks m (none p refl)))
 
@@ -194,56 +194,56 @@ one_event S B M k x none =
     ∙ ap (λ (l : Sends). map put_event (S ++ l) ++ put k x ∷ []) (sym (ap (λ (l : Sends). B ++ l) none ∙ append-nil B))
 
 -- what was sent so far, an event each
-abbrev pub told : ℕ → List Placed → Option Placed → ℕ → ℕ → List Event
-told n w pending t m = map put_event (sent_so_far n w pending t m)
+abbrev pub events_so_far : ℕ → List Placed → Option Placed → ℕ → ℕ → List Event
+events_so_far n w pending t m = map put_event (sent_so_far n w pending t m)
 
-pub event-next : (n : ℕ) (w : List Placed) (p : Placed) (t m : ℕ) → m ≡ 0 → t + 1 < n → goes_placed t n p ≡ true → goes_placed (t + 1) n p ≡ true → told n w (Some p) (t + 1) m ≡ told n w (Some p) t m ++ put t (One p) ∷ []
+pub event-next : (n : ℕ) (w : List Placed) (p : Placed) (t m : ℕ) → m ≡ 0 → t + 1 < n → goes_placed t n p ≡ true → goes_placed (t + 1) n p ≡ true → events_so_far n w (Some p) (t + 1) m ≡ events_so_far n w (Some p) t m ++ put t (One p) ∷ []
 event-next n w p t m none within here there =
     let S : Sends = flat_map (sending_of n) w in
     ap (λ (l : Sends). map put_event (S ++ (l ++ first_marks m))) (begun_next n t p within here there) ∙ one_event S (begun n (Some p) t) (first_marks m) t (One p) (no_marks m none)
 
-pub event-last : (n : ℕ) (w : List Placed) (p : Placed) (t m : ℕ) → m ≡ 0 → t < n → goes_placed t n p ≡ true → ((k : ℕ) → t < k → k < n → goes_placed k n p ≡ false) → told n (w ++ p ∷ []) None t m ≡ told n w (Some p) t m ++ put t (One p) ∷ []
+pub event-last : (n : ℕ) (w : List Placed) (p : Placed) (t m : ℕ) → m ≡ 0 → t < n → goes_placed t n p ≡ true → ((k : ℕ) → t < k → k < n → goes_placed k n p ≡ false) → events_so_far n (w ++ p ∷ []) None t m ≡ events_so_far n w (Some p) t m ++ put t (One p) ∷ []
 event-last n w p t m none within here last =
     let S : Sends = flat_map (sending_of n) w in
     let whole : flat_map (sending_of n) (w ++ p ∷ []) ≡ S ++ (begun n (Some p) t ++ (t, One p) ∷ []) = flat_map-append (sending_of n) w (p ∷ []) ∙ ap (λ (l : Sends). S ++ l) (append-nil (sending_of n p) ∙ begun_last n t p within here last) in
     ap (λ (l : Sends). map put_event (l ++ first_marks m)) whole ∙ ap (map put_event) (append_assoc S (begun n (Some p) t ++ (t, One p) ∷ []) (first_marks m)) ∙ one_event S (begun n (Some p) t) (first_marks m) t (One p) (no_marks m none)
 
 -- a mark adds one event too, and a record that is offered none
-pub event-mark : (n : ℕ) (w : List Placed) (t m : ℕ) → told n w None t (m + 1) ≡ told n w None t m ++ put m Finish ∷ []
+pub event-mark : (n : ℕ) (w : List Placed) (t m : ℕ) → events_so_far n w None t (m + 1) ≡ events_so_far n w None t m ++ put m Finish ∷ []
 event-mark n w t m =
     let S : Sends = flat_map (sending_of n) w in
     ap (λ (l : Sends). map put_event (S ++ l)) (map-range_with_len_more (on_lane Finish) 0 m m (omega arith)) ∙ ap (map put_event) (sym (append_assoc S (first_marks m) ((m, Finish) ∷ []))) ∙ map-append put_event (S ++ first_marks m) ((m, Finish) ∷ [])
 
-pub event-offer : (n : ℕ) (w : List Placed) (p : Placed) (t m : ℕ) → told n w (Some p) (first_lane n p.what) m ≡ told n w None t m
+pub event-offer : (n : ℕ) (w : List Placed) (p : Placed) (t m : ℕ) → events_so_far n w (Some p) (first_lane n p.what) m ≡ events_so_far n w None t m
 event-offer n w p t m = ap (λ (l : Sends). map put_event (flat_map (sending_of n) w ++ (l ++ first_marks m))) (begun_none n p)
 
-pub told-same : (w : List Placed) (n o : ℕ) (p q : Option Placed) (t u m l : ℕ) → n ≡ o → p ≡ q → t ≡ u → m ≡ l → told n w p t m ≡ told o w q u l
-told-same w n o p q t u m l count pending turn marked =
-    ap (λ (x : ℕ). told x w p t m) count ∙ ap (λ (x : Option Placed). told o w x t m) pending ∙ ap (λ (x : ℕ). told o w q x m) turn ∙ ap (λ (x : ℕ). told o w q u x) marked
+pub events-same : (w : List Placed) (n o : ℕ) (p q : Option Placed) (t u m l : ℕ) → n ≡ o → p ≡ q → t ≡ u → m ≡ l → events_so_far n w p t m ≡ events_so_far o w q u l
+events-same w n o p q t u m l count pending next marked =
+    ap (λ (x : ℕ). events_so_far x w p t m) count ∙ ap (λ (x : Option Placed). events_so_far o w x t m) pending ∙ ap (λ (x : ℕ). events_so_far o w q x m) next ∙ ap (λ (x : ℕ). events_so_far o w q u x) marked
 
 -- the same, as a step finds them
 pub step_event-next : (old new n : ℕ) (w : List Placed) (pending : Option Placed) (p : Placed) (t j m : ℕ) → pending ≡ Some p → new ≡ n → old ≡ n → j ≡ t + 1 → m ≡ 0 → j < n → goes_placed t n p ≡ true → goes_placed j n p ≡ true
-    → told new (sent_whole w pending pending) pending j m ≡ told old w pending t m ++ put t (One p) ∷ []
-step_event-next old new n w pending p t j m some after before turn none within here there =
-    let P : Option Placed → Type 0 = λ o. told new (sent_whole w o o) o j m ≡ told old w o t m ++ put t (One p) ∷ [] in
+    → events_so_far new (sent_whole w pending pending) pending j m ≡ events_so_far old w pending t m ++ put t (One p) ∷ []
+step_event-next old new n w pending p t j m some after before next none within here there =
+    let P : Option Placed → Type 0 = λ o. events_so_far new (sent_whole w o o) o j m ≡ events_so_far old w o t m ++ put t (One p) ∷ [] in
     let Goes : ℕ → Type 0 = λ k. goes_placed k n p ≡ true in
     subst P (sym some)
-    (told-same w new n (Some p) (Some p) j (t + 1) m m after refl turn refl ∙ event-next n w p t m none (omega arith) here (subst Goes turn there)
-    ∙ ap (λ (l : List Event). l ++ put t (One p) ∷ []) (told-same w n old (Some p) (Some p) t t m m (sym before) refl refl refl))
+    (events-same w new n (Some p) (Some p) j (t + 1) m m after refl next refl ∙ event-next n w p t m none (omega arith) here (subst Goes next there)
+    ∙ ap (λ (l : List Event). l ++ put t (One p) ∷ []) (events-same w n old (Some p) (Some p) t t m m (sym before) refl refl refl))
 
 pub step_event-last : (old new n : ℕ) (w : List Placed) (pending : Option Placed) (p : Placed) (t m : ℕ) → pending ≡ Some p → new ≡ n → old ≡ n → m ≡ 0 → t < n → goes_placed t n p ≡ true → ((k : ℕ) → t < k → k < n → goes_placed k n p ≡ false)
-    → told new (sent_whole w pending None) None t m ≡ told old w pending t m ++ put t (One p) ∷ []
+    → events_so_far new (sent_whole w pending None) None t m ≡ events_so_far old w pending t m ++ put t (One p) ∷ []
 step_event-last old new n w pending p t m some after before none within here last =
-    let P : Option Placed → Type 0 = λ o. told new (sent_whole w o None) None t m ≡ told old w o t m ++ put t (One p) ∷ [] in
+    let P : Option Placed → Type 0 = λ o. events_so_far new (sent_whole w o None) None t m ≡ events_so_far old w o t m ++ put t (One p) ∷ [] in
     subst P (sym some)
-    (told-same (w ++ p ∷ []) new n None None t t m m after refl refl refl ∙ event-last n w p t m none within here last
-    ∙ ap (λ (l : List Event). l ++ put t (One p) ∷ []) (told-same w n old (Some p) (Some p) t t m m (sym before) refl refl refl))
+    (events-same (w ++ p ∷ []) new n None None t t m m after refl refl refl ∙ event-last n w p t m none within here last
+    ∙ ap (λ (l : List Event). l ++ put t (One p) ∷ []) (events-same w n old (Some p) (Some p) t t m m (sym before) refl refl refl))
 
-pub step_event-mark : (old new : ℕ) (w : List Placed) (pending : Option Placed) (t m : ℕ) → pending ≡ None → new ≡ old → told new w pending t (m + 1) ≡ told old w pending t m ++ put m Finish ∷ []
+pub step_event-mark : (old new : ℕ) (w : List Placed) (pending : Option Placed) (t m : ℕ) → pending ≡ None → new ≡ old → events_so_far new w pending t (m + 1) ≡ events_so_far old w pending t m ++ put m Finish ∷ []
 step_event-mark old new w pending t m none count =
-    let P : Option Placed → Type 0 = λ o. told new w o t (m + 1) ≡ told old w o t m ++ put m Finish ∷ [] in
-    subst P (sym none) (told-same w new old None None t t (m + 1) (m + 1) count refl refl refl ∙ event-mark old w t m)
+    let P : Option Placed → Type 0 = λ o. events_so_far new w o t (m + 1) ≡ events_so_far old w o t m ++ put m Finish ∷ [] in
+    subst P (sym none) (events-same w new old None None t t (m + 1) (m + 1) count refl refl refl ∙ event-mark old w t m)
 
-pub step_event-offer : (n : ℕ) (w : List Placed) (pending : Option Placed) (p : Placed) (t j m : ℕ) → pending ≡ None → j ≡ first_lane n p.what → told n w (Some p) j m ≡ told n w pending t m
-step_event-offer n w pending p t j m none turn =
-    told-same w n n (Some p) (Some p) j (first_lane n p.what) m m refl refl turn refl ∙ event-offer n w p t m ∙ told-same w n n None pending t t m m refl (sym none) refl refl
+pub step_event-offer : (n : ℕ) (w : List Placed) (pending : Option Placed) (p : Placed) (t j m : ℕ) → pending ≡ None → j ≡ first_lane n p.what → events_so_far n w (Some p) j m ≡ events_so_far n w pending t m
+step_event-offer n w pending p t j m none next =
+    events-same w n n (Some p) (Some p) j (first_lane n p.what) m m refl refl next refl ∙ event-offer n w p t m ∙ events-same w n n None pending t t m m refl (sym none) refl refl

@@ -2,8 +2,8 @@
 use Rattle.std.specs.Prelude.{◌≡◌, ℕ, ◌<◌, ◌≤◌, false, List, [], length, slice_index_or, Option}
 use Rattle.lane.specs.declared.item.Item.{Item}
 use Rattle.lane.specs.Lanes.{LaneId}
-use Rattle.trace.specs.declared.records.Placed.{Placed}
-use Rattle.trace.specs.Shares.{goes_placed}
+use Rattle.dag.specs.declared.records.Placed.{Placed}
+use Rattle.dag.specs.Shares.{goes_placed}
 use Rattle.route.specs.declared.router.Router.{Router}
 use Rattle.route.specs.Senders.{lanes, puts, shown, capacities, rooms}
 use Rattle.route.specs.Sending.{put_on, AllSent}
@@ -24,17 +24,17 @@ lane_count r = length (puts_of r)
 abbrev pub pending_of : Router → Option Placed
 pending_of r = r.pending
 
--- the lane whose turn it is
-abbrev pub turn_of : Router → ℕ
-turn_of r = r.next
+-- the lane that the next put goes on
+abbrev pub next_of : Router → ℕ
+next_of r = r.next
 
 -- how many lanes have their mark; they are the first ones
 abbrev pub marked_of : Router → ℕ
 marked_of r = r.marked
 
--- w was sent whole, and the pending record to the lanes before the turn
+-- w was sent whole, and the pending record to the lanes before the next one
 abbrev pub HasSent : List Placed → Router → Type 0
-HasSent w r = AllSent (lane_count r) w (turn_of r) (pending_of r) (marked_of r) (put_on (puts_of r))
+HasSent w r = AllSent (lane_count r) w (next_of r) (pending_of r) (marked_of r) (put_on (puts_of r))
 
 -- the same lanes with the same capacities, in the same order
 pub record IsOnLanes (old new : Router) : Type 0 where
@@ -42,11 +42,11 @@ pub record IsOnLanes (old new : Router) : Type 0 where
   pub capacities : capacities_of new ≡ capacities_of old
   pub count : lane_count new ≡ lane_count old
 
--- nothing was put, and the pending record, the turn and the marks are the same
+-- nothing was put, and the pending record, the next lane and the marks are the same
 pub record IsUnchanged (old new : Router) : Type 0 where
   pub puts : puts_of new ≡ puts_of old
   pub pending : pending_of new ≡ pending_of old
-  pub turn : turn_of new ≡ turn_of old
+  pub next : next_of new ≡ next_of old
   pub marked : marked_of new ≡ marked_of old
 
 -- no lane after k gets the record
@@ -56,6 +56,10 @@ IsLastLane n k p = (j : ℕ) → k < j → j < n → goes_placed j n p ≡ false
 -- what the taker of lane k is shown
 abbrev pub shown_on : Router → ℕ → List (Item Placed)
 shown_on r k = slice_index_or (shown r.senders.items) k []
+
+-- each taker is shown all items put on its lane
+abbrev pub ShowsAll : Router → Type 0
+ShowsAll r = (k : ℕ) → k < lane_count r → shown_on r k ≡ put_on (puts_of r) k
 
 -- how many items lane k can hold
 abbrev pub capacity_on : Router → ℕ → ℕ
@@ -69,8 +73,8 @@ IsFull r k = capacity_on r k ≤ length (put_on (puts_of r) k)
 abbrev pub room_on : Router → ℕ → ℕ
 room_on r k = slice_index_or (rooms r.senders.items) k 0
 
--- lane k refused: its sender knew of no room, and knows of none
-pub record HasRefused (old new : Router) (k : ℕ) : Type 0 where
+-- a put on lane k was blocked: its sender knew of no room, and knows of none
+pub record HasBlocked (old new : Router) (k : ℕ) : Type 0 where
   pub within : k < lane_count old
   pub knew_of_none : room_on old k ≡ 0
   pub knows_of_none : room_on new k ≡ 0

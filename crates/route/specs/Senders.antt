@@ -4,7 +4,7 @@ use Rattle.std.specs.Prelude.{ℕ, List, map}
 use Rattle.lane.specs.declared.item.Item.{Item}
 use Rattle.lane.specs.declared.sender.Sender.{Sender}
 use Rattle.lane.specs.Lanes.{LaneId, lane_of, put_of, shown_of, capacity_of, room_of}
-use Rattle.trace.specs.declared.records.Placed.{Placed}
+use Rattle.dag.specs.declared.records.Placed.{Placed}
 
 abbrev pub lanes : List (Sender Placed) → List LaneId
 lanes senders = map lane_of senders

@@ -3,10 +3,10 @@ use Rattle.std.specs.Prelude.{◌≡◌, ℕ, ◌<◌, ◌%◌, ◌&&◌, nat_lt
 use Rattle.lane.specs.declared.item.Item.{Item}
 use Rattle.lane.specs.declared.item.Item.TheVariants.{One, Finish}
 use Rattle.lane.specs.Items.{has_mark}
-use Rattle.trace.specs.declared.records.Record.{Record}
-use Rattle.trace.specs.declared.records.Record.TheVariants.{Spawn, Call, Return, Sync, Read, Write}
-use Rattle.trace.specs.declared.records.Placed.{Placed}
-use Rattle.trace.specs.Shares.{goes_placed, share}
+use Rattle.dag.specs.declared.records.Record.{Record}
+use Rattle.dag.specs.declared.records.Record.TheVariants.{Spawn, Call, Return, Sync, Read, Write}
+use Rattle.dag.specs.declared.records.Placed.{Placed}
+use Rattle.dag.specs.Shares.{goes_placed, share}
 
 -- what was put on lane k
 abbrev pub put_on : List (List (Item Placed)) → ℕ → List (Item Placed)
@@ -25,10 +25,10 @@ first_lane n Sync = 0
 first_lane n (Read l) = l % n
 first_lane n (Write l) = l % n
 
--- what lane k has of the record that is being sent, while the turn is at lane `turn`
+-- what lane k has of the record that is being sent, while lane `next` is the next one
 abbrev pub portion : ℕ → ℕ → ℕ → Option Placed → List Placed
-portion k n turn None = []
-portion k n turn (Some p) = if nat_lt k turn && goes_placed k n p then p ∷ [] else []
+portion k n next None = []
+portion k n next (Some p) = if nat_lt k next && goes_placed k n p then p ∷ [] else []
 
 -- the mark, if lane k is among the first `marked`
 abbrev pub mark_of : ℕ → ℕ → List (Item Placed)
@@ -37,7 +37,7 @@ mark_of k marked = if nat_lt k marked then Finish ∷ [] else []
 -- of n lanes, with `on k` put on lane k: each has its share of w, what it has of the pending record,
 -- and its mark
 abbrev pub AllSent : ℕ → List Placed → ℕ → Option Placed → ℕ → (ℕ → List (Item Placed)) → Type 0
-AllSent n w turn pending marked on = (k : ℕ) → k < n → on k ≡ map One (share k n w ++ portion k n turn pending) ++ mark_of k marked
+AllSent n w next pending marked on = (k : ℕ) → k < n → on k ≡ map One (share k n w ++ portion k n next pending) ++ mark_of k marked
 
 -- the records that were sent whole, after a step that may have sent the pending one
 abbrev pub sent_whole : List Placed → Option Placed → Option Placed → List Placed

@@ -3,7 +3,7 @@
 ghost use Rattle.std.specs.Prelude.{◌≡◌, ℕ, ◌<◌, ◌⊎◌, true, List, ◌++◌, map};
 ghost use Rattle.lane.specs.declared.item.Item.{Item};
 ghost use Rattle.lane.specs.Items.{has_mark, IsBeginning};
-ghost use Rattle.trace.specs.declared.records.Placed.{Placed};
+ghost use Rattle.dag.specs.declared.records.Placed.{Placed};
 ghost use Rattle.route.specs.declared.router.Router.{Router};
 ghost use Rattle.route.specs.Sending.{put_on};
 ghost use Rattle.route.specs.Routed.{IsRising, in_hand, IsRouted, HasRouted, HasShare, HasWholeShare, TakesShare};

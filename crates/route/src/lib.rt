@@ -2,10 +2,10 @@
 //! loses nothing.
 #![tactic(auto)]
 
+mod lanes_for;
 pub mod laws;
 mod progress;
 mod router;
-mod turns;
 
 pub use progress::Progress;
 pub use router::Router;

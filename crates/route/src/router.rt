@@ -2,9 +2,9 @@
 ghost use Rattle.std.specs.Prelude.{◌≡◌, ◌<◌, ◌≤◌, ◌+◌, ◌↔◌, ◌≢◌, ℕ, List, [], ◌∷◌, ◌++◌, length, map, All, true, false};
 ghost use Rattle.std.specs.Prelude.{IfOk, IsFalse, is_some, if◌then◌else◌, slice_index_or, vec_len, vec_capacity};
 ghost use Rattle.std.specs.Option.{ForSome};
-ghost use Rattle.trace.specs.declared.records.Placed.{Placed};
-ghost use Rattle.trace.specs.Bounds.{most_shards};
-ghost use Rattle.trace.specs.Shares.{goes_placed};
+ghost use Rattle.dag.specs.declared.records.Placed.{Placed};
+ghost use Rattle.dag.specs.Bounds.{most_shards};
+ghost use Rattle.dag.specs.Shares.{goes_placed};
 ghost use Rattle.lane.specs.declared.item.Item.TheVariants.{One, Finish};
 ghost use Rattle.lane.specs.Items.{has_mark};
 ghost use Rattle.lane.specs.Lanes.{end_lane, all_put, put_of};
@@ -13,20 +13,32 @@ ghost use Rattle.route.specs.Sending.{first_lane, put_on, with_put, sent_whole, 
 ghost use Rattle.route.specs.Progresses.{OnIdle, OnMoved, IfBlocked};
 ghost use Rattle.route.specs.Runs.{put, put_event, sending_of};
 
+use crate::lanes_for::{first_lane, lane_after};
 use crate::progress::Progress;
-use crate::turns::{first_lane, lane_after};
+use dag::{NoMemory, Placed};
 use lane::{End, Sender};
 use std::alloc::Global;
-use trace::{NoMemory, Placed};
 
 /// Sends records to lanes, each record to the lanes whose share has it, in the order of the lanes.
+///
+/// ```rust
+/// let (to_even, mut even) = lane::<Placed>(rt.alloc(), 4)?;
+/// let (to_odd, mut odd) = lane::<Placed>(rt.alloc(), 4)?;
+/// let senders = vec![in rt.alloc(); to_even, to_odd]?;
+/// let mut router = Router::new(rt.alloc(), senders)?;
+/// let (place, what) = (1, Record::Write(5));
+/// assert_eq!(rt; router.send(Placed { place, what }), Progress::Idle);
+/// router.flush();
+/// assert_eq!(rt; even.take(), None);
+/// assert_eq!(rt; odd.take(), Some(Item::One(Placed { place, what })));
+/// ```
 #[derive(Drop)]
 pub struct Router {
     senders: Vec<Sender<Placed>>,
     // room for the receipts
     ends: Vec<End<Placed>>,
     pending: Option<Placed>,
-    // the lane whose turn it is
+    // the lane that the next put goes on
     next: usize,
     // how many lanes have their mark
     marked: usize,
@@ -34,7 +46,7 @@ pub struct Router {
     ghost within: { vec_len senders ≤ most_shards },
     ghost no_ends: { vec_len ends ≡ 0 },
     ghost room: { vec_len senders ≤ vec_capacity ends },
-    ghost turn: { next < vec_len senders },
+    ghost next_within: { next < vec_len senders },
     ghost aimed: { ForSome pending (λ p. goes_placed next (vec_len senders) p ≡ true) },
     ghost unmarked: { ForSome pending (λ p. marked ≡ 0) },
     ghost at_most_all: { marked ≤ vec_len senders },
@@ -42,9 +54,9 @@ pub struct Router {
 }
 
 impl Router {
-    ghost use Rattle.route.specs.Routers.{lanes_of, puts_of, capacities_of, shown_on, lane_count, capacity_on, room_on};
-    ghost use Rattle.route.specs.Routers.{pending_of, turn_of, marked_of, HasSent, IsOnLanes, IsUnchanged, IsLastLane};
-    ghost use Rattle.route.specs.Routers.{HasRefused, IsStuck};
+    ghost use Rattle.route.specs.Routers.{lanes_of, puts_of, capacities_of, ShowsAll, lane_count, capacity_on, room_on};
+    ghost use Rattle.route.specs.Routers.{pending_of, next_of, marked_of, HasSent, IsOnLanes, IsUnchanged, IsLastLane};
+    ghost use Rattle.route.specs.Routers.{HasBlocked, IsStuck};
     ghost use Rattle.route.specs.RouterRuns.{begun, run_of};
 
     /// A router over lanes without items. It takes memory for the receipts now, and none later. A refusal drops the
@@ -103,7 +115,7 @@ impl Router {
         requires idle { pending_of self.old ≡ None }
         requires unmarked { marked_of self.old ≡ 0 }
         ensures pending { pending_of self.new ≡ Some placed }
-        ensures turn { turn_of self.new ≡ first_lane (lane_count self.old) placed.what }
+        ensures next { next_of self.new ≡ first_lane (lane_count self.old) placed.what }
         ensures sent { (w : List Placed) → HasSent w self.old → HasSent w self.new }
         ensures puts { puts_of self.new ≡ puts_of self.old }
         ensures marked { marked_of self.new ≡ 0 }
@@ -128,20 +140,20 @@ impl Router {
         ensures idle { (result ≡ Progress.Idle) ↔ (pending_of self.old ≡ None) }
         ensures idle_keeps { OnIdle result (IsUnchanged self.old self.new) }
 
-        // The record goes on the lane whose turn it is, and the turn to the next lane, if the record goes there.
+        // The record goes on the next lane. The lane after it is then the next, if the record goes there.
         ensures put { OnMoved result ((p : Placed) → pending_of self.old ≡ Some p
-            → puts_of self.new ≡ with_put (puts_of self.old) (turn_of self.old) (One p)) }
-        ensures turn { OnMoved result ((p : Placed) → pending_of self.new ≡ Some p
-            → (pending_of self.old ≡ Some p) × (turn_of self.new ≡ turn_of self.old + 1)) }
+            → puts_of self.new ≡ with_put (puts_of self.old) (next_of self.old) (One p)) }
+        ensures next { OnMoved result ((p : Placed) → pending_of self.new ≡ Some p
+            → (pending_of self.old ≡ Some p) × (next_of self.new ≡ next_of self.old + 1)) }
         ensures last { OnMoved result ((p : Placed) → pending_of self.old ≡ Some p
             → ((pending_of self.new ≡ None)
-            ↔ IsLastLane (lane_count self.old) (turn_of self.old) p)) }
+            ↔ IsLastLane (lane_count self.old) (next_of self.old) p)) }
         // That put is one event at the end of the run.
         ensures event { OnMoved result ((w : List Placed) (p : Placed) → pending_of self.old ≡ Some p
             → run_of (sent_whole w (pending_of self.old) (pending_of self.new)) self.new
-            ≡ run_of w self.old ++ put (turn_of self.old) (One p) ∷ []) }
+            ≡ run_of w self.old ++ put (next_of self.old) (One p) ∷ []) }
 
-        ensures blocked { IfBlocked result (λ k. (k ≡ turn_of self.old) × HasRefused self.old self.new k) }
+        ensures blocked { IfBlocked result (λ k. (k ≡ next_of self.old) × HasBlocked self.old self.new k) }
     {
         match self.pending {
             Some(placed) => self.put_pending(placed),
@@ -158,15 +170,15 @@ impl Router {
         ensures marked { marked_of self.new ≡ marked_of self.old }
         ensures some { result ≢ Progress.Idle }
         ensures put { OnMoved result (puts_of self.new
-            ≡ with_put (puts_of self.old) (turn_of self.old) (One placed)) }
-        ensures turn { OnMoved result ((p : Placed) → pending_of self.new ≡ Some p
-            → (placed ≡ p) × (turn_of self.new ≡ turn_of self.old + 1)) }
+            ≡ with_put (puts_of self.old) (next_of self.old) (One placed)) }
+        ensures next { OnMoved result ((p : Placed) → pending_of self.new ≡ Some p
+            → (placed ≡ p) × (next_of self.new ≡ next_of self.old + 1)) }
         ensures last { OnMoved result ((pending_of self.new ≡ None)
-            ↔ IsLastLane (lane_count self.old) (turn_of self.old) placed) }
+            ↔ IsLastLane (lane_count self.old) (next_of self.old) placed) }
         ensures event { OnMoved result ((w : List Placed)
             → run_of (sent_whole w (pending_of self.old) (pending_of self.new)) self.new
-            ≡ run_of w self.old ++ put (turn_of self.old) (One placed) ∷ []) }
-        ensures blocked { IfBlocked result (λ k. (k ≡ turn_of self.old) × HasRefused self.old self.new k) }
+            ≡ run_of w self.old ++ put (next_of self.old) (One placed) ∷ []) }
+        ensures blocked { IfBlocked result (λ k. (k ≡ next_of self.old) × HasBlocked self.old self.new k) }
     {
         if !put_on(&mut self.senders, self.next, placed) {
             return Progress::Blocked(self.next as u32);
@@ -196,7 +208,7 @@ impl Router {
             ≡ run_of w self.old ++ map put_event (sending_of (lane_count self.old) placed)) }
 
         ensures pending { IfBlocked result (λ _. pending_of self.new ≡ Some placed) }
-        ensures turn { IfBlocked result (λ k. (k ≡ turn_of self.new) × IsStuck self.new k) }
+        ensures next { IfBlocked result (λ k. (k ≡ next_of self.new) × IsStuck self.new k) }
         ensures first_events { IfBlocked result (λ k. (w : List Placed) → run_of w self.new
             ≡ run_of w self.old ++ map put_event (begun (lane_count self.old) (Some placed) k)) }
     {
@@ -224,7 +236,7 @@ impl Router {
             ≡ (if result then with_put (puts_of self.old) lane (One placed) else puts_of self.old) }
         ensures lanes { IsOnLanes self.old self.new }
         ensures pending { pending_of self.new ≡ pending_of self.old }
-        ensures turn { turn_of self.new ≡ turn_of self.old }
+        ensures next { next_of self.new ≡ next_of self.old }
         ensures marked { marked_of self.new ≡ 0 }
         ensures stuck { IsFalse result → IsStuck self.new lane }
     {
@@ -233,7 +245,7 @@ impl Router {
 
     /// Shows each taker all items put on its lane.
     pub fn flush(&mut self)
-        ensures shown { (k : ℕ) → k < lane_count self.new → shown_on self.new k ≡ put_on (puts_of self.new) k }
+        ensures shown { ShowsAll self.new }
         ensures unchanged { IsUnchanged self.old self.new }
         ensures lanes { IsOnLanes self.old self.new }
         ensures sent { (w : List Placed) → HasSent w self.old → HasSent w self.new }
@@ -257,7 +269,7 @@ impl Router {
         // That put is one event at the end of the run.
         ensures event { OnMoved result ((w : List Placed)
             → run_of w self.new ≡ run_of w self.old ++ put (marked_of self.old) Finish ∷ []) }
-        ensures blocked { IfBlocked result (λ k. (k ≡ marked_of self.old) × HasRefused self.old self.new k) }
+        ensures blocked { IfBlocked result (λ k. (k ≡ marked_of self.old) × HasBlocked self.old self.new k) }
     {
         if self.marked == self.senders.len() {
             return Progress::Idle;

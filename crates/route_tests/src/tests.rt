@@ -1,6 +1,6 @@
 //! The router call by call, and what each lane gave at every point of a run.
 ghost use Rattle.std.specs.Prelude.{◌≡◌, ◌+◌, ◌≤◌, [], ◌∷◌, All, map, IfOk, OnOk, vec_len};
-ghost use Rattle.trace.specs.Bounds.{IsCapacity};
+ghost use Rattle.dag.specs.Bounds.{IsCapacity};
 ghost use Rattle.lane.specs.Lanes.{lane_of, put_of, taker_lane, end_lane};
 ghost use Rattle.route.specs.Routers.{lanes_of, lane_count, pending_of, marked_of};
 
@@ -94,6 +94,20 @@ fn gives<R: Abort>(rt: &R, taker: &mut Taker<Placed>, wanted: Item<Placed>)
     ensures { taker_lane taker.new ≡ taker_lane taker.old }
 {
     assert!(rt; taker.take() == Some(wanted), "{wanted:?}");
+}
+
+#[test]
+fn a_write_goes_to_one_lane(rt: HostRuntime) -> Result<(), Fail> {
+    let (to_even, mut even) = lane::<Placed>(rt.alloc(), 4)?;
+    let (to_odd, mut odd) = lane::<Placed>(rt.alloc(), 4)?;
+    let senders = vec![in rt.alloc(); to_even, to_odd]?;
+    let mut router = Router::new(rt.alloc(), senders)?;
+    let (place, what) = (1, Record::Write(5));
+    assert_eq!(rt; router.send(Placed { place, what }), Progress::Idle);
+    router.flush();
+    assert_eq!(rt; even.take(), None);
+    assert_eq!(rt; odd.take(), Some(Item::One(Placed { place, what })));
+    Ok(())
 }
 
 #[test]
@@ -214,7 +228,7 @@ struct Watched {
 }
 
 impl Watched {
-    // Takes the item that is there, and tells whether there was one.
+    // Takes the item that is there, and says whether there was one.
     fn take(&mut self) -> Result<bool, Fail> {
         match self.taker.take() {
             Some(Item::One(placed)) => self.given.push(placed)?,

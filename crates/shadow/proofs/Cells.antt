@@ -2,18 +2,18 @@
 use Rattle.std.proofs.Common.{◌≡◌, ℕ, suc, ◌<◌, ◌≤◌, Bool, true, false, ◌||◌, is_some, cond, List, Option, Some, None, ◌↔◌, inl, inr, ⊎_elim, refl, sym, subst, ◌∙◌, arith}
 use Rattle.std.specs.Option.{option_or}
 use Rattle.std.proofs.lemmas.Bool.{cases_lt}
-use Rattle.trace.specs.declared.records.Record.{Record}
-use Rattle.trace.specs.declared.records.Record.TheVariants as records
-use Rattle.trace.specs.declared.records.Kind.{Kind}
-use Rattle.trace.specs.declared.records.Kind.TheVariants.{Read, Write}
-use Rattle.trace.specs.declared.records.Access.{Access}
-use Rattle.trace.specs.Traces.{IsPlace, IsWellNested}
-use Rattle.trace.specs.Dag.{IsParallel, Leads}
-use Rattle.trace.specs.Races.{IsAccess, IsAccessPlace, IsRead, IsWrite, IsRace, IsLastWrite, IsKeptReader, IsTold, nothing_yet, no_read, first_read, replaces, stays}
+use Rattle.dag.specs.declared.records.Record.{Record}
+use Rattle.dag.specs.declared.records.Record.TheVariants as records
+use Rattle.dag.specs.declared.records.Kind.{Kind}
+use Rattle.dag.specs.declared.records.Kind.TheVariants.{Read, Write}
+use Rattle.dag.specs.declared.records.Access.{Access}
+use Rattle.dag.specs.Traces.{IsPlace, IsWellNested}
+use Rattle.dag.specs.Dag.{IsParallel, Leads}
+use Rattle.dag.specs.Races.{IsAccess, IsAccessPlace, IsRead, IsWrite, IsRace, IsLastWrite, IsKeptReader, IsReported, nothing_yet, no_read, first_read, replaces, stays}
 use Rattle.bags.specs.Procedures.{Active, in_p, current, procedure_at}
 use Rattle.shadow.specs.Cells.{Cell, Named, untouched, parallel_access, name_of, reader_after, rival, touched}
-use Rattle.trace.proofs.Paths.{IsPlace-at, leads_or_parallel}
-use Rattle.trace.proofs.Readers.{NoneBefore, NoWrite, NoRead, last_write_parallel, no_read_parallel, kept_reads, told_by_write, told_by_reader, no_race_at_read, no_race_at_write}
+use Rattle.dag.proofs.Paths.{IsPlace-at, leads_or_parallel}
+use Rattle.dag.proofs.Readers.{NoneBefore, NoWrite, NoRead, last_write_parallel, no_read_parallel, kept_reads, reported_by_write, reported_by_reader, no_race_at_read, no_race_at_write}
 
 -- a P-bag holds the procedure of a place up to t just where the place is parallel to the next
 abbrev pub Sees : List Record → ℕ → List Active → Type 0
@@ -38,15 +38,15 @@ pub record IsReader (w : List Record) (l j : ℕ) (o : Option Named) : Type 0 wh
   pub named : IsNamed w o
 
 -- whether a race of the location has its second place up to t
-abbrev pub HasTold : List Record → ℕ → ℕ → Bool → Type 0
-HasTold w l t true = (i : ℕ) × (j : ℕ) × IsRace w l i j × (j ≤ t)
-HasTold w l t false = NoneBefore w l (suc t)
+abbrev pub HasReported : List Record → ℕ → ℕ → Bool → Type 0
+HasReported w l t true = (i : ℕ) × (j : ℕ) × IsRace w l i j × (j ≤ t)
+HasReported w l t false = NoneBefore w l (suc t)
 
 -- the cell of location l after the records up to t
 pub record IsCell (w : List Record) (l t : ℕ) (c : Cell) : Type 0 where
   pub writer : IsWriter w l (suc t) c.writer
   pub reader : IsReader w l (suc t) c.reader
-  pub told : HasTold w l t c.told
+  pub reported : HasReported w l t c.reported
 
 -- what the kept writer says of place j, where no race came before
 abbrev pub WriterSays : List Record → ℕ → ℕ → Option Access → Type 0
@@ -60,7 +60,7 @@ ReaderSays w l j (Some f) = (f.kind ≡ Read) × IsKeptReader w l j (Some f.plac
 -- what the rules say of place j, where no race came before
 abbrev pub RivalSays : List Record → ℕ → ℕ → Kind → Option Access → Type 0
 RivalSays w l j k None = (i : ℕ) → IsRace w l i j → ⊥
-RivalSays w l j k (Some f) = IsTold w (record { location = l; first = f; second = record { kind = k; place = j } })
+RivalSays w l j k (Some f) = IsReported w (record { location = l; first = f; second = record { kind = k; place = j } })
 
 -- whether a kept name stands in a P-bag
 name_sees : (w : List Record) (t : ℕ) (fs : List Active) → Sees w t fs → (n : Named) → n.procedure ≡ procedure_at w n.place → IsPlace w n.place → n.place ≤ t → (in_p fs n.procedure ≡ true) ↔ IsParallel w n.place (suc t)
@@ -86,19 +86,19 @@ reader_says w v l t fs s y (Some n) a =
     let x = kept_reads w l a.kept n.place refl in
     reader_test w v l (suc t) y n a.kept (in_p fs n.procedure) (name_sees w t fs s n a.named (IsPlace-at w n.place _ x.0) (omega (arith, x.1)))
 
-of_kind : (w : List Record) (l j : ℕ) (k q : Kind) (f : Access) → f.kind ≡ q → IsTold w (record { location = l; first = record { kind = q; place = f.place }; second = record { kind = k; place = j } }) → RivalSays w l j k (Some f)
-of_kind w l j k q f e a = subst (λ (z : Kind). IsTold w (record { location = l; first = record { kind = z; place = f.place }; second = record { kind = k; place = j } })) (sym e) a
+of_kind : (w : List Record) (l j : ℕ) (k q : Kind) (f : Access) → f.kind ≡ q → IsReported w (record { location = l; first = record { kind = q; place = f.place }; second = record { kind = k; place = j } }) → RivalSays w l j k (Some f)
+of_kind w l j k q f e a = subst (λ (z : Kind). IsReported w (record { location = l; first = record { kind = z; place = f.place }; second = record { kind = k; place = j } })) (sym e) a
 
 rival_at_read : (w : List Record) (l j : ℕ) → IsRead w l j → NoneBefore w l j → (o : Option Access) → WriterSays w l j o → RivalSays w l j Read o
 rival_at_read w l j a f None h = no_race_at_read w l j a h
-rival_at_read w l j a f (Some x) h = of_kind w l j Read Write x h.0 (told_by_write w l x.place j Read f a h.1 h.2)
+rival_at_read w l j a f (Some x) h = of_kind w l j Read Write x h.0 (reported_by_write w l x.place j Read f a h.1 h.2)
 
 rival_at_write : (w : List Record) (l j : ℕ) → IsWrite w l j → NoneBefore w l j → (o p : Option Access) → WriterSays w l j o → ReaderSays w l j p → RivalSays w l j Write (option_or o p)
 rival_at_write w l j a f None None h g = no_race_at_write w l j h g
-rival_at_write w l j a f None (Some y) h g = of_kind w l j Write Read y g.0 (told_by_reader w l y.place j f a (λ k b p. h k b.a_write b.before p) g.1 g.2)
-rival_at_write w l j a f (Some x) p h g = of_kind w l j Write Write x h.0 (told_by_write w l x.place j Write f a h.1 h.2)
+rival_at_write w l j a f None (Some y) h g = of_kind w l j Write Read y g.0 (reported_by_reader w l y.place j f a (λ k b p. h k b.a_write b.before p) g.1 g.2)
+rival_at_write w l j a f (Some x) p h g = of_kind w l j Write Write x h.0 (reported_by_write w l x.place j Write f a h.1 h.2)
 
--- the rules see the first race of a location, and tell it as it is to be told
+-- the rules see the first race of a location, and report it as it is to be reported
 pub rival_says : (w : List Record) {n d : ℕ} → IsWellNested w n d → (l t : ℕ) (fs : List Active) → Sees w t fs → (k : Kind) → IsAccess w l (suc t) k → NoneBefore w l (suc t) → (c : Cell) → IsWriter w l (suc t) c.writer → IsReader w l (suc t) c.reader → RivalSays w l (suc t) k (rival fs k c)
 rival_says w v l t fs s Read a f c b g = rival_at_read w l (suc t) a f _ (writer_says w v l t fs s (l, inl a) f c.writer b)
 rival_says w v l t fs s Write a f c b g = rival_at_write w l (suc t) a f _ _ (writer_says w v l t fs s (l, inr a) f c.writer b) (reader_says w v l t fs s (l, inr a) c.reader g)
@@ -135,14 +135,14 @@ reader_new w v l t fs s e a (Some n) r =
       named = e;
     }
 
-told_later : (w : List Record) (l t : ℕ) (b : Bool) → ((i : ℕ) → IsRace w l i (suc t) → ⊥) → HasTold w l t b → HasTold w l (suc t) b
-told_later w l t true f a = (a.0, a.1, a.2, omega (arith, a.3))
-told_later w l t false f a = λ h k r g. ⊎_elim (λ (s : k < suc t). a h k r s) (λ (s : suc t ≤ k). f h (subst (IsRace w l h) (omega arith) r)) (cases_lt k (suc t))
+reported_later : (w : List Record) (l t : ℕ) (b : Bool) → ((i : ℕ) → IsRace w l i (suc t) → ⊥) → HasReported w l t b → HasReported w l (suc t) b
+reported_later w l t true f a = (a.0, a.1, a.2, omega (arith, a.3))
+reported_later w l t false f a = λ h k r g. ⊎_elim (λ (s : k < suc t). a h k r s) (λ (s : suc t ≤ k). f h (subst (IsRace w l h) (omega arith) r)) (cases_lt k (suc t))
 
-told_new : (w : List Record) (l t : ℕ) (k : Kind) (b : Bool) (o : Option Access) → (NoneBefore w l (suc t) → RivalSays w l (suc t) k o) → HasTold w l t b → HasTold w l (suc t) (b || is_some o)
-told_new w l t k true o f a = (a.0, a.1, a.2, omega (arith, a.3))
-told_new w l t k false None f a = told_later w l t false (f a) a
-told_new w l t k false (Some x) f a = let z = (f a).second in (z.race.0, suc t, z.race.1, omega arith)
+reported_new : (w : List Record) (l t : ℕ) (k : Kind) (b : Bool) (o : Option Access) → (NoneBefore w l (suc t) → RivalSays w l (suc t) k o) → HasReported w l t b → HasReported w l (suc t) (b || is_some o)
+reported_new w l t k true o f a = (a.0, a.1, a.2, omega (arith, a.3))
+reported_new w l t k false None f a = reported_later w l t false (f a) a
+reported_new w l t k false (Some x) f a = let z = (f a).second in (z.race.0, suc t, z.race.1, omega arith)
 
 elsewhere_no_race : (w : List Record) (l j : ℕ) → IsElsewhere w l j → (i : ℕ) → IsRace w l i j → ⊥
 elsewhere_no_race w l j f i r = ⊎_elim (f Read) (f Write) r.second
@@ -152,7 +152,7 @@ pub cell_stays : (w : List Record) (l t : ℕ) (c : Cell) → IsElsewhere w l (s
 cell_stays w l t c f a = record {
   writer = writer_stays w l (suc t) (f Write) c.writer a.writer;
   reader = reader_stays w l (suc t) (f Read) c.reader a.reader;
-  told = told_later w l t c.told (elsewhere_no_race w l (suc t) f) a.told;
+  reported = reported_later w l t c.reported (elsewhere_no_race w l (suc t) f) a.reported;
 }
 
 not_both : (w : List Record) (l j : ℕ) → IsRead w l j → IsWrite w l j → ⊥
@@ -163,12 +163,12 @@ pub cell_touched : (w : List Record) {n d : ℕ} → IsWellNested w n d → (l t
 cell_touched w v l t fs s e Read a c x = record {
   writer = writer_stays w l (suc t) (not_both w l (suc t) a) c.writer x.writer;
   reader = reader_new w v l t fs s e a c.reader x.reader;
-  told = told_new w l t Read c.told _ (λ f. rival_says w v l t fs s Read a f c x.writer x.reader) x.told;
+  reported = reported_new w l t Read c.reported _ (λ f. rival_says w v l t fs s Read a f c x.writer x.reader) x.reported;
 }
 cell_touched w v l t fs s e Write a c x = record {
   writer = writer_new w l (suc t) fs e a;
   reader = reader_stays w l (suc t) (λ r. not_both w l (suc t) r a) c.reader x.reader;
-  told = told_new w l t Write c.told _ (λ f. rival_says w v l t fs s Write a f c x.writer x.reader) x.told;
+  reported = reported_new w l t Write c.reported _ (λ f. rival_says w v l t fs s Write a f c x.writer x.reader) x.reported;
 }
 
 -- before the first record
@@ -176,5 +176,5 @@ pub cell_start : (w : List Record) (l : ℕ) → IsCell w l 0 untouched
 cell_start w l = record {
   writer = λ i a h. let x = IsPlace-at w i _ a in absurd (omega arith);
   reader = record { kept = nothing_yet; named = tt };
-  told = λ h k r g. let x = r.in_order in absurd (omega arith);
+  reported = λ h k r g. let x = r.in_order in absurd (omega arith);
 }

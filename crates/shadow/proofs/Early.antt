@@ -3,26 +3,26 @@ use Rattle.std.proofs.Common.{◌≡◌, ℕ, zero, suc, ◌<◌, ◌≤◌, Boo
 use Rattle.std.proofs.lemmas.Bool.{cases_eq, cases_lt}
 use Rattle.std.proofs.lemmas.List.{take_all}
 use Rattle.std.proofs.lemmas.Option.{same_Some}
-use Rattle.trace.specs.declared.records.Record.{Record}
-use Rattle.trace.specs.declared.records.Record.TheVariants as records
-use Rattle.trace.specs.declared.records.Kind.{Kind}
-use Rattle.trace.specs.declared.records.Kind.TheVariants.{Read, Write}
-use Rattle.trace.specs.declared.records.Access.{Access}
-use Rattle.trace.specs.declared.records.Placed.{Placed}
-use Rattle.trace.specs.Traces.{at, IsWellNested, placed}
-use Rattle.trace.specs.Dag.{IsParallel}
-use Rattle.trace.specs.Accesses.{RaceAt}
-use Rattle.trace.specs.Races.{access, IsAccess, IsAccessPlace, IsRace, IsTold}
+use Rattle.dag.specs.declared.records.Record.{Record}
+use Rattle.dag.specs.declared.records.Record.TheVariants as records
+use Rattle.dag.specs.declared.records.Kind.{Kind}
+use Rattle.dag.specs.declared.records.Kind.TheVariants.{Read, Write}
+use Rattle.dag.specs.declared.records.Access.{Access}
+use Rattle.dag.specs.declared.records.Placed.{Placed}
+use Rattle.dag.specs.Traces.{at, IsWellNested, placed}
+use Rattle.dag.specs.Dag.{IsParallel}
+use Rattle.dag.specs.Accesses.{RaceAt}
+use Rattle.dag.specs.Races.{access, IsAccess, IsAccessPlace, IsRace, IsReported}
 use Rattle.bags.specs.Procedures.{Procedures, in_p, current, procedure_at}
 use Rattle.shadow.specs.Cells.{rival, race_at, race_with}
 use Rattle.shadow.specs.Found.{State, after_access, after_record, race_of, state_after, found}
 use Rattle.bags.proofs.BagPaths.{in_p-parallel}
-use Rattle.trace.proofs.Lists.{element_at}
-use Rattle.trace.proofs.Paths.{IsPlace-at}
-use Rattle.trace.proofs.Readers.{IsAccessPlace-at, NoneBefore}
-use Rattle.trace.proofs.Once.{In, told_once}
+use Rattle.dag.proofs.Lists.{element_at}
+use Rattle.dag.proofs.Paths.{IsPlace-at}
+use Rattle.dag.proofs.Readers.{IsAccessPlace-at, NoneBefore}
+use Rattle.dag.proofs.Once.{In, reported_once}
 use Rattle.shadow.proofs.FoundLaws.{state_after-push, found-push, bags-state_after, placed_from-push, length-placed_from, kept-same, kept-other}
-use Rattle.shadow.proofs.Cells.{Sees, IsCell, HasTold, RivalSays, IsElsewhere, rival_says, cell_stays, cell_touched, cell_start}
+use Rattle.shadow.proofs.Cells.{Sees, IsCell, HasReported, RivalSays, IsElsewhere, rival_says, cell_stays, cell_touched, cell_start}
 
 -- a state as it stands after the records up to t
 pub record IsState (w : List Record) (t : ℕ) (s : State) : Type 0 where
@@ -107,31 +107,31 @@ state_at w v t h = with_cells w v t (cells_after w v t h)
 
 -- a race whose second place is j
 abbrev EndsAt : List Record → ℕ → RaceAt → Type 0
-EndsAt w j x = IsTold w x × (x.second.place ≡ j)
+EndsAt w j x = IsReported w x × (x.second.place ≡ j)
 
-ends_from : (w : List Record) (l t : ℕ) (k : Kind) (b : Bool) (o : Option Access) (x : RaceAt) → HasTold w l t b → (NoneBefore w l (suc t) → RivalSays w l (suc t) k o) → race_with l k (suc t) b o ≡ Some x → EndsAt w (suc t) x
+ends_from : (w : List Record) (l t : ℕ) (k : Kind) (b : Bool) (o : Option Access) (x : RaceAt) → HasReported w l t b → (NoneBefore w l (suc t) → RivalSays w l (suc t) k o) → race_with l k (suc t) b o ≡ Some x → EndsAt w (suc t) x
 ends_from w l t k b None x h f e = absurd (cc)
 ends_from w l t k true (Some g) x h f e = absurd (cc)
 ends_from w l t k false (Some g) x h f e = subst (EndsAt w (suc t)) (same_Some _ x e) (f h, refl)
 
-ends_to : (w : List Record) (l t : ℕ) (k : Kind) (b : Bool) (o : Option Access) (x : RaceAt) → HasTold w l t b → (NoneBefore w l (suc t) → RivalSays w l (suc t) k o) → x.location ≡ l → EndsAt w (suc t) x → race_with l k (suc t) b o ≡ Some x
+ends_to : (w : List Record) (l t : ℕ) (k : Kind) (b : Bool) (o : Option Access) (x : RaceAt) → HasReported w l t b → (NoneBefore w l (suc t) → RivalSays w l (suc t) k o) → x.location ≡ l → EndsAt w (suc t) x → race_with l k (suc t) b o ≡ Some x
 ends_to w l t k true o x h f e a = let y = a.0.second.least h.0 h.1 (subst (λ (m : ℕ). IsRace w m h.0 h.1) (sym e) h.2) in let z = a.1 in let s = h.3 in absurd (omega arith)
 ends_to w l t k false None x h f e a = let y = a.0.second.race in absurd (f h y.0 (subst (λ (m : ℕ). IsRace w m y.0 (suc t)) e (subst (IsRace w x.location y.0) a.1 y.1)))
-ends_to w l t k false (Some g) x h f e a = ap (λ (r : RaceAt). Some r) (told_once w _ x (f h) a.0 (sym e))
+ends_to w l t k false (Some g) x h f e a = ap (λ (r : RaceAt). Some r) (reported_once w _ x (f h) a.0 (sym e))
 
 race_access : (w : List Record) {n d : ℕ} → IsWellNested w n d → (t m : ℕ) (q : Kind) (s : State) → IsState w t s → IsAccess w m (suc t) q → (x : RaceAt) → (race_at s.bags.active m q (suc t) (s.kept m) ≡ Some x) ↔ EndsAt w (suc t) x
 race_access w v t m q s z a x =
     let c = z.cells m in
     let says : NoneBefore w m (suc t) → RivalSays w m (suc t) q (rival s.bags.active q (s.kept m)) = λ f. rival_says w v m t s.bags.active (z.sees (IsAccessPlace-at w m (suc t) q a)) q a f (s.kept m) c.writer c.reader in (
-      (λ e. ends_from w m t q (s.kept m).told (rival s.bags.active q (s.kept m)) x c.told says e),
-      (λ e. ends_to w m t q (s.kept m).told (rival s.bags.active q (s.kept m)) x c.told says
+      (λ e. ends_from w m t q (s.kept m).reported (rival s.bags.active q (s.kept m)) x c.reported says e),
+      (λ e. ends_to w m t q (s.kept m).reported (rival s.bags.active q (s.kept m)) x c.reported says
           (same_location x.location m q x.second.kind (same_Some (access q m) (access x.second.kind x.location) (sym a ∙ subst (λ (j : ℕ). at w j ≡ Some (access x.second.kind x.location)) e.1 e.0.second_kind))) e),
     )
 
 no_race_here : (w : List Record) (t : ℕ) (x : RaceAt) → IsElsewhere w x.location (suc t) → (None ≡ Some x) ↔ EndsAt w (suc t) x
 no_race_here w t x f = ((λ e. absurd (cc)), (λ a. absurd (f x.second.kind (subst (λ (j : ℕ). at w j ≡ Some (access x.second.kind x.location)) a.1 a.0.second_kind))))
 
--- the rules tell at a place just the race that ends there
+-- the rules report at a place just the race that ends there
 race_here : (w : List Record) {n d : ℕ} → IsWellNested w n d → (t : ℕ) (r : Record) (s : State) → IsState w t s → at w (suc t) ≡ Some r → (x : RaceAt) → (race_of s (suc t) r ≡ Some x) ↔ EndsAt w (suc t) x
 race_here w v t records.Spawn s z a x = no_race_here w t x (not_structure w x.location (suc t) _ a (not_spawn x.location))
 race_here w v t records.Call s z a x = no_race_here w t x (not_structure w x.location (suc t) _ a (not_call x.location))
@@ -154,7 +154,7 @@ In-option x (Some y) = (⊎_elim (λ e. ap (λ (r : RaceAt). Some r) e) (λ h. a
 
 -- a race up to t
 abbrev pub EndsBy : List Record → ℕ → RaceAt → Type 0
-EndsBy w t x = IsTold w x × (x.second.place ≤ t)
+EndsBy w t x = IsReported w x × (x.second.place ≤ t)
 
 one_more : (w : List Record) (t : ℕ) (x : RaceAt) (xs : List RaceAt) (o : Option RaceAt) → In x xs ↔ EndsBy w t x → (o ≡ Some x) ↔ EndsAt w (suc t) x → In x (xs ++ option_to_list o) ↔ EndsBy w (suc t) x
 one_more w t x xs o a b = (
@@ -186,38 +186,38 @@ early w v t x = ⊎_elim
     (cases_lt t (length w))
 
 -- what is found in the whole trace
-pub early-all : (w : List Record) {n d : ℕ} → IsWellNested w n d → (x : RaceAt) → In x (found (placed w)) ↔ IsTold w x
+pub early-all : (w : List Record) {n d : ℕ} → IsWellNested w n d → (x : RaceAt) → In x (found (placed w)) ↔ IsReported w x
 early-all w v x =
     let a = early_within w v (length w) (omega arith) x in
     let b : In x (found (placed w)) ↔ EndsBy w (length w) x = subst (λ (u : List Placed). In x (found u) ↔ EndsBy w (length w) x) (all_first w (length w) (omega arith)) a in
     ((λ p. (b.0 p).0), (λ q. b.1 (q, (IsPlace-at w x.second.place _ q.second_kind).1)))
 
--- a location with a race has one that is told
-abbrev TellsOf : List Record → ℕ → Type 0
-TellsOf w l = (x : RaceAt) × IsTold w x × (x.location ≡ l)
+-- a location with a race has one that is reported
+abbrev ReportsOf : List Record → ℕ → Type 0
+ReportsOf w l = (x : RaceAt) × IsReported w x × (x.location ≡ l)
 
-told_by : (w : List Record) (l j : ℕ) (k : Kind) (o : Option Access) → RivalSays w l j k o → (i : ℕ) → IsRace w l i j → TellsOf w l
-told_by w l j k None f i r = absurd (f i r)
-told_by w l j k (Some g) f i r = (_, f, refl)
+reported_by : (w : List Record) (l j : ℕ) (k : Kind) (o : Option Access) → RivalSays w l j k o → (i : ℕ) → IsRace w l i j → ReportsOf w l
+reported_by w l j k None f i r = absurd (f i r)
+reported_by w l j k (Some g) f i r = (_, f, refl)
 
-first_at : (w : List Record) {n d : ℕ} → IsWellNested w n d → (l t : ℕ) (k : Kind) → IsAccess w l (suc t) k → (s : State) → IsState w t s → NoneBefore w l (suc t) → (i : ℕ) → IsRace w l i (suc t) → TellsOf w l
-first_at w v l t k a s z f i r = told_by w l (suc t) k _ (rival_says w v l t s.bags.active (z.sees (IsAccessPlace-at w l (suc t) k a)) k a f (s.kept l) (z.cells l).writer (z.cells l).reader) i r
+first_at : (w : List Record) {n d : ℕ} → IsWellNested w n d → (l t : ℕ) (k : Kind) → IsAccess w l (suc t) k → (s : State) → IsState w t s → NoneBefore w l (suc t) → (i : ℕ) → IsRace w l i (suc t) → ReportsOf w l
+first_at w v l t k a s z f i r = reported_by w l (suc t) k _ (rival_says w v l t s.bags.active (z.sees (IsAccessPlace-at w l (suc t) k a)) k a f (s.kept l) (z.cells l).writer (z.cells l).reader) i r
 
-tells_step : (w : List Record) {n d : ℕ} → IsWellNested w n d → (l t : ℕ) (b : Bool) → HasTold w l t b → (s : State) → IsState w t s → ((i j : ℕ) → IsRace w l i j → j ≤ t → TellsOf w l) → (i j : ℕ) → IsRace w l i j → j ≤ suc t → TellsOf w l
-tells_step w v l t true a s z ih i j r h = ih a.0 a.1 a.2 a.3
-tells_step w v l t false a s z ih i j r h = ⊎_elim
+reports_step : (w : List Record) {n d : ℕ} → IsWellNested w n d → (l t : ℕ) (b : Bool) → HasReported w l t b → (s : State) → IsState w t s → ((i j : ℕ) → IsRace w l i j → j ≤ t → ReportsOf w l) → (i j : ℕ) → IsRace w l i j → j ≤ suc t → ReportsOf w l
+reports_step w v l t true a s z ih i j r h = ih a.0 a.1 a.2 a.3
+reports_step w v l t false a s z ih i j r h = ⊎_elim
     (λ (q : j < suc t). absurd (a i j r q))
     (λ (q : suc t ≤ j).
     let c : IsRace w l i (suc t) = subst (IsRace w l i) (omega arith) r in
     ⊎_elim (λ p. first_at w v l t Read p s z a i c) (λ p. first_at w v l t Write p s z a i c) c.second)
     (cases_lt j (suc t))
 
-tells_within : (w : List Record) {n d : ℕ} → IsWellNested w n d → (l t : ℕ) → t ≤ length w → (i j : ℕ) → IsRace w l i j → j ≤ t → TellsOf w l
-tells_within w v l zero h i j r g = let x = r.in_order in absurd (omega arith)
-tells_within w v l (suc t) h i j r g =
+reports_within : (w : List Record) {n d : ℕ} → IsWellNested w n d → (l t : ℕ) → t ≤ length w → (i j : ℕ) → IsRace w l i j → j ≤ t → ReportsOf w l
+reports_within w v l zero h i j r g = let x = r.in_order in absurd (omega arith)
+reports_within w v l (suc t) h i j r g =
     let z = state_at w v t (omega arith) in
-    tells_step w v l t _ (z.cells l).told (state_after (first w t)) z (tells_within w v l t (omega arith)) i j r g
+    reports_step w v l t _ (z.cells l).reported (state_after (first w t)) z (reports_within w v l t (omega arith)) i j r g
 
--- of each location with a race one is told
-pub tells_of : (w : List Record) {n d : ℕ} → IsWellNested w n d → (l i j : ℕ) → IsRace w l i j → (x : RaceAt) × IsTold w x × (x.location ≡ l)
-tells_of w v l i j r = tells_within w v l (length w) (omega arith) i j r (⊎_elim (λ a. (IsPlace-at w j _ a).1) (λ a. (IsPlace-at w j _ a).1) r.second)
+-- of each location with a race one is reported
+pub reports_of : (w : List Record) {n d : ℕ} → IsWellNested w n d → (l i j : ℕ) → IsRace w l i j → (x : RaceAt) × IsReported w x × (x.location ≡ l)
+reports_of w v l i j r = reports_within w v l (length w) (omega arith) i j r (⊎_elim (λ a. (IsPlace-at w j _ a).1) (λ a. (IsPlace-at w j _ a).1) r.second)

@@ -1,21 +1,21 @@
 -- Laws of the rules over lists of placed records, whatever trace they come from: appending, one location at a
--- time, and the order of the races that are told.
+-- time, and the order of the races that are reported.
 use Rattle.std.proofs.Common.{◌≡◌, ◌≢◌, ℕ, zero, suc, ◌+◌, ◌<◌, Bool, true, false, ◌||◌, is_some, ◌==◌, List, [], ◌∷◌, ◌++◌, map, take, length, slice_get, Option, Some, None, option_to_list, refl, sym, ap, subst, ◌∙◌, arith, append-nil, append_assoc}
 use Rattle.std.specs.List.{AllByRecursion}
 use Rattle.std.specs.List.Sorted.{IsStrictlyIncreasing}
 use Rattle.std.proofs.lemmas.Bool.{cond-true, cond-false, cond_both, eq-eqb, ne_eqb, eqb-true, or_left}
 use Rattle.std.proofs.lemmas.Option.{same_Some}
-use Rattle.trace.specs.declared.records.Record.{Record}
-use Rattle.trace.specs.declared.records.Record.TheVariants as records
-use Rattle.trace.specs.declared.records.Kind.{Kind}
-use Rattle.trace.specs.declared.records.Kind.TheVariants.{Read, Write}
-use Rattle.trace.specs.declared.records.Placed.{Placed}
-use Rattle.trace.specs.declared.records.Access.{Access}
-use Rattle.trace.specs.Traces.{placed_from}
-use Rattle.trace.specs.Accesses.{RaceAt}
+use Rattle.dag.specs.declared.records.Record.{Record}
+use Rattle.dag.specs.declared.records.Record.TheVariants as records
+use Rattle.dag.specs.declared.records.Kind.{Kind}
+use Rattle.dag.specs.declared.records.Kind.TheVariants.{Read, Write}
+use Rattle.dag.specs.declared.records.Placed.{Placed}
+use Rattle.dag.specs.declared.records.Access.{Access}
+use Rattle.dag.specs.Traces.{placed_from}
+use Rattle.dag.specs.Accesses.{RaceAt}
 use Rattle.bags.specs.Procedures.{Active, Procedures, event, bags_from, bags_after}
 use Rattle.shadow.specs.Cells.{Cell, touched, race_at, race_with}
-use Rattle.trace.proofs.Once.{Rises, AllAbove, AllAbove-lower, increasing-from_rises}
+use Rattle.dag.proofs.Once.{Rises, AllAbove, AllAbove-lower, increasing-from_rises}
 use Rattle.shadow.specs.Found.{State, start, after_access, after_record, race_of, state_from, state_after, found_from, found}
 
 pub state_from-append : (s : State) (u v : List Placed) → state_from s (u ++ v) ≡ state_from (state_from s u) v
@@ -70,20 +70,20 @@ kept-same s l k place = cond-true (l == l) _ _ (eq-eqb l l refl)
 pub kept-other : (s : State) (l m : ℕ) (k : Kind) (place : ℕ) → m ≢ l → (after_access s l k place).kept m ≡ s.kept m
 kept-other s l m k place h = cond-false (m == l) _ _ (ne_eqb m l h)
 
--- what a race that is told says of itself: its location and its second place
-pub race_with-is : (l : ℕ) (k : Kind) (place : ℕ) (told : Bool) (o : Option Access) (x : RaceAt) → race_with l k place told o ≡ Some x → (x.location ≡ l) × (x.second.place ≡ place) × (told ≡ false)
-race_with-is l k place told None x e = absurd (cc)
+-- what a race that is reported says of itself: its location and its second place
+pub race_with-is : (l : ℕ) (k : Kind) (place : ℕ) (reported : Bool) (o : Option Access) (x : RaceAt) → race_with l k place reported o ≡ Some x → (x.location ≡ l) × (x.second.place ≡ place) × (reported ≡ false)
+race_with-is l k place reported None x e = absurd (cc)
 race_with-is l k place true (Some f) x e = absurd (cc)
 race_with-is l k place false (Some f) x e = let q = same_Some _ x e in (sym (ap (λ (r : RaceAt). r.location) q), sym (ap (λ (r : RaceAt). r.second.place) q), refl)
 
--- an access's race is of its location and place, and was not told before
-pub race_of-is : (s : State) (place : ℕ) (r : Record) (x : RaceAt) → race_of s place r ≡ Some x → (x.second.place ≡ place) × ((s.kept x.location).told ≡ false)
+-- an access's race is of its location and place, and was not reported before
+pub race_of-is : (s : State) (place : ℕ) (r : Record) (x : RaceAt) → race_of s place r ≡ Some x → (x.second.place ≡ place) × ((s.kept x.location).reported ≡ false)
 race_of-is s place records.Spawn x e = absurd (cc)
 race_of-is s place records.Call x e = absurd (cc)
 race_of-is s place records.Return x e = absurd (cc)
 race_of-is s place records.Sync x e = absurd (cc)
-race_of-is s place (records.Read l) x e = let q = race_with-is l Read place _ _ x e in (q.1, subst (λ (m : ℕ). (s.kept m).told ≡ false) (sym q.0) q.2)
-race_of-is s place (records.Write l) x e = let q = race_with-is l Write place _ _ x e in (q.1, subst (λ (m : ℕ). (s.kept m).told ≡ false) (sym q.0) q.2)
+race_of-is s place (records.Read l) x e = let q = race_with-is l Read place _ _ x e in (q.1, subst (λ (m : ℕ). (s.kept m).reported ≡ false) (sym q.0) q.2)
+race_of-is s place (records.Write l) x e = let q = race_with-is l Write place _ _ x e in (q.1, subst (λ (m : ℕ). (s.kept m).reported ≡ false) (sym q.0) q.2)
 
 -- The order: where the places rise, the races come by their second places.
 
@@ -124,56 +124,56 @@ found-rises s m (p ∷ u) h = rises_next p.place _ _ (λ x e. (race_of-is s p.pl
 pub found-increasing : (m : ℕ) (u : List Placed) → Rising m u → IsStrictlyIncreasing (map second_place (found u))
 found-increasing m u h = increasing-from_rises second_place (found u) (found-rises start m u h)
 
--- Once: a location is told at most once.
+-- Once: a location is reported at most once.
 
 all_next : (P : RaceAt → Type 0) (o : Option RaceAt) (rs : List RaceAt) → ((x : RaceAt) → o ≡ Some x → P x) → AllByRecursion P rs → AllByRecursion P (option_to_list o ++ rs)
 all_next P None rs f a = a
 all_next P (Some x) rs f a = (f x refl, a)
 
-told-touched : (fs : List Active) (k : Kind) (place : ℕ) (c : Cell) → c.told ≡ true → (touched fs k place c).told ≡ true
-told-touched fs Read place c e = or_left c.told _ e
-told-touched fs Write place c e = or_left c.told _ e
+reported-touched : (fs : List Active) (k : Kind) (place : ℕ) (c : Cell) → c.reported ≡ true → (touched fs k place c).reported ≡ true
+reported-touched fs Read place c e = or_left c.reported _ e
+reported-touched fs Write place c e = or_left c.reported _ e
 
-told-after_access : (s : State) (m : ℕ) (k : Kind) (place l : ℕ) → (s.kept l).told ≡ true → ((after_access s m k place).kept l).told ≡ true
-told-after_access s m k place l e = cond_both (l == m) (touched s.bags.active k place (s.kept m)) (s.kept l) (λ (c : Cell). c.told ≡ true) (λ q. told-touched s.bags.active k place (s.kept m) (subst (λ (z : ℕ). (s.kept z).told ≡ true) (eqb-true l m q) e)) (λ q. e)
+reported-after_access : (s : State) (m : ℕ) (k : Kind) (place l : ℕ) → (s.kept l).reported ≡ true → ((after_access s m k place).kept l).reported ≡ true
+reported-after_access s m k place l e = cond_both (l == m) (touched s.bags.active k place (s.kept m)) (s.kept l) (λ (c : Cell). c.reported ≡ true) (λ q. reported-touched s.bags.active k place (s.kept m) (subst (λ (z : ℕ). (s.kept z).reported ≡ true) (eqb-true l m q) e)) (λ q. e)
 
-told-after_record : (s : State) (place : ℕ) (r : Record) (l : ℕ) → (s.kept l).told ≡ true → ((after_record s place r).kept l).told ≡ true
-told-after_record s place records.Spawn l e = e
-told-after_record s place records.Call l e = e
-told-after_record s place records.Return l e = e
-told-after_record s place records.Sync l e = e
-told-after_record s place (records.Read m) l e = told-after_access s m Read place l e
-told-after_record s place (records.Write m) l e = told-after_access s m Write place l e
+reported-after_record : (s : State) (place : ℕ) (r : Record) (l : ℕ) → (s.kept l).reported ≡ true → ((after_record s place r).kept l).reported ≡ true
+reported-after_record s place records.Spawn l e = e
+reported-after_record s place records.Call l e = e
+reported-after_record s place records.Return l e = e
+reported-after_record s place records.Sync l e = e
+reported-after_record s place (records.Read m) l e = reported-after_access s m Read place l e
+reported-after_record s place (records.Write m) l e = reported-after_access s m Write place l e
 
-pub not_again : (s : State) (u : List Placed) (l : ℕ) → (s.kept l).told ≡ true → AllByRecursion (λ r. l ≢ r.location) (found_from s u)
+pub not_again : (s : State) (u : List Placed) (l : ℕ) → (s.kept l).reported ≡ true → AllByRecursion (λ r. l ≢ r.location) (found_from s u)
 not_again s [] l e = tt
 not_again s (p ∷ u) l e = all_next (λ r. l ≢ r.location) _ _
-    (λ x q z. let a = (race_of-is s p.place p.what x q).1 in let b : (s.kept x.location).told ≡ true = subst (λ (i : ℕ). (s.kept i).told ≡ true) z e in absurd (cc))
-    (not_again (after_record s p.place p.what) u l (told-after_record s p.place p.what l e))
+    (λ x q z. let a = (race_of-is s p.place p.what x q).1 in let b : (s.kept x.location).reported ≡ true = subst (λ (i : ℕ). (s.kept i).reported ≡ true) z e in absurd (cc))
+    (not_again (after_record s p.place p.what) u l (reported-after_record s p.place p.what l e))
 
-told_with : (l : ℕ) (k : Kind) (place : ℕ) (told : Bool) (o : Option Access) (x : RaceAt) → race_with l k place told o ≡ Some x → (told || is_some o) ≡ true
-told_with l k place told None x e = absurd (cc)
-told_with l k place true (Some f) x e = absurd (cc)
-told_with l k place false (Some f) x e = refl
+reported_with : (l : ℕ) (k : Kind) (place : ℕ) (reported : Bool) (o : Option Access) (x : RaceAt) → race_with l k place reported o ≡ Some x → (reported || is_some o) ≡ true
+reported_with l k place reported None x e = absurd (cc)
+reported_with l k place true (Some f) x e = absurd (cc)
+reported_with l k place false (Some f) x e = refl
 
-told_at : (fs : List Active) (l : ℕ) (k : Kind) (place : ℕ) (c : Cell) (x : RaceAt) → race_at fs l k place c ≡ Some x → (touched fs k place c).told ≡ true
-told_at fs l Read place c x e = told_with l Read place c.told _ x e
-told_at fs l Write place c x e = told_with l Write place c.told _ x e
+reported_at : (fs : List Active) (l : ℕ) (k : Kind) (place : ℕ) (c : Cell) (x : RaceAt) → race_at fs l k place c ≡ Some x → (touched fs k place c).reported ≡ true
+reported_at fs l Read place c x e = reported_with l Read place c.reported _ x e
+reported_at fs l Write place c x e = reported_with l Write place c.reported _ x e
 
-told_access : (s : State) (l : ℕ) (k : Kind) (place : ℕ) (x : RaceAt) → race_at s.bags.active l k place (s.kept l) ≡ Some x → ((after_access s l k place).kept x.location).told ≡ true
-told_access s l k place x e =
+reported_access : (s : State) (l : ℕ) (k : Kind) (place : ℕ) (x : RaceAt) → race_at s.bags.active l k place (s.kept l) ≡ Some x → ((after_access s l k place).kept x.location).reported ≡ true
+reported_access s l k place x e =
     let q = race_with-is l k place _ _ x e in
-    subst (λ (m : ℕ). ((after_access s l k place).kept m).told ≡ true) (sym q.0)
-    (ap (λ (c : Cell). c.told) (kept-same s l k place) ∙ told_at s.bags.active l k place (s.kept l) x e)
+    subst (λ (m : ℕ). ((after_access s l k place).kept m).reported ≡ true) (sym q.0)
+    (ap (λ (c : Cell). c.reported) (kept-same s l k place) ∙ reported_at s.bags.active l k place (s.kept l) x e)
 
--- a location that is told counts as told from then on
-pub told_then : (s : State) (place : ℕ) (r : Record) (x : RaceAt) → race_of s place r ≡ Some x → ((after_record s place r).kept x.location).told ≡ true
-told_then s place records.Spawn x e = absurd (cc)
-told_then s place records.Call x e = absurd (cc)
-told_then s place records.Return x e = absurd (cc)
-told_then s place records.Sync x e = absurd (cc)
-told_then s place (records.Read l) x e = told_access s l Read place x e
-told_then s place (records.Write l) x e = told_access s l Write place x e
+-- a location that is reported counts as reported from then on
+pub reported_then : (s : State) (place : ℕ) (r : Record) (x : RaceAt) → race_of s place r ≡ Some x → ((after_record s place r).kept x.location).reported ≡ true
+reported_then s place records.Spawn x e = absurd (cc)
+reported_then s place records.Call x e = absurd (cc)
+reported_then s place records.Return x e = absurd (cc)
+reported_then s place records.Sync x e = absurd (cc)
+reported_then s place (records.Read l) x e = reported_access s l Read place x e
+reported_then s place (records.Write l) x e = reported_access s l Write place x e
 
 -- no two races are of one location
 abbrev pub Apart : List RaceAt → Type 0
@@ -186,4 +186,4 @@ apart_next (Some x) rs f a = (f x refl, a)
 
 pub found_from-apart : (s : State) (u : List Placed) → Apart (found_from s u)
 found_from-apart s [] = tt
-found_from-apart s (p ∷ u) = apart_next _ _ (λ x e. not_again (after_record s p.place p.what) u x.location (told_then s p.place p.what x e)) (found_from-apart (after_record s p.place p.what) u)
+found_from-apart s (p ∷ u) = apart_next _ _ (λ x e. not_again (after_record s p.place p.what) u x.location (reported_then s p.place p.what x e)) (found_from-apart (after_record s p.place p.what) u)

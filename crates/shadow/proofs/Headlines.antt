@@ -1,22 +1,22 @@
 -- The verdict of the rules is the report of the dag.
 use Rattle.std.proofs.Common.{◌≡◌, ℕ, ◌≤◌, List, [], ◌∷◌, map, take, Contains, ◌↔◌, inl, refl, subst, arith}
 use Rattle.std.specs.List.Sorted.{IsStrictlyIncreasing}
-use Rattle.trace.specs.declared.records.Record.{Record}
-use Rattle.trace.specs.Traces.{IsWellNested, placed}
-use Rattle.trace.specs.Accesses.{RaceAt}
-use Rattle.trace.specs.Races.{IsRace, IsTold, IsReport}
+use Rattle.dag.specs.declared.records.Record.{Record}
+use Rattle.dag.specs.Traces.{IsWellNested, placed}
+use Rattle.dag.specs.Accesses.{RaceAt}
+use Rattle.dag.specs.Races.{IsRace, IsReported, IsReport}
 use Rattle.shadow.specs.Found.{start, found, verdict}
-use Rattle.trace.proofs.Once.{In, In_from, Contains_from, report_once}
+use Rattle.dag.proofs.Once.{In, In_from, Contains_from, report_once}
 use Rattle.shadow.proofs.FoundLaws.{Rising-placed_from, Rising-take, found-increasing, found_from-apart}
 use Rattle.shadow.proofs.Listed.{increasing-by_location, In-by_location, In-from_by_location}
-use Rattle.shadow.proofs.Early.{early, early-all, tells_of}
+use Rattle.shadow.proofs.Early.{early, early-all, reports_of}
 
 -- the races found in the first t records come by their second places
 pub early-increasing : (w : List Record) (t : ℕ) → IsStrictlyIncreasing (map (λ r. r.second.place) (found (take t (placed w))))
 early-increasing w t = found-increasing 0 (take t (placed w)) (Rising-take 0 t (placed w) (Rising-placed_from 0 1 w (omega arith)))
 
 -- they are the races of which the second place is at most t
-pub early-exactly : (w : List Record) {n d : ℕ} → IsWellNested w n d → (t : ℕ) (r : RaceAt) → Contains (found (take t (placed w))) r ↔ (IsTold w r × (r.second.place ≤ t))
+pub early-exactly : (w : List Record) {n d : ℕ} → IsWellNested w n d → (t : ℕ) (r : RaceAt) → Contains (found (take t (placed w))) r ↔ (IsReported w r × (r.second.place ≤ t))
 early-exactly w v t r =
     let a = early w v t r in
     ((λ h. a.0 (In_from _ r h)), (λ h. Contains_from _ r (a.1 h)))
@@ -34,7 +34,7 @@ report_is_verdict w v rs a = report_once w rs (verdict w) a (verdict_is_report w
 pub racy : (w : List Record) {n d : ℕ} → IsWellNested w n d → (l : ℕ) → ((i : ℕ) × (j : ℕ) × IsRace w l i j) ↔ ((r : RaceAt) × Contains (verdict w) r × (r.location ≡ l))
 racy w v l =
     let a = verdict_is_report w v in (
-      (λ h. let t = tells_of w v l h.0 h.1 h.2 in (t.0, (a.exactly t.0).1 t.1, t.2)),
+      (λ h. let t = reports_of w v l h.0 h.1 h.2 in (t.0, (a.exactly t.0).1 t.1, t.2)),
       (λ h. let t = (a.exactly h.0).0 h.1 in let q = t.second.race in (q.0, h.0.second.place, subst (λ (m : ℕ). IsRace w m q.0 h.0.second.place) h.2 q.1)),
     )
 

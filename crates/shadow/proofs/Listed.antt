@@ -3,9 +3,9 @@ use Rattle.std.proofs.Common.{◌≡◌, ◌≢◌, ℕ, ◌<◌, ltb, List, [],
 use Rattle.std.specs.List.{AllByRecursion}
 use Rattle.std.specs.List.Sorted.{IsStrictlyIncreasing}
 use Rattle.std.proofs.lemmas.Bool.{cond_both, ltb-true, ltb-false}
-use Rattle.trace.specs.Accesses.{RaceAt}
+use Rattle.dag.specs.Accesses.{RaceAt}
 use Rattle.shadow.specs.Found.{put_in, by_location}
-use Rattle.trace.proofs.Once.{In, Rises, AllAbove, AllAbove-lower, increasing-from_rises}
+use Rattle.dag.proofs.Once.{In, Rises, AllAbove, AllAbove-lower, increasing-from_rises}
 use Rattle.shadow.proofs.FoundLaws.{Apart}
 
 abbrev pub location_of : RaceAt → ℕ

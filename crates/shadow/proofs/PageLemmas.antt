@@ -6,8 +6,8 @@ use Rattle.std.proofs.lemmas.Bool.Decides.{eqb_tells}
 use Rattle.std.proofs.lemmas.Nat.{div-add-mod', div-mul-add, mod-mul-add}
 use Rattle.std.proofs.Math.Nat.{mod-lt}
 use Rattle.std.proofs.lemmas.List.Quantifiers.{position-Some}
-use Rattle.trace.specs.declared.records.Kind.{Kind}
-use Rattle.trace.specs.Accesses.{RaceAt}
+use Rattle.dag.specs.declared.records.Kind.{Kind}
+use Rattle.dag.specs.Accesses.{RaceAt}
 use Rattle.bags.specs.Procedures.{Procedures}
 use Rattle.shadow.specs.Before.{IsCellBefore}
 use Rattle.shadow.specs.Touches.{HasTouched}
@@ -40,7 +40,7 @@ some_value es i page o at is none = let e : None ≡ Some (cells_of es page) = s
 pub value_there : (es : List (ℕ × List Cell)) (i page : ℕ) (b : List Cell) → IsPageAt es i page → Some b ≡ slice_get (values_of es) i → b ≡ cells_of es page
 value_there es i page b at is = ap (λ o. unwrap_or o []) (is ∙ value_at es i page (cells_of es page) at)
 
--- what is kept after one page was changed in one seat, where each look-up tells so
+-- what is kept after one page was changed in one seat, where each look-up says so
 pub put_changed : (es fs : List (ℕ × List Cell)) (page seat : ℕ) (c : Cell) (b : List Cell)
     → ((k : ℕ) → cell_at b k ≡ (if k == seat then c else cell_at (cells_of es page) k))
     → ((q : ℕ) → lookup (nat_eq q) fs ≡ cond (nat_eq page q) (Some b) (lookup (nat_eq q) es))

@@ -2,10 +2,10 @@
 use Rattle.std.proofs.Common.{◌≡◌, ℕ, ◌*◌, ◌<◌, ◌≤◌, Bool, true, false, cond, ltb, filter, List, [], ◌∷◌, map, ⊎_elim, refl, sym, ap, subst, ◌∙◌, arith}
 use Rattle.std.proofs.lemmas.Bool.{cases_Bool, cond-true, cond-false, ltb-true, ltb-false, lt-ltb, le-ltb}
 use Rattle.std.proofs.Math.Nat.{mul-lt-mul_of_pos_right, mul-le-mul_right}
-use Rattle.trace.specs.declared.records.Part.{Part}
-use Rattle.trace.specs.Accesses.{RaceAt}
-use Rattle.trace.specs.Parts.{location_at}
-use Rattle.trace.proofs.Once.{Rises, AllAbove, AllAbove-lower}
+use Rattle.dag.specs.declared.part.Part.{Part}
+use Rattle.dag.specs.Accesses.{RaceAt}
+use Rattle.dag.specs.Parts.{location_at}
+use Rattle.dag.proofs.Once.{Rises, AllAbove, AllAbove-lower}
 use Rattle.shadow.specs.Found.{put_in, by_location}
 use Rattle.shadow.proofs.FoundLaws.{Apart}
 use Rattle.shadow.proofs.Listed.{location_of, Rises-by_location}

@@ -4,23 +4,20 @@ use Rattle.std.specs.List.{AllByRecursion}
 use Rattle.std.proofs.lemmas.Bool.{cases_Bool, cases_eq, cond-true, cond-false, eqb-true}
 use Rattle.std.proofs.lemmas.List.{map-append}
 use Rattle.std.proofs.lemmas.Nat.{div-mul-add, div-add-mod'}
-use Rattle.trace.specs.declared.records.Record.{Record}
-use Rattle.trace.specs.declared.records.Record.TheVariants as records
-use Rattle.trace.specs.declared.records.Kind.{Kind}
-use Rattle.trace.specs.declared.records.Kind.TheVariants.{Read, Write}
-use Rattle.trace.specs.declared.records.Version.{Version}
-use Rattle.trace.specs.declared.records.Access.{Access}
-use Rattle.trace.specs.declared.records.Placed.{Placed}
-use Rattle.trace.specs.declared.records.Part.{Part}
-use Rattle.trace.specs.Accesses.{RaceAt}
-use Rattle.trace.specs.Traces.{placed_from}
-use Rattle.trace.specs.Text.{Fits, AllFit}
-use Rattle.trace.specs.Shares.{goes, goes_placed, share}
-use Rattle.trace.specs.Parts.{numbered, numbered_at, records_of, location_at, races_of_part}
+use Rattle.dag.specs.declared.records.Record.{Record}
+use Rattle.dag.specs.declared.records.Record.TheVariants as records
+use Rattle.dag.specs.declared.records.Kind.{Kind}
+use Rattle.dag.specs.declared.records.Kind.TheVariants.{Read, Write}
+use Rattle.dag.specs.declared.records.Access.{Access}
+use Rattle.dag.specs.declared.records.Placed.{Placed}
+use Rattle.dag.specs.declared.part.Part.{Part}
+use Rattle.dag.specs.Accesses.{RaceAt}
+use Rattle.dag.specs.Shares.{goes, goes_placed, share}
+use Rattle.dag.specs.Parts.{numbered, numbered_at, records_of, location_at, races_of_part}
 use Rattle.bags.specs.Procedures.{Procedures, event}
 use Rattle.shadow.specs.Cells.{Cell, touched, race_at, race_with, rival}
 use Rattle.shadow.specs.Found.{State, start, after_access, after_record, race_of, found_from, found}
-use Rattle.shadow.proofs.FoundLaws.{kept-same, kept-other, race_with-is}
+use Rattle.shadow.proofs.FoundLaws.{kept-same, kept-other}
 use Rattle.shadow.proofs.Sharing.{found-share}
 
 -- a race whose location is a number in a part, at the location of that number
@@ -63,10 +60,10 @@ agree_access part s z l q place a h = record {
       (cases_eq m (l / part.count));
 }
 
--- the race that is told by the number is that of the location
-race_moved : (part : Part) (l : ℕ) (q : Kind) (place : ℕ) (told : Bool) (o : Option Access) → IsOf part l
-    → map (located part) (option_to_list (race_with (l / part.count) q place told o)) ≡ option_to_list (race_with l q place told o)
-race_moved part l q place told None h = refl
+-- the race that is reported by the number is that of the location
+race_moved : (part : Part) (l : ℕ) (q : Kind) (place : ℕ) (reported : Bool) (o : Option Access) → IsOf part l
+    → map (located part) (option_to_list (race_with (l / part.count) q place reported o)) ≡ option_to_list (race_with l q place reported o)
+race_moved part l q place reported None h = refl
 race_moved part l q place true (Some f) h = refl
 race_moved part l q place false (Some f) h = ap (λ (m : ℕ). record { location = m; first = f; second = record { kind = q; place = place } } ∷ []) (location_of_number part l h)
 
@@ -74,7 +71,7 @@ race_of_number : (part : Part) (s z : State) (l : ℕ) (q : Kind) (place : ℕ) 
     → map (located part) (option_to_list (race_at z.bags.active (l / part.count) q place (z.kept (l / part.count)))) ≡ option_to_list (race_at s.bags.active l q place (s.kept l))
 race_of_number part s z l q place a h =
     ap₂ (λ (b : Procedures) (c : Cell). map (located part) (option_to_list (race_at b.active (l / part.count) q place c))) a.bags (kept_here part s z l a h)
-    ∙ race_moved part l q place (s.kept l).told (rival s.bags.active q (s.kept l)) h
+    ∙ race_moved part l q place (s.kept l).reported (rival s.bags.active q (s.kept l)) h
 
 -- the law for the rest of the records
 abbrev Moved : Part → List Placed → Type 0
@@ -116,32 +113,3 @@ pub found-part : (part : Part) (u : List Placed) → map (located part) (found (
 found-part part u =
     moved_from part (share part.index part.count u) (all_pass (goes_placed part.index part.count) u) start start (record { bags = refl; kept = λ m. refl })
     ∙ found-share part.index part.count u
-
--- ---- locations that fit
-
--- the location of the race fits 64 bits
-abbrev pub HasFit : RaceAt → Type 0
-HasFit r = r.location < 2 ^ 64
-
-fit_next : (o : Option RaceAt) (rs : List RaceAt) → ((x : RaceAt) → o ≡ Some x → HasFit x) → AllByRecursion HasFit rs → AllByRecursion HasFit (option_to_list o ++ rs)
-fit_next None rs f a = a
-fit_next (Some x) rs f a = (f x refl, a)
-
-fit_access : (l : ℕ) (q : Kind) (place : ℕ) (told : Bool) (o : Option Access) (x : RaceAt) → l < 2 ^ 64 → race_with l q place told o ≡ Some x → HasFit x
-fit_access l q place told o x h e = subst (λ (m : ℕ). m < 2 ^ 64) (sym (race_with-is l q place told o x e).0) h
-
-fit_race : (v : Version) (s : State) (place : ℕ) (r : Record) (x : RaceAt) → Fits v r → race_of s place r ≡ Some x → HasFit x
-fit_race v s place records.Spawn x h e = absurd (cc)
-fit_race v s place records.Call x h e = absurd (cc)
-fit_race v s place records.Return x h e = absurd (cc)
-fit_race v s place records.Sync x h e = absurd (cc)
-fit_race v s place (records.Read l) x h e = fit_access l Read place _ _ x h e
-fit_race v s place (records.Write l) x h e = fit_access l Write place _ _ x h e
-
-fit_found : (v : Version) (s : State) (i : ℕ) (w : List Record) → AllFit v w → AllByRecursion HasFit (found_from s (placed_from i w))
-fit_found v s i [] h = tt
-fit_found v s i (r ∷ w) h = fit_next _ _ (λ x e. fit_race v s i r x h.0 e) (fit_found v (after_record s i r) (suc i) w h.1)
-
--- the races found in a trace whose locations fit 64 bits
-pub fit-found : (v : Version) (w : List Record) → AllFit v w → AllByRecursion HasFit (found (placed_from 1 w))
-fit-found v w h = fit_found v start 1 w h

@@ -2,14 +2,14 @@
 use Rattle.std.proofs.Common.{◌≡◌, ℕ, ◌%◌, Bool, true, false, cond, ◌==◌, filter, List, [], ◌∷◌, ◌++◌, Option, Some, None, option_to_list, ⊎_elim, refl, sym, ap, ap₂, subst, ◌∙◌}
 use Rattle.std.proofs.lemmas.Bool.{cases_Bool, cases_eq, cond-true, cond-false}
 use Rattle.std.proofs.lemmas.List.Elements.{filter-append}
-use Rattle.trace.specs.declared.records.Record.{Record}
-use Rattle.trace.specs.declared.records.Record.TheVariants as records
-use Rattle.trace.specs.declared.records.Kind.{Kind}
-use Rattle.trace.specs.declared.records.Kind.TheVariants.{Read, Write}
-use Rattle.trace.specs.declared.records.Access.{Access}
-use Rattle.trace.specs.declared.records.Placed.{Placed}
-use Rattle.trace.specs.Accesses.{RaceAt}
-use Rattle.trace.specs.Shares.{goes, share}
+use Rattle.dag.specs.declared.records.Record.{Record}
+use Rattle.dag.specs.declared.records.Record.TheVariants as records
+use Rattle.dag.specs.declared.records.Kind.{Kind}
+use Rattle.dag.specs.declared.records.Kind.TheVariants.{Read, Write}
+use Rattle.dag.specs.declared.records.Access.{Access}
+use Rattle.dag.specs.declared.records.Placed.{Placed}
+use Rattle.dag.specs.Accesses.{RaceAt}
+use Rattle.dag.specs.Shares.{goes, share}
 use Rattle.bags.specs.Procedures.{Procedures, event}
 use Rattle.shadow.specs.Cells.{Cell, touched, race_at, race_with}
 use Rattle.shadow.specs.Found.{State, start, after_access, after_record, race_of, found_from, found}
@@ -61,8 +61,8 @@ filter_some k n None false f = refl
 filter_some k n (Some x) true f = cond-true (of_shard k n x) _ _ (f x refl)
 filter_some k n (Some x) false f = cond-false (of_shard k n x) _ _ (f x refl)
 
-race_shard : (k n l : ℕ) (q : Kind) (place : ℕ) (told : Bool) (o : Option Access) (b : Bool) → is_of k n l ≡ b → (x : RaceAt) → race_with l q place told o ≡ Some x → of_shard k n x ≡ b
-race_shard k n l q place told o b h x e = subst (λ (i : ℕ). is_of k n i ≡ b) (sym (race_with-is l q place told o x e).0) h
+race_shard : (k n l : ℕ) (q : Kind) (place : ℕ) (reported : Bool) (o : Option Access) (b : Bool) → is_of k n l ≡ b → (x : RaceAt) → race_with l q place reported o ≡ Some x → of_shard k n x ≡ b
+race_shard k n l q place reported o b h x e = subst (λ (i : ℕ). is_of k n i ≡ b) (sym (race_with-is l q place reported o x e).0) h
 
 filter_race : (k n : ℕ) (s : State) (l : ℕ) (q : Kind) (place : ℕ) (b : Bool) (rs : List RaceAt) → is_of k n l ≡ b
     → filter (of_shard k n) (option_to_list (race_at s.bags.active l q place (s.kept l)) ++ rs) ≡ cond b (option_to_list (race_at s.bags.active l q place (s.kept l))) [] ++ filter (of_shard k n) rs

@@ -1,12 +1,12 @@
 -- One more record: the state after it, and the races found up to it.
 use Rattle.std.proofs.Common.{◌≡◌, ℕ, ◌≤◌, List, [], ◌∷◌, ◌++◌, Option, None, refl, sym, ap, subst, ◌∙◌, Result, Ok, Err, OnOk, IfOk, length, arith}
 use Rattle.std.specs.Option.{option_to_list}
-use Rattle.trace.specs.declared.records.Record.{Record}
-use Rattle.trace.specs.declared.records.Record.TheVariants as records
-use Rattle.trace.specs.declared.records.Placed.{Placed}
-use Rattle.trace.specs.declared.records.Kind.{Kind}
-use Rattle.trace.specs.declared.records.Kind.TheVariants.{Read, Write}
-use Rattle.trace.specs.Accesses.{RaceAt}
+use Rattle.dag.specs.declared.records.Record.{Record}
+use Rattle.dag.specs.declared.records.Record.TheVariants as records
+use Rattle.dag.specs.declared.records.Placed.{Placed}
+use Rattle.dag.specs.declared.records.Kind.{Kind}
+use Rattle.dag.specs.declared.records.Kind.TheVariants.{Read, Write}
+use Rattle.dag.specs.Accesses.{RaceAt}
 use Rattle.bags.specs.Procedures.{Procedures, Active, event, after_return}
 use Rattle.shadow.specs.Cells.{touched, race_at}
 use Rattle.shadow.specs.Found.{State, with_cell, after_access, after_record, race_of, state_after, found}

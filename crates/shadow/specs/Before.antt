@@ -1,9 +1,9 @@
 -- Promised: kept names of earlier accesses, and what an access can race with.
 use Rattle.std.specs.Prelude.{◌≡◌, ℕ, ◌<◌, ◌≤◌, ◌||◌, false, IsTrue}
 use Rattle.std.specs.Option.{ForSome}
-use Rattle.trace.specs.declared.records.Kind.{Kind}
-use Rattle.trace.specs.declared.records.Access.{Access}
-use Rattle.trace.specs.Accesses.{writes}
+use Rattle.dag.specs.declared.records.Kind.{Kind}
+use Rattle.dag.specs.declared.records.Access.{Access}
+use Rattle.dag.specs.Accesses.{writes}
 use Rattle.bags.specs.Procedures.{Procedures, current, in_p}
 use Rattle.shadow.specs.Cells.{Named, Cell}
 

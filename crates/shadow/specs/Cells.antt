@@ -1,10 +1,10 @@
 -- Promised: what is kept of a location, and the read rule and the write rule of SP-bags.
 use Rattle.std.specs.Prelude.{ℕ, Bool, true, false, ◌||◌, List, Option, Some, None, is_some, if◌then◌else◌}
 use Rattle.std.specs.Option.{option_or}
-use Rattle.trace.specs.declared.records.Kind.{Kind}
-use Rattle.trace.specs.declared.records.Kind.TheVariants.{Read, Write}
-use Rattle.trace.specs.declared.records.Access.{Access}
-use Rattle.trace.specs.Accesses.{RaceAt}
+use Rattle.dag.specs.declared.records.Kind.{Kind}
+use Rattle.dag.specs.declared.records.Kind.TheVariants.{Read, Write}
+use Rattle.dag.specs.declared.records.Access.{Access}
+use Rattle.dag.specs.Accesses.{RaceAt}
 use Rattle.bags.specs.Procedures.{Active, in_p, current}
 
 -- a procedure, and the place of its access
@@ -16,10 +16,10 @@ pub record Named : Type 0 where
 pub record Cell : Type 0 where
   pub writer : Option Named
   pub reader : Option Named
-  pub told : Bool
+  pub reported : Bool
 
 abbrev pub untouched : Cell
-untouched = record { writer = None; reader = None; told = false }
+untouched = record { writer = None; reader = None; reported = false }
 
 -- whether the kept name stands in a P-bag
 abbrev pub stands_in_p : List Active → Option Named → Bool
@@ -46,14 +46,14 @@ reader_after fs place kept = if stands_in_p fs kept then kept else name_of fs pl
 
 -- what is kept of the location after an access of it
 abbrev pub touched : List Active → Kind → ℕ → Cell → Cell
-touched fs Read place c = record { writer = c.writer; reader = reader_after fs place c.reader; told = c.told || is_some (rival fs Read c) }
-touched fs Write place c = record { writer = name_of fs place; reader = c.reader; told = c.told || is_some (rival fs Write c) }
+touched fs Read place c = record { writer = c.writer; reader = reader_after fs place c.reader; reported = c.reported || is_some (rival fs Read c) }
+touched fs Write place c = record { writer = name_of fs place; reader = c.reader; reported = c.reported || is_some (rival fs Write c) }
 
 -- the race that is reported at an access: the first of its location
 abbrev pub race_with : ℕ → Kind → ℕ → Bool → Option Access → Option RaceAt
-race_with l k place told None = None
+race_with l k place reported None = None
 race_with l k place true (Some first) = None
 race_with l k place false (Some first) = Some (record { location = l; first = first; second = record { kind = k; place = place } })
 
 abbrev pub race_at : List Active → ℕ → Kind → ℕ → Cell → Option RaceAt
-race_at fs l k place c = race_with l k place c.told (rival fs k c)
+race_at fs l k place c = race_with l k place c.reported (rival fs k c)

@@ -5,6 +5,6 @@ pub mod Found
 pub mod Memory
 pub mod Slots
 pub use Rattle.bags.specs.Procedures
-pub use Rattle.trace.specs.Accesses
-pub use Rattle.trace.specs.Shares
+pub use Rattle.dag.specs.Accesses
+pub use Rattle.dag.specs.Shares
 pub mod Touches

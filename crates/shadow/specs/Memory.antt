@@ -1,8 +1,8 @@
 -- Promised: shadow memory: what is kept of each location, and how far the run has come.
 use Rattle.std.specs.Prelude.{◌≡◌, ℕ, ◌+◌, ◌<◌, ◌≤◌, List}
-use Rattle.trace.specs.declared.records.Record.{Record}
-use Rattle.trace.specs.declared.records.Record.TheVariants.{Spawn, Call, Return, Sync, Read, Write}
-use Rattle.trace.specs.declared.records.Placed.{Placed}
+use Rattle.dag.specs.declared.records.Record.{Record}
+use Rattle.dag.specs.declared.records.Record.TheVariants.{Spawn, Call, Return, Sync, Read, Write}
+use Rattle.dag.specs.declared.records.Placed.{Placed}
 use Rattle.bags.specs.Procedures.{Procedures}
 use Rattle.shadow.specs.Cells.{Cell, untouched}
 use Rattle.shadow.specs.Before.{IsCellBefore}

@@ -1,20 +1,22 @@
 //! What is kept of one location, and what an access does to it.
 ghost use Rattle.std.specs.Prelude.{◌≡◌, ◌+◌, ◌<◌, ◌≤◌, None, true, false, IsTrue, ◌↔◌};
 ghost use Rattle.std.specs.Option.{ForSome};
-ghost use Rattle.trace.specs.Bounds.{most_records};
+ghost use Rattle.dag.specs.Bounds.{most_records};
 ghost use Rattle.bags.specs.Procedures.{in_p};
 ghost use Rattle.shadow.specs.Cells.{untouched, race_at, race_with, touched, rival, parallel_access, reader_after, name_of};
 ghost use Rattle.shadow.specs.Before.{IsNameBefore, IsCellBefore, CanRace, Executes};
 ghost use Rattle.shadow.specs.Touches.{MayTouch, HasTouched};
 
 use bags::Bags;
+use dag::{Access, Kind, Race};
 use std::marker::Model;
-use trace::{Access, Kind, Race};
 
 /// A procedure, and the place of its access.
 #[derive(Clone, Copy)]
 pub struct Name {
+    /// The number of the procedure: the root has 0, and the others are numbered from 1 in the order of their opening.
     pub procedure: u64,
+    /// The place of the access: 1 to 2^48.
     pub place: u64,
 }
 
@@ -104,7 +106,7 @@ impl Slot {
 pub struct Kept {
     writer: Slot,
     reader: Slot,
-    told: bool,
+    reported: bool,
 }
 
 impl Model for Kept {
@@ -112,7 +114,7 @@ impl Model for Kept {
 
     ghost Value = { Cell };
 
-    ghost view = { λ k. record { writer = k.writer; reader = k.reader; told = k.told } };
+    ghost view = { λ k. record { writer = k.writer; reader = k.reader; reported = k.reported } };
 }
 
 impl Kept {
@@ -123,7 +125,7 @@ impl Kept {
         Kept {
             writer: Slot::empty(),
             reader: Slot::empty(),
-            told: false,
+            reported: false,
         }
     }
 
@@ -140,7 +142,7 @@ impl Kept {
             Kind::Write => self.writer.keep(bags, executing, place),
         }
         match first {
-            Some(first) if self.tell() => Some(Race {
+            Some(first) if self.report() => Some(Race {
                 location,
                 first,
                 second: Access { kind, place },
@@ -152,12 +154,12 @@ impl Kept {
     // From here on the location's race counts as reported. Whether it wasn't reported before.
     #[cold]
     #[inline(never)]
-    fn tell(&mut self) -> bool
-        ensures new { IsTrue result ↔ (self.old.told ≡ false) }
-        ensures told { self.new ≡ record self.old { told = true } }
+    fn report(&mut self) -> bool
+        ensures new { IsTrue result ↔ (self.old.reported ≡ false) }
+        ensures reported { self.new ≡ record self.old { reported = true } }
     {
-        let new = !self.told;
-        self.told = true;
+        let new = !self.reported;
+        self.reported = true;
         new
     }
 }

@@ -1,16 +1,16 @@
 //! Shadow memory: what is kept of each location.
 ghost use Rattle.std.specs.Prelude.{◌≡◌, ℕ, ◌<◌, ◌≤◌, IfOk, OnOk, OnErr};
-ghost use Rattle.trace.specs.Bounds.{most_records};
+ghost use Rattle.dag.specs.Bounds.{most_records};
 ghost use Rattle.shadow.specs.Cells.{untouched, race_at, touched};
 ghost use Rattle.shadow.specs.Found.{with_cell};
 
 use crate::pages::Pages;
 use crate::spot::spot_of;
 use bags::Bags;
+use dag::{Kind, NoMemory, Race};
 use std::alloc::Global;
 use std::hash::BuildHasher;
 use std::marker::Model;
-use trace::{Kind, NoMemory, Race};
 
 /// The shadow memory of a serial run: the kept writer and the kept reader of each location.
 #[derive(Drop)]
@@ -85,6 +85,19 @@ impl<S: BuildHasher> Shadow<S> {
     }
 
     /// Takes an access by the executing procedure of the bags, and reports its race, if any.
+    ///
+    /// ```rust
+    /// let mut bags = Bags::new(rt.alloc())?;
+    /// let hasher = BuildHasherDefault::<FoldHasher>::default();
+    /// let mut shadow = Shadow::with_hasher(rt.alloc(), hasher);
+    /// assert_eq!(rt; (shadow.last_place(), shadow.least_count()), (0, 1));
+    /// bags.spawn()?;
+    /// assert_eq!(rt; shadow.touch(&bags, 9, Kind::Read, 5)?, None);
+    /// assert_eq!(rt; (shadow.last_place(), shadow.least_count()), (5, 2));
+    /// bags.ret();
+    /// let race = shadow.touch(&bags, 9, Kind::Write, 7)?.ok_or("no race")?;
+    /// assert_eq!(rt; (race.first.place, race.second.place), (5, 7));
+    /// ```
     #[inline(always)]
     pub fn touch(
         &mut self,

@@ -6,8 +6,8 @@ ghost use Rattle.shadow.specs.Touches.{MayTouch, HasTouched};
 
 use crate::cell::Kept;
 use bags::Bags;
+use dag::{Kind, Race};
 use std::marker::Model;
-use trace::{Kind, Race};
 
 /// What is kept of eight locations.
 #[derive(Drop)]

@@ -6,11 +6,11 @@ ghost use Rattle.shadow.specs.Touches.{MayTouch, HasTouched};
 use crate::page::Page;
 use crate::spot::Spot;
 use bags::Bags;
+use dag::{Kind, NoMemory, Race};
 use indexmap::IndexMap;
 use std::alloc::Global;
 use std::hash::BuildHasher;
 use std::marker::Model;
-use trace::{Kind, NoMemory, Race};
 
 /// The number of remembered indices.
 const SLOTS: usize = 256;

@@ -1,15 +1,15 @@
 //! The rules of SP-bags over the records of a run, one record after another.
 ghost use Rattle.std.specs.Prelude.{◌≡◌, ℕ, ◌<◌, ◌≤◌, List, [], ◌∷◌, ◌++◌, IfOk, OnOk, OnErr};
 ghost use Rattle.std.specs.Option.{option_to_list};
-ghost use Rattle.trace.specs.declared.records.Placed.{Placed};
-ghost use Rattle.trace.specs.Bounds.{most_records};
+ghost use Rattle.dag.specs.declared.records.Placed.{Placed};
+ghost use Rattle.dag.specs.Bounds.{most_records};
 ghost use Rattle.shadow.specs.Found.{found};
 ghost use Rattle.shadow.specs.Memory.{AreReadyFor, HaveSeen, IsSameMemory, MayGrow};
 
 use crate::memory::Shadow;
 use bags::Bags;
+use dag::{Kind, NoMemory, Placed, Race, Record};
 use std::hash::BuildHasher;
-use trace::{Kind, NoMemory, Placed, Race, Record};
 
 /// Takes a record of a run. An access touches its location by the bags as they are; every other record moves the
 /// bags. The root's return changes nothing. If the bags and the shadow memory are those after some records, the
@@ -55,19 +55,19 @@ pub fn apply<S: BuildHasher>(
 #[cfg(test)]
 mod tests {
     use super::*;
+    use dag::Kind::{Read, Write};
     use std::alloc::Global;
     use std::hash::{BuildHasherDefault, FoldHasher};
     use std::test::Fail;
-    use trace::Kind::{Read, Write};
 
     /// A race: its location, and the kind and the place of each of its accesses.
-    type Told = (u64, (Kind, u64), (Kind, u64));
+    type Reported = (u64, (Kind, u64), (Kind, u64));
 
     /// The races that the records add, one record after another.
-    fn races(alloc: Global, records: &[Record]) -> Result<Vec<Told>, Fail> {
+    fn races(alloc: Global, records: &[Record]) -> Result<Vec<Reported>, Fail> {
         let mut bags = Bags::new(alloc)?;
         let mut shadow = Shadow::with_hasher(alloc, BuildHasherDefault::<FoldHasher>::default());
-        let mut told = Vec::new(alloc);
+        let mut reported = Vec::new(alloc);
         for (index, what) in records.iter().enumerate() {
             let place = index as u64 + 1;
             let ready = shadow.last_place() < place && shadow.least_count() <= bags.count();
@@ -77,14 +77,14 @@ mod tests {
             let what = *what;
             if let Some(race) = apply(&mut bags, &mut shadow, Placed { place, what })? {
                 let (first, second) = (race.first, race.second);
-                told.push((
+                reported.push((
                     race.location,
                     (first.kind, first.place),
                     (second.kind, second.place),
                 ))?;
             }
         }
-        Ok(told)
+        Ok(reported)
     }
 
     const SPAWN: Record = Record::Spawn;
@@ -100,7 +100,7 @@ mod tests {
 
     #[test]
     fn rows(rt: HostRuntime) -> Result<(), Fail> {
-        let rows: [(&str, &[Record], &[Told]); 13] = [
+        let rows: [(&str, &[Record], &[Reported]); 13] = [
             (
                 "write-write",
                 &[SPAWN, WRITE, RETURN, WRITE, RETURN],
@@ -180,14 +180,15 @@ mod tests {
     #[test]
     fn before_and_after_a_touch(rt: HostRuntime) -> Result<(), Fail> {
         let mut bags = Bags::new(rt.alloc())?;
-        let mut shadow = Shadow::with_hasher(
-            rt.alloc(),
-            BuildHasherDefault::<FoldHasher>::default(),
-        );
+        let hasher = BuildHasherDefault::<FoldHasher>::default();
+        let mut shadow = Shadow::with_hasher(rt.alloc(), hasher);
         assert_eq!(rt; (shadow.last_place(), shadow.least_count()), (0, 1));
         bags.spawn()?;
-        assert_eq!(rt; shadow.touch(&bags, 9, Read, 5)?, None);
+        assert_eq!(rt; shadow.touch(&bags, 9, Kind::Read, 5)?, None);
         assert_eq!(rt; (shadow.last_place(), shadow.least_count()), (5, 2));
+        bags.ret();
+        let race = shadow.touch(&bags, 9, Kind::Write, 7)?.ok_or("no race")?;
+        assert_eq!(rt; (race.first.place, race.second.place), (5, 7));
         Ok(())
     }
 }

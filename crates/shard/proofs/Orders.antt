@@ -1,10 +1,10 @@
 -- Records in order: beginnings of them, how many they are, and what a shard may take.
 use Rattle.std.proofs.Common.{◌≡◌, ℕ, ◌+◌, ◌-◌, ◌≤◌, ◌^◌, true, false, List, [], ◌∷◌, ◌++◌, length, ◌==◌, ◌↔◌, ⊎_elim, refl, sym, ap, subst, ◌∙◌, arith, append_assoc}
 use Rattle.std.proofs.lemmas.Bool.{cases_Bool, eq-eqb, eqb-true}
-use Rattle.trace.specs.declared.records.Record.{Record}
-use Rattle.trace.specs.declared.records.Record.TheVariants.{Spawn, Call, Return, Sync, Read, Write}
-use Rattle.trace.specs.declared.records.Placed.{Placed}
-use Rattle.trace.specs.Traces.{opens, closes}
+use Rattle.dag.specs.declared.records.Record.{Record}
+use Rattle.dag.specs.declared.records.Record.TheVariants.{Spawn, Call, Return, Sync, Read, Write}
+use Rattle.dag.specs.declared.records.Placed.{Placed}
+use Rattle.dag.specs.Traces.{opens, closes}
 use Rattle.bags.specs.Procedures.{Procedures, Active, event, after_sync, after_return, bags_from}
 use Rattle.shadow.proofs.FoundLaws.{bags-state_after}
 use Rattle.shadow.specs.Memory.{HaveSeen}

@@ -3,18 +3,18 @@ use Rattle.std.proofs.Common.{◌≡◌, ℕ, ◌+◌, ◌-◌, ◌^◌, min, Bo
 use Rattle.std.proofs.lemmas.List.{map-append}
 use Rattle.std.specs.Option.{option_to_list}
 use Rattle.std.proofs.lemmas.Bool.{cases_Bool}
-use Rattle.trace.specs.declared.records.Placed.{Placed}
-use Rattle.trace.specs.Accesses.{RaceAt}
+use Rattle.dag.specs.declared.records.Placed.{Placed}
+use Rattle.dag.specs.Accesses.{RaceAt}
 use Rattle.shadow.specs.Found.{start, state_from, found_from, found}
 use Rattle.shadow.proofs.FoundLaws.{found_from-append}
 use Rattle.lane.specs.declared.item.Item.{Item}
 use Rattle.lane.specs.declared.item.Item.TheVariants.{One, Finish}
 use Rattle.lane.specs.Items.{IsBeginning}
-use Rattle.shard.specs.declared.Back.{Back}
-use Rattle.shard.specs.declared.Back.TheVariants.{Race, NoMemory}
+use Rattle.dag.specs.declared.back.Back.{Back}
+use Rattle.dag.specs.declared.back.Back.TheVariants.{Race, NoMemory}
 use Rattle.shadow.specs.Memory.{HaveSeen}
 use Rattle.shard.specs.Shards.{ShardState, Accepts, IsFresh, is_root_return, capped_count}
-use Rattle.shard.specs.Working.{AreInOrder, race_items, HasStopped, out_of_order, no_memory, HasHandedBack, IsGoing, HasWorked, IsOfShare, TellsFound}
+use Rattle.shard.specs.Working.{AreInOrder, race_items, HasStopped, out_of_order, no_memory, HasHandedBack, IsGoing, HasWorked, IsOfShare, PutsFound}
 use Rattle.shard.proofs.Orders.{in_order-front, length-in_order, takes_new, takes_none, takes_next, takes_one, takes_after}
 use Rattle.shard.proofs.Shares.{in_order}
 
@@ -29,8 +29,8 @@ count_more u p n e = capped_more (length u) n (2 ^ 64 - 1) e ∙ ap capped_count
 so_far : (u : List Placed) (s : ShardState) (put : List (Item Back)) → IsGoing u s put → AreInOrder u
 so_far u s put g = let P : List Placed → Type 0 = AreInOrder in subst P (append-nil u) ((g.goes_on []).1 (takes_none s))
 
-told-append : (xs ys : List RaceAt) → race_items (xs ++ ys) ≡ race_items xs ++ race_items ys
-told-append xs ys = map-append (λ (r : RaceAt). One (Race r)) xs ys
+race_items-append : (xs ys : List RaceAt) → race_items (xs ++ ys) ≡ race_items xs ++ race_items ys
+race_items-append xs ys = map-append (λ (r : RaceAt). One (Race r)) xs ys
 
 pub worked_new : (s : ShardState) → IsFresh s → HasWorked [] s [] false
 worked_new s new = record {
@@ -51,7 +51,7 @@ worked_applied u p s z put more o stopped adds is a place ended taken applied fi
       going = λ e. record {
         applied = k;
         goes_on = λ rest. takes_after u p s z a g.applied k place ended rest (g.goes_on (p ∷ rest));
-        races = adds ∙ ap (λ (x : List (Item Back)). x ++ race_items (option_to_list o)) g.races ∙ sym (told-append (found u) (option_to_list o)) ∙ ap race_items (sym (finds u g.applied));
+        races = adds ∙ ap (λ (x : List (Item Back)). x ++ race_items (option_to_list o)) g.races ∙ sym (race_items-append (found u) (option_to_list o)) ∙ ap race_items (sym (finds u g.applied));
       };
       at_end = λ e. absurd (cc);
     }
@@ -90,26 +90,26 @@ answers u s put stopped h = ⊎_elim (λ t. inr (h.at_end t)) (λ f. let g = h.g
 found_front : (v u : List Placed) → IsBeginning v u → IsBeginning (found v) (found u)
 found_front v u (rest, is) = (found_from (state_from start v) rest, ap found is ∙ found_from-append start v rest)
 
-tells : (u : List Placed) (put : List (Item Back)) → AreInOrder u → HasHandedBack u put → TellsFound u (put ++ Finish ∷ [])
-tells u put fine (inl (o, e)) = inl (ap (λ (x : List (Item Back)). x ++ Finish ∷ []) e)
-tells u put fine (inr (out_of_order v rest p is o out e)) =
+puts_found : (u : List Placed) (put : List (Item Back)) → AreInOrder u → HasHandedBack u put → PutsFound u (put ++ Finish ∷ [])
+puts_found u put fine (inl (o, e)) = inl (ap (λ (x : List (Item Back)). x ++ Finish ∷ []) e)
+puts_found u put fine (inr (out_of_order v rest p is o out e)) =
     let P : List Placed → Type 0 = AreInOrder in
     absurd (out (in_order-front (v ++ p ∷ []) rest (subst P (is ∙ sym (append_assoc v (p ∷ []) rest)) fine)))
-tells u put fine (inr (no_memory v rest p is o e)) =
+puts_found u put fine (inr (no_memory v rest p is o e)) =
     inr (found v, found_front v u (p ∷ rest, is), ap (λ (x : List (Item Back)). x ++ Finish ∷ []) e ∙ append_assoc (race_items (found v)) (One NoMemory ∷ []) (Finish ∷ []))
 
-pub tells_share : (u : List Placed) (s : ShardState) (put : List (Item Back)) (stopped : Bool) → HasWorked u s put stopped → IsOfShare u → (s.taken ≡ length u) × TellsFound u (put ++ Finish ∷ [])
-tells_share u s put stopped h of =
+pub puts_share : (u : List Placed) (s : ShardState) (put : List (Item Back)) (stopped : Bool) → HasWorked u s put stopped → IsOfShare u → (s.taken ≡ length u) × PutsFound u (put ++ Finish ∷ [])
+puts_share u s put stopped h of =
     let few = length-in_order u (in_order u of) in (
       h.taken ∙ omega arith,
-      tells u put (in_order u of) (answers u s put stopped h),
+      puts_found u put (in_order u of) (answers u s put stopped h),
     )
 
 -- the same of any records in order
-pub tells_in_order : (u : List Placed) (count : ℕ) (put all : List (Item Back)) → AreInOrder u → count ≡ capped_count (length u) → all ≡ put ++ Finish ∷ [] → HasHandedBack u put → (count ≡ length u) × TellsFound u all
-tells_in_order u count put all fine counted is handed =
+pub puts_in_order : (u : List Placed) (count : ℕ) (put all : List (Item Back)) → AreInOrder u → count ≡ capped_count (length u) → all ≡ put ++ Finish ∷ [] → HasHandedBack u put → (count ≡ length u) × PutsFound u all
+puts_in_order u count put all fine counted is handed =
     let few = length-in_order u fine in
-    let P : List (Item Back) → Type 0 = TellsFound u in (
+    let P : List (Item Back) → Type 0 = PutsFound u in (
       counted ∙ omega arith,
-      subst P (sym is) (tells u put fine handed),
+      subst P (sym is) (puts_found u put fine handed),
     )

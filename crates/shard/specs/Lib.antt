@@ -1,4 +1,3 @@
-pub mod Backs
 pub mod Shards
 pub mod Worked
 pub mod Working

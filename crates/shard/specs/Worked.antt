@@ -1,16 +1,16 @@
 -- Promised: what a worker has done when it answers.
 use Rattle.std.specs.Prelude.{◌≡◌, List, [], ◌∷◌, ◌++◌, length, map}
-use Rattle.trace.specs.declared.records.Placed.{Placed}
+use Rattle.dag.specs.declared.records.Placed.{Placed}
 use Rattle.lane.specs.declared.item.Item.{Item}
 use Rattle.lane.specs.declared.item.Item.TheVariants.{One, Finish}
 use Rattle.lane.specs.declared.sender.Sender.{Sender}
 use Rattle.lane.specs.declared.taker.Taker.{Taker}
 use Rattle.lane.specs.Items.{records}
 use Rattle.lane.specs.Lanes.{taker_lane, taken_of, lane_of, end_lane, all_put}
-use Rattle.shard.specs.declared.Back.{Back}
+use Rattle.dag.specs.declared.back.Back.{Back}
 use Rattle.shard.specs.declared.working.Worked.{Worked}
 use Rattle.shard.specs.Shards.{capped_count}
-use Rattle.shard.specs.Working.{HasHandedBack, IsOfShare, TellsFound}
+use Rattle.shard.specs.Working.{HasHandedBack, IsOfShare, PutsFound}
 
 -- The worker took up to the mark, and marked its own lane. What it put are the answers to what it took.
 pub record DidWork {S H : Type 0} (taker : Taker Placed) (back : Sender Back) (worked : Worked S H) : Type 0 where
@@ -21,4 +21,4 @@ pub record DidWork {S H : Type 0} (taker : Taker Placed) (back : Sender Back) (w
   pub answers : (put : List (Item Back)) × (all_put worked.back ≡ put ++ Finish ∷ []) × HasHandedBack (records (taken_of worked.taker)) put
   -- of a share of a well nested trace: the count is their number, and the answers are the races found
   pub of_share : IsOfShare (records (taken_of worked.taker)) → (worked.shard.taken ≡ length (records (taken_of worked.taker)))
-      × TellsFound (records (taken_of worked.taker)) (all_put worked.back)
+      × PutsFound (records (taken_of worked.taker)) (all_put worked.back)

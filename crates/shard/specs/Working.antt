@@ -1,19 +1,19 @@
 -- Promised: what a worker is given, and what it hands back.
 use Rattle.std.specs.Prelude.{◌≡◌, ◌+◌, ◌-◌, ◌<◌, ◌≤◌, ◌↔◌, ◌⊎◌, ◌∷◌, ◌++◌}
 use Rattle.std.specs.Prelude.{ℕ, Bool, true, false, List, [], length, map}
-use Rattle.trace.specs.Bounds.{most_records}
-use Rattle.trace.specs.declared.records.Record.{Record}
-use Rattle.trace.specs.declared.records.Record.TheVariants.{Return}
-use Rattle.trace.specs.declared.records.Placed.{Placed}
-use Rattle.trace.specs.Traces.{opens, closes, placed, IsRootReturn, IsWellNested}
-use Rattle.trace.specs.Shares.{share}
-use Rattle.trace.specs.Accesses.{RaceAt}
+use Rattle.dag.specs.Bounds.{most_records}
+use Rattle.dag.specs.declared.records.Record.{Record}
+use Rattle.dag.specs.declared.records.Record.TheVariants.{Return}
+use Rattle.dag.specs.declared.records.Placed.{Placed}
+use Rattle.dag.specs.Traces.{opens, closes, placed, IsRootReturn, IsWellNested}
+use Rattle.dag.specs.Shares.{share}
+use Rattle.dag.specs.Accesses.{RaceAt}
 use Rattle.shadow.specs.Found.{found}
 use Rattle.lane.specs.declared.item.Item.{Item}
 use Rattle.lane.specs.declared.item.Item.TheVariants.{One, Finish}
 use Rattle.lane.specs.Items.{IsBeginning}
-use Rattle.shard.specs.declared.Back.{Back}
-use Rattle.shard.specs.declared.Back.TheVariants.{Race, NoMemory}
+use Rattle.dag.specs.declared.back.Back.{Back}
+use Rattle.dag.specs.declared.back.Back.TheVariants.{Race, NoMemory}
 use Rattle.shadow.specs.Memory.{HaveSeen}
 use Rattle.shard.specs.Shards.{ShardState, capped_count}
 
@@ -82,6 +82,6 @@ pub record IsOfShare (u : List Placed) : Type 0 where
   pub begins : IsBeginning u (share shard shards (placed trace))
 
 -- the races found in u and the mark; or, after a refused growth, a prefix of them, one NoMemory and the mark
-abbrev pub TellsFound : List Placed → List (Item Back) → Type 0
-TellsFound u put = (put ≡ race_items (found u) ++ Finish ∷ [])
+abbrev pub PutsFound : List Placed → List (Item Back) → Type 0
+PutsFound u put = (put ≡ race_items (found u) ++ Finish ∷ [])
     ⊎ ((rs : List RaceAt) × IsBeginning rs (found u) × (put ≡ race_items rs ++ One NoMemory ∷ Finish ∷ []))

@@ -1,17 +1,17 @@
 //! The state of a shard: the records that it has taken, as bags and shadow memory.
 ghost use Rattle.std.specs.Prelude.{◌≡◌, ◌↔◌, ◌+◌, ◌<◌, ◌≤◌, List, [], ◌∷◌, ◌++◌, IsTrue, IfOk, IfSome, OnOk, OnErr};
 ghost use Rattle.std.specs.Option.{option_to_list};
-ghost use Rattle.trace.specs.declared.records.Placed.{Placed};
+ghost use Rattle.dag.specs.declared.records.Placed.{Placed};
 ghost use Rattle.shadow.specs.Found.{found};
 ghost use Rattle.shadow.specs.Memory.{HaveSeen, MayGrow};
 ghost use Rattle.shard.specs.Shards.{Accepts, IsFresh, IsSameShard, is_root_return, capped_count};
 
 use bags::Bags;
+use dag::{NoMemory, Placed, Race, Record};
 use shadow::Shadow;
 use std::alloc::Global;
 use std::hash::BuildHasher;
 use std::marker::Model;
-use trace::{NoMemory, Placed, Race, Record};
 
 /// A shard: the bags of the run, and the shadow memory of the shard's locations.
 #[derive(Drop)]

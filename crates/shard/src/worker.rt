@@ -1,45 +1,48 @@
 //! A worker: a shard, and its lane back.
 ghost use Rattle.std.specs.Prelude.{◌≡◌, false, List, [], ◌∷◌, ◌++◌};
-ghost use Rattle.trace.specs.declared.records.Placed.{Placed};
+ghost use Rattle.dag.specs.declared.records.Placed.{Placed};
 ghost use Rattle.lane.specs.declared.item.Item.{Item};
 ghost use Rattle.lane.specs.Items.{has_mark, records};
 ghost use Rattle.lane.specs.Lanes.{lane_of, put_of};
 ghost use Rattle.shard.specs.Working.{HasWorked};
 
 use crate::Back;
+use crate::backs::put_back;
 use crate::gate::Gate;
 use crate::state::Shard;
-use crate::telling::put;
+use dag::Placed;
 use lane::{Item, Sender};
 use std::hash::BuildHasher;
 use std::sync::Wait;
-use trace::Placed;
 
 /// A shard, its lane back, and whether it has stopped applying records: after a refused growth or a record out of
 /// order.
 #[derive(Drop)]
 pub struct Worker<S: BuildHasher + Drop> {
+    /// The bags and the shadow memory of its locations.
     pub shard: Shard<S>,
+    /// The lane back, without its mark.
     pub back: Sender<Back>,
+    /// Whether it only counts the records from here on.
     pub stopped: bool,
     ghost unmarked: { has_mark (put_of back) ≡ false },
 }
 
 impl<S: BuildHasher + Drop> Worker<S> {
-    /// Takes each record of a block after it has passed the gate. At the end it shows the races of these records to
+    /// Applies each record of a block after it has passed the gate. At the end it shows the races of these records to
     /// the taker of the lane back.
-    pub fn take_block<R: Wait, G: Gate>(&mut self, rt: &R, gate: &G, block: &[Item<Placed>])
+    pub fn apply_block<R: Wait, G: Gate>(&mut self, rt: &R, gate: &G, block: &[Item<Placed>])
         ensures worked { (u : List Placed) → HasWorked u self.old.shard (put_of self.old.back) self.old.stopped →
             HasWorked (u ++ records block.now) self.new.shard (put_of self.new.back) self.new.stopped }
         ensures lane { lane_of self.new.back ≡ lane_of self.old.back }
     {
         for item in block {
-            self.take_item(rt, gate, *item);
+            self.apply_item(rt, gate, *item);
         }
         self.back.flush();
     }
 
-    fn take_item<R: Wait, G: Gate>(&mut self, rt: &R, gate: &G, item: Item<Placed>)
+    fn apply_item<R: Wait, G: Gate>(&mut self, rt: &R, gate: &G, item: Item<Placed>)
         ensures worked { (u : List Placed) → HasWorked u self.old.shard (put_of self.old.back) self.old.stopped →
             HasWorked (u ++ records (item ∷ [])) self.new.shard (put_of self.new.back) self.new.stopped }
         ensures lane { lane_of self.new.back ≡ lane_of self.old.back }
@@ -47,15 +50,15 @@ impl<S: BuildHasher + Drop> Worker<S> {
         match item {
             Item::One(placed) => {
                 gate.pass(self.shard.index(), placed.place);
-                self.take(rt, placed);
+                self.apply(rt, placed);
             }
             Item::Finish => {}
         }
     }
 
-    /// Takes a record: applies it and reports its race. After a refused growth, which it reports once, and after a
+    /// Applies a record and reports its race. After a refused growth, which it reports once, and after a
     /// record out of order it only counts.
-    pub fn take<R: Wait>(&mut self, rt: &R, placed: Placed)
+    pub fn apply<R: Wait>(&mut self, rt: &R, placed: Placed)
         ensures worked { (u : List Placed) → HasWorked u self.old.shard (put_of self.old.back) self.old.stopped →
             HasWorked (u ++ placed ∷ []) self.new.shard (put_of self.new.back) self.new.stopped }
         ensures lane { lane_of self.new.back ≡ lane_of self.old.back }
@@ -67,11 +70,11 @@ impl<S: BuildHasher + Drop> Worker<S> {
         }
         match self.shard.apply(placed) {
             Ok(None) => {}
-            Ok(Some(race)) => put(rt, &mut self.back, Back::Race(race)),
+            Ok(Some(race)) => put_back(rt, &mut self.back, Back::Race(race)),
             Err(_) => {
                 self.stopped = true;
                 self.shard.count_one();
-                put(rt, &mut self.back, Back::NoMemory);
+                put_back(rt, &mut self.back, Back::NoMemory);
             }
         }
     }

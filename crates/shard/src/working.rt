@@ -5,20 +5,23 @@ ghost use Rattle.shard.specs.Shards.{IsFresh};
 ghost use Rattle.shard.specs.Worked.{DidWork};
 
 use crate::Back;
+use crate::backs::mark;
 use crate::gate::Gate;
 use crate::state::Shard;
-use crate::telling::mark;
 use crate::worker::Worker;
+use dag::Placed;
 use lane::{BLOCK, End, Item, Sender, Taker, Waiting};
 use std::hash::BuildHasher;
 use std::sync::Wait;
-use trace::Placed;
 
 /// What a worker returns: its taker, the receipt of its lane back, and its shard.
 #[derive(Drop)]
 pub struct Worked<S: BuildHasher + Drop> {
+    /// The taker of the lane to the shard, which has given the mark.
     pub taker: Taker<Placed>,
+    /// The receipt of the lane back: all its items, with the mark.
     pub back: End<Back>,
+    /// The shard after all records of the lane.
     pub shard: Shard<S>,
 }
 
@@ -29,6 +32,19 @@ pub struct Worked<S: BuildHasher + Drop> {
 /// refused growth it puts `Back::NoMemory` once, applies nothing more, and goes on taking. At the mark it marks the
 /// lane back. The shard applies neither a record that it doesn't accept nor any after it; it accepts every record of
 /// a share.
+///
+/// ```rust
+/// let (mut sender, taker) = lane::<Placed>(rt.alloc(), 16)?;
+/// let (back, mut races) = lane::<Back>(rt.alloc(), 16)?;
+/// let (spawn, write) = (Record::Spawn, Record::Write(3));
+/// for (place, what) in [(1, spawn), (2, write), (3, Record::Return), (4, write)] {
+///     assert!(rt; sender.put(Placed { place, what }).is_ok());
+/// }
+/// assert!(rt; sender.mark());
+/// let shard = Shard::new(rt.alloc(), 0, BuildHasherDefault::<FoldHasher>::default())?;
+/// let done = work(&rt, shard, taker, back, &Open);
+/// assert!(rt; done.shard.taken() == 4 && matches!(races.take(), Some(Item::One(Back::Race(_)))));
+/// ```
 pub fn work<R: Wait, S: BuildHasher + Drop, G: Gate>(
     rt: &R,
     shard: Shard<S>,
@@ -50,7 +66,7 @@ pub fn work<R: Wait, S: BuildHasher + Drop, G: Gate>(
     let mut block = [Item::Finish; BLOCK];
     for _ in rt.forever() {
         let count = taker.take_block(&mut block);
-        worker.take_block(rt, gate, &block[..count]);
+        worker.apply_block(rt, gate, &block[..count]);
         if taker.ended() {
             let Worker {
                 shard,

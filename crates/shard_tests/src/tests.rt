@@ -1,6 +1,6 @@
 //! A shard on worked rows, and its worker in one thread and in a thread of its own.
 ghost use Rattle.std.specs.Prelude.{◌≡◌, false, [], IfOk};
-ghost use Rattle.trace.specs.Bounds.{IsCapacity};
+ghost use Rattle.dag.specs.Bounds.{IsCapacity};
 ghost use Rattle.lane.specs.Items.{has_mark};
 ghost use Rattle.lane.specs.Lanes.{end_lane, lane_of, put_of, taken_of, taker_lane};
 
@@ -21,7 +21,7 @@ use trace::{Kind, NoMemory, Placed, Race, Record};
 type Hasher = BuildHasherDefault<FoldHasher>;
 
 /// A race: its location, and the kind and the place of each of its accesses.
-type Told = (u64, (Kind, u64), (Kind, u64));
+type Reported = (u64, (Kind, u64), (Kind, u64));
 
 const SPAWN: Record = Record::Spawn;
 
@@ -47,7 +47,7 @@ const THREE_WRITES: [Record; 8] = [
 /// The records of row `three-shards`.
 const THREE_SHARDS: [Record; 7] = [SPAWN, WRITE_8, WRITE_2, RETURN, READ_8, READ_2, RETURN];
 
-fn told(race: Race) -> Told {
+fn reported(race: Race) -> Reported {
     let (first, second) = (race.first, race.second);
     (
         race.location,
@@ -57,13 +57,13 @@ fn told(race: Race) -> Told {
 }
 
 /// The race that a shard reports of a record, at its second place.
-fn apply(shard: &mut Shard<Hasher>, place: u64, what: Record) -> Result<Option<Told>, Fail> {
+fn apply(shard: &mut Shard<Hasher>, place: u64, what: Record) -> Result<Option<Reported>, Fail> {
     if !shard.accepts(place) {
         return Err("not accepted".into());
     }
     match shard.apply(Placed { place, what })? {
-        Some(race) if race.second.place != place => Err("told at another place".into()),
-        Some(race) => Ok(Some(told(race))),
+        Some(race) if race.second.place != place => Err("reported at another place".into()),
+        Some(race) => Ok(Some(reported(race))),
         None => Ok(None),
     }
 }
@@ -73,18 +73,18 @@ fn apply_all(
     alloc: Global,
     shard: &mut Shard<Hasher>,
     records: &[(u64, Record)],
-) -> Result<Vec<Told>, Fail> {
+) -> Result<Vec<Reported>, Fail> {
     let mut all = Vec::new(alloc);
     for (place, what) in records {
-        if let Some(told) = apply(shard, *place, *what)? {
-            all.push(told)?;
+        if let Some(reported) = apply(shard, *place, *what)? {
+            all.push(reported)?;
         }
     }
     Ok(all)
 }
 
 /// The races that a new shard reports of records, and the number of records that it took.
-fn races(alloc: Global, records: &[(u64, Record)]) -> Result<(Vec<Told>, u64), Fail> {
+fn races(alloc: Global, records: &[(u64, Record)]) -> Result<(Vec<Reported>, u64), Fail> {
     let mut shard = Shard::new(alloc, 0, Hasher::default())?;
     let all = apply_all(alloc, &mut shard, records)?;
     Ok((all, shard.taken()))
@@ -100,7 +100,7 @@ fn placed(alloc: Global, records: &[Record]) -> Result<Vec<(u64, Record)>, Fail>
 }
 
 /// Records, and their reported races.
-const ROWS: [(&str, &[Record], &[Told]); 15] = [
+const ROWS: [(&str, &[Record], &[Reported]); 15] = [
     ("empty", &[RETURN], &[]),
     (
         "write-write",
@@ -245,7 +245,7 @@ const ROWS: [(&str, &[Record], &[Told]); 15] = [
 ];
 
 /// Whether these are the reported races of the records, and the shard took all records.
-fn are_races(alloc: Global, records: &[Record], wanted: &[Told]) -> Result<bool, Fail> {
+fn are_races(alloc: Global, records: &[Record], wanted: &[Reported]) -> Result<bool, Fail> {
     let placed = placed(alloc, records)?;
     let (found, taken) = races(alloc, &placed)?;
     Ok(found.as_slice() == wanted && taken == records.len() as u64)
@@ -393,19 +393,34 @@ fn put_back<R: Abort>(
 }
 
 #[test]
+fn race_on_the_lane_back(rt: HostRuntime) -> Result<(), Fail> {
+    let (mut sender, taker) = lane::<Placed>(rt.alloc(), 16)?;
+    let (back, mut races) = lane::<Back>(rt.alloc(), 16)?;
+    let (spawn, write) = (Record::Spawn, Record::Write(3));
+    for (place, what) in [(1, spawn), (2, write), (3, Record::Return), (4, write)] {
+        assert!(rt; sender.put(Placed { place, what }).is_ok());
+    }
+    assert!(rt; sender.mark());
+    let shard = Shard::new(rt.alloc(), 0, BuildHasherDefault::<FoldHasher>::default())?;
+    let done = work(&rt, shard, taker, back, &Open);
+    assert!(rt; done.shard.taken() == 4 && matches!(races.take(), Some(Item::One(Back::Race(_)))));
+    Ok(())
+}
+
+#[test]
 fn work_in_one_thread(rt: HostRuntime) -> Result<(), Fail> {
     let (items, taken) = worked(&rt, rt.alloc(), &THREE_WRITES)?;
     assert!(rt; taken == 8);
     assert!(rt; items.len() == 2);
     match items[0] {
-        Item::One(Back::Race(race)) => assert!(rt; told(race) == (3, (Write, 2), (Write, 5))),
+        Item::One(Back::Race(race)) => assert!(rt; reported(race) == (3, (Write, 2), (Write, 5))),
         _ => return Err("no race".into()),
     }
     assert!(rt; items[1] == Item::Finish);
     Ok(())
 }
 
-// What follows the root's return is taken, and nothing is told of it.
+// What follows the root's return is taken, and nothing is reported of it.
 #[test]
 fn work_past_the_end(rt: HostRuntime) -> Result<(), Fail> {
     let records = [SPAWN, WRITE_3, RETURN, RETURN, WRITE_3];

@@ -1,22 +1,9 @@
--- Lines: one that is built from its end, and one that is put in parts.
-use Rattle.std.proofs.Common.{◌≡◌, ℕ, ◌-◌, ◌≤◌, List, [], ◌++◌, Result, length, drop, codes, decimal, sym, ap, ◌∙◌, subst, arith, append-nil, append_assoc}
-use Rattle.std.proofs.lemmas.List.{drop_all}
-use borrow.Rule.Slice.PartMut.{put_mid, same_len_mid, mid_len}
-use Rattle.trace.specs.Accesses.{RaceAt}
+-- A line that is put in parts.
+use Rattle.std.proofs.Common.{◌≡◌, ℕ, List, ◌++◌, Result, codes, decimal, subst, append_assoc}
+use Rattle.dag.specs.Accesses.{RaceAt}
 use Rattle.trace.specs.Devices.{Change}
 use Rattle.trace.specs.Writers.{TookFront, Puts}
-use Rattle.trace.proofs.SpelledLines.{drop-put_mid-start}
 use Rattle.collect.specs.ReportText.{access_text, race_line}
-
--- a part that is written anew leaves the length
-pub length-put_mid : (a d : ℕ) (xs word : List ℕ) → d ≤ length xs → length word ≡ d - a → length (put_mid a (d - a) xs word) ≡ length xs
-length-put_mid a d xs word high e = same_len_mid a (d - a) xs word (e ∙ sym (mid_len a d xs high))
-
--- a word that is written up to the end
-pub drop-put_mid-end : (a d : ℕ) (xs word : List ℕ) → a ≤ d → d ≡ length xs → drop a (put_mid a (d - a) xs word) ≡ word
-drop-put_mid-end a d xs word low e =
-    let none : drop d xs ≡ [] = drop_all d xs (omega (arith, e)) in
-    drop-put_mid-start a d xs word low (omega (arith, e)) ∙ ap (λ l. word ++ l) none ∙ append-nil word
 
 -- a beginning of a text that is spelled in another way
 pub front_as : {a b : List ℕ} {c : Change} → a ≡ b → TookFront a c → TookFront b c

@@ -1,4 +1,3 @@
 pub mod Sinks
 pub mod Messages
-pub mod ReportBytes
 pub mod Texts

@@ -6,8 +6,8 @@ use Rattle.trace.specs.declared.faults.NestKind.{NestKind}
 use Rattle.trace.specs.declared.faults.NestKind.TheVariants as nest
 use Rattle.trace.specs.declared.faults.Fault.{Fault}
 use Rattle.trace.specs.declared.faults.Fault.TheVariants.{Text, Nest, Read, NoMemory, NoThread}
-use Rattle.texts.specs.declared.reports.ReportRefusal.{ReportRefusal}
-use Rattle.texts.specs.declared.reports.ReportRefusal.TheVariants as reports
+use Rattle.collect.specs.declared.bounded.ReportRefusal.{ReportRefusal}
+use Rattle.collect.specs.declared.bounded.ReportRefusal.TheVariants as reports
 
 -- what is wrong with a line
 abbrev pub text_ending : TextKind → List ℕ

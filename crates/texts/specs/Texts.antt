@@ -1,7 +1,7 @@
 -- Promised: the texts of the answers; that of `check` is the text of its report.
 use Rattle.std.specs.Prelude.{ℕ, List, [], ◌++◌, codes, decimal, length, Option, None, Some}
 use Rattle.std.specs.List.{flat_map}
-use Rattle.trace.specs.declared.records.Access.{Access}
+use Rattle.dag.specs.declared.records.Access.{Access}
 use Rattle.collect.specs.ReportText.{access_text, race_line}
 use Rattle.audit.specs.declared.answers.Measure.{Measure}
 use Rattle.audit.specs.declared.answers.Confirm.{Confirm}

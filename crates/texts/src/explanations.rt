@@ -5,10 +5,10 @@ ghost use Rattle.trace.specs.Writers.{Puts};
 ghost use Rattle.collect.specs.ReportText.{race_line};
 ghost use Rattle.texts.specs.Texts.{explained_text, reason_text, side_line, opener_text, joined_text};
 
-use crate::answers::put_access;
-use crate::messages::{put, put_at};
+use crate::audits::put_access;
+use crate::messages::put_at;
 use audit::{Explained, Opener, Opening};
-use trace::{Access, Race, Sink, WriteFault};
+use trace::{Access, Race, Sink, WriteFault, put_all};
 
 /// Puts into a sink why a location is racy, or that it isn't.
 pub fn put_explained<W: Sink>(answer: &Option<Explained>, sink: &mut W) -> Result<(), WriteFault>
@@ -16,7 +16,7 @@ pub fn put_explained<W: Sink>(answer: &Option<Explained>, sink: &mut W) -> Resul
 {
     match answer {
         Some(explained) => put_reason(explained, sink),
-        None => put(b"no race\n", sink),
+        None => put_all(sink, b"no race\n"),
     }
 }
 
@@ -64,7 +64,7 @@ fn put_side<W: Sink>(
 ) -> Result<(), WriteFault>
     ensures { Puts result (side_line word.now openers.now access) (W.state sink.old ⇝ W.state sink.new) }
 {
-    put(word, sink)?;
+    put_all(sink, word)?;
     for opener in openers {
         put_opener(*opener, sink)?;
     }
@@ -86,6 +86,6 @@ fn put_joined<W: Sink>(joined: Option<u64>, sink: &mut W) -> Result<(), WriteFau
 {
     match joined {
         Some(place) => put_at(b"joined ", place, b"\n", sink),
-        None => put(b"", sink),
+        None => put_all(sink, b""),
     }
 }

@@ -1,12 +1,11 @@
 //! The lines for standard error.
-ghost use Rattle.std.specs.Prelude.{◌≡◌, ◌++◌, ◌≤◌, length, drop, codes, decimal};
+ghost use Rattle.std.specs.Prelude.{◌≡◌, ◌++◌, ◌≤◌, length, codes, decimal};
 ghost use Rattle.trace.specs.Devices.{◌⇝◌};
 ghost use Rattle.trace.specs.Writers.{Puts, WasGiven};
 ghost use Rattle.texts.specs.Messages.{message, report_message, merge_message, text_ending, nest_ending};
 
-use crate::reports::ReportRefusal;
-use itoa::write_digits;
-use trace::{Fault, NestKind, Sink, TextKind, WriteFault, put_all};
+use collect::ReportRefusal;
+use trace::{Fault, Line, NestKind, Sink, TextKind, WriteFault, put_all};
 
 /// Writes the line for a fault. If that fails, there is nowhere left to report it.
 pub fn say_fault<E: Sink>(fault: &Fault, err: &mut E)
@@ -25,7 +24,7 @@ pub fn say_fault<E: Sink>(fault: &Fault, err: &mut E)
 pub fn say<E: Sink>(line: &[u8], err: &mut E)
     ensures { WasGiven line.now (E.state err.old ⇝ E.state err.new) }
 {
-    let _ = put(line, err);
+    let _ = put_all(err, line);
 }
 
 /// Writes the line for a report that is refused. If that fails, there is nowhere left to report it.
@@ -56,13 +55,9 @@ fn say_bad_line<E: Sink>(number: u64, line: u64, err: &mut E)
     ensures { WasGiven (codes "spbags: report " ++ decimal number ++ codes " line " ++ decimal line ++ codes ": bad\n")
         (E.state err.old ⇝ E.state err.new) }
 {
-    let mut bytes = [0; LONGEST];
-    let start = build_line(&mut bytes, b" line ", line, b": bad\n");
-    say_at(b"spbags: report ", number, &bytes[start..], err);
+    let ending = line_of(b" line ", line, b": bad\n");
+    say_at(b"spbags: report ", number, ending.as_bytes(), err);
 }
-
-// No line is longer: it has at most 20 bytes, 20 digits and 32 bytes.
-const LONGEST: usize = 72;
 
 // Writes a line with a number in it.
 fn say_at<E: Sink>(head: &[u8], number: u64, ending: &[u8], err: &mut E)
@@ -84,31 +79,21 @@ pub fn put_at<W: Sink>(
     requires ending { length ending.now ≤ 32 }
     ensures { Puts result (head.now ++ decimal number ++ ending.now) (W.state sink.old ⇝ W.state sink.new) }
 {
-    let mut bytes = [0; LONGEST];
-    let start = build_line(&mut bytes, head, number, ending);
-    put(&bytes[start..], sink)
+    let line = line_of(head, number, ending);
+    put_all(sink, line.as_bytes())
 }
 
-// Builds a line up to the end of the buffer, and returns its start.
-fn build_line(bytes: &mut [u8; LONGEST], head: &[u8], number: u64, ending: &[u8]) -> usize
+// A number between two texts.
+fn line_of(head: &[u8], number: u64, ending: &[u8]) -> Line
     requires head { length head.now ≤ 20 }
     requires ending { length ending.now ≤ 32 }
-    ensures within { result ≤ 72 }
-    ensures built { drop result bytes.new ≡ head.now ++ decimal number ++ ending.now }
+    ensures { result ≡ head.now ++ decimal number ++ ending.now }
 {
-    let end = LONGEST - ending.len();
-    bytes[end..].copy_from_slice(ending);
-    let digits = write_digits(number, bytes, end);
-    let start = digits - head.len();
-    bytes[start..digits].copy_from_slice(head);
-    start
-}
-
-/// Puts bytes into a sink.
-pub fn put<W: Sink>(bytes: &[u8], sink: &mut W) -> Result<(), WriteFault>
-    ensures { Puts result bytes.now (W.state sink.old ⇝ W.state sink.new) }
-{
-    put_all(sink, bytes)
+    let mut line = Line::new();
+    line.word(ending);
+    line.number(number);
+    line.word(head);
+    line
 }
 
 fn text_words(kind: TextKind) -> &'static [u8]

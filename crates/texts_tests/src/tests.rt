@@ -1,33 +1,16 @@
-//! What is written of answers and faults, to writers that fail too; and reports from readers that fail.
+//! What is written of answers and faults, to writers that fail too.
 use audit::{Confirm, Explained, Measure, Opener, Opening};
+use collect::ReportRefusal;
 use std::alloc::{AllocError, Global};
 use std::io;
-use std::io::{ErrorKind, Read, Write};
+use std::io::{ErrorKind, Write};
 use std::process::Abort;
 use std::test::Fail;
 use texts::{
-    MOST_BYTES, ReportRefusal, put_confirm, put_explained, put_measure, put_pairs, report_from,
-    say, say_fault, say_merge_refusal, say_refusal,
+    put_confirm, put_explained, put_measure, put_pairs, say, say_fault, say_merge_refusal,
+    say_refusal,
 };
 use trace::{Access, Counted, Fault, Kind, Race, Sink, TextFault, TextKind, WriteFault};
-
-/// A reader of many bytes. It keeps none: they are those that the buffers hold. Then it fails, or its input ends.
-#[derive(Drop)]
-struct Large {
-    left: usize,
-    fails: bool,
-}
-
-impl Read for Large {
-    fn read(&mut self, buffer: &mut [u8]) -> io::Result<usize> {
-        if self.left == 0 && self.fails {
-            return Err(io::Error::from(ErrorKind::Other));
-        }
-        let count = self.left.min(buffer.len());
-        self.left -= count;
-        Ok(count)
-    }
-}
 
 /// Takes one byte a call. The call after `most` bytes fails, with an error or by taking none, and the later ones go
 /// on.
@@ -147,7 +130,7 @@ const TEXTS: [(Text, &str, bool); 11] = [
 
 /// Whether a text is written up to the byte that fails, and whether it reports this failure, as expected.
 fn is_cut(alloc: Global, text: (Text, &str, bool), most: usize, error: Option<ErrorKind>) -> bool {
-    let (text, want, tells) = text;
+    let (text, want, fails) = text;
     let mut out = Vec::new(alloc);
     let mut sink = Counted::new(Drip {
         held: &mut out,
@@ -156,7 +139,7 @@ fn is_cut(alloc: Global, text: (Text, &str, bool), most: usize, error: Option<Er
         failed: false,
     });
     let failed = write(text, &mut sink).is_err();
-    failed == (tells && most < want.len()) && Some(out.as_slice()) == want.as_bytes().get(..most)
+    failed == (fails && most < want.len()) && Some(out.as_slice()) == want.as_bytes().get(..most)
 }
 
 // Each byte fails in turn, and last none.
@@ -244,36 +227,4 @@ fn writes_explanations(rt: HostRuntime) -> Result<(), Fail> {
     assert_explained(&rt, rt.alloc(), &without, LINES);
     assert_explained(&rt, rt.alloc(), &None, "no race\n");
     Ok(())
-}
-
-/// The number of races in the report. Without the other promises the proofs are shorter.
-fn count_from<R: Read + Drop>(alloc: Global, reader: R) -> Result<usize, ReportRefusal> {
-    match report_from(alloc, &mut Counted::new(reader)) {
-        Ok(report) => Ok(report.races().len()),
-        Err(refusal) => Err(refusal),
-    }
-}
-
-#[test]
-fn reads_reports(rt: HostRuntime) {
-    let good: &[u8] = b"races 1\nrace 5 write 2 write 4\n";
-    assert!(rt; count_from(rt.alloc(), good) == Ok(1));
-    let bad: &[u8] = b"races 2\n";
-    assert!(rt; count_from(rt.alloc(), bad) == Err(ReportRefusal::Bad { line: 2 }));
-}
-
-#[test]
-fn limits_the_bytes_of_a_report(rt: HostRuntime) {
-    // The reader fails where more is read than tells that the report is too large.
-    let table = [
-        (MOST_BYTES - 1, true, ReportRefusal::Read),
-        (MOST_BYTES, true, ReportRefusal::Read),
-        (MOST_BYTES, false, ReportRefusal::Bad { line: 1 }),
-        (MOST_BYTES + 1, true, ReportRefusal::TooLarge),
-        (MOST_BYTES + 4096, true, ReportRefusal::TooLarge),
-    ];
-    for (left, fails, want) in table {
-        let told = count_from(rt.alloc(), Large { left, fails });
-        assert!(rt; told == Err(want), "{left}");
-    }
 }

@@ -5,8 +5,8 @@ use Rattle.std.specs.Io.KnownBytes.{IsAtEnd}
 use Rattle.std.specs.List.{flat_map}
 use Rattle.std.proofs.lemmas.Grind.{flat_map-append}
 use Rattle.std.proofs.lemmas.List.{append-nil}
-use Rattle.trace.specs.declared.records.Version.{Version}
-use Rattle.trace.specs.declared.records.Record.{Record}
+use Rattle.dag.specs.declared.records.Version.{Version}
+use Rattle.dag.specs.declared.records.Record.{Record}
 use Rattle.trace.specs.declared.faults.TextFault.{TextFault}
 use Rattle.trace.specs.declared.faults.NestFault.{NestFault}
 use Rattle.trace.specs.declared.faults.Fault.{Fault}
@@ -14,11 +14,11 @@ use Rattle.trace.specs.declared.faults.Fault.TheVariants.{Text, Nest, Read, NoMe
 use Rattle.trace.specs.Text.{header, Fits, AllFit, ended, line, text, IsOpen}
 use Rattle.trace.specs.Faults.{IsJudged, IsNoRecord, IsBadLine, bad_header, bad_line, too_many, IsMisplaced, AreNested, IsBadPlace, bad_place, IsFirstFault, IsFaultOfAll, IsTruncated}
 use Rattle.trace.specs.Faults as faults
-use Rattle.trace.specs.Traces.{IsWellNested}
+use Rattle.dag.specs.Traces.{IsWellNested}
 use Rattle.trace.specs.Devices.{Change}
 use Rattle.trace.specs.Feeding.{Feeding, IsFaultThen, IsFaultFed, IsFed}
 use Rattle.trace.specs.Reading.{Reading, AreBytes, AllFitIn, HasRead}
-use Rattle.trace.proofs.Lists.{all-push}
+use Rattle.dag.proofs.Lists.{all-push}
 use Rattle.trace.proofs.Texts.{text-push}
 use Rattle.trace.proofs.Readings.{so_far, all_fit, first_so_far}
 use Rattle.trace.proofs.Readability.{GoesOn, same_version, same_front, same_record, lines_open, one_line, length_on, open_no_lines, open_no_text, header_judged, behind_good, bad_line_more, bad_place_more, no_truncated, no_fault_of_text, no_fault_in_front}

@@ -1,14 +1,14 @@
--- How a reading ends: how a fault is told after bytes that came in steps, that a source that holds a trace meets none,
+-- How a reading ends: how a fault is reported after bytes that came in steps, that a source that holds a trace meets none,
 -- and what the feed's next record and its end say.
 use Rattle.std.proofs.Common.{◌≡◌, ℕ, ◌+◌, ◌-◌, ◌^◌, ◌⊎◌, min, List, [], ◌∷◌, ◌++◌, length, Option, Some, None, inl, inr, refl, sym, ◌∙◌, ap, subst, Result, Ok, Err, IsErrAnd}
 use Rattle.std.proofs.lemmas.List.{append-nil}
 use Rattle.std.specs.Io.KnownBytes.{Consumes, IsAtEnd}
-use Rattle.trace.specs.declared.records.Version.{Version}
-use Rattle.trace.specs.declared.records.Record.{Record}
-use Rattle.trace.specs.declared.records.Placed.{Placed}
+use Rattle.dag.specs.declared.records.Version.{Version}
+use Rattle.dag.specs.declared.records.Record.{Record}
+use Rattle.dag.specs.declared.records.Placed.{Placed}
 use Rattle.trace.specs.declared.faults.Fault.{Fault}
 use Rattle.trace.specs.declared.faults.Fault.TheVariants.{Text, Nest, Read, NoMemory, NoThread}
-use Rattle.trace.specs.Traces.{IsWellNested}
+use Rattle.dag.specs.Traces.{IsWellNested}
 use Rattle.trace.specs.Text.{text, AllFit}
 use Rattle.trace.specs.Devices.{Device, Change, ◌⇝◌, IsSteady, HasFailed, Gave}
 use Rattle.trace.specs.Faults.{IsFaultOfAll}

@@ -2,8 +2,8 @@
 use Rattle.std.proofs.Common.{◌≡◌, ℕ, ◌+◌, ◌-◌, ◌≤◌, List, [], ◌∷◌, ◌++◌, length, take, drop, Option, Some, None, arith, refl, sym, ◌∙◌, ap, subst, append_assoc, length-append}
 use Rattle.std.specs.Io.KnownBytes.{Consumes}
 use Rattle.std.proofs.lemmas.List.{append-nil, take-append-drop, drop-take, drop-drop}
-use Rattle.trace.specs.declared.records.Version.{Version}
-use Rattle.trace.specs.declared.records.Record.{Record}
+use Rattle.dag.specs.declared.records.Version.{Version}
+use Rattle.dag.specs.declared.records.Record.{Record}
 use Rattle.trace.specs.declared.faults.TextFault.{TextFault}
 use Rattle.trace.specs.declared.faults.NestFault.{NestFault}
 use Rattle.trace.specs.declared.faults.NestKind.{NestKind}
@@ -17,7 +17,7 @@ use Rattle.trace.specs.Reading.{Reading, AreBytes, AllFitIn, AreText, HasRead}
 use Rattle.trace.specs.Nesting.{Nesting, HasNested}
 use Rattle.trace.specs.Devices.{Device, ◌⇝◌, Gave}
 use Rattle.trace.specs.Feeding.{Feeding, before_all, HasUsed, HasFed}
-use Rattle.trace.proofs.Lists.{all-front, all-last}
+use Rattle.dag.proofs.Lists.{all-front, all-last}
 use Rattle.trace.proofs.Readings.{open_nil}
 use Rattle.trace.proofs.Nestings.{nested_none}
 use Rattle.trace.proofs.Texts.{text-push}

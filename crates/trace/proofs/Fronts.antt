@@ -5,7 +5,7 @@ use Rattle.std.proofs.lemmas.List.{take_more, take-take, length-take, length-dro
 use Rattle.std.specs.Int.{w32, from_le_bytes}
 use Rattle.trace.specs.Text.{newline, ended}
 
--- a piece's first four bytes are told by the number that they hold, the lowest byte first
+-- a piece's first four bytes are known by the number that they hold, the lowest byte first
 pub first_four : (piece : List ℕ) (a b c d : ℕ) → ((i : ℕ) → Fits w8 (get_or piece i 0)) → a < 256 → b < 256 → c < 256 → d < 256 → from_le_bytes w32 piece ≡ from_le_bytes w32 (a ∷ b ∷ c ∷ d ∷ [])
     → (get_or piece 0 0 ≡ a) × (get_or piece 1 0 ≡ b) × (get_or piece 2 0 ≡ c) × (get_or piece 3 0 ≡ d)
 first_four piece a b c d fits p q r s e =

@@ -1,4 +1,3 @@
-pub mod Lists
 pub mod Decimals
 pub mod Texts
 pub mod Readings
@@ -7,18 +6,8 @@ pub mod Places
 pub mod Nestings
 pub mod Feedings
 pub mod Readability
-pub mod World
-pub mod Traced
-pub mod Openers
-pub mod Paths
-pub mod Standing
-pub mod Meetings
 pub mod Walks
-pub mod Readers
-pub mod Once
-pub mod Parts
 pub mod SpelledLines
 pub mod Cuttings
-pub mod ShareLemmas
 pub mod Sixteens
 pub mod Endings

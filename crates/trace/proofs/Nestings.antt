@@ -1,14 +1,14 @@
--- What each step of a nest leaves of `HasNested`, and what its end tells.
+-- What each step of a nest leaves of `HasNested`, and what its end says.
 use Rattle.std.proofs.Common.{◌≡◌, ◌≢◌, ℕ, zero, suc, ◌+◌, ◌-◌, ◌<◌, ◌≤◌, Bool, true, false, IsTrue, List, [], ◌∷◌, ◌++◌, length, ◌⊎◌, inl, inr, ⊎_elim, arith, refl, sym, ap, ◌∙◌, subst, length-append, ◌↔◌}
 use native.Mathlib.Decide.{dec_le}
 use Rattle.std.specs.List.{sum_by}
 use Rattle.std.proofs.lemmas.Bool.{false≢true}
 use Rattle.std.proofs.lemmas.List.Sums.{sum_by-append}
-use Rattle.trace.specs.declared.records.Record.{Record}
-use Rattle.trace.specs.declared.records.Record.TheVariants.{Spawn, Call, Return, Sync, Read, Write}
+use Rattle.dag.specs.declared.records.Record.{Record}
+use Rattle.dag.specs.declared.records.Record.TheVariants.{Spawn, Call, Return, Sync, Read, Write}
 use Rattle.trace.specs.declared.faults.NestKind.{NestKind}
 use Rattle.trace.specs.declared.faults.NestKind.TheVariants.{AfterEnd, TooDeep, Unfinished}
-use Rattle.trace.specs.Traces.{depth, opens, closes, IsPlace, IsRootReturn, IsWellNested}
+use Rattle.dag.specs.Traces.{depth, opens, closes, IsPlace, IsRootReturn, IsWellNested}
 use Rattle.trace.specs.Faults.{HasEnded, IsMisplaced, after_end, too_deep, AreNested, none, next}
 use Rattle.trace.specs.Nesting.{Nesting, HasNested}
 use Rattle.trace.proofs.Places.{at-front, depth-front, depth-next, depth-pushed, ended_before, ended_by, ended_after}

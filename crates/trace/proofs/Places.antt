@@ -5,11 +5,11 @@ use Rattle.std.specs.List.{sum_by}
 use Rattle.std.proofs.lemmas.List.{take-append-le}
 use Rattle.std.proofs.lemmas.List.Sums.{sum_by-append}
 use Rattle.std.proofs.Math.Seq.{take-length}
-use Rattle.trace.specs.declared.records.Record.{Record}
-use Rattle.trace.specs.declared.records.Record.TheVariants.{Return}
-use Rattle.trace.specs.Traces.{at, depth, opens, closes}
+use Rattle.dag.specs.declared.records.Record.{Record}
+use Rattle.dag.specs.declared.records.Record.TheVariants.{Return}
+use Rattle.dag.specs.Traces.{at, depth, opens, closes}
 use Rattle.trace.specs.Faults.{HasEnded}
-use Rattle.trace.proofs.Lists.{element_at, slice_get-front, slice_get-last}
+use Rattle.dag.proofs.Lists.{element_at, slice_get-front, slice_get-last}
 
 pub at-front : (u v : List Record) (i : ℕ) → i ≤ length u → at (u ++ v) i ≡ at u i
 at-front u v zero h = refl

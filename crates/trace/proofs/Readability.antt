@@ -5,10 +5,10 @@ use Rattle.std.specs.List.{flat_map, sum_by, AllByRecursion}
 use Rattle.std.proofs.lemmas.List.{append-nil, append_cancel_left}
 use Rattle.std.proofs.lemmas.List.Elements.{All-from_recursion, All-nil, All-cons, All-head, All-tail, All-push}
 use Rattle.std.proofs.lemmas.Fmt.{decimal_by_steps, decimal_injective}
-use Rattle.trace.specs.declared.records.Version.{Version}
-use Rattle.trace.specs.declared.records.Version.TheVariants.{One, Two}
-use Rattle.trace.specs.declared.records.Record.{Record}
-use Rattle.trace.specs.declared.records.Record.TheVariants.{Spawn, Call, Return, Sync, Read, Write}
+use Rattle.dag.specs.declared.records.Version.{Version}
+use Rattle.dag.specs.declared.records.Version.TheVariants.{One, Two}
+use Rattle.dag.specs.declared.records.Record.{Record}
+use Rattle.dag.specs.declared.records.Record.TheVariants.{Spawn, Call, Return, Sync, Read, Write}
 use Rattle.trace.specs.declared.faults.TextFault.{TextFault}
 use Rattle.trace.specs.declared.faults.TextKind.{TextKind}
 use Rattle.trace.specs.declared.faults.TextKind.TheVariants.{Line, TooMany, Truncated}
@@ -17,7 +17,7 @@ use Rattle.trace.specs.declared.faults.NestKind.{NestKind}
 use Rattle.trace.specs.declared.faults.NestKind.TheVariants.{Unfinished}
 use Rattle.trace.specs.declared.faults.Fault.{Fault}
 use Rattle.trace.specs.declared.faults.Fault.TheVariants.{Text, Nest}
-use Rattle.trace.specs.Traces.{at, depth, opens, closes, IsWellNested}
+use Rattle.dag.specs.Traces.{at, depth, opens, closes, IsWellNested}
 use Rattle.trace.specs.Text.{newline, header, spell, Fits, AllFit, ended, line, text, IsUnended, IsOpen}
 use Rattle.trace.specs.Faults.{IsJudged, at_end, at_length, IsNoRecord, IsBadLine, bad_header, bad_line, too_many, IsTruncated, no_header, no_line_end, HasEnded, IsMisplaced, after_end, too_deep, AreNested, none, next, IsBadPlace, bad_place, IsFirstFault, IsFaultOfAll, before_end, truncated, unfinished}
 use Rattle.trace.proofs.Texts.{length-spell, length-header, unended-append}

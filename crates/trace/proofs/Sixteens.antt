@@ -130,9 +130,9 @@ same_number b n (suc k) (x ∷ y ∷ ds) e =
     let one : (n * b + x) * b + y ≡ n * (b * b) + (x * b + y) = omega arith in
     ap (λ m. number_from_digits_after b m ds) one ∙ same_number b (n * (b * b) + (x * b + y)) k ds (omega arith)
 
--- ---- two digits a lane
+-- ---- two digits an element
 
--- the two digits of a lane in base b * b, the first one in its lower half
+-- the two digits of an element in base b * b, the first one in its lower half
 abbrev joined : ℕ → List ℕ → List ℕ
 joined b (x ∷ y ∷ zs) = (x + b * y) ∷ joined b zs
 joined b (x ∷ []) = x ∷ []
@@ -146,14 +146,14 @@ module _ (b : ℕ) (some : 0 < b) where
       let whole : 0 < b * b = omega arith in
       rw e (add-mul-mod_self_left (x + b * y) (b * b) r ∙ mod-eq_of_lt fits, omega (arith, add-mul-div_left (x + b * y) r whole, div-eq_of_lt fits))
 
-  lanes : (n : ℕ) (zs : List ℕ) → length zs ≡ n + n → AllBelowBase b zs → digits_l (b * b) n (number_l b zs) ≡ joined b zs
-  lanes zero [] e h = refl
-  lanes zero (x ∷ zs) e h = absurd (omega arith)
-  lanes (suc n) [] e h = absurd (omega arith)
-  lanes (suc n) (x ∷ []) e h = absurd (omega arith)
-  lanes (suc n) (x ∷ y ∷ zs) e h =
+  elements : (n : ℕ) (zs : List ℕ) → length zs ≡ n + n → AllBelowBase b zs → digits_l (b * b) n (number_l b zs) ≡ joined b zs
+  elements zero [] e h = refl
+  elements zero (x ∷ zs) e h = absurd (omega arith)
+  elements (suc n) [] e h = absurd (omega arith)
+  elements (suc n) (x ∷ []) e h = absurd (omega arith)
+  elements (suc n) (x ∷ y ∷ zs) e h =
       let one = one_lane x y (number_l b zs) h.0 h.1.0 in
-      (λ i. one.0 i ∷ digits_l (b * b) n (one.1 i)) ∙ ap (λ l. (x + b * y) ∷ l) (lanes n zs (omega arith) h.1.1)
+      (λ i. one.0 i ∷ digits_l (b * b) n (one.1 i)) ∙ ap (λ l. (x + b * y) ∷ l) (elements n zs (omega arith) h.1.1)
 
 below_all : (b c : ℕ) → b ≤ c → (zs : List ℕ) → AllBelowBase b zs → AllBelowBase c zs
 below_all b c le [] h = tt
@@ -164,15 +164,15 @@ paired_below b some [] h = tt
 paired_below b some (x ∷ []) h = (omega (arith, h.0, mul-le-mul_left {m = 1} {n = b} b some), tt)
 paired_below b some (x ∷ y ∷ zs) h = (omega (arith, h.0, h.1.0, mul-le-mul_left {m = suc x} {n = b} b h.0), paired_below b some zs h.1.1)
 
-module _ (b : ℕ) (base : ℕ) (lane : ℕ → ℕ) (is : (x y : ℕ) → x < base → y < base → lane (x + b * y) ≡ x * base + y) where
-  each_lane : (n : ℕ) (zs : List ℕ) → length zs ≡ n + n → AllBelowBase base zs → map lane (joined b zs) ≡ paired base zs
-  each_lane zero [] e h = refl
-  each_lane zero (x ∷ zs) e h = absurd (omega arith)
-  each_lane (suc n) [] e h = absurd (omega arith)
-  each_lane (suc n) (x ∷ []) e h = absurd (omega arith)
-  each_lane (suc n) (x ∷ y ∷ zs) e h = let one = is x y h.0 h.1.0 in λ i. one i ∷ each_lane n zs (omega arith) h.1.1 i
+module _ (b : ℕ) (base : ℕ) (element : ℕ → ℕ) (is : (x y : ℕ) → x < base → y < base → element (x + b * y) ≡ x * base + y) where
+  each_element : (n : ℕ) (zs : List ℕ) → length zs ≡ n + n → AllBelowBase base zs → map element (joined b zs) ≡ paired base zs
+  each_element zero [] e h = refl
+  each_element zero (x ∷ zs) e h = absurd (omega arith)
+  each_element (suc n) [] e h = absurd (omega arith)
+  each_element (suc n) (x ∷ []) e h = absurd (omega arith)
+  each_element (suc n) (x ∷ y ∷ zs) e h = let one = is x y h.0 h.1.0 in λ i. one i ∷ each_element n zs (omega arith) h.1.1 i
 
--- a lane whose lower half has one digit and whose upper half the next, after a multiplication and a shift
+-- an element whose lower half has one digit and whose upper half the next, after a multiplication and a shift
 abbrev shifted : ℕ → ℕ → ℕ → ℕ
 shifted b base z = z * (base * b + 1) % (b * b) / b
 
@@ -183,7 +183,7 @@ four_digits : (x y : ℕ) → x < 100 → y < 100 → shifted 65536 100 (x + 655
 four_digits x y X Y = omega arith
 
 pub twos_are : (ds : List ℕ) → length ds ≡ 16 → AllBelowBase 10 ds → map (shifted 256 10) (digits_l 65536 8 (number_l 256 ds)) ≡ paired 10 ds
-twos_are ds long h = ap (map (shifted 256 10)) (lanes 256 (omega arith) 8 ds long (below_all 10 256 (omega arith) ds h)) ∙ each_lane 256 10 (shifted 256 10) two_digits 8 ds long h
+twos_are ds long h = ap (map (shifted 256 10)) (elements 256 (omega arith) 8 ds long (below_all 10 256 (omega arith) ds h)) ∙ each_element 256 10 (shifted 256 10) two_digits 8 ds long h
 
 number_of_digits : (p n x : ℕ) → 0 < p → x < p ^ n → number_l p (digits_l p n x) ≡ x
 number_of_digits p zero x P h = omega (arith, native.Mathlib.Nat.pow-zero p)
@@ -191,7 +191,7 @@ number_of_digits p (suc n) x P h =
     let less : x / p < p ^ n = (div-lt_iff_lt-mul P).1 (rw (← pow-suc p n) h) in
     rw (number_of_digits p n (x / p) P less) (omega (arith, div-add-mod' x p))
 
--- lanes seen as bytes, and the bytes as wider lanes
+-- elements seen as bytes, and the bytes as wider elements
 abbrev regrouped : ℕ → ℕ → ℕ → List ℕ → List ℕ
 regrouped b c n zs = digits_l c n (number_l 256 (digits_l 256 16 (number_l b zs)))
 
@@ -205,8 +205,8 @@ regrouped_is b c n some zs h e = let below = number_below b some zs h in ap (dig
 pub fours_are : (zs : List ℕ) → length zs ≡ 8 → AllBelowBase 100 zs → map (shifted 65536 100) (regrouped 65536 4294967296 4 zs) ≡ paired 100 zs
 fours_are zs long h =
     let wide = below_all 100 65536 (omega arith) zs h in
-    ap (map (shifted 65536 100)) (regrouped_is 65536 4294967296 4 (omega arith) zs wide (ap (λ n. 65536 ^ n) long) ∙ lanes 65536 (omega arith) 4 zs long wide)
-    ∙ each_lane 65536 100 (shifted 65536 100) four_digits 4 zs long h
+    ap (map (shifted 65536 100)) (regrouped_is 65536 4294967296 4 (omega arith) zs wide (ap (λ n. 65536 ^ n) long) ∙ elements 65536 (omega arith) 4 zs long wide)
+    ∙ each_element 65536 100 (shifted 65536 100) four_digits 4 zs long h
 
 abbrev added : ℕ → ℕ
 added w = (bit_and w 4294967295 * 10000 % 18446744073709551616 + w / 4294967296) % 18446744073709551616
@@ -217,8 +217,8 @@ eight_digits x y X Y = omega (arith, and_mask (x + 4294967296 * y) 32)
 pub eights_are : (zs : List ℕ) → length zs ≡ 4 → AllBelowBase 10000 zs → map added (regrouped 4294967296 18446744073709551616 2 zs) ≡ paired 10000 zs
 eights_are zs long h =
     let wide = below_all 10000 4294967296 (omega arith) zs h in
-    ap (map added) (regrouped_is 4294967296 18446744073709551616 2 (omega arith) zs wide (ap (λ n. 4294967296 ^ n) long) ∙ lanes 4294967296 (omega arith) 2 zs long wide)
-    ∙ each_lane 4294967296 10000 added eight_digits 2 zs long h
+    ap (map added) (regrouped_is 4294967296 18446744073709551616 2 (omega arith) zs wide (ap (λ n. 4294967296 ^ n) long) ∙ elements 4294967296 (omega arith) 2 zs long wide)
+    ∙ each_element 4294967296 10000 added eight_digits 2 zs long h
 
 paired_long : (b k : ℕ) (ds : List ℕ) → length ds ≡ k + k → length (paired b ds) ≡ k
 paired_long b k [] e = omega arith

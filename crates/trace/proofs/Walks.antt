@@ -4,17 +4,17 @@ use Rattle.std.proofs.Common.{◌≡◌, ℕ, suc, ◌+◌, ◌-◌, ◌<◌, �
 use Rattle.std.proofs.lemmas.Bool.{cases_Bool, cases_lt, both_ways, true≢false, false≢true}
 use Rattle.std.proofs.lemmas.List.{get_or-take, get_or-drop}
 use Rattle.std.proofs.lemmas.Option.{slice_get-get_or}
-use Rattle.trace.specs.declared.records.Record.{Record}
-use Rattle.trace.specs.declared.records.Record.TheVariants.{Spawn, Call, Return, Sync, Read, Write}
-use Rattle.trace.specs.Traces.{at, depth, IsWellNested}
-use Rattle.trace.specs.Dag.{JoinsAt, IsOpenerOf, IsParallel}
-use Rattle.trace.specs.Meeting.{Opens}
-use Rattle.trace.proofs.World.{World, spawned_return, called_return, joins}
-use Rattle.trace.proofs.Traced.{traced, shape_at, opener_of, opener-is, called_shape, spawned_shape, shape-joins, joins-shape, not_joined}
-use Rattle.trace.proofs.Paths.{pending-parallel, parallel-pending}
-use Rattle.trace.proofs.Standing.{Kept, Serial, kept_stays, serial_stays, kept-above, kept_synced, returned, returned_call, serial_now, kept-pending, serial-not_pending}
-use Rattle.trace.proofs.Meetings.{Opened, opened_at}
-use Rattle.trace.proofs.Openers.{opener_deeper, return_shallower, stays_deep}
+use Rattle.dag.specs.declared.records.Record.{Record}
+use Rattle.dag.specs.declared.records.Record.TheVariants.{Spawn, Call, Return, Sync, Read, Write}
+use Rattle.dag.specs.Traces.{at, depth, IsWellNested}
+use Rattle.dag.specs.Dag.{JoinsAt, IsOpenerOf, IsParallel}
+use Rattle.dag.specs.Meeting.{Opens}
+use Rattle.dag.proofs.World.{World, spawned_return, called_return, joins}
+use Rattle.dag.proofs.Traced.{traced, shape_at, opener_of, opener-is, called_shape, spawned_shape, shape-joins, joins-shape, not_joined}
+use Rattle.dag.proofs.Paths.{pending-parallel, parallel-pending}
+use Rattle.dag.proofs.Standing.{Kept, Serial, kept_stays, serial_stays, kept-above, kept_synced, returned, returned_call, serial_now, kept-pending, serial-not_pending}
+use Rattle.dag.proofs.Meetings.{Opened, opened_at}
+use Rattle.dag.proofs.Openers.{opener_deeper, return_shallower, stays_deep}
 
 -- t records are done; the place low is of the procedure at the least depth
 pub record Walked (v : World) (i t above low : ℕ) (pending : Bool) : Type 0 where

@@ -2,7 +2,7 @@
 use Rattle.std.specs.Prelude.{◌≡◌, ℕ, ◌+◌, ◌≤◌, None}
 use Rattle.trace.specs.declared.feeding.Ending.{Ending}
 use Rattle.trace.specs.declared.feeding.Ending.TheVariants.{Running}
-use Rattle.trace.specs.Bounds.{most_records}
+use Rattle.dag.specs.Bounds.{most_records}
 use Rattle.trace.specs.Reading.{Reading, IsBetweenLines}
 
 -- it hasn't ended, its reader stands between two lines and has met no fault, and so many records more are within its limit

@@ -1,10 +1,10 @@
 -- Promised: how the reading of a trace ends: with the trace that was read, or with a fault.
 use Rattle.std.specs.Prelude.{◌≡◌, ℕ, List, Some, ◌⊎◌, Result, MatchResult}
-use Rattle.trace.specs.declared.records.Version.{Version}
-use Rattle.trace.specs.declared.records.Record.{Record}
+use Rattle.dag.specs.declared.records.Version.{Version}
+use Rattle.dag.specs.declared.records.Record.{Record}
 use Rattle.trace.specs.declared.faults.Fault.{Fault}
 use Rattle.trace.specs.declared.faults.Fault.TheVariants.{NoMemory, NoThread}
-use Rattle.trace.specs.Traces.{IsWellNested}
+use Rattle.dag.specs.Traces.{IsWellNested}
 use Rattle.trace.specs.Text.{text, AllFit}
 use Rattle.trace.specs.Devices.{Change, Gave, HasFailed}
 use Rattle.trace.specs.Feeding.{IsWhole, IsFaultFed}

@@ -1,7 +1,7 @@
 -- Promised: the first fault of bytes that should be the text of a trace, within limits.
 use Rattle.std.specs.Prelude.{◌≡◌, ◌≢◌, ℕ, suc, ◌+◌, ◌<◌, ◌≤◌, List, [], ◌∷◌, ◌++◌, length}
-use Rattle.trace.specs.declared.records.Version.{Version}
-use Rattle.trace.specs.declared.records.Record.{Record}
+use Rattle.dag.specs.declared.records.Version.{Version}
+use Rattle.dag.specs.declared.records.Record.{Record}
 use Rattle.trace.specs.declared.faults.TextFault.{TextFault}
 use Rattle.trace.specs.declared.faults.TextKind.TheVariants.{Header, Line, TooMany, Truncated}
 use Rattle.trace.specs.declared.faults.NestFault.{NestFault}
@@ -9,7 +9,7 @@ use Rattle.trace.specs.declared.faults.NestKind.{NestKind}
 use Rattle.trace.specs.declared.faults.NestKind.TheVariants.{AfterEnd, TooDeep, Unfinished}
 use Rattle.trace.specs.declared.faults.Fault.{Fault}
 use Rattle.trace.specs.declared.faults.Fault.TheVariants.{Text, Nest}
-use Rattle.trace.specs.Traces.{IsPlace, IsRootReturn, depth, opens}
+use Rattle.dag.specs.Traces.{IsPlace, IsRootReturn, depth, opens}
 use Rattle.trace.specs.Text.{header, spell, Fits, AllFit, ended, line, text, IsUnended, IsOpen}
 
 -- The bytes begin with a line that is judged: one that ends, or one that has 27 bytes.

@@ -1,13 +1,13 @@
 -- Promised: what a feed has read of its source, and what its answers say.
 use Rattle.std.specs.Prelude.{◌≡◌, ℕ, ◌+◌, List, [], ◌∷◌, ◌++◌, length, Option, Some, None, Result, Ok, Err, ◌⊎◌}
-use Rattle.trace.specs.declared.records.Version.{Version}
-use Rattle.trace.specs.declared.records.Record.{Record}
-use Rattle.trace.specs.declared.records.Placed.{Placed}
+use Rattle.dag.specs.declared.records.Version.{Version}
+use Rattle.dag.specs.declared.records.Record.{Record}
+use Rattle.dag.specs.declared.records.Placed.{Placed}
 use Rattle.trace.specs.declared.faults.Fault.{Fault}
 use Rattle.trace.specs.declared.faults.Fault.TheVariants as faults
 use Rattle.trace.specs.declared.feeding.Ending.{Ending}
 use Rattle.trace.specs.declared.feeding.Ending.TheVariants.{Running, Good, Bad}
-use Rattle.trace.specs.Traces.{IsWellNested}
+use Rattle.dag.specs.Traces.{IsWellNested}
 use Rattle.trace.specs.Text.{text, AllFit}
 use Rattle.trace.specs.Faults.{IsFirstFault, IsFaultOfAll}
 use Rattle.trace.specs.Devices.{Device, Change, IsSteady, HasFailed, Gave, IsUsedUp}

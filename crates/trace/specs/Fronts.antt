@@ -1,6 +1,6 @@
 -- Private: what stands at the front of a piece of a trace's text.
 use Rattle.std.specs.Prelude.{◌≡◌, ℕ, ◌≤◌, List, length, take}
-use Rattle.trace.specs.declared.records.Version.{Version}
+use Rattle.dag.specs.declared.records.Version.{Version}
 use Rattle.trace.specs.declared.lines.Front.{Front}
 use Rattle.trace.specs.Text.{line, Fits}
 

@@ -1,13 +1,5 @@
-pub mod Bounds
-pub mod Accesses
-pub mod Traces
 pub mod Text
 pub mod Faults
-pub mod Dag
-pub mod Races
-pub mod Meeting
-pub mod Shares
-pub mod Parts
 pub mod Devices
 pub mod Digits
 pub mod Reading

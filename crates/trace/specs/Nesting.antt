@@ -1,7 +1,7 @@
 -- Promised: what a nest keeps of the records that it has accepted.
 use Rattle.std.specs.Prelude.{◌≡◌, ℕ, suc, Bool, false, List, length, ◌↔◌, IsTrue}
-use Rattle.trace.specs.declared.records.Record.{Record}
-use Rattle.trace.specs.Traces.{depth}
+use Rattle.dag.specs.declared.records.Record.{Record}
+use Rattle.dag.specs.Traces.{depth}
 use Rattle.trace.specs.Faults.{AreNested, HasEnded}
 
 -- the limit on depth, how many records were accepted, how deep the executing procedure lies, and whether

@@ -1,11 +1,11 @@
 -- Promised: what a reader of a trace's text has read: whole records, and an unfinished line.
 use Rattle.std.specs.Prelude.{◌≡◌, ℕ, ◌+◌, ◌≤◌, List, [], ◌++◌, length, Option, None, Some, is_some, IsTrue, Result, IfOk, IfErr}
 use Rattle.std.specs.Option.{option_to_list}
-use Rattle.trace.specs.declared.records.Version.{Version}
-use Rattle.trace.specs.declared.records.Record.{Record}
+use Rattle.dag.specs.declared.records.Version.{Version}
+use Rattle.dag.specs.declared.records.Record.{Record}
 use Rattle.trace.specs.declared.faults.TextFault.{TextFault}
 use Rattle.trace.specs.declared.reading.Taken.{Taken}
-use Rattle.trace.specs.Bounds.{most_records, longest_line}
+use Rattle.dag.specs.Bounds.{most_records, longest_line}
 use Rattle.trace.specs.Text.{header, ended, text, AllFit, IsOpen}
 
 -- a reader: its limit on records, the version once the header has come, how many records it has given, the

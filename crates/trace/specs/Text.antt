@@ -1,11 +1,11 @@
 -- Promised: the text of a trace: a header line, which names the version, and a line for each record.
 use Rattle.std.specs.Prelude.{◌≢◌, ℕ, ◌<◌, ◌≤◌, ◌^◌, List, [], ◌∷◌, ◌++◌, length, All, codes, decimal}
 use Rattle.std.specs.List.{flat_map, AllByRecursion}
-use Rattle.trace.specs.declared.records.Version.{Version}
-use Rattle.trace.specs.declared.records.Version.TheVariants.{One, Two}
-use Rattle.trace.specs.declared.records.Record.{Record}
-use Rattle.trace.specs.declared.records.Record.TheVariants.{Spawn, Call, Return, Sync, Read, Write}
-use Rattle.trace.specs.Bounds.{longest_line}
+use Rattle.dag.specs.declared.records.Version.{Version}
+use Rattle.dag.specs.declared.records.Version.TheVariants.{One, Two}
+use Rattle.dag.specs.declared.records.Record.{Record}
+use Rattle.dag.specs.declared.records.Record.TheVariants.{Spawn, Call, Return, Sync, Read, Write}
+use Rattle.dag.specs.Bounds.{longest_line}
 
 -- the byte that ends a line
 abbrev pub newline : ℕ

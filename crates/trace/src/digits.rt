@@ -41,7 +41,7 @@ pub fn number_from(digits: u8x16) -> u64
     front * 100_000_000 + back
 }
 
-// Two digits a lane. A lane of two bytes has the first digit in its lower byte and the second one above it.
+// Two digits an element. An element of two bytes has the first digit in its lower byte and the second one above it.
 #[inline(always)]
 fn twos(digits: u8x16) -> u16x8
     requires { AllBelowBase 10 digits }
@@ -51,7 +51,7 @@ fn twos(digits: u8x16) -> u16x8
     (u16x8::from_le_bytes(digits) * u16x8::splat(10 * 0x100 + 1)) >> 8
 }
 
-// Four digits a lane.
+// Four digits an element.
 #[inline(always)]
 fn fours(twos: u16x8) -> u32x4
     requires { AllBelowBase 100 twos }
@@ -61,7 +61,7 @@ fn fours(twos: u16x8) -> u32x4
     (u32x4::from_le_bytes(twos.to_le_bytes()) * u32x4::splat(100 * 0x1_0000 + 1)) >> 16
 }
 
-// Eight digits a lane.
+// Eight digits an element.
 #[inline(always)]
 fn eights(fours: u32x4) -> u64x2
     requires { AllBelowBase 10000 fours }

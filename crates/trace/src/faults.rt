@@ -4,23 +4,7 @@ ghost use Rattle.trace.specs.declared.faults.Fault.{Fault};
 ghost use Rattle.trace.specs.declared.faults.Fault.TheVariants as faults;
 
 use crate::devices::Failed;
-use std::alloc::{AllocError, AllocFailed};
-
-/// The allocator refused a growth: there is no more memory.
-#[derive(Clone, Copy, Debug, PartialEq, Eq)]
-pub struct NoMemory;
-
-impl From<AllocError> for NoMemory {
-    fn from(_: AllocError) -> NoMemory {
-        NoMemory
-    }
-}
-
-impl<T: Drop> From<AllocFailed<T>> for NoMemory {
-    fn from(_: AllocFailed<T>) -> NoMemory {
-        NoMemory
-    }
-}
+use dag::NoMemory;
 
 /// What is wrong with a line of a trace's text.
 #[derive(Clone, Copy, Debug, PartialEq, Eq)]
@@ -38,7 +22,9 @@ pub enum TextKind {
 /// The first faulty line of a trace's text. The first line is line 1.
 #[derive(Clone, Copy, Debug, PartialEq, Eq)]
 pub struct TextFault {
+    /// The number of the line: 1 to 2^48 + 2.
     pub line: u64,
+    /// What is wrong with it.
     pub kind: TextKind,
 }
 
@@ -56,7 +42,9 @@ pub enum NestKind {
 /// The first place at which the records don't nest. The first place is 1.
 #[derive(Clone, Copy, Debug, PartialEq, Eq)]
 pub struct NestFault {
+    /// The place of the record, or the one after the last record: 1 to 2^48 + 1.
     pub place: u64,
+    /// What is wrong with it.
     pub kind: NestKind,
 }
 

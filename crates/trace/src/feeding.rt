@@ -3,19 +3,19 @@
 ghost use Rattle.std.specs.Prelude.{◌≡◌, ◌≢◌, ℕ, ◌+◌, ◌≤◌, ◌<◌, List, [], ◌++◌, ◌∷◌, length, take, true, false};
 ghost use Rattle.std.specs.Prelude.{Option, Ok, Err, Some, None, IfOk, IfErr, OnErr, IfSome};
 ghost use Rattle.std.specs.Option.{option_to_list};
-ghost use Rattle.trace.specs.declared.records.Record.{Record};
+ghost use Rattle.dag.specs.declared.records.Record.{Record};
 ghost use Rattle.trace.specs.Devices.{Change, ◌⇝◌, Counts, Gave, IsUsedUp, IsSteady};
 ghost use Rattle.trace.specs.declared.faults.Fault.TheVariants as faults;
 ghost use Rattle.trace.specs.Faults.{IsBadLine, IsFirstFault};
 ghost use Rattle.trace.specs.Reading.{held_back};
-ghost use Rattle.trace.specs.Bounds.{most_records, longest_line};
+ghost use Rattle.dag.specs.Bounds.{most_records, longest_line};
 
 use crate::devices::{Failed, Source};
 use crate::faults::{Fault, TextFault};
 use crate::lines::LONGEST;
 use crate::nesting::Nest;
 use crate::reading::Reader;
-use crate::records::{Limits, Placed, Record};
+use dag::{Limits, Placed, Record};
 use std::marker::Model;
 
 /// How a feed has ended, if it has ended.
@@ -42,7 +42,7 @@ pub struct Intake {
 
 impl Model for Intake {
     ghost use Rattle.std.specs.Prelude.{◌≤◌, ◌<◌, ◌+◌, ◌-◌, length, take, drop};
-    ghost use Rattle.trace.specs.Bounds.{longest_line};
+    ghost use Rattle.dag.specs.Bounds.{longest_line};
     ghost use Rattle.trace.specs.Feeding.{Feeding};
     ghost use Rattle.trace.specs.Easy.{IsEasy};
 
@@ -273,7 +273,9 @@ impl Intake {
 /// The placed records of a source that it owns.
 #[derive(Drop)]
 pub struct Feed<R> {
+    /// What it has read, and what it still gives of that.
     pub intake: Intake,
+    /// Where the further bytes come from.
     pub source: R,
 }
 
@@ -293,6 +295,17 @@ impl<R: Source> Feed<R> {
     }
 
     /// The same as `Intake::next_from`, from the feed's own source.
+    ///
+    /// ```rust
+    /// let text: &[u8] = b"trace 1\nwrite 5\nreturn\n";
+    /// let (records, depth) = (1 << 48, 9);
+    /// let mut feed = Feed::new(Limits { records, depth }, Counted::new(text));
+    /// let (place, what) = (1, Record::Write(5));
+    /// assert_eq!(rt; feed.next()?, Some(Placed { place, what }));
+    /// let (place, what) = (2, Record::Return);
+    /// assert_eq!(rt; feed.next()?, Some(Placed { place, what }));
+    /// assert_eq!(rt; feed.next()?, None);
+    /// ```
     pub fn next(&mut self) -> Result<Option<Placed>, Fault>
         ensures fed { GivesNext self.old.intake self.new.intake
             (R.state self.old.source ⇝ R.state self.new.source) result }

@@ -1,15 +1,15 @@
 //! The lines of a trace's text: what version or record a line spells, and where the next line ends.
 ghost use Rattle.std.specs.Prelude.{◌≡◌, ◌++◌, ◌+◌, ◌≤◌, ◌<◌, length, take, IfSome, IfNone, codes, Some};
 ghost use Rattle.std.specs.Int.{w32, from_le_bytes};
-ghost use Rattle.trace.specs.Bounds.{longest_line};
+ghost use Rattle.dag.specs.Bounds.{longest_line};
 ghost use Rattle.trace.specs.Fronts.{IsFront};
-ghost use Rattle.trace.specs.declared.records.Version.{Version};
+ghost use Rattle.dag.specs.declared.records.Version.{Version};
 ghost use Rattle.trace.specs.Text.{spell, header, Fits};
 ghost use Rattle.trace.specs.Faults.{IsNoHeader, IsNoRecord};
 ghost use Rattle.trace.specs.Cuts.{IsCut};
 
 use crate::numbers::{decimal_of, number_of};
-use crate::records::{Record, Version};
+use dag::{Record, Version};
 use memchr::memchr;
 
 /// The number of bytes of the longest line, without its end.
@@ -56,7 +56,7 @@ pub fn version_of(line: &[u8]) -> Option<Version>
 /// Where a line ends. Some bytes of it came before, and a piece follows them.
 pub enum Cut {
     /// At this byte of the piece.
-    End(usize),
+    LineEnd(usize),
     /// Not before its 27th byte, so it is no line of a trace.
     Long,
     /// Not in this piece. With the piece the line has at most 26 bytes.
@@ -71,7 +71,7 @@ pub fn cut_of(held: usize, piece: &[u8]) -> Cut
     let missing = LONGEST + 1 - held;
     let window = missing.min(piece.len());
     match memchr(b'\n', &piece[..window]) {
-        Some(end) => Cut::End(end),
+        Some(end) => Cut::LineEnd(end),
         None if window == missing => Cut::Long,
         None => Cut::Open,
     }
@@ -80,7 +80,9 @@ pub fn cut_of(held: usize, piece: &[u8]) -> Cut
 /// A record at the front of a piece, and the number of bytes of its line with its end.
 #[derive(Clone, Copy)]
 pub struct Front {
+    /// The record that the line spells.
     pub record: Record,
+    /// The bytes of the line with its end: 5 to 22.
     pub used: usize,
 }
 

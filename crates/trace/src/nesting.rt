@@ -1,10 +1,10 @@
 //! How the procedures of a trace nest: each record gets its place, and a record may come only while a procedure runs.
 ghost use Rattle.std.specs.Prelude.{◌≡◌, ℕ, ◌≤◌, ◌+◌, ◌<◌, ◌++◌, ◌∷◌, [], List, length, IfOk, IfErr, OnOk, OnErr, MatchResult};
-ghost use Rattle.trace.specs.declared.records.Record.{Record};
-ghost use Rattle.trace.specs.Bounds.{most_records};
+ghost use Rattle.dag.specs.declared.records.Record.{Record};
+ghost use Rattle.dag.specs.Bounds.{most_records};
 
 use crate::faults::{NestFault, NestKind};
-use crate::records::{Placed, Record};
+use dag::{Placed, Record};
 use std::marker::Model;
 
 /// Counts records, and checks that their procedures nest.
@@ -18,7 +18,7 @@ pub struct Nest {
 
 impl Model for Nest {
     ghost use Rattle.std.specs.Prelude.{◌≤◌};
-    ghost use Rattle.trace.specs.Bounds.{most_records};
+    ghost use Rattle.dag.specs.Bounds.{most_records};
     ghost use Rattle.trace.specs.Nesting.{Nesting};
 
     ghost Value = { Nesting };
@@ -30,7 +30,7 @@ impl Model for Nest {
 
 impl Nest {
     ghost use Rattle.trace.specs.Nesting.{at_first_place, HasNested};
-    ghost use Rattle.trace.specs.Traces.{IsWellNested};
+    ghost use Rattle.dag.specs.Traces.{IsWellNested};
     ghost use Rattle.trace.specs.Faults.{IsMisplaced, HasEnded};
     ghost use Rattle.trace.specs.declared.faults.NestKind.TheVariants.{Unfinished};
 

@@ -46,7 +46,9 @@ fn value_of(digits: &[u8]) -> Option<u64>
 /// A number, and how many digits it has.
 #[derive(Clone, Copy)]
 pub struct Number {
+    /// The number that the digits spell: 1 to 10^15 - 1.
     pub value: u64,
+    /// How many digits it has: 1 to 15.
     pub digits: usize,
 }
 

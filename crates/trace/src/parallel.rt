@@ -1,10 +1,10 @@
 //! Whether two places of a trace are parallel, by the records between them and the openers before them.
 ghost use Rattle.std.specs.Prelude.{◌≡◌, ℕ, ◌<◌, ◌≤◌, ◌↔◌, true, length, Some};
-ghost use Rattle.trace.specs.declared.records.Record.TheVariants.{Spawn};
-ghost use Rattle.trace.specs.Traces.{at, depth, IsWellNested};
-ghost use Rattle.trace.specs.Dag.{IsOpenerOf, JoinsAt, IsParallel};
+ghost use Rattle.dag.specs.declared.records.Record.TheVariants.{Spawn};
+ghost use Rattle.dag.specs.Traces.{at, depth, IsWellNested};
+ghost use Rattle.dag.specs.Dag.{IsOpenerOf, JoinsAt, IsParallel};
 
-use crate::records::Record;
+use dag::Record;
 
 /// Whether place j of a well nested trace is parallel to the earlier place i, if the record at j is neither a sync
 /// nor a return. It walks once from i to j, and once back from i to the openers that it needs.

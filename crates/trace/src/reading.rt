@@ -3,21 +3,23 @@
 ghost use Rattle.std.specs.Prelude.{◌≡◌, ◌≢◌, ◌≤◌, ◌+◌, ◌<◌, ◌++◌, ◌∷◌, [], ℕ, List, length, take};
 ghost use Rattle.std.specs.Prelude.{IfOk, IfErr, IfSome, IfNone, OnOk, OnErr, Some, None, Ok, Err};
 ghost use Rattle.std.specs.Option.{option_to_list};
-ghost use Rattle.trace.specs.declared.records.Version.{Version};
-ghost use Rattle.trace.specs.declared.records.Record.{Record};
+ghost use Rattle.dag.specs.declared.records.Version.{Version};
+ghost use Rattle.dag.specs.declared.records.Record.{Record};
 ghost use Rattle.trace.specs.Text.{text, spell, Fits};
 ghost use Rattle.trace.specs.Faults.{IsBadLine, IsTruncated, IsNoRecord};
-ghost use Rattle.trace.specs.Bounds.{most_records, longest_line};
+ghost use Rattle.dag.specs.Bounds.{most_records, longest_line};
 
 use crate::faults::{TextFault, TextKind};
 use crate::lines::{Cut, Front, LONGEST, cut_of, front_of, record_of, version_of};
-use crate::records::{Record, Version};
+use dag::{Record, Version};
 use std::marker::Model;
 
 /// What a step of a reader took from the front of a piece, and the record that it gives.
 #[derive(Clone, Copy, Debug, PartialEq, Eq)]
 pub struct Taken {
+    /// The bytes that the step took: at most those of the piece.
     pub used: usize,
+    /// The record, if a line that spells one ended.
     pub what: Option<Record>,
 }
 
@@ -30,7 +32,7 @@ struct Held {
 
 impl Model for Held {
     ghost use Rattle.std.specs.Prelude.{◌≤◌, ℕ, List, take};
-    ghost use Rattle.trace.specs.Bounds.{longest_line};
+    ghost use Rattle.dag.specs.Bounds.{longest_line};
 
     ghost Value = { List ℕ };
 
@@ -87,18 +89,18 @@ fn put_at(buffer: &mut [u8], start: usize, bytes: &[u8])
     buffer[start..end].copy_from_slice(bytes);
 }
 
-// The record that the held bytes and those of the end spell together in a version; then nothing is held.
-fn record_with(version: Version, held: &mut Held, end: &[u8]) -> Option<Record>
-    requires { length held.old + length end.now ≤ longest_line }
-    ensures found { IfSome result (λ r. held.old ++ end.now ≡ spell r) }
+// The record that the held bytes and the rest of their line spell together in a version; then nothing is held.
+fn record_with(version: Version, held: &mut Held, rest: &[u8]) -> Option<Record>
+    requires { length held.old + length rest.now ≤ longest_line }
+    ensures found { IfSome result (λ r. held.old ++ rest.now ≡ spell r) }
     ensures fits { IfSome result (Fits version) }
-    ensures none { IfNone result (IsNoRecord version (held.old ++ end.now)) }
+    ensures none { IfNone result (IsNoRecord version (held.old ++ rest.now)) }
     ensures cleared { held.new ≡ [] }
 {
     if held.len() == 0 {
-        return record_of(version, end);
+        return record_of(version, rest);
     }
-    held.push_all(end);
+    held.push_all(rest);
     let record = record_of(version, held.as_slice());
     held.clear();
     record
@@ -117,7 +119,7 @@ pub struct Reader {
 
 impl Model for Reader {
     ghost use Rattle.std.specs.Prelude.{◌≤◌, length};
-    ghost use Rattle.trace.specs.Bounds.{most_records, longest_line};
+    ghost use Rattle.dag.specs.Bounds.{most_records, longest_line};
     ghost use Rattle.trace.specs.Reading.{Reading};
 
     ghost Value = { Reading };
@@ -243,7 +245,7 @@ impl Reader {
         ensures most { self.new.count ≤ most_records }
     {
         match cut_of(self.held.len(), piece) {
-            Cut::End(end) => {
+            Cut::LineEnd(end) => {
                 self.held.push_all(&piece[..end]);
                 self.version = version_of(self.held.as_slice());
                 self.held.clear();
@@ -273,7 +275,7 @@ impl Reader {
     {
         let line = self.count + 2;
         match cut_of(self.held.len(), piece) {
-            Cut::End(end) => match record_with(version, &mut self.held, &piece[..end]) {
+            Cut::LineEnd(end) => match record_with(version, &mut self.held, &piece[..end]) {
                 None => Err(self.fail(line, TextKind::Line)),
                 Some(record) => {
                     if self.count == self.limit {

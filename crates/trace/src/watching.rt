@@ -1,14 +1,14 @@
 //! Shows the records of a trace, one after another, to a watcher.
 ghost use Rattle.std.specs.Prelude.{◌∷◌, ◌++◌, List, [], OnOk};
-ghost use Rattle.trace.specs.declared.records.Record.{Record};
+ghost use Rattle.dag.specs.declared.records.Record.{Record};
 ghost use Rattle.trace.specs.Devices.{◌⇝◌};
 ghost use Rattle.trace.specs.Endings.{EndsReading, IsWantOfMemory};
 ghost use Rattle.trace.specs.Watching.{ComesAfter};
 
 use crate::devices::Source;
-use crate::faults::{Fault, NoMemory};
+use crate::faults::Fault;
 use crate::feeding::Intake;
-use crate::records::{Limits, Placed};
+use dag::{Limits, NoMemory, Placed};
 
 /// A watcher: what it keeps of the records that it was shown.
 pub trait Watch {
@@ -16,7 +16,7 @@ pub trait Watch {
     ghost has_seen: { Self → List Record → Self → Type 0 };
 
     /// Takes the next record. After a refused growth the watcher is of no more use.
-    fn take(&mut self, placed: Placed) -> Result<(), NoMemory>
+    fn see(&mut self, placed: Placed) -> Result<(), NoMemory>
         requires { (first : Self) × (u : List Record) × has_seen first u self.old × ComesAfter u placed }
         ensures { OnOk result ((first : Self) (u : List Record) → has_seen first u self.old → ComesAfter u placed
             → has_seen first (u ++ placed.what ∷ []) self.new) };
@@ -37,7 +37,7 @@ pub fn read_to_end<R: Source, W: Watch>(
     'records: loop {
         match intake.next_from(source)? {
             None => return Ok(()),
-            Some(placed) => watch.take(placed)?,
+            Some(placed) => watch.see(placed)?,
         }
     }
 }

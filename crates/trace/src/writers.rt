@@ -1,14 +1,14 @@
 //! The writers of a trace's text. After a fault the sink has a prefix of the text.
-ghost use Rattle.std.specs.Prelude.{◌≡◌, ◌⊎◌, ◌≤◌, [], ◌∷◌, ◌++◌, length, drop, decimal};
+ghost use Rattle.std.specs.Prelude.{◌≡◌, ◌⊎◌, ◌≤◌, ◌++◌, length, decimal};
 ghost use Rattle.trace.specs.Devices.{◌⇝◌};
-ghost use Rattle.trace.specs.declared.records.Version.{Version};
-ghost use Rattle.trace.specs.Text.{newline, header, number, ended, line};
+ghost use Rattle.dag.specs.declared.records.Version.{Version};
+ghost use Rattle.trace.specs.Text.{header, number, ended, line};
 ghost use Rattle.trace.specs.Writers.{Puts};
 
 use crate::devices::Sink;
 use crate::faults::WriteFault;
-use crate::records::Record;
-use itoa::write_digits;
+use crate::line::Line;
+use dag::Record;
 
 /// Puts all bytes into the sink, in as many calls as the sink needs.
 pub fn put_all<W: Sink>(sink: &mut W, bytes: &[u8]) -> Result<(), WriteFault>
@@ -49,28 +49,14 @@ pub fn write_record<W: Sink>(what: &Record, sink: &mut W) -> Result<(), WriteFau
     }
 }
 
-// The longest line has the word of a write, 20 digits and the line end.
-const LONGEST: usize = 27;
-
 // Puts the line of an access.
 fn put_access<W: Sink>(sink: &mut W, word: &[u8], location: u64) -> Result<(), WriteFault>
     requires { length word.now ≤ 6 }
     ensures { Puts result (ended (word.now ++ decimal location)) (W.state sink.old ⇝ W.state sink.new) }
 {
-    let mut bytes = [b'\n'; LONGEST];
-    let start = build_access(&mut bytes, word, location);
-    put_all(sink, &bytes[start..])
-}
-
-// Builds the line of an access in front of the line end, and returns its start.
-fn build_access(bytes: &mut [u8; LONGEST], word: &[u8], location: u64) -> usize
-    requires word { length word.now ≤ 6 }
-    requires line_end { drop 26 bytes.old ≡ newline ∷ [] }
-    ensures within { result ≤ 27 }
-    ensures built { drop result bytes.new ≡ ended (word.now ++ decimal location) }
-{
-    let digits = write_digits(location, bytes, LONGEST - 1);
-    let start = digits - word.len();
-    bytes[start..digits].copy_from_slice(word);
-    start
+    let mut line = Line::new();
+    line.word(b"\n");
+    line.number(location);
+    line.word(word);
+    put_all(sink, line.as_bytes())
 }

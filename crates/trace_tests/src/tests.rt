@@ -4,11 +4,11 @@ ghost use Rattle.std.specs.Prelude.{None, ◌≤◌, length};
 
 use std::io::{self, ErrorKind, Write};
 use std::process::Abort;
-use trace::devices::{Counted, Failed, Sink, Source};
-use trace::faults::{Fault, NestFault, NestKind, TextFault, TextKind, WriteFault};
-use trace::feeding::Feed;
-use trace::records::{Limits, Placed, Record, Version};
-use trace::writers::{write_header, write_record};
+use std::test::Fail;
+use trace::{
+    Counted, Failed, Fault, Feed, Limits, NestFault, NestKind, Placed, Record, Sink, Source,
+    TextFault, TextKind, Version, WriteFault, write_header, write_record,
+};
 
 // Hands out the bytes, so many at each call, and fails once they have all come, if that is asked. A call
 // after the failure would hand out the end of the input.
@@ -91,9 +91,22 @@ fn reads<R: Abort>(
 ) {
     let (records, depth) = limits;
     for size in SIZES {
-        let told = read_all(bytes, size, fails, records, depth);
-        assert!(rt; told == answer, "{bytes:?} by {size}: {told:?}");
+        let found = read_all(bytes, size, fails, records, depth);
+        assert!(rt; found == answer, "{bytes:?} by {size}: {found:?}");
     }
+}
+
+#[test]
+fn records_one_by_one(rt: HostRuntime) -> Result<(), Fail> {
+    let text: &[u8] = b"trace 1\nwrite 5\nreturn\n";
+    let (records, depth) = (1 << 48, 9);
+    let mut feed = Feed::new(Limits { records, depth }, Counted::new(text));
+    let (place, what) = (1, Record::Write(5));
+    assert_eq!(rt; feed.next()?, Some(Placed { place, what }));
+    let (place, what) = (2, Record::Return);
+    assert_eq!(rt; feed.next()?, Some(Placed { place, what }));
+    assert_eq!(rt; feed.next()?, None);
+    Ok(())
 }
 
 // Texts with no fault, and the count of their records.
@@ -215,7 +228,7 @@ fn headers_of_versions(rt: HostRuntime) {
 const LINES: [(&[u8], Result<u64, u64>); 16] = [
     (b"trace 2\ncall\nreturn\nreturn\n", Ok(3)),
     (b"trace 1\ncall\nreturn\nreturn\n", Err(2)),
-    // A longer rest, so that the line is told with no look at the others.
+    // A longer rest, so that the line is reported with no look at the others.
     (
         b"trace 2\nspawn\ncall\nreturn\nreturn\nwrite 18446744073709551615\nreturn\n",
         Ok(6),
@@ -393,7 +406,7 @@ fn failing_sinks(rt: HostRuntime) {
     }
 }
 
-// Whether the line is written up to the byte at which the sink fails, and the failure told.
+// Whether the line is written up to the byte at which the sink fails, and the failure reported.
 fn is_cut(what: Line, line: &[u8], most: usize, error: Option<ErrorKind>) -> bool
     requires { most ≤ length line.now }
 {

@@ -1,10 +1,10 @@
 -- Promised: what the words of a command line may ask for.
 use Rattle.std.specs.Prelude.{◌≡◌, ℕ, ◌<◌, List, All, AllPairs, codes, string_len, string_bytes, vec_len}
-use Rattle.trace.specs.Bounds.{IsShardCount, IsCapacity, IsDepth}
+use Rattle.dag.specs.Bounds.{IsShardCount, IsCapacity, IsDepth}
 use Rattle.words.specs.declared.asking.Question.{Question}
 use Rattle.words.specs.declared.asking.Question.TheVariants.{Check, Pairs, Explain, Measure}
-use Rattle.words.specs.declared.asking.Confirm.{Confirm}
-use Rattle.words.specs.declared.asking.Merge.{Merge}
+use Rattle.words.specs.declared.asking.ConfirmWords.{ConfirmWords}
+use Rattle.words.specs.declared.asking.MergeWords.{MergeWords}
 use Rattle.words.specs.declared.asking.Asked.{Asked}
 use Rattle.words.specs.declared.asking.Asked.TheVariants as asked
 use Rattle.words.specs.Names.{IsName, IsOneStandard}
@@ -17,14 +17,14 @@ IsQuestionInRange (Explain e) = IsDepth e.depth × (0 < string_len e.trace)
 IsQuestionInRange (Measure m) = IsDepth m.depth × (0 < string_len m.trace)
 
 -- the same of a report and its trace; at most one of them is standard input
-pub record IsConfirmInRange (c : Confirm) : Type 0 where
+pub record IsConfirmInRange (c : ConfirmWords) : Type 0 where
   pub depth : IsDepth c.depth
   pub trace_named : 0 < string_len c.trace
   pub report_named : 0 < string_len c.report
   pub one_standard : string_bytes c.trace ≡ codes "-" → string_bytes c.report ≡ codes "-" → ⊥
 
 -- there is a report, each has a name, and standard input is one of them at most
-pub record IsMergeInRange (m : Merge) : Type 0 where
+pub record IsMergeInRange (m : MergeWords) : Type 0 where
   pub some : 0 < vec_len m.reports
   pub named : All IsName m.reports.items
   pub one_standard : AllPairs IsOneStandard m.reports.items

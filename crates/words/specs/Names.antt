@@ -1,6 +1,6 @@
 -- Promised: how the words of a command line name a part of the locations, and files.
 use Rattle.std.specs.Prelude.{◌≡◌, ℕ, ◌<◌, ◌++◌, List, Option, None, Some, String, codes, decimal, string_len, string_bytes}
-use Rattle.trace.specs.declared.records.Part.{Part}
+use Rattle.dag.specs.declared.part.Part.{Part}
 
 -- the spelling of a part, as `2/16`
 abbrev pub part_text : Part → List ℕ

@@ -1,6 +1,6 @@
 //! What the program is asked: a command with its numbers and file names, each in its range.
 ghost use Rattle.std.specs.Prelude.{◌≡◌, ◌<◌, ◌≤◌, All, AllPairs, string_len, string_bytes, codes, vec_len};
-ghost use Rattle.trace.specs.Bounds.{IsShardCount, IsCapacity, IsDepth};
+ghost use Rattle.dag.specs.Bounds.{IsShardCount, IsCapacity, IsDepth};
 ghost use Rattle.words.specs.Names.{IsName, IsOneStandard};
 
 use trace::Part;
@@ -11,27 +11,27 @@ pub enum Asked {
     /// What a trace alone answers.
     Question(Question),
     /// Whether the entries of a report are races.
-    Confirm(Confirm),
+    Confirm(ConfirmWords),
     /// One report made of many.
-    Merge(Merge),
+    Merge(MergeWords),
 }
 
 /// What is asked of a trace alone.
 #[derive(Debug, Drop, PartialEq, Eq)]
 pub enum Question {
     /// The races of a trace.
-    Check(Check),
+    Check(CheckWords),
     /// All races of one location.
-    Pairs(Pairs),
+    Pairs(PairsWords),
     /// Why one location is racy.
-    Explain(Explain),
+    Explain(ExplainWords),
     /// The numbers of a trace.
-    Measure(Measure),
+    Measure(MeasureWords),
 }
 
 /// `check`: the races of a trace.
 #[derive(Debug, Drop, PartialEq, Eq)]
-pub struct Check {
+pub struct CheckWords {
     /// How many threads the locations are divided among.
     pub shards: u32,
     /// How many records may wait for a thread.
@@ -50,7 +50,7 @@ pub struct Check {
 
 /// `pairs`: all races of one location.
 #[derive(Debug, Drop, PartialEq, Eq)]
-pub struct Pairs {
+pub struct PairsWords {
     /// How deep procedures may nest.
     pub depth: u32,
     /// The name of the trace's file; `-` is standard input.
@@ -63,7 +63,7 @@ pub struct Pairs {
 
 /// `explain`: why one location is racy.
 #[derive(Debug, Drop, PartialEq, Eq)]
-pub struct Explain {
+pub struct ExplainWords {
     /// How deep procedures may nest.
     pub depth: u32,
     /// The name of the trace's file; `-` is standard input.
@@ -76,7 +76,7 @@ pub struct Explain {
 
 /// `measure`: the numbers of a trace.
 #[derive(Debug, Drop, PartialEq, Eq)]
-pub struct Measure {
+pub struct MeasureWords {
     /// How deep procedures may nest.
     pub depth: u32,
     /// The name of the trace's file; `-` is standard input.
@@ -87,7 +87,7 @@ pub struct Measure {
 
 /// `confirm`: whether the entries of a report are races.
 #[derive(Debug, Drop, PartialEq, Eq)]
-pub struct Confirm {
+pub struct ConfirmWords {
     /// How deep procedures may nest.
     pub depth: u32,
     /// The name of the trace's file; `-` is standard input.
@@ -102,7 +102,7 @@ pub struct Confirm {
 
 /// `merge`: one report made of many.
 #[derive(Debug, Drop, PartialEq, Eq)]
-pub struct Merge {
+pub struct MergeWords {
     /// The names of the reports' files, in their order; at most one is `-`, standard input.
     pub reports: Vec<String>,
     ghost some: { 0 < vec_len reports },

@@ -5,6 +5,8 @@ mod asking;
 mod commands;
 mod reading;
 
-pub use asking::{Asked, Check, Confirm, Explain, Measure, Merge, Pairs, Question};
+pub use asking::{
+    Asked, CheckWords, ConfirmWords, ExplainWords, MeasureWords, MergeWords, PairsWords, Question,
+};
 pub use commands::VERSION;
 pub use reading::{WordsFault, read_words};

@@ -1,11 +1,13 @@
 //! The command line: what its words ask for.
 ghost use Rattle.std.specs.Prelude.{◌≡◌, ◌<◌, ◌≤◌, codes, string_len, IfOk, IfSome};
-ghost use Rattle.trace.specs.Bounds.{IsShardCount, IsCapacity, IsDepth};
+ghost use Rattle.dag.specs.Bounds.{IsShardCount, IsCapacity, IsDepth};
 ghost use Rattle.words.specs.Asked.{IsInRange};
 ghost use Rattle.words.specs.Names.{IsName, IsPartAsked, part_text};
 ghost use Rattle.clap.specs.Words.{first_value, found_of};
 
-use crate::asking::{Asked, Check, Confirm, Explain, Measure, Merge, Pairs, Question};
+use crate::asking::{
+    Asked, CheckWords, ConfirmWords, ExplainWords, MeasureWords, MergeWords, PairsWords, Question,
+};
 use crate::commands::program;
 use clap::error::ErrorKind;
 use clap::{ArgMatches, Error};
@@ -103,7 +105,7 @@ fn fault_of(alloc: Global, error: &Error) -> WordsFault {
 }
 
 // What `check` is asked.
-fn check_of(alloc: Global, found: &ArgMatches<'_>) -> Result<Check, WordsFault>
+fn check_of(alloc: Global, found: &ArgMatches<'_>) -> Result<CheckWords, WordsFault>
     ensures { IfOk result (λ check. IsPartAsked (first_value (found_of found.now) (codes "part")) check.part) }
 {
     let shards = shards_of(found)?;
@@ -111,7 +113,7 @@ fn check_of(alloc: Global, found: &ArgMatches<'_>) -> Result<Check, WordsFault>
     let depth = depth_of(found)?;
     let part = part_of(found)?;
     let trace = name_of(alloc, found, "FILE")?;
-    Ok(Check {
+    Ok(CheckWords {
         shards,
         capacity,
         depth,
@@ -120,43 +122,43 @@ fn check_of(alloc: Global, found: &ArgMatches<'_>) -> Result<Check, WordsFault>
     })
 }
 
-fn pairs_of(alloc: Global, found: &ArgMatches<'_>) -> Result<Pairs, WordsFault> {
+fn pairs_of(alloc: Global, found: &ArgMatches<'_>) -> Result<PairsWords, WordsFault> {
     let depth = depth_of(found)?;
     let trace = name_of(alloc, found, "FILE")?;
     let location = location_of(found)?;
-    Ok(Pairs {
+    Ok(PairsWords {
         depth,
         trace,
         location,
     })
 }
 
-fn explain_of(alloc: Global, found: &ArgMatches<'_>) -> Result<Explain, WordsFault> {
+fn explain_of(alloc: Global, found: &ArgMatches<'_>) -> Result<ExplainWords, WordsFault> {
     let depth = depth_of(found)?;
     let trace = name_of(alloc, found, "FILE")?;
     let location = location_of(found)?;
-    Ok(Explain {
+    Ok(ExplainWords {
         depth,
         trace,
         location,
     })
 }
 
-fn measure_of(alloc: Global, found: &ArgMatches<'_>) -> Result<Measure, WordsFault> {
+fn measure_of(alloc: Global, found: &ArgMatches<'_>) -> Result<MeasureWords, WordsFault> {
     let depth = depth_of(found)?;
     let trace = name_of(alloc, found, "FILE")?;
-    Ok(Measure { depth, trace })
+    Ok(MeasureWords { depth, trace })
 }
 
 // What `confirm` is asked. Standard input can't be both of its files.
-fn confirm_of(alloc: Global, found: &ArgMatches<'_>) -> Result<Confirm, WordsFault> {
+fn confirm_of(alloc: Global, found: &ArgMatches<'_>) -> Result<ConfirmWords, WordsFault> {
     let depth = depth_of(found)?;
     let trace = name_of(alloc, found, "TRACE")?;
     let report = name_of(alloc, found, "REPORT")?;
     if trace.as_str() == "-" && report.as_str() == "-" {
         return Err(WordsFault::Bad);
     }
-    Ok(Confirm {
+    Ok(ConfirmWords {
         depth,
         trace,
         report,
@@ -164,7 +166,7 @@ fn confirm_of(alloc: Global, found: &ArgMatches<'_>) -> Result<Confirm, WordsFau
 }
 
 // What `merge` is asked. Standard input can be one of its files, and not two.
-fn merge_of(alloc: Global, found: &ArgMatches<'_>) -> Result<Merge, WordsFault> {
+fn merge_of(alloc: Global, found: &ArgMatches<'_>) -> Result<MergeWords, WordsFault> {
     let names = found.get_strs("REPORT").ok_or(WordsFault::Bad)?;
     let mut reports = Vec::new(alloc);
     let mut has_standard = false;
@@ -181,7 +183,7 @@ fn merge_of(alloc: Global, found: &ArgMatches<'_>) -> Result<Merge, WordsFault> 
     if reports.is_empty() {
         return Err(WordsFault::Bad);
     }
-    Ok(Merge { reports })
+    Ok(MergeWords { reports })
 }
 
 // The name of a file.

@@ -2,8 +2,8 @@
 
 use super::rows::{
     CALL_MIXED, CALL_SPAWNS, CALL_SYNCS, GRANDCHILD_SYNCED, LIMITS, READER_MOVES_TO_CHILD,
-    SYNC_IN_SIBLING, SYNC_ORDERS, THREE_WRITES, TWO_READERS_THEN_WRITE, Told, WRITE_WRITE,
-    are_told, confirmed, listed, measured,
+    Reported, SYNC_IN_SIBLING, SYNC_ORDERS, THREE_WRITES, TWO_READERS_THEN_WRITE, WRITE_WRITE,
+    are_reported, confirmed, listed, measured,
 };
 use audit::{Confirm, Measure};
 use std::alloc::Global;
@@ -85,9 +85,9 @@ fn ask(alloc: Global, question: Question<'_>, parts: Parts<'_>) -> Answers {
         depth: question.depth,
     };
     let measured = measured(alloc, limits, &mut Counted::new(parts));
-    let told = listed(alloc, limits, &mut Counted::new(parts), question.location);
+    let reported = listed(alloc, limits, &mut Counted::new(parts), question.location);
     let confirmed = confirmed(alloc, limits, &mut Counted::new(parts), question.report);
-    (measured, told, confirmed)
+    (measured, reported, confirmed)
 }
 
 /// A trace, one of its locations, the text of a report that is confirmed, the measure, and the location's races.
@@ -96,7 +96,7 @@ type Row = (
     u64,
     &'static [u8],
     (u64, u64, u64, u32),
-    &'static [Told],
+    &'static [Reported],
 );
 
 const ROWS: [Row; 13] = [
@@ -196,11 +196,11 @@ fn assert_answers(rt: &impl Abort, alloc: Global, row: Row, parts: Parts<'_>) {
         spawns,
         depth,
     };
-    let (measured, told, confirmed) = ask(alloc, question, parts);
+    let (measured, reported, confirmed) = ask(alloc, question, parts);
     assert!(rt; measured == Ok(wanted), "{text:?}");
     assert!(rt; confirmed == Ok(Some(Confirm::Yes)), "{text:?}");
-    match told {
-        Ok(told) => assert!(rt; are_told(&told, pairs), "{text:?}"),
+    match reported {
+        Ok(reported) => assert!(rt; are_reported(&reported, pairs), "{text:?}"),
         Err(fault) => assert!(rt; false, "{text:?}: {fault:?}"),
     }
 }
@@ -222,9 +222,9 @@ fn assert_fault(rt: &impl Abort, alloc: Global, depth: u32, fault: Fault, parts:
         location: 5,
         report: b"races 0\n",
     };
-    let (measured, told, confirmed) = ask(alloc, question, parts);
+    let (measured, reported, confirmed) = ask(alloc, question, parts);
     assert!(rt; measured.err() == Some(fault), "{:?}", parts.first);
-    assert!(rt; told.err() == Some(fault), "{:?}", parts.first);
+    assert!(rt; reported.err() == Some(fault), "{:?}", parts.first);
     assert!(rt; confirmed.err() == Some(fault), "{:?}", parts.first);
 }
 
@@ -286,7 +286,7 @@ fn assert_fault_at_end(rt: &impl Abort, alloc: Global, text: &[u8], fault: Fault
 }
 
 // A call that fails isn't tried again, and no answer comes of what was read before; but a fault that came before is
-// told.
+// reported.
 #[test]
 fn failing_calls(rt: HostRuntime) {
     for call in 0..=WRITE_WRITE.len() {

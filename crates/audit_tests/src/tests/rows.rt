@@ -67,7 +67,12 @@ pub fn measured<R: Source>(
 /// Whether the text measures these.
 fn is_measured(alloc: Global, text: &[u8], wanted: (u64, u64, u64, u32)) -> bool {
     match measured(alloc, LIMITS, &mut Counted::new(text)) {
-        Ok(told) => (told.work, told.span, told.spawns, told.depth) == wanted,
+        Ok(reported) => (
+            reported.work,
+            reported.span,
+            reported.spawns,
+            reported.depth,
+        ) == wanted,
         Err(_) => false,
     }
 }
@@ -102,7 +107,7 @@ fn measures(rt: HostRuntime) {
 }
 
 /// The places and kinds of a pair.
-pub type Told = ((Kind, u64), (Kind, u64));
+pub type Reported = ((Kind, u64), (Kind, u64));
 
 /// All races of a location.
 pub fn listed<R: Source>(
@@ -115,11 +120,11 @@ pub fn listed<R: Source>(
 }
 
 /// Whether these are the races listed, and no others.
-pub fn are_told(pairs: &[(Access, Access)], wanted: &[Told]) -> bool {
+pub fn are_reported(pairs: &[(Access, Access)], wanted: &[Reported]) -> bool {
     let mut rest = wanted.iter();
     for (first, second) in pairs {
-        let told = ((first.kind, first.place), (second.kind, second.place));
-        if rest.next() != Some(&told) {
+        let reported = ((first.kind, first.place), (second.kind, second.place));
+        if rest.next() != Some(&reported) {
             return false;
         }
     }
@@ -127,9 +132,9 @@ pub fn are_told(pairs: &[(Access, Access)], wanted: &[Told]) -> bool {
 }
 
 /// Whether the text has these races of the location, and no others.
-fn are_listed(alloc: Global, text: &[u8], location: u64, wanted: &[Told]) -> bool {
+fn are_listed(alloc: Global, text: &[u8], location: u64, wanted: &[Reported]) -> bool {
     match listed(alloc, LIMITS, &mut Counted::new(text), location) {
-        Ok(pairs) => are_told(&pairs, wanted),
+        Ok(pairs) => are_reported(&pairs, wanted),
         Err(_) => false,
     }
 }
@@ -137,7 +142,7 @@ fn are_listed(alloc: Global, text: &[u8], location: u64, wanted: &[Told]) -> boo
 #[test]
 fn pairs_of_locations(rt: HostRuntime) {
     let (read, write) = (Kind::Read, Kind::Write);
-    let rows: [(&str, &[u8], u64, &[Told]); 12] = [
+    let rows: [(&str, &[u8], u64, &[Reported]); 12] = [
         ("empty", EMPTY, 0, &[]),
         (
             "reader-moves-to-child",
@@ -352,7 +357,7 @@ fn faults(rt: HostRuntime) {
 type Link = (Opening, u64);
 
 /// The reported race, its meeting procedure, the openers below it for each access, and the join.
-type Why<'a> = (Told, u64, &'a [Link], &'a [Link], u64);
+type Why<'a> = (Reported, u64, &'a [Link], &'a [Link], u64);
 
 /// Whether the openers are these.
 fn are_links(openers: &[Opener], links: &[Link]) -> bool {
@@ -364,16 +369,16 @@ fn are_links(openers: &[Opener], links: &[Link]) -> bool {
 }
 
 /// Whether the race is this one of the location.
-fn is_race(race: Race, location: u64, told: Told) -> bool {
+fn is_race(race: Race, location: u64, reported: Reported) -> bool {
     let first = (race.first.kind, race.first.place);
     let second = (race.second.kind, race.second.place);
-    race.location == location && (first, second) == told
+    race.location == location && (first, second) == reported
 }
 
 /// Whether this is the explanation of a location.
 fn is_why(explained: &Explained, location: u64, why: Why<'_>) -> bool {
-    let (told, meeting, first, second, joined) = why;
-    let is_so = is_race(explained.race, location, told);
+    let (reported, meeting, first, second, joined) = why;
+    let is_so = is_race(explained.race, location, reported);
     let is_first = are_links(&explained.first, first);
     let is_second = are_links(&explained.second, second);
     let is_met = explained.meeting == meeting && explained.joined == Some(joined);

@@ -15,7 +15,7 @@ pub type Between = [[bool; MOST]; MOST];
 
 /// The race that is reported of a location.
 #[derive(Clone, Copy, Debug, PartialEq, Eq)]
-pub struct Told {
+pub struct ReportedRace {
     pub location: u64,
     pub first: Access,
     pub second: Access,
@@ -39,7 +39,7 @@ pub fn is_well_nested(records: &[Record], depth_limit: usize) -> bool {
 pub fn first_fault(records: &[Record], depth_limit: usize) -> Option<NestFault> {
     for i in 0..records.len() {
         if let Some(kind) = fault_at(records, i, depth_limit) {
-            let place = told_place(i);
+            let place = place_at(i);
             return Some(NestFault { place, kind });
         }
     }
@@ -47,7 +47,7 @@ pub fn first_fault(records: &[Record], depth_limit: usize) -> Option<NestFault> 
         return None;
     }
     Some(NestFault {
-        place: told_place(records.len()),
+        place: place_at(records.len()),
         kind: NestKind::Unfinished,
     })
 }
@@ -100,12 +100,12 @@ fn at(records: &[Record], i: usize) -> Option<Record> {
     records.get(i).copied()
 }
 
-fn told_place(i: usize) -> u64 {
+fn place_at(i: usize) -> u64 {
     (i as u64).saturating_add(1)
 }
 
 /// How the location is accessed at the place, if it is.
-fn access_at(records: &[Record], location: u64, i: usize) -> Option<Kind> {
+fn kind_at(records: &[Record], location: u64, i: usize) -> Option<Kind> {
     match at(records, i) {
         Some(Record::Read(accessed)) if accessed == location => Some(Kind::Read),
         Some(Record::Write(accessed)) if accessed == location => Some(Kind::Write),
@@ -113,10 +113,10 @@ fn access_at(records: &[Record], location: u64, i: usize) -> Option<Kind> {
     }
 }
 
-fn told_access(records: &[Record], location: u64, i: usize) -> Option<Access> {
+fn access_at(records: &[Record], location: u64, i: usize) -> Option<Access> {
     Some(Access {
-        kind: access_at(records, location, i)?,
-        place: told_place(i),
+        kind: kind_at(records, location, i)?,
+        place: place_at(i),
     })
 }
 
@@ -245,8 +245,8 @@ pub fn accesses_at(
     i: usize,
     j: usize,
 ) -> Option<(Access, Access)> {
-    let first = told_access(records, location, i)?;
-    let second = told_access(records, location, j)?;
+    let first = access_at(records, location, i)?;
+    let second = access_at(records, location, j)?;
     let one_writes = first.kind == Kind::Write || second.kind == Kind::Write;
     if i < j && one_writes {
         Some((first, second))
@@ -285,7 +285,7 @@ pub fn second_place(records: &[Record], paths: &Between, location: u64) -> Optio
 fn last_write(records: &[Record], location: u64, j: usize) -> Option<usize> {
     let mut last = None;
     for i in 0..j {
-        if access_at(records, location, i) == Some(Kind::Write) {
+        if kind_at(records, location, i) == Some(Kind::Write) {
             last = Some(i);
         }
     }
@@ -296,7 +296,7 @@ fn last_write(records: &[Record], location: u64, j: usize) -> Option<usize> {
 fn kept_reader(records: &[Record], paths: &Between, location: u64, j: usize) -> Option<usize> {
     let mut kept = None;
     for i in 0..j {
-        if access_at(records, location, i) == Some(Kind::Read) {
+        if kind_at(records, location, i) == Some(Kind::Read) {
             kept = match kept {
                 Some(reader) if !leads(paths, reader, i) => Some(reader),
                 _ => Some(i),
@@ -312,15 +312,15 @@ pub fn race_ending_at(
     paths: &Between,
     location: u64,
     j: usize,
-) -> Option<Told> {
+) -> Option<ReportedRace> {
     let i = match last_write(records, location, j) {
         Some(writer) if are_parallel(paths, writer, j) => writer,
         _ => kept_reader(records, paths, location, j)?,
     };
-    Some(Told {
+    Some(ReportedRace {
         location,
-        first: told_access(records, location, i)?,
-        second: told_access(records, location, j)?,
+        first: access_at(records, location, i)?,
+        second: access_at(records, location, j)?,
     })
 }
 

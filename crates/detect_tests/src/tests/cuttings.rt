@@ -88,12 +88,12 @@ fn assert_answer<R: Abort>(
     cut: Cut<'_>,
     shards: Option<u32>,
 ) {
-    let told = match answer {
+    let found = match answer {
         Ok(text) => Ok(text.as_slice()),
         Err(fault) => Err(*fault),
     };
     let Cut { text, place, .. } = cut;
-    assert_eq!(rt; told, wanted, "{text:?} at {place} by {shards:?}");
+    assert_eq!(rt; found, wanted, "{text:?} at {place} by {shards:?}");
 }
 
 /// Asserts what one thread, one shard and three answer.

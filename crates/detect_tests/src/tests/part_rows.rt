@@ -131,9 +131,9 @@ fn judge_fault<T: Threads + Wait + Sync + Abort>(rt: &T, alloc: Global, part: Pa
     assert_fault(rt, fault, row.fault, row.name, 3);
 }
 
-// A fault is told by each part, also where the part has no access.
+// A fault is reported by each part, also where the part has no access.
 #[test]
-fn parts_tell_faults(rt: HostRuntime) {
+fn parts_report_faults(rt: HostRuntime) {
     for index in 0..2 {
         let part = part_of(&rt, index, 2);
         for row in all_faulty() {

@@ -3,7 +3,7 @@
 
 use super::answers::Hasher;
 use super::by_definition::{
-    MOST, Told, first_fault, is_well_nested, paths, race_ending_at, second_place,
+    MOST, ReportedRace, first_fault, is_well_nested, paths, race_ending_at, second_place,
 };
 use collect::Report;
 use detect::detect_plain;
@@ -44,7 +44,7 @@ struct Tally {
 }
 
 impl Tally {
-    fn count(&mut self, expected: &Result<Option<Told>, Fault>) {
+    fn count(&mut self, expected: &Result<Option<ReportedRace>, Fault>) {
         match expected {
             Ok(None) => self.race_free = self.race_free.saturating_add(1),
             Ok(Some(_)) => self.racy = self.racy.saturating_add(1),
@@ -90,7 +90,11 @@ pub fn write_list(
 }
 
 /// The race by the definitions, or the first fault. All accesses are of location 0.
-fn expected(rt: &impl Abort, records: &[Record], depth: usize) -> Result<Option<Told>, Fault> {
+fn expected(
+    rt: &impl Abort,
+    records: &[Record],
+    depth: usize,
+) -> Result<Option<ReportedRace>, Fault> {
     let fault = first_fault(records, depth);
     assert_eq!(rt;
         fault.is_none(),
@@ -118,13 +122,13 @@ fn detected(alloc: Global, text: &[u8], depth: u32) -> Result<Report, Fault> {
 }
 
 /// The race of a report that has one at most.
-fn only_race(rt: &impl Abort, report: &Report) -> Option<Told> {
+fn only_race(rt: &impl Abort, report: &Report) -> Option<ReportedRace> {
     assert!(rt; report.races().len() <= 1);
-    report.races().first().map(|race| told(*race))
+    report.races().first().map(|race| reported_race(*race))
 }
 
-fn told(race: Race) -> Told {
-    Told {
+fn reported_race(race: Race) -> ReportedRace {
+    ReportedRace {
         location: race.location,
         first: race.first,
         second: race.second,
@@ -132,11 +136,11 @@ fn told(race: Race) -> Told {
 }
 
 /// What the shard answers to a record that it has to accept.
-fn applied(shard: &mut Shard<Hasher>, placed: Placed) -> Result<Option<Told>, Fail> {
+fn applied(shard: &mut Shard<Hasher>, placed: Placed) -> Result<Option<ReportedRace>, Fail> {
     if !shard.accepts(placed.place) {
         return Err("not accepted".into());
     }
-    Ok(shard.apply(placed)?.map(told))
+    Ok(shard.apply(placed)?.map(reported_race))
 }
 
 /// A shard answers the race at its second place, and none elsewhere.
@@ -144,7 +148,7 @@ fn check_shard(
     rt: &impl Abort,
     alloc: Global,
     records: &[Record],
-    wanted: Option<Told>,
+    wanted: Option<ReportedRace>,
 ) -> Result<(), Fail> {
     let mut shard = Shard::new(alloc, 0, Hasher::default())?;
     for (index, what) in records.iter().enumerate() {
@@ -159,8 +163,8 @@ fn check_shard(
 
 fn assert_answer(
     rt: &impl Abort,
-    answer: Option<Told>,
-    wanted: Option<Told>,
+    answer: Option<ReportedRace>,
+    wanted: Option<ReportedRace>,
     place: u64,
     records: &[Record],
 ) {
@@ -173,7 +177,7 @@ fn check_list(
     alloc: Global,
     text: &[u8],
     depth: u32,
-    wanted: Result<Option<Told>, Fault>,
+    wanted: Result<Option<ReportedRace>, Fault>,
     records: &[Record],
 ) {
     let found = match detected(alloc, text, depth) {

@@ -5,11 +5,10 @@ use super::by_definition::{self, Between, MOST, accesses_at, is_well_nested, pat
 use super::short_lists::{counts, list_of, write_list};
 use audit::{Confirm, Measure, confirm, measure, pairs};
 use collect::{Collector, Report};
-use shard::Back;
 use std::alloc::Global;
 use std::process::Abort;
 use std::test::Fail;
-use trace::{Access, Counted, Fault, Kind, Limits, Race, Record, Version};
+use trace::{Access, Back, Counted, Fault, Kind, Limits, Race, Record, Version};
 
 const LIMITS: Limits = Limits {
     records: 1 << 48,

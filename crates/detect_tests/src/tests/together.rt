@@ -8,10 +8,10 @@ use std::alloc::{AllocError, Global};
 use std::sync::atomic::{AtomicBool, Ordering};
 use std::test::Fail;
 use std::thread;
-use trace::{Failed, Source};
+use trace::{Failed, Limits, Source};
 
-/// How many turns a gate or a reader waits: a load of a flag, and a yield if it isn't set.
-const TURNS: u32 = 1_000_000;
+/// How often a gate or a reader that waits looks: a load of a flag, and a yield if it isn't set.
+const LOOKS: u32 = 1_000_000;
 
 const REPORT: &[u8] = b"races 1\nrace 5 write 2 write 4\n";
 
@@ -34,10 +34,10 @@ impl Meeting {
         })
     }
 
-    /// After the last turn the run goes on, so that it ends.
+    /// After the last look the run goes on, so that it ends.
     fn wait_for_all(&self) {
         let mut known = 0;
-        for _ in 0..TURNS {
+        for _ in 0..LOOKS {
             match self.came.get(known) {
                 None => return,
                 Some(flag) if flag.load(Ordering::SeqCst) => known += 1,
@@ -72,6 +72,35 @@ fn two_shards_meet(rt: HostRuntime) -> Result<(), Fail> {
     Ok(())
 }
 
+/// A child reads location 0 forty times.
+fn reads_of_one_shard(alloc: Global) -> Result<Vec<u8>, AllocError> {
+    let mut text = Vec::from_slice(alloc, b"trace 1\nspawn\n")?;
+    for _ in 0..40 {
+        text.extend_from_slice(b"read 0\n")?;
+    }
+    text.extend_from_slice(b"return\nreturn\n")?;
+    Ok(text)
+}
+
+/// The lane to shard 0 is full while that shard waits at the gate for shard 1, whose spawn stays staged until a flush.
+#[test]
+fn two_shards_meet_at_a_full_lane(rt: HostRuntime) -> Result<(), Fail> {
+    let gate = Meeting::of(rt.alloc(), 2)?;
+    let trace = reads_of_one_shard(rt.alloc())?;
+    let mut pieces = Pieces {
+        bytes: &trace,
+        size: 4096,
+    };
+    let limits = Limits {
+        records: 43,
+        depth: 1,
+    };
+    let text = answer_from(&rt, rt.alloc(), 2, 4, limits, &mut pieces, &gate)?.text;
+    assert!(rt; !gate.missed.load(Ordering::SeqCst));
+    assert_eq!(rt; text.as_slice(), b"races 0\n".as_slice());
+    Ok(())
+}
+
 /// A gate that notes that a shard has passed.
 #[derive(Drop)]
 struct Noting {
@@ -94,9 +123,9 @@ struct Following<'a> {
 }
 
 impl<'a> Following<'a> {
-    /// After the last turn the run goes on, so that it ends.
+    /// After the last look the run goes on, so that it ends.
     fn wait_for_shard(&mut self) {
-        for _ in 0..TURNS {
+        for _ in 0..LOOKS {
             if self.missed || self.passed.load(Ordering::SeqCst) {
                 return;
             }
@@ -120,25 +149,27 @@ impl<'a> Source for Following<'a> {
 
 #[test]
 fn reader_follows_shard(rt: HostRuntime) -> Result<(), Fail> {
-    let gate = Noting {
-        passed: AtomicBool::new(false),
-    };
     let (first, second) = WRITE_WRITE.split_at(14);
     assert_eq!(rt; first, b"trace 1\nspawn\n".as_slice());
-    let mut reader = Following {
-        first: Pieces {
-            bytes: first,
-            size: 4096,
-        },
-        second: Pieces {
-            bytes: second,
-            size: 4096,
-        },
-        passed: &gate.passed,
-        missed: false,
-    };
-    let text = answer_from(&rt, rt.alloc(), 2, 1, LIMITS, &mut reader, &gate)?.text;
-    assert!(rt; !reader.missed);
-    assert_eq!(rt; text.as_slice(), REPORT);
+    for capacity in [1u32, 1024] {
+        let gate = Noting {
+            passed: AtomicBool::new(false),
+        };
+        let mut reader = Following {
+            first: Pieces {
+                bytes: first,
+                size: 4096,
+            },
+            second: Pieces {
+                bytes: second,
+                size: 4096,
+            },
+            passed: &gate.passed,
+            missed: false,
+        };
+        let text = answer_from(&rt, rt.alloc(), 2, capacity, LIMITS, &mut reader, &gate)?.text;
+        assert!(rt; !reader.missed, "capacity {capacity}");
+        assert_eq!(rt; text.as_slice(), REPORT);
+    }
     Ok(())
 }

@@ -1,6 +1,6 @@
 //! The answers of the program, from a trace to standard output and standard error.
 
-use super::tell;
+use super::print_refused;
 use replies::{answer, answer_confirm};
 use std::alloc::{AllocError, Global};
 use std::io::{self, Write};
@@ -8,7 +8,7 @@ use std::process::Abort;
 use std::sync::Wait;
 use std::thread::Threads;
 use trace::{Counted, Part};
-use words::{Check, Confirm, Measure, Pairs, Question};
+use words::{CheckWords, ConfirmWords, MeasureWords, PairsWords, Question};
 
 /// Row `write-write`.
 const WRITE_WRITE: &[u8] = b"trace 1\nspawn\nwrite 5\nreturn\nwrite 5\nreturn\n";
@@ -68,11 +68,11 @@ fn judge<R: Print + Abort>(
     }
     assert!(rt; out.is_empty());
     if starts_threads && err == b"spbags: no thread\n".as_slice() {
-        tell(rt, "thread");
+        print_refused(rt, "thread");
         return;
     }
     assert_eq!(rt; err, b"spbags: out of memory\n".as_slice());
-    tell(rt, "memory");
+    print_refused(rt, "memory");
 }
 
 /// Answers a question about a trace.
@@ -84,7 +84,7 @@ fn ask<T: Threads + Wait + Sync + Abort + Print>(
     wanted: (u8, &[u8]),
 ) {
     let Ok(question) = question else {
-        tell(rt, "name");
+        print_refused(rt, "name");
         return;
     };
     let (mut out, mut err) = (Room::new(), Room::new());
@@ -101,7 +101,7 @@ fn ask<T: Threads + Wait + Sync + Abort + Print>(
 }
 
 fn check(alloc: Global) -> Result<Question, AllocError> {
-    Ok(Question::Check(Check {
+    Ok(Question::Check(CheckWords {
         shards: 2,
         capacity: 1,
         depth: 9,
@@ -111,7 +111,7 @@ fn check(alloc: Global) -> Result<Question, AllocError> {
 }
 
 fn pairs(alloc: Global, location: u64) -> Result<Question, AllocError> {
-    Ok(Question::Pairs(Pairs {
+    Ok(Question::Pairs(PairsWords {
         depth: 9,
         trace: String::from_str(alloc, "-")?,
         location,
@@ -119,7 +119,7 @@ fn pairs(alloc: Global, location: u64) -> Result<Question, AllocError> {
 }
 
 fn measure(alloc: Global) -> Result<Question, AllocError> {
-    Ok(Question::Measure(Measure {
+    Ok(Question::Measure(MeasureWords {
         depth: 9,
         trace: String::from_str(alloc, "-")?,
     }))
@@ -173,8 +173,8 @@ fn measured(rt: HostRuntime) {
     }
 }
 
-fn confirm(alloc: Global) -> Result<Confirm, AllocError> {
-    Ok(Confirm {
+fn confirm(alloc: Global) -> Result<ConfirmWords, AllocError> {
+    Ok(ConfirmWords {
         depth: 9,
         trace: String::from_str(alloc, "trace")?,
         report: String::from_str(alloc, "-")?,
@@ -190,7 +190,7 @@ fn ask_confirm<R: Print + Abort>(
     wanted: (u8, &[u8]),
 ) {
     let Ok(confirm) = confirm(alloc) else {
-        tell(rt, "name");
+        print_refused(rt, "name");
         return;
     };
     let (mut out, mut err) = (Room::new(), Room::new());

@@ -1,6 +1,6 @@
 //! The questions about a trace.
 
-use super::tell;
+use super::print_refused;
 use audit::{Confirm, Measure, confirm, measure, pairs};
 use collect::read_report;
 use std::alloc::Global;
@@ -80,7 +80,7 @@ fn answered<R: Print + Abort, T>(rt: &R, answer: Result<T, Fault>) -> Option<T> 
         Ok(answer) => Some(answer),
         Err(fault) => {
             assert_eq!(rt; fault, Fault::NoMemory);
-            tell(rt, "memory");
+            print_refused(rt, "memory");
             None
         }
     }
@@ -130,7 +130,7 @@ fn confirm_report<R: Print + Abort>(
     wanted: Confirm,
 ) {
     let Ok(report) = read_report(alloc, report) else {
-        tell(rt, "report");
+        print_refused(rt, "report");
         return;
     };
     let answer = confirm(alloc, LIMITS, &mut Counted::new(text), &report);

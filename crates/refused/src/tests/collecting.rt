@@ -1,11 +1,10 @@
 //! The collector.
 
-use super::{TRIES, tell};
+use super::{TRIES, print_refused};
 use collect::{Collector, Report, write_report};
-use shard::Back;
 use std::alloc::Global;
 use std::process::Abort;
-use trace::{Access, Counted, Kind, Race};
+use trace::{Access, Back, Counted, Kind, Race};
 
 /// How many locations have a race.
 const LOCATIONS: u64 = 100;
@@ -29,7 +28,7 @@ pub fn take<R: Print + Abort>(rt: &R, collector: &mut Collector, race: Race) {
         if collector.take(Back::Race(race)).is_ok() {
             return;
         }
-        tell(rt, "take");
+        print_refused(rt, "take");
     }
     assert!(rt; false);
 }
@@ -38,7 +37,7 @@ pub fn finish<R: Print>(rt: &R, collector: Collector) -> Option<Report> {
     match collector.finish() {
         Ok(report) => Some(report),
         Err(_) => {
-            tell(rt, "finish");
+            print_refused(rt, "finish");
             None
         }
     }
@@ -62,7 +61,7 @@ fn take_report<R: Print + Abort>(rt: &R, collector: &mut Collector, report: &Rep
         if collector.take_report(report).is_ok() {
             return;
         }
-        tell(rt, "merge");
+        print_refused(rt, "merge");
     }
     assert!(rt; false);
 }

@@ -1,6 +1,6 @@
 //! Detection, in one thread and with threads.
 
-use super::{Hasher, Told, tell, told};
+use super::{Hasher, Reported, print_refused, reported};
 use collect::Report;
 use detect::{Plan, detect, detect_part, detect_plain, detect_plain_part};
 use shard::Open;
@@ -16,13 +16,13 @@ const LIMITS: Limits = Limits {
 };
 
 /// The rows. A call, since the proofs of the tests are shorter without them.
-fn all_rows() -> [(&'static [u8], &'static [Told]); 6] {
+fn all_rows() -> [(&'static [u8], &'static [Reported]); 6] {
     ROWS
 }
 
 /// Rows `write-write`, `sync-in-sibling`, `three-shards`, `call-mixed` and both of `call-sync-scopes`, with their
 /// races.
-const ROWS: [(&[u8], &[Told]); 6] = [
+const ROWS: [(&[u8], &[Reported]); 6] = [
     (
         b"trace 1\nspawn\nwrite 5\nreturn\nwrite 5\nreturn\n",
         &[(5, 2, 4)],
@@ -108,19 +108,19 @@ fn detect_part_in_one(alloc: Global, part: Part, bytes: &[u8]) -> Result<Report,
     )
 }
 
-fn assert_races<R: Abort>(rt: &R, report: &Report, races: &[Told]) {
+fn assert_races<R: Abort>(rt: &R, report: &Report, races: &[Reported]) {
     assert_eq!(rt; report.races().len(), races.len());
     for (race, wanted) in report.races().iter().zip(races) {
-        assert_eq!(rt; told(*race), *wanted);
+        assert_eq!(rt; reported(*race), *wanted);
     }
 }
 
 /// Either the report is that of the row, or the fault is a refusal.
-fn judge<R: Print + Abort>(rt: &R, found: Result<Report, Fault>, races: &[Told]) {
+fn judge<R: Print + Abort>(rt: &R, found: Result<Report, Fault>, races: &[Reported]) {
     match found {
         Ok(report) => assert_races(rt, &report, races),
-        Err(Fault::NoMemory) => tell(rt, "memory"),
-        Err(Fault::NoThread) => tell(rt, "thread"),
+        Err(Fault::NoMemory) => print_refused(rt, "memory"),
+        Err(Fault::NoThread) => print_refused(rt, "thread"),
         Err(_) => assert!(rt; false),
     }
 }
@@ -159,8 +159,8 @@ fn judge_faulty<R: Print + Abort>(rt: &R, fault: Option<Fault>) {
         kind: TextKind::Line,
     });
     match fault {
-        Some(Fault::NoMemory) => tell(rt, "memory"),
-        Some(Fault::NoThread) => tell(rt, "thread"),
+        Some(Fault::NoMemory) => print_refused(rt, "memory"),
+        Some(Fault::NoThread) => print_refused(rt, "thread"),
         _ => assert_eq!(rt; fault, Some(wanted)),
     }
 }

@@ -2,7 +2,7 @@
 ghost use Rattle.std.specs.Prelude.{◌≡◌};
 ghost use Rattle.lane.specs.Lanes.{lane_of};
 
-use super::tell;
+use super::print_refused;
 use lane::{Item, Sender, Taker, lane};
 use route::{Progress, Router};
 use std::alloc::Global;
@@ -68,10 +68,10 @@ fn router_calls<R: Abort>(rt: &R, alloc: Global, with: bool) -> Result<(), NoMem
 
 fn calls<R: Print + Abort>(rt: &R, alloc: Global, with: bool) {
     if lane_calls(rt, alloc, with).is_err() {
-        tell(rt, "lane");
+        print_refused(rt, "lane");
     }
     if router_calls(rt, alloc, with).is_err() {
-        tell(rt, "router");
+        print_refused(rt, "router");
     }
 }
 

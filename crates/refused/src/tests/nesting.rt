@@ -1,12 +1,12 @@
 //! Bags.
 
-use super::{TRIES, tell};
+use super::{TRIES, print_refused};
 use bags::Bags;
 use std::alloc::Global;
 use std::process::Abort;
 
 /// How many procedures one test has one after the other.
-const TURNS: u64 = 10_000;
+const ROUNDS: u64 = 10_000;
 
 fn numbers(bags: &Bags) -> (u64, u64, u64, u64) {
     (bags.current(), bags.count(), bags.active(), bags.held())
@@ -26,12 +26,12 @@ pub fn call<R: Print + Abort>(rt: &R, bags: &mut Bags) {
 fn enter_tried<R: Print + Abort>(rt: &R, bags: &mut Bags, is_called: bool) -> u32 {
     let before = numbers(bags);
     for tried in 0..TRIES {
-        assert!(rt; bags.count() <= TURNS);
+        assert!(rt; bags.count() <= ROUNDS);
         let entered = if is_called { bags.call() } else { bags.spawn() };
         if entered.is_ok() {
             return tried;
         }
-        tell(rt, if is_called { "call" } else { "spawn" });
+        print_refused(rt, if is_called { "call" } else { "spawn" });
         assert_eq!(rt; numbers(bags), before);
     }
     assert!(rt; false);
@@ -54,7 +54,7 @@ fn in_p<R: Abort>(rt: &R, bags: &Bags, procedure: u64) -> bool {
 /// returned procedure is parallel to its parent if it was spawned, and isn't if it was called.
 fn nest<R: Print + Abort>(rt: &R, alloc: Global, is_called: bool, with: bool) {
     let Ok(mut bags) = Bags::new(alloc) else {
-        tell(rt, "bags");
+        print_refused(rt, "bags");
         return;
     };
     for depth in 0..100u64 {
@@ -101,12 +101,12 @@ fn called_with(rt: HostRuntime) {
 /// A completed procedure leaves nothing: a refusal is met only before the third one.
 fn complete<R: Print + Abort>(rt: &R, alloc: Global, is_called: bool) {
     let Ok(mut bags) = Bags::new(alloc) else {
-        tell(rt, "bags");
+        print_refused(rt, "bags");
         return;
     };
-    for turn in 0..TURNS {
+    for round in 0..ROUNDS {
         let refused = enter_tried(rt, &mut bags, is_called);
-        assert!(rt; refused == 0 || turn < 2);
+        assert!(rt; refused == 0 || round < 2);
         ret(rt, &mut bags);
     }
 }
@@ -125,11 +125,11 @@ fn completed_calls(rt: HostRuntime) {
 /// root, and after a sync none is.
 fn alternate<R: Print + Abort>(rt: &R, alloc: Global, called_first: bool) {
     let Ok(mut bags) = Bags::new(alloc) else {
-        tell(rt, "bags");
+        print_refused(rt, "bags");
         return;
     };
-    for turn in 0..100u64 {
-        let is_called = (turn % 2 == 0) == called_first;
+    for round in 0..100u64 {
+        let is_called = (round % 2 == 0) == called_first;
         let _ = enter_tried(rt, &mut bags, is_called);
         ret(rt, &mut bags);
     }

@@ -3,7 +3,7 @@
 use super::collecting::{finish, take};
 use super::nesting::{call, ret, spawn};
 use super::touching::touch;
-use super::{Hasher, TRIES, Told, tell, told};
+use super::{Hasher, Reported, TRIES, print_refused, reported};
 use bags::Bags;
 use collect::{Collector, Report};
 use shadow::Shadow;
@@ -14,13 +14,13 @@ use trace::Record::{Call, Read, Return, Spawn, Sync, Write};
 use trace::{Kind, Placed, Race, Record};
 
 /// The rows. A call, since the proofs of the tests are shorter without them.
-fn all_rows() -> [(&'static [Record], Told); 5] {
+fn all_rows() -> [(&'static [Record], Reported); 5] {
     ROWS
 }
 
 /// Rows `two-readers-then-write`, `sync-in-sibling`, `three-writes`, `call-mixed` and the first of `call-sync-scopes`,
 /// and the race of each.
-const ROWS: [(&[Record], Told); 5] = [
+const ROWS: [(&[Record], Reported); 5] = [
     (
         &[
             Spawn,
@@ -110,7 +110,7 @@ fn step<R: Print + Abort>(
 /// the row's own spawns ask for memory too.
 fn by_parts<R: Print + Abort>(rt: &R, alloc: Global, records: &[Record]) -> Option<Report> {
     let Ok(mut bags) = Bags::new(alloc) else {
-        tell(rt, "bags");
+        print_refused(rt, "bags");
         return None;
     };
     for _ in 0..3 {
@@ -128,10 +128,10 @@ fn by_parts<R: Print + Abort>(rt: &R, alloc: Global, records: &[Record]) -> Opti
 }
 
 /// Asserts that this race is the only one.
-fn assert_race<R: Abort>(rt: &R, report: &Report, wanted: Told) {
+fn assert_race<R: Abort>(rt: &R, report: &Report, wanted: Reported) {
     let mut races = 0u64;
     for race in report.races() {
-        assert_eq!(rt; told(*race), wanted);
+        assert_eq!(rt; reported(*race), wanted);
         races = races.saturating_add(1);
     }
     assert_eq!(rt; races, 1);
@@ -154,16 +154,22 @@ fn apply<R: Print + Abort>(rt: &R, shard: &mut Shard<Hasher>, placed: Placed) ->
         if let Ok(race) = shard.apply(placed) {
             return race;
         }
-        tell(rt, "apply");
+        print_refused(rt, "apply");
         assert_eq!(rt; shard.taken().saturating_add(1), placed.place);
     }
     assert!(rt; false);
     None
 }
 
-fn by_shard<R: Print + Abort>(rt: &R, alloc: Global, records: &[Record], wanted: Told, with: bool) {
+fn by_shard<R: Print + Abort>(
+    rt: &R,
+    alloc: Global,
+    records: &[Record],
+    wanted: Reported,
+    with: bool,
+) {
     let Ok(mut shard) = Shard::new(alloc, 0, Hasher::default()) else {
-        tell(rt, "shard");
+        print_refused(rt, "shard");
         return;
     };
     let mut found = None;
@@ -171,7 +177,7 @@ fn by_shard<R: Print + Abort>(rt: &R, alloc: Global, records: &[Record], wanted:
         let (place, what) = (index as u64 + 1, *what);
         if let Some(race) = apply(rt, &mut shard, Placed { place, what }) {
             assert_eq!(rt; (found, race.second.place), (None, place));
-            found = Some(told(race));
+            found = Some(reported(race));
         }
         if with {
             assert_eq!(rt; shard.taken(), place);

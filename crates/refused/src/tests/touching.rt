@@ -1,6 +1,6 @@
 //! Shadow memory.
 
-use super::{Hasher, TRIES, tell, told};
+use super::{Hasher, TRIES, print_refused, reported};
 use bags::Bags;
 use shadow::Shadow;
 use std::alloc::Global;
@@ -23,7 +23,7 @@ fn try_touch<R: Print + Abort>(
     assert!(rt; before.0 < place && place <= 1 << 48 && before.1 <= bags.count());
     let touched = shadow.touch(bags, location, kind, place);
     if touched.is_err() {
-        tell(rt, "touch");
+        print_refused(rt, "touch");
         assert_eq!(rt; (shadow.last_place(), shadow.least_count()), before);
     }
     touched
@@ -83,7 +83,7 @@ fn write_again<R: Print + Abort>(
         if missed == Some(step) {
             assert_eq!(rt; race, None);
         } else {
-            assert_eq!(rt; race.map(told), Some((location, step + 2, place)));
+            assert_eq!(rt; race.map(reported), Some((location, step + 2, place)));
         }
     }
 }
@@ -91,7 +91,7 @@ fn write_again<R: Print + Abort>(
 fn child_and_parent<R: Print + Abort>(rt: &R, alloc: Global, again: bool, parent: bool) {
     let mut shadow = Shadow::with_hasher(alloc, Hasher::default());
     let Ok(mut bags) = Bags::new(alloc) else {
-        tell(rt, "bags");
+        print_refused(rt, "bags");
         return;
     };
     super::nesting::spawn(rt, &mut bags);

@@ -1,6 +1,6 @@
 //! A worker in one thread.
 
-use super::{Hasher, tell};
+use super::{Hasher, print_refused};
 use lane::{Item, Sender, lane};
 use shard::{Back, Open, Shard, work};
 use std::alloc::Global;
@@ -49,7 +49,7 @@ fn run<R: Print + Wait + Abort>(
     assert_eq!(rt; worked.shard.taken(), records.len() as u64);
     let first = back_taker.take();
     if first == Some(Item::One(Back::NoMemory)) {
-        tell(rt, "work");
+        print_refused(rt, "work");
     } else {
         assert!(rt; matches!(first, Some(Item::One(Back::Race(_)))));
     }
@@ -61,7 +61,7 @@ fn run<R: Print + Wait + Abort>(
 #[test]
 fn row(rt: HostRuntime) {
     if run(&rt, rt.alloc(), 16, &THREE_WRITES).is_err() {
-        tell(&rt, "making");
+        print_refused(&rt, "making");
     }
 }
 
@@ -73,6 +73,6 @@ fn more_than_a_block(rt: HostRuntime) {
         records[index] = THREE_WRITES[index];
     }
     if run(&rt, rt.alloc(), 128, &records).is_err() {
-        tell(&rt, "making");
+        print_refused(&rt, "making");
     }
 }

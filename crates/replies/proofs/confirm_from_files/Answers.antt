@@ -14,8 +14,8 @@ pub returns-in_default : goal.returns-in_default
 returns-in_default g c =
     let known = known_bytes g.F.Read.remaining in
     let P : ℕ → Type 0 = λ status. HasConfirmedOf (FnReturnsAt g.O.Fn c.args.opener.now) known c.args.confirm.now (g.W.Sink.state c.args.out.now ⇝ g.W.Sink.state c.refuse.new.out) (g.E.Sink.state c.args.err.now ⇝ g.E.Sink.state c.refuse.new.err) status in
-    let told = c.refuse.ensures.refused in
-    subst P (sym told.0) (report_unread (FnReturnsAt g.O.Fn c.args.opener.now) known c.args.confirm.now c.open-trace.result c.open_report-report.result (rw c.as_str.ensures.value at c.open-trace.ensures) (rw c.as_str-2.ensures.value at c.open_report-report.ensures) told.1 told.2)
+    let given = c.refuse.ensures.refused in
+    subst P (sym given.0) (report_unread (FnReturnsAt g.O.Fn c.args.opener.now) known c.args.confirm.now c.open-trace.result c.open_report-report.result (rw c.as_str.ensures.value at c.open-trace.ensures) (rw c.as_str-2.ensures.value at c.open_report-report.ensures) given.1 given.2)
 
 pub returns : goal.returns
 returns g c =

@@ -11,8 +11,8 @@ pub returns-in_default : goal.returns-in_default
 returns-in_default g c =
     let known = known_bytes g.F.Read.remaining in
     let P : ℕ → Type 0 = λ status. HasAnsweredOf (FnReturnsAt g.O.Fn c.args.opener.now) known c.args.question.now (g.W.Sink.state c.args.out.now ⇝ g.W.Sink.state c.refuse.new.out) (g.E.Sink.state c.args.err.now ⇝ g.E.Sink.state c.refuse.new.err) status in
-    let told = c.refuse.ensures.refused in
-    subst P (sym told.0) (trace_unread (FnReturnsAt g.O.Fn c.args.opener.now) known c.args.question.now c.open-trace.result (rw c.trace.ensures at c.open-trace.ensures) told.1 told.2)
+    let given = c.refuse.ensures.refused in
+    subst P (sym given.0) (trace_unread (FnReturnsAt g.O.Fn c.args.opener.now) known c.args.question.now c.open-trace.result (rw c.trace.ensures at c.open-trace.ensures) given.1 given.2)
 
 pub returns : goal.returns
 returns g c =

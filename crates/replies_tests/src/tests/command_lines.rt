@@ -39,7 +39,7 @@ fn helps(rt: HostRuntime) -> Result<(), Fail> {
 }
 
 #[test]
-fn tells_want_of_memory(rt: HostRuntime) {
+fn says_that_memory_lacks(rt: HostRuntime) {
     let mut out = Vec::new(rt.alloc());
     let mut err = Vec::new(rt.alloc());
     let status = refuse(

@@ -85,7 +85,7 @@ fn judge_front<T: Threads + Wait + Sync + Abort>(
     Ok(())
 }
 
-// What came before a call that fails is judged first; here all bytes come, and the call fails that would tell the end.
+// What came before a call that fails is judged first; here all bytes come, and the call fails that would show the end.
 #[test]
 fn judges_what_came_before(rt: HostRuntime) -> Result<(), Fail> {
     for (trace, want) in [
@@ -163,7 +163,7 @@ fn fill_output<T: Threads + Wait + Sync + Abort>(
 }
 
 #[test]
-fn tells_a_full_output(rt: HostRuntime) -> Result<(), Fail> {
+fn says_that_the_output_is_full(rt: HostRuntime) -> Result<(), Fail> {
     for (line, answer) in [
         ("check -", "races 1\nrace 3 write 2 write 5\n"),
         (
@@ -197,7 +197,7 @@ fn fill_with_help<T: Abort>(rt: &T, alloc: Global, fault: &WordsFault, front: &[
 
 // A full standard error changes nothing else, and help may fail too.
 #[test]
-fn tells_a_full_output_of_help(rt: HostRuntime) -> Result<(), Fail> {
+fn says_that_the_output_of_help_is_full(rt: HostRuntime) -> Result<(), Fail> {
     let fault = WordsFault::Help(String::from_str(rt.alloc(), "a text")?);
     for (bytes, error) in [(3, Some(ErrorKind::StorageFull)), (3, None), (6, None)] {
         let (front, _) = b"a text".split_at(bytes);

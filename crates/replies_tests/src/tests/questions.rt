@@ -293,7 +293,7 @@ const BAD_REPORTS: [(&str, u64); 9] = [
     ("races 1\nrace 5 write 2 write 4\nx", 3),
 ];
 
-// Asserts which line of these reports is told, whether or not the trace is one.
+// Asserts which line of these reports is said, whether or not the trace is one.
 fn refuse_reports<T: Threads + Wait + Sync + Abort>(
     rt: &T,
     alloc: Global,
@@ -318,7 +318,7 @@ fn refuses_bad_reports_first(rt: HostRuntime) -> Result<(), Fail> {
     Ok(())
 }
 
-// A report may have 67108864 bytes. These are no report's text, and that is told only where they are no more.
+// A report may have 67108864 bytes. These are no report's text, and that is said only where they are no more.
 #[test]
 fn refuses_a_large_report_first(rt: HostRuntime) -> Result<(), Fail> {
     for (left, want) in [

@@ -283,7 +283,7 @@ const FAULTS: [(&str, &str, &str); 32] = [
     ),
 ];
 
-// Asserts what is told of these faults, in each way.
+// Asserts what is said of these faults, in each way.
 fn name_faults<T: Threads + Wait + Sync + Abort>(
     rt: &T,
     alloc: Global,
@@ -334,7 +334,7 @@ fn flooded(alloc: Global) -> Result<String, AllocError> {
 }
 
 #[test]
-fn tells_a_thousand_races(rt: HostRuntime) -> Result<(), Fail> {
+fn reports_a_thousand_races(rt: HostRuntime) -> Result<(), Fail> {
     let text = flood(rt.alloc())?;
     let want = flooded(rt.alloc())?;
     for line in FLOODED {
@@ -345,7 +345,7 @@ fn tells_a_thousand_races(rt: HostRuntime) -> Result<(), Fail> {
 }
 
 #[test]
-fn tells_nothing_of_races_before_a_fault(rt: HostRuntime) -> Result<(), Fail> {
+fn reports_no_race_before_a_fault(rt: HostRuntime) -> Result<(), Fail> {
     let text = flood(rt.alloc())?;
     let (text, _) = text.split_at(text.len() - b"return\n".len().min(text.len()));
     for line in FLOODED {

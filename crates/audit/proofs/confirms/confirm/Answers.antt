@@ -1,5 +1,5 @@
 use Rattle.std.proofs.Common.{List, refl, subst}
-use Rattle.trace.specs.Accesses.{RaceAt}
+use Rattle.dag.specs.Accesses.{RaceAt}
 use Rattle.trace.proofs.Endings.{ends_refused, refused_for_want}
 use Rattle.audit.specs.Entries.{HasConfirmed}
 use Rattle.audit.proofs.ConfirmLemmas.{answer_of}

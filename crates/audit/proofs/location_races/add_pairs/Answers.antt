@@ -1,6 +1,6 @@
 use Rattle.std.proofs.Common.{◌≡◌, ◌+◌, ℕ, List, length, subst, sym, ◌∙◌, ap, arith}
 use Rattle.std.proofs.lemmas.Option.{slice_get-get_or}
-use Rattle.trace.specs.declared.records.Access.{Access}
+use Rattle.dag.specs.declared.records.Access.{Access}
 use Rattle.audit.specs.Pairing.{AddsPairs}
 use Rattle.audit.proofs.PairLemmas.{adds_pair, adds_no_read, adds_no_parallel}
 use Rattle.audit.proofs.location_races.add_pairs.Goals as goal

@@ -6,16 +6,16 @@ use Rattle.bags.specs.Search.{first_at, IsAscending, IsKeeper, IsStart}
 use Rattle.bags.specs.Stretch.{Stretch}
 use Rattle.bags.specs.Stretches.{stretches}
 use Rattle.bags.specs.Held.{procedures_of, AreHeld}
-use Rattle.bags.proofs.BagPaths.{in_p-tells}
+use Rattle.bags.proofs.BagPaths.{in_p-decides}
 use Rattle.bags.proofs.Counting.{length-stretches}
 use Rattle.bags.proofs.Cuts.{all_ascend, first_at_root, in_p-keeper}
 use Rattle.bags.proofs.Segments.{ascending}
 use Rattle.bags.proofs.Bags.in_p_counted.Goals as goal
 
--- the keeper tells its procedure's bag
-told : (count : ℕ) (ss : List Stretch) (nested : List Nested) (now : Procedures) (p : ℕ) (s : Stretch) → AreHeld count ss nested → procedures_of count ss nested ≡ now → p < now.count
+-- the keeper decides its procedure's bag
+decided : (count : ℕ) (ss : List Stretch) (nested : List Nested) (now : Procedures) (p : ℕ) (s : Stretch) → AreHeld count ss nested → procedures_of count ss nested ≡ now → p < now.count
     → IsKeeper ss p s → s.is_parallel ≡ in_p now.active p
-told count ss nested now p s held view known k =
+decided count ss nested now p s held view known k =
     let same : count ≡ now.count = ap (λ (q : Procedures). q.count) view in
     ap (λ (t : Stretch). t.is_parallel) k.is
     ∙ in_p-keeper count ss nested k.index p s held k.within (omega arith) k.not_above k.next_above
@@ -37,11 +37,11 @@ look_up-keeper-requires-clause-first c =
 pub returns-clause-bags : goal.returns-clause-bags
 returns-clause-bags c =
     c.is_parallel.ensures
-    ∙ told c.self.inside.count c.self.inside.stretches.items c.self.inside.nested.items c.args.self.now c.args.procedure c.look_up-keeper.result.0 c.self.invariant.held c.self.view_is c.requires
+    ∙ decided c.self.inside.count c.self.inside.stretches.items c.self.inside.nested.items c.args.self.now c.args.procedure c.look_up-keeper.result.0 c.self.invariant.held c.self.view_is c.requires
     (subst (λ (ss : List Stretch). IsKeeper ss c.args.procedure c.look_up-keeper.result.0) c.deref.ensures.value c.look_up-keeper.ensures.keeper)
 
 pub returns-clause-paths : goal.returns-clause-paths
-returns-clause-paths c = in_p-tells c.args.self.now c.args.procedure _ (returns-clause-bags c)
+returns-clause-paths c = in_p-decides c.args.self.now c.args.procedure _ (returns-clause-bags c)
 
 pub returns-clause-probes : goal.returns-clause-probes
 returns-clause-probes c =

@@ -1,5 +1,5 @@
 use Rattle.std.proofs.Common.{ap, ◌∙◌, ◌≡◌, ◌+◌, ◌-◌, ◌<◌, ◌++◌, ◌∷◌, [], ℕ, Bool, not, length, take, get_or, subst, sym, List, Some, arith}
-use Rattle.trace.specs.declared.records.Record.TheVariants.{Return}
+use Rattle.dag.specs.declared.records.Record.TheVariants.{Return}
 use Rattle.std.proofs.lemmas.List.{length-append, length-take-le}
 use Rattle.bags.specs.Nested.{Nested}
 use Rattle.bags.specs.Search.{IsStart}

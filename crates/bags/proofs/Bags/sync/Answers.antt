@@ -1,5 +1,5 @@
 use Rattle.std.proofs.Common.{ap, ◌∙◌, ◌≡◌, ◌+◌, ◌-◌, ℕ, length, take, get_or, subst, sym, List, arith}
-use Rattle.trace.specs.declared.records.Record.TheVariants.{Sync}
+use Rattle.dag.specs.declared.records.Record.TheVariants.{Sync}
 use Rattle.std.proofs.lemmas.List.{length-take-le}
 use Rattle.bags.specs.Nested.{Nested}
 use Rattle.bags.specs.Search.{IsStart}

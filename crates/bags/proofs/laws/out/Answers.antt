@@ -1,4 +1,4 @@
-use Rattle.trace.proofs.Paths.{one_way_out}
+use Rattle.dag.proofs.Paths.{one_way_out}
 use Rattle.bags.proofs.laws.out.Goals as goal
 
 pub returns : goal.returns

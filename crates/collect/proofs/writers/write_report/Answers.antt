@@ -1,5 +1,5 @@
 use Rattle.std.proofs.Common.{◌≡◌, Err, length, subst, rules}
-use Rattle.trace.specs.Accesses.{RaceAt}
+use Rattle.dag.specs.Accesses.{RaceAt}
 use Rattle.trace.specs.Devices.{◌⇝◌}
 use Rattle.trace.specs.Writers.{Took, TookFront}
 use Rattle.collect.specs.ReportText.{head, race_line, race_lines}

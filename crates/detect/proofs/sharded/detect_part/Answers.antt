@@ -1,5 +1,5 @@
 use Rattle.std.proofs.Common.{◌≡◌, ◌≤◌, ℕ, inl, refl, sym, ◌∙◌, vec_len, subst, arith, rules}
-use Rattle.trace.specs.declared.records.Part.{Part}
+use Rattle.dag.specs.declared.part.Part.{Part}
 use Rattle.trace.specs.Devices.{◌⇝◌}
 use Rattle.trace.specs.Endings.{EndsReading, IsWantOfMemoryOrThread}
 use Rattle.trace.proofs.Endings.{ends_refused, refused_for_want}
@@ -8,7 +8,8 @@ use Rattle.detect.specs.RunFinds.{RunFindsPart}
 use Rattle.detect.proofs.Endings.{trace_of, refusal_of}
 use Rattle.detect.proofs.RunDone.{room_if}
 use Rattle.detect.proofs.RunAnswers.{run_ends}
-use Rattle.detect.proofs.PartReports.{fit_part, part_ends}
+use Rattle.serial.proofs.PartReports.{fit_part}
+use Rattle.detect.proofs.PartReports.{part_ends}
 use Rattle.detect.proofs.sharded.detect_part.Goals as goal
 
 pub close-requires-clause-room : goal.close-requires-clause-room

@@ -1,5 +1,5 @@
-use Rattle.texts.specs.declared.reports.ReportRefusal.TheVariants as refusals
-use Rattle.texts.proofs.Refusals.{refused_for}
+use Rattle.collect.specs.declared.bounded.ReportRefusal.TheVariants as refusals
+use Rattle.collect.proofs.Refusals.{refused_for}
 use Rattle.trace.specs.Devices.{◌⇝◌}
 use Rattle.replies.specs.Inputs.{known_bytes, untried}
 use Rattle.replies.proofs.merges.take_report.Goals as goal

@@ -1,5 +1,5 @@
 use Rattle.std.proofs.Common.{List, refl, sym, subst}
-use Rattle.trace.specs.declared.records.Access.{Access}
+use Rattle.dag.specs.declared.records.Access.{Access}
 use Rattle.audit.specs.Pairs.{ArePairs}
 use Rattle.texts.specs.Texts.{pairs_text}
 use Rattle.replies.proofs.Statuses.{pairs_one}

@@ -1,27 +1,27 @@
 use Rattle.std.proofs.Common.{◌≡◌, ℕ, [], List, ⊎_elim, sym, ap, subst, ◌∙◌, append-nil, true, arith}
-use Rattle.trace.specs.declared.records.Placed.{Placed}
-use Rattle.trace.specs.Shares.{goes_placed}
+use Rattle.dag.specs.declared.records.Placed.{Placed}
+use Rattle.dag.specs.Shares.{goes_placed}
 use Rattle.route.specs.declared.router.Router.{Router}
 use Rattle.route.specs.Sending.{put_on}
 use Rattle.route.specs.Routed.{IsRising, in_hand}
-use Rattle.route.specs.Routers.{puts_of, lane_count, pending_of, turn_of, marked_of, HasSent}
+use Rattle.route.specs.Routers.{puts_of, lane_count, pending_of, next_of, marked_of, HasSent}
 use Rattle.route.proofs.Headline.{takes_share}
 use Rattle.route.proofs.LaneShares.{IsUnderWay, Outcome, outcome, routes_of, has_routed, list_of}
 use Rattle.route.proofs.RouterRuns.{counted, router_run, router_puts, router_still}
 use Rattle.route.proofs.laws.routers.Goals as goal
 
-under_way : (r : Router) (w : List Placed) → HasSent w r → IsRising (in_hand w (pending_of r)) → IsUnderWay (lane_count r) (put_on (puts_of r)) w (turn_of r) (pending_of r) (marked_of r)
+under_way : (r : Router) (w : List Placed) → HasSent w r → IsRising (in_hand w (pending_of r)) → IsUnderWay (lane_count r) (put_on (puts_of r)) w (next_of r) (pending_of r) (marked_of r)
 under_way r w sent rising = record {
   some = omega (arith, counted r, r.some);
   rising = rising;
-  within = λ p e. omega (arith, counted r, r.turn);
+  within = λ p e. omega (arith, counted r, r.next_within);
   aimed = λ p e. let P : ℕ → Type 0 = λ n. goes_placed r.next n p ≡ true in subst P (counted r) (r.aimed p e);
   unmarked = r.unmarked;
   sent = sent;
 }
 
 of_router : (r : Router) (w : List Placed) → HasSent w r → IsRising (in_hand w (pending_of r)) → Outcome (lane_count r) (put_on (puts_of r)) w (pending_of r)
-of_router r w sent rising = outcome (lane_count r) (put_on (puts_of r)) w (turn_of r) (pending_of r) (marked_of r) (under_way r w sent rising)
+of_router r w sent rising = outcome (lane_count r) (put_on (puts_of r)) w (next_of r) (pending_of r) (marked_of r) (under_way r w sent rising)
 
 pub returns-clause-routed : goal.returns-clause-routed
 returns-clause-routed c = λ r w sent rising. has_routed (lane_count r) (put_on (puts_of r)) w (in_hand w (pending_of r)) (pending_of r) (of_router r w sent rising) ([], sym (append-nil (in_hand w (pending_of r))))

@@ -1,5 +1,5 @@
 use Rattle.std.proofs.Common.{codes, subst}
-use Rattle.trace.specs.Accesses.{RaceAt}
+use Rattle.dag.specs.Accesses.{RaceAt}
 use Rattle.trace.specs.Devices.{◌⇝◌}
 use Rattle.trace.specs.Writers.{Puts}
 use Rattle.texts.specs.Texts.{side_line}

@@ -1,5 +1,5 @@
 use Rattle.std.proofs.Common.{◌≡◌, ◌++◌, Err, codes, subst, rules}
-use Rattle.trace.specs.Accesses.{RaceAt}
+use Rattle.dag.specs.Accesses.{RaceAt}
 use Rattle.trace.specs.Devices.{◌⇝◌}
 use Rattle.trace.specs.Writers.{TookFront, Puts}
 use Rattle.collect.specs.ReportText.{access_text, race_line}

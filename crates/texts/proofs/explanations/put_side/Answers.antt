@@ -7,10 +7,10 @@ use Rattle.texts.specs.Texts.{opener_text}
 use Rattle.collect.proofs.Takings.{front_more, took_line, front_line, puts_after}
 use Rattle.texts.proofs.explanations.put_side.Goals as goal
 
-pub returns-in_err-put : goal.returns-in_err-put
-returns-in_err-put g c =
-    let failed : c.from_residual.result ≡ Err c.in_err-put.field-0.0 = search rules in
-    rw failed (front_more _ (front_more _ c.in_err-put.ensures))
+pub returns-in_err-put_all : goal.returns-in_err-put_all
+returns-in_err-put_all g c =
+    let failed : c.from_residual.result ≡ Err c.in_err-put_all.field-0.0 = search rules in
+    rw failed (front_more _ (front_more _ c.in_err-put_all.ensures))
 
 pub returns-in_err-put_opener : goal.returns-in_err-put_opener
 returns-in_err-put_opener g c =

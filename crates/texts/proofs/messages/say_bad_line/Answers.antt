@@ -1,5 +1,4 @@
-use Rattle.std.proofs.Common.{◌≡◌, ℕ, ◌-◌, ◌<◌, ◌≤◌, ◌^◌, List, ◌++◌, length, take, drop, codes, decimal, arith, ap, ◌∙◌, append_assoc, length-append, length-drop}
-use Rattle.std.proofs.lemmas.List.{take_all}
+use Rattle.std.proofs.Common.{◌≡◌, ℕ, ◌<◌, ◌≤◌, ◌^◌, List, ◌++◌, length, codes, decimal, arith, ap, ◌∙◌, append_assoc, length-append}
 use Rattle.trace.proofs.SpelledLines.{length-decimal-20}
 use Rattle.collect.proofs.Takings.{given_as}
 use Rattle.texts.proofs.messages.say_bad_line.Goals as goal
@@ -13,20 +12,17 @@ length-ending line h =
     let digits = length-decimal-20 line h in
     omega (arith, length-append (codes " line " ++ decimal line) (codes ": bad\n"), length-append (codes " line ") (decimal line))
 
-built_ending : (start line : ℕ) (bytes : List ℕ) → length bytes ≡ 72 → drop start bytes ≡ ending line → take (72 - start) (drop start bytes) ≡ ending line
-built_ending start line bytes long built = take_all (72 - start) (drop start bytes) (omega (arith, length-drop start bytes)) ∙ built
-
 in_parts : (head number word line rest : List ℕ) → head ++ number ++ (word ++ line ++ rest) ≡ head ++ number ++ word ++ line ++ rest
 in_parts head number word line rest = simp append_assoc
 
 pub say_at-requires-clause-ending : goal.say_at-requires-clause-ending
 say_at-requires-clause-ending g c =
-    let built = built_ending c.build_line-start.result c.args.line c.build_line-start.new.bytes c.build_line-start.array_long c.build_line-start.ensures.built in
+    let built : c.as_bytes.result.now ≡ ending c.args.line = c.as_bytes.ensures ∙ c.line_of-ending.ensures in
     omega (arith, ap length built, length-ending c.args.line c.ranges.line.fits)
 
 pub returns : goal.returns
 returns g c =
-    let built = built_ending c.build_line-start.result c.args.line c.build_line-start.new.bytes c.build_line-start.array_long c.build_line-start.ensures.built in
+    let built : c.as_bytes.result.now ≡ ending c.args.line = c.as_bytes.ensures ∙ c.line_of-ending.ensures in
     let number = decimal c.args.number in
     let whole = ap (λ l. codes "spbags: report " ++ number ++ l) built ∙ in_parts (codes "spbags: report ") number (codes " line ") (decimal c.args.line) (codes ": bad\n") in
     given_as whole c.say_at.ensures

@@ -1,5 +1,5 @@
 use Rattle.std.proofs.Common.{◌≡◌, sym, subst, arith}
-use Rattle.trace.specs.declared.records.Version.TheVariants.{Two}
+use Rattle.dag.specs.declared.records.Version.TheVariants.{Two}
 use Rattle.trace.specs.Text.{HasCalls}
 use Rattle.trace.proofs.Fronts.{first_four, take_five}
 use Rattle.trace.proofs.lines.call_of.Goals as goal

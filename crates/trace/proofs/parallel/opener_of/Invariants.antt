@@ -1,5 +1,5 @@
 use Rattle.std.proofs.Common.{◌-◌, ◌<◌}
-use Rattle.trace.proofs.Openers.{Backs}
+use Rattle.dag.proofs.Openers.{Backs}
 use Rattle.trace.proofs.parallel.opener_of.Given as goal
 
 -- what the walk back knows before its step

@@ -1,5 +1,5 @@
 use Rattle.std.proofs.Common.{◌≤◌, ℕ, [], ◌∷◌, ◌++◌, refl, sym, ap, subst, ◌∙◌, arith, length-append}
-use Rattle.trace.specs.Bounds.{most_records}
+use Rattle.dag.specs.Bounds.{most_records}
 use Rattle.trace.specs.Devices.{Change, ◌⇝◌}
 use Rattle.trace.specs.Feeding.{Feeding, HasFed, IsWhole}
 use Rattle.trace.specs.Endings.{IsWantOfMemory}
@@ -41,8 +41,8 @@ returns-in-None g c =
       says = i.seen;
     }
 
-pub take-requires : goal.take-requires
-take-requires g c =
+pub see-requires : goal.see-requires
+see-requires g c =
     let i = c.records.invariant in
     let change : Change = g.R.Source.state c.records.source ⇝ g.R.Source.state c.next_from.new.source in
     let next = given_next _ _ _ _ change _ _ _ c.in-Some.is (c.in_ok-next_from.ensures.fed i.trace i.came i.fed).2 in
@@ -68,7 +68,7 @@ records-preserved g c =
       came = i.came ++ fed.0;
       gave = consumes_more _ _ _ i.came fed.0 i.gave fed.1;
       fed = next.1;
-      seen = c.in_ok-take-in-Some.ensures _ i.trace i.seen (record { place_is = next.0; to_limit = limit });
+      seen = c.in_ok-see-in-Some.ensures _ i.trace i.seen (record { place_is = next.0; to_limit = limit });
       steady = next.2 ∙ i.steady;
       records = c.next_from.ensures.limits.records ∙ i.records;
       depths = c.next_from.ensures.limits.depths ∙ i.depths;

@@ -1,5 +1,5 @@
 use Rattle.std.proofs.Common.{◌-◌, ◌≡◌, ℕ, List}
-use Rattle.trace.specs.declared.records.Record.{Record}
+use Rattle.dag.specs.declared.records.Record.{Record}
 use Rattle.trace.specs.Devices.{◌⇝◌, Gave, IsSteady}
 use Rattle.trace.specs.Feeding.{HasFed}
 use Rattle.trace.proofs.watching.read_to_end.Given as goal

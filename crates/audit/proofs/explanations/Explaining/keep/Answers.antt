@@ -1,7 +1,7 @@
 use Rattle.std.proofs.Common.{◌≡◌, true, Some, refl, sym, ◌∙◌}
 use Rattle.audit.specs.declared.explanations.Trail.{Trail}
 use Rattle.audit.specs.declared.explanations.Explaining.{Explaining}
-use Rattle.audit.specs.Explaining.{TellsNow}
+use Rattle.audit.specs.Explaining.{DecidesNow}
 use Rattle.audit.proofs.ExplainLemmas.{some_of, none_of, keeps_write, keeps_no_read, keeps_this_read}
 use Rattle.audit.proofs.explanations.Explaining.keep.Goals as goal
 
@@ -14,7 +14,7 @@ returns-in_ok-trail_at-in-Write-clause-keeps c =
 pub returns-in-Read-clause-keeps : goal.returns-in-Read-clause-keeps
 returns-in-Read-clause-keeps c =
     let s : Explaining = c.args.self.now in
-    let y = some_of (λ r. r.now) (λ x. (s.kept_reader ≡ Some x) × TellsNow s.meetings true x) c.if_parallel.result (sym c.is_some.ensures ∙ c.if-is_some.true) c.if_parallel.ensures.parallel in
+    let y = some_of (λ r. r.now) (λ x. (s.kept_reader ≡ Some x) × DecidesNow s.meetings true x) c.if_parallel.result (sym c.is_some.ensures ∙ c.if-is_some.true) c.if_parallel.ensures.parallel in
     keeps_no_read s c.args.access s c.in-Read.is refl y.0 y.1.0 y.1.1 refl
 
 pub returns-in_ok-trail_at-in-Read-2-clause-keeps : goal.returns-in_ok-trail_at-in-Read-2-clause-keeps

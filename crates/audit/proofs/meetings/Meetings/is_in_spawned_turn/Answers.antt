@@ -2,7 +2,7 @@ use Rattle.std.proofs.Common.{◌≤◌, List, length, nat_lt, refl, arith, rule
 use Rattle.std.proofs.lemmas.List.Sorted.{IsPartitionPoint-from_clause}
 use Rattle.std.proofs.lemmas.Option.{slice_get_read}
 use Rattle.audit.specs.declared.meetings.Turn.{Turn}
-use Rattle.audit.proofs.MeetingLemmas.{IsTurnCount, told_turn, told_no_turn}
+use Rattle.audit.proofs.MeetingLemmas.{IsTurnCount, decided_turn, decided_no_turn}
 use Rattle.audit.proofs.meetings.Meetings.is_in_spawned_turn.Goals as goal
 
 pub returns-in-Some : goal.returns-in-Some
@@ -11,7 +11,7 @@ returns-in-Some c =
     let within : c.partition_point-begun.result ≤ length ts = rw c.deref.ensures.value at c.partition_point-begun.ensures.bound in
     let count : IsTurnCount ts c.args.place c.partition_point-begun.result = (λ sorted. IsPartitionPoint-from_clause (λ (x : Turn). nat_lt x.opened c.args.place) ts c.partition_point-begun.result (rw c.deref.ensures.value at c.partition_point-begun.ensures.partitioned) sorted
     (λ a r f called. search rules)) in
-    told_turn ts c.args.place c.partition_point-begun.result c.in-Some.last c.index.result.now within count (omega (arith, c.in-Some.ensures))
+    decided_turn ts c.args.place c.partition_point-begun.result c.in-Some.last c.index.result.now within count (omega (arith, c.in-Some.ensures))
     (slice_get_read ts _ _ _ refl (omega (arith, c.in-Some.ensures)) c.index.ensures)
 
 pub returns-in-None : goal.returns-in-None
@@ -20,4 +20,4 @@ returns-in-None c =
     let within : c.partition_point-begun.result ≤ length ts = rw c.deref.ensures.value at c.partition_point-begun.ensures.bound in
     let count : IsTurnCount ts c.args.place c.partition_point-begun.result = (λ sorted. IsPartitionPoint-from_clause (λ (x : Turn). nat_lt x.opened c.args.place) ts c.partition_point-begun.result (rw c.deref.ensures.value at c.partition_point-begun.ensures.partitioned) sorted
     (λ a r f called. search rules)) in
-    told_no_turn ts c.args.place c.partition_point-begun.result _ within count (omega (arith, c.in-None.ensures))
+    decided_no_turn ts c.args.place c.partition_point-begun.result _ within count (omega (arith, c.in-None.ensures))

@@ -1,8 +1,8 @@
 use Rattle.std.proofs.Common.{◌≡◌, ℕ, suc, ◌<◌, List, ◌∷◌, ◌++◌, map, length, get_or, take, drop, ap, sym, ◌∙◌, subst, take-append-drop, drop-cons}
-use Rattle.shard.specs.declared.Back.{Back}
-use Rattle.shard.specs.declared.Back.TheVariants.{Race}
-use Rattle.trace.specs.Accesses.{RaceAt}
-use Rattle.collect.specs.Collected.{IsFirstOnLocation, IsTakenInPart, Kept, KeepsBest}
+use Rattle.dag.specs.declared.back.Back.{Back}
+use Rattle.dag.specs.declared.back.Back.TheVariants.{Race}
+use Rattle.dag.specs.Accesses.{RaceAt}
+use Rattle.collect.specs.Collected.{IsFirstOnLocation, IsTakenInPart, Collection, KeepsBest}
 use Rattle.collect.proofs.Kept.{on_err}
 use Rattle.collect.proofs.collectors.Collector.take_report.Goals as goal
 
@@ -10,7 +10,7 @@ cut_at : (rs : List RaceAt) (i : ℕ) (r : RaceAt) → i < length rs → r ≡ g
 cut_at rs i r h e = sym (take-append-drop i rs) ∙ ap (λ l. take i rs ++ l) (drop-cons rs i r h ∙ ap (λ x. x ∷ drop (suc i) rs) (sym e))
 
 -- the races before place i were taken, and then the growth for the race there was refused
-taken_in_part : (report races : List RaceAt) (i : ℕ) (r : RaceAt) (c m d : Kept) → races ≡ report → i < length races → r ≡ get_or races i r → d ≡ m
+taken_in_part : (report races : List RaceAt) (i : ℕ) (r : RaceAt) (c m d : Collection) → races ≡ report → i < length races → r ≡ get_or races i r → d ≡ m
     → ((g : List Back) → KeepsBest g c → KeepsBest (g ++ map Race (take i report)) m) → IsFirstOnLocation m (Race r) → IsTakenInPart report c d
 taken_in_part report races i r c m d same h e unchanged took first =
     let at : i < length report = subst (λ (rs : List RaceAt). i < length rs) same h in
@@ -20,8 +20,8 @@ taken_in_part report races i r c m d same h e unchanged took first =
       refused_at = r;
       after = drop (suc i) report;
       came = cut_at report i r at is;
-      took = subst (λ (k : Kept). (g : List Back) → KeepsBest g c → KeepsBest (g ++ map Race (take i report)) k) (sym unchanged) took;
-      is_first = subst (λ (k : Kept). IsFirstOnLocation k (Race r)) (sym unchanged) first;
+      took = subst (λ (k : Collection). (g : List Back) → KeepsBest g c → KeepsBest (g ++ map Race (take i report)) k) (sym unchanged) took;
+      is_first = subst (λ (k : Collection). IsFirstOnLocation k (Race r)) (sym unchanged) first;
     }
 
 pub returns-in_err-keep-clause-err : goal.returns-in_err-keep-clause-err

@@ -1,6 +1,6 @@
 use Rattle.std.proofs.Common.{◌≡◌, ℕ, suc, ◌+◌, ◌<◌, ◌≤◌, ◌^◌, List, length, set, get_or, sym, ap, ap₂, subst, ◌∙◌, arith}
-use Rattle.trace.specs.Accesses.{RaceAt}
-use Rattle.trace.specs.Parts.{location_at}
+use Rattle.dag.specs.Accesses.{RaceAt}
+use Rattle.dag.specs.Parts.{location_at}
 use Rattle.collect.specs.Reports.{IsReportList}
 use Rattle.collect.specs.Located.{located_at}
 use Rattle.collect.proofs.Located.{partly, partly-all, partly-next, partly-set, has_location, list-located}

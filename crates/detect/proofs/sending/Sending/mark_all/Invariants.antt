@@ -1,5 +1,5 @@
 use Rattle.std.proofs.Common.{◌≡◌, List, None}
-use Rattle.trace.specs.declared.records.Placed.{Placed}
+use Rattle.dag.specs.declared.records.Placed.{Placed}
 use Rattle.route.specs.Routers.{pending_of, HasSent}
 use Rattle.detect.specs.Sent.{GoesOn}
 use Rattle.detect.proofs.sending.Sending.mark_all.Given as goal

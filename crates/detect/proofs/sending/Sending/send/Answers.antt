@@ -1,5 +1,5 @@
-use Rattle.trace.specs.Parts.{records_of}
-use Rattle.detect.proofs.PartRecords.{sent_some, sent_none}
+use Rattle.dag.specs.Parts.{records_of}
+use Rattle.detect.proofs.PartSent.{sent_some, sent_none}
 use Rattle.detect.proofs.sending.Sending.send.Goals as goal
 
 pub returns-in-Some-clause-sent : goal.returns-in-Some-clause-sent

@@ -1,13 +1,13 @@
 use Rattle.std.proofs.Common.{rules, ◌≡◌, ℕ, List, [], ◌∷◌, ◌++◌, refl, sym, ap, subst, ◌∙◌, arith, length-append}
-use Rattle.trace.specs.declared.records.Placed.{Placed}
-use Rattle.trace.specs.Traces.{placed}
-use Rattle.trace.specs.Parts.{records_of}
+use Rattle.dag.specs.declared.records.Placed.{Placed}
+use Rattle.dag.specs.Traces.{placed}
+use Rattle.dag.specs.Parts.{records_of}
 use Rattle.trace.specs.Devices.{Change, ◌⇝◌}
 use Rattle.trace.specs.Endings.{IsWantOfMemory}
 use Rattle.trace.specs.Feeding.{Feeding, HasFed, IsWhole}
 use Rattle.trace.proofs.Feedings.{consumes_none, consumes_more, fed_none, at_limits}
 use Rattle.trace.proofs.Endings.{ends_refused, refused_by_fault, given_next, given_end}
-use Rattle.detect.proofs.Detected.{placed-next}
+use Rattle.serial.proofs.Detected.{placed-next}
 use Rattle.route.specs.declared.router.Router.{Router}
 use Rattle.route.specs.Routers.{HasSent}
 use Rattle.detect.proofs.Sendings.{goes_on_refl, goes_on_trans, goes_on_router, same_part}
@@ -54,14 +54,14 @@ records-preserved-in-Some g c =
       depths = c.next_known.ensures.limits.depths ∙ i.depths;
     }
 
-pub returns-in_err-next_from-in-None-clause-sent : goal.returns-in_err-next_from-in-None-clause-sent
-returns-in_err-next_from-in-None-clause-sent g c =
+pub returns-in_err-read_on-in-None-clause-sent : goal.returns-in_err-read_on-in-None-clause-sent
+returns-in_err-read_on-in-None-clause-sent g c =
     let i = c.records.invariant in
     let same : c.next_known.new.self ≡ c.records.intake = search rules in
     let kept : HasFed i.trace i.came c.next_known.new.self = subst (HasFed i.trace i.came) (sym same) i.fed in
-    let fed = c.in_err-next_from-in-None.ensures.fed i.trace i.came kept in
+    let fed = c.in_err-read_on-in-None.ensures.fed i.trace i.came kept in
     ends_refused _ _ _ _ _ _ _ c.from_residual.ensures.1
-    (refused_by_fault IsWantOfMemory _ _ _ _ (g.R.Source.state c.args.source.now) (g.R.Source.state c.records.source) (g.R.Source.state c.next_from.new.source) i.came fed.0 _
+    (refused_by_fault IsWantOfMemory _ _ _ _ (g.R.Source.state c.args.source.now) (g.R.Source.state c.records.source) (g.R.Source.state c.read_on.new.source) i.came fed.0 _
     (c.next_known.ensures.limits.records ∙ i.records) (c.next_known.ensures.limits.depths ∙ i.depths) i.steady i.gave fed.1 fed.2.0)
 
 pub returns-in-None-2-clause-sent : goal.returns-in-None-2-clause-sent
@@ -69,10 +69,10 @@ returns-in-None-2-clause-sent g c =
     let i = c.records.invariant in
     let same : c.next_known.new.self ≡ c.records.intake = search rules in
     let kept : HasFed i.trace i.came c.next_known.new.self = subst (HasFed i.trace i.came) (sym same) i.fed in
-    let fed = c.in_ok-next_from-in-None.ensures.fed i.trace i.came kept in
-    let change : Change = g.R.Source.state c.records.source ⇝ g.R.Source.state c.next_from.new.source in
+    let fed = c.in_ok-read_on-in-None.ensures.fed i.trace i.came kept in
+    let change : Change = g.R.Source.state c.records.source ⇝ g.R.Source.state c.read_on.new.source in
     let end = given_end _ _ _ _ change _ _ c.in-None-2.is fed.2 in
-    let P : ℕ → ℕ → Type 0 = λ r d. IsWhole r d i.trace (i.came ++ fed.0) (g.R.Source.state c.next_from.new.source) in
+    let P : ℕ → ℕ → Type 0 = λ r d. IsWhole r d i.trace (i.came ++ fed.0) (g.R.Source.state c.read_on.new.source) in
     record {
       trace = i.trace;
       read = record {
@@ -88,17 +88,17 @@ records-smaller g c =
     let i = c.records.invariant in
     let same : c.next_known.new.self ≡ c.records.intake = search rules in
     let kept : HasFed i.trace i.came c.next_known.new.self = subst (HasFed i.trace i.came) (sym same) i.fed in
-    let change : Change = g.R.Source.state c.records.source ⇝ g.R.Source.state c.next_from.new.source in
-    let next = given_next _ _ _ _ change _ _ _ c.in-Some-2.is (c.in_ok-next_from-in-None.ensures.fed i.trace i.came kept).2 in
-    omega (arith, next.1.has_used.has_read.count_is, next.1.has_used.has_read.within, i.fed.has_used.has_read.count_is, c.next_from.ensures.limits.records, c.next_known.ensures.limits.records, i.records, length-append i.trace (c.in-Some-2.placed.what ∷ []))
+    let change : Change = g.R.Source.state c.records.source ⇝ g.R.Source.state c.read_on.new.source in
+    let next = given_next _ _ _ _ change _ _ _ c.in-Some-2.is (c.in_ok-read_on-in-None.ensures.fed i.trace i.came kept).2 in
+    omega (arith, next.1.has_used.has_read.count_is, next.1.has_used.has_read.within, i.fed.has_used.has_read.count_is, c.read_on.ensures.limits.records, c.next_known.ensures.limits.records, i.records, length-append i.trace (c.in-Some-2.placed.what ∷ []))
 
 pub records-preserved : goal.records-preserved
 records-preserved g c =
     let i = c.records.invariant in
     let same : c.next_known.new.self ≡ c.records.intake = search rules in
     let kept : HasFed i.trace i.came c.next_known.new.self = subst (HasFed i.trace i.came) (sym same) i.fed in
-    let fed = c.in_ok-next_from-in-None.ensures.fed i.trace i.came kept in
-    let change : Change = g.R.Source.state c.records.source ⇝ g.R.Source.state c.next_from.new.source in
+    let fed = c.in_ok-read_on-in-None.ensures.fed i.trace i.came kept in
+    let change : Change = g.R.Source.state c.records.source ⇝ g.R.Source.state c.read_on.new.source in
     let next = given_next _ _ _ _ change _ _ _ c.in-Some-2.is fed.2 in
     let P : List Placed → Type 0 = λ u. HasSent (records_of c.args.self.now.part u) c.send-in-Some-2.new.self.router in
     let flushed = goes_on_trans _ _ _ i.goes_on (goes_on_router c.records.self c.flush.new.self c.flush.ensures.lanes) in
@@ -113,12 +113,12 @@ records-preserved g c =
       ready = c.send-in-Some-2.ensures.ready;
       goes_on = goes_on_trans _ _ _ flushed c.send-in-Some-2.ensures.goes_on;
       steady = next.2 ∙ i.steady;
-      records = c.next_from.ensures.limits.records ∙ c.next_known.ensures.limits.records ∙ i.records;
-      depths = c.next_from.ensures.limits.depths ∙ c.next_known.ensures.limits.depths ∙ i.depths;
+      records = c.read_on.ensures.limits.records ∙ c.next_known.ensures.limits.records ∙ i.records;
+      depths = c.read_on.ensures.limits.depths ∙ c.next_known.ensures.limits.depths ∙ i.depths;
     }
 
-pub returns-in_err-next_from-in-None-clause-goes_on : goal.returns-in_err-next_from-in-None-clause-goes_on
-returns-in_err-next_from-in-None-clause-goes_on g c = goes_on_trans _ _ _ c.records.invariant.goes_on (goes_on_router c.records.self c.flush.new.self c.flush.ensures.lanes)
+pub returns-in_err-read_on-in-None-clause-goes_on : goal.returns-in_err-read_on-in-None-clause-goes_on
+returns-in_err-read_on-in-None-clause-goes_on g c = goes_on_trans _ _ _ c.records.invariant.goes_on (goes_on_router c.records.self c.flush.new.self c.flush.ensures.lanes)
 
 pub returns-in-None-2-clause-goes_on : goal.returns-in-None-2-clause-goes_on
 returns-in-None-2-clause-goes_on g c = goes_on_trans _ _ _ c.records.invariant.goes_on (goes_on_router c.records.self c.flush.new.self c.flush.ensures.lanes)

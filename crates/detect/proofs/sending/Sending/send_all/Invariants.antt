@@ -1,7 +1,7 @@
 use Rattle.std.proofs.Common.{◌≡◌, ◌-◌, ℕ, List}
-use Rattle.trace.specs.declared.records.Record.{Record}
-use Rattle.trace.specs.Traces.{placed}
-use Rattle.trace.specs.Parts.{records_of}
+use Rattle.dag.specs.declared.records.Record.{Record}
+use Rattle.dag.specs.Traces.{placed}
+use Rattle.dag.specs.Parts.{records_of}
 use Rattle.trace.specs.Devices.{◌⇝◌, Gave, IsSteady}
 use Rattle.trace.specs.Feeding.{HasFed}
 use Rattle.route.specs.Routers.{HasSent}

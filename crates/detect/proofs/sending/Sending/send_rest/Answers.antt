@@ -1,5 +1,5 @@
 use Rattle.std.proofs.Common.{Option, Some, refl, sym, subst, ◌∙◌}
-use Rattle.trace.specs.declared.records.Placed.{Placed}
+use Rattle.dag.specs.declared.records.Placed.{Placed}
 use Rattle.route.specs.Sending.{sent_whole}
 use Rattle.route.specs.Routers.{HasSent}
 use Rattle.detect.proofs.Sendings.{goes_on_router, goes_on_trans, sent_step, sent_idle}
@@ -24,7 +24,7 @@ loop-preserved-in_default g c =
     let i = c.loop.invariant in
     record {
       sent = λ w p is h. sent_step p w _ _ _ c.step.new.self is i.pending (λ e. let same = c.in-Moved.ensures.idle.1 e in absurd cc) (c.step.ensures.sent _ (i.sent w p is h));
-      pending = λ p e. i.pending p (c.in-Moved.ensures.turn p e).0;
+      pending = λ p e. i.pending p (c.in-Moved.ensures.next p e).0;
       unmarked = c.step.ensures.marked ∙ i.unmarked;
       goes_on = goes_on_trans _ _ _ i.goes_on (goes_on_router c.loop.self c.step.new.self c.step.ensures.lanes);
     }
@@ -34,7 +34,7 @@ loop-preserved-in-Some-take g c =
     let i = c.loop.invariant in
     record {
       sent = λ w p is h. sent_step p w _ _ _ c.step.new.self is i.pending (λ e. let same = c.in-Moved.ensures.idle.1 e in absurd cc) (c.step.ensures.sent _ (i.sent w p is h));
-      pending = λ p e. i.pending p (c.in-Moved.ensures.turn p e).0;
+      pending = λ p e. i.pending p (c.in-Moved.ensures.next p e).0;
       unmarked = c.step.ensures.marked ∙ i.unmarked;
       goes_on = goes_on_trans _ _ _ i.goes_on (record { part = refl; lanes = c.step.ensures.lanes; further = c.learn.ensures });
     }

@@ -1,5 +1,5 @@
 use Rattle.std.proofs.Common.{◌≡◌, List, Some}
-use Rattle.trace.specs.declared.records.Placed.{Placed}
+use Rattle.dag.specs.declared.records.Placed.{Placed}
 use Rattle.route.specs.Sending.{sent_whole}
 use Rattle.route.specs.Routers.{pending_of, marked_of, HasSent}
 use Rattle.detect.specs.Sent.{GoesOn}

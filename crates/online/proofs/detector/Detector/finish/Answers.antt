@@ -1,7 +1,7 @@
 use Rattle.std.proofs.Common.{sym, subst}
 use Rattle.std.proofs.lemmas.Result.{IfOk-weaker}
-use Rattle.trace.specs.Traces.{placed}
-use Rattle.detect.proofs.Detected.{reported, report_of}
+use Rattle.dag.specs.Traces.{placed}
+use Rattle.serial.proofs.Detected.{reported, report_of}
 use Rattle.online.specs.Detectors.{IsAfter}
 use Rattle.online.proofs.Steps.{detected}
 use Rattle.online.proofs.detector.Detector.finish.Goals as goal

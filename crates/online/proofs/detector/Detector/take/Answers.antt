@@ -1,9 +1,9 @@
 use Rattle.std.proofs.Common.{rules, ◌≡◌, ℕ, ◌+◌, List, [], ◌∷◌, ◌++◌, length, sym, ap, subst, ◌∙◌}
-use Rattle.trace.specs.declared.records.Record.{Record}
-use Rattle.trace.specs.declared.records.Placed.{Placed}
-use Rattle.trace.specs.Traces.{placed}
+use Rattle.dag.specs.declared.records.Record.{Record}
+use Rattle.dag.specs.declared.records.Placed.{Placed}
+use Rattle.dag.specs.Traces.{placed}
 use Rattle.shadow.specs.Found.{found}
-use Rattle.detect.proofs.Detected.{placed-next}
+use Rattle.serial.proofs.Detected.{placed-next}
 use Rattle.online.specs.Detectors.{DetectorState, IsAfter}
 use Rattle.online.proofs.Steps.{after_next}
 use Rattle.online.proofs.detector.Detector.take.Goals as goal
@@ -14,8 +14,8 @@ next c u h = ap (λ n. n + 1) (c.taken-taken.ensures ∙ ap (λ (s : DetectorSta
 pub returns-in-Ok-clause-taken : goal.returns-in-Ok-clause-taken
 returns-in-Ok-clause-taken c u h =
     let p : Placed = record { place = c.taken-taken.result + 1; what = c.args.what } in
-    let told = c.in-Ok.ensures in
-    after_next u p c.args.self.now _ h (search rules) (next c u h) (told.detected (placed u)) told.last told.ended told.count (told.going ∙ h.going)
+    let reported = c.in-Ok.ensures in
+    after_next u p c.args.self.now _ h (search rules) (next c u h) (reported.detected (placed u)) reported.last reported.ended reported.count (reported.going ∙ h.going)
 
 pub returns-in-Ok-clause-found : goal.returns-in-Ok-clause-found
 returns-in-Ok-clause-found c u h =

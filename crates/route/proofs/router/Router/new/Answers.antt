@@ -2,7 +2,7 @@ use Rattle.std.proofs.Common.{◌≡◌, List, []}
 use Rattle.std.proofs.lemmas.List.Elements.{All-map}
 use Rattle.lane.specs.declared.item.Item.{Item}
 use Rattle.lane.specs.Lanes.{put_of}
-use Rattle.trace.specs.declared.records.Placed.{Placed}
+use Rattle.dag.specs.declared.records.Placed.{Placed}
 use Rattle.route.specs.Senders.{puts}
 use Rattle.route.proofs.Sent.{all_empty}
 use Rattle.route.proofs.router.Router.new.Goals as goal

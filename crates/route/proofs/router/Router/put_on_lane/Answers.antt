@@ -1,6 +1,6 @@
 use Rattle.std.proofs.Common.{◌≡◌, ℕ, true, false, sym, subst, arith}
 use Rattle.lane.specs.Items.{has_mark}
-use Rattle.trace.specs.Shares.{goes_placed}
+use Rattle.dag.specs.Shares.{goes_placed}
 use Rattle.route.specs.Senders.{puts}
 use Rattle.route.specs.Sending.{put_on}
 use Rattle.route.proofs.Sent.{marks_either, unmarked_at}

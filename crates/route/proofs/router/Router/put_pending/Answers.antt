@@ -1,7 +1,7 @@
 use Rattle.std.proofs.Common.{◌≡◌, ℕ, ◌<◌, true, false, length, vec_len, sym, subst, arith}
 use Rattle.lane.specs.declared.item.Item.TheVariants.{One}
 use Rattle.lane.specs.Items.{has_mark}
-use Rattle.trace.specs.Shares.{goes_placed}
+use Rattle.dag.specs.Shares.{goes_placed}
 use Rattle.route.specs.Senders.{puts}
 use Rattle.route.specs.Sending.{put_on, with_put, HaveMarks}
 use Rattle.route.proofs.Lists.{chosen, puts_counted}
@@ -13,7 +13,7 @@ pub invariant_of-self-in-Some-clause-marks : goal.invariant_of-self-in-Some-clau
 invariant_of-self-in-Some-clause-marks c =
     let s = c.args.self.now in
     let e : puts c.put_on.new.senders.items ≡ with_put (puts s.senders.items) s.next (One c.args.placed) = chosen _ _ _ c.put_on.result c.if-not-put_on.false c.put_on.ensures.puts in
-    let within : s.next < length (puts s.senders.items) = omega (arith, puts_counted s.senders, s.turn) in
+    let within : s.next < length (puts s.senders.items) = omega (arith, puts_counted s.senders, s.next_within) in
     let none : has_mark (put_on (puts s.senders.items) s.next) ≡ false = unmarked_at (puts s.senders.items) s.marked s.next (omega (arith, s.unmarked c.args.placed c.requires)) within s.marks in
     subst (HaveMarks s.marked) (sym e) (marks-one (puts s.senders.items) s.next c.args.placed s.marked within none s.marks)
 
@@ -21,7 +21,7 @@ pub invariant_of-self-in-None-clause-marks : goal.invariant_of-self-in-None-clau
 invariant_of-self-in-None-clause-marks c =
     let s = c.args.self.now in
     let e : puts c.put_on.new.senders.items ≡ with_put (puts s.senders.items) s.next (One c.args.placed) = chosen _ _ _ c.put_on.result c.if-not-put_on.false c.put_on.ensures.puts in
-    let within : s.next < length (puts s.senders.items) = omega (arith, puts_counted s.senders, s.turn) in
+    let within : s.next < length (puts s.senders.items) = omega (arith, puts_counted s.senders, s.next_within) in
     let none : has_mark (put_on (puts s.senders.items) s.next) ≡ false = unmarked_at (puts s.senders.items) s.marked s.next (omega (arith, s.unmarked c.args.placed c.requires)) within s.marks in
     subst (HaveMarks s.marked) (sym e) (marks-one (puts s.senders.items) s.next c.args.placed s.marked within none s.marks)
 
@@ -31,7 +31,7 @@ returns-in-Some-clause-sent c =
     let e : puts c.put_on.new.senders.items ≡ with_put (puts s.senders.items) s.next (One c.args.placed) = chosen _ _ _ c.put_on.result c.if-not-put_on.false c.put_on.ensures.puts in
     let count : vec_len s.senders ≡ length (puts s.senders.items) = sym (puts_counted s.senders) in
     λ w h. step-next (puts s.senders.items) (puts c.put_on.new.senders.items) w s.pending c.args.placed (vec_len s.senders) s.next c.in-Some.lane s.marked
-    c.requires e count c.in-Some.ensures.some.0 (s.unmarked c.args.placed c.requires) s.turn (s.aimed c.args.placed c.requires) h
+    c.requires e count c.in-Some.ensures.some.0 (s.unmarked c.args.placed c.requires) s.next_within (s.aimed c.args.placed c.requires) h
 
 pub returns-in-None-clause-sent : goal.returns-in-None-clause-sent
 returns-in-None-clause-sent c =
@@ -41,7 +41,7 @@ returns-in-None-clause-sent c =
     let same : c.len.result ≡ vec_len s.senders = omega (arith, c.len.ensures, c.put_on.ensures.len) in
     let NoneLater : ℕ → Type 0 = λ x. (k : ℕ) → s.next < k → k < x → goes_placed k x c.args.placed ≡ false in
     λ w h. step-last (puts s.senders.items) (puts c.put_on.new.senders.items) w s.pending c.args.placed (vec_len s.senders) s.next s.marked
-    c.requires e count (s.unmarked c.args.placed c.requires) s.turn (s.aimed c.args.placed c.requires) (subst NoneLater same c.in-None.ensures.none) h
+    c.requires e count (s.unmarked c.args.placed c.requires) s.next_within (s.aimed c.args.placed c.requires) (subst NoneLater same c.in-None.ensures.none) h
 
 pub returns-in-Some-clause-event : goal.returns-in-Some-clause-event
 returns-in-Some-clause-event c =
@@ -59,4 +59,4 @@ returns-in-None-clause-event c =
     let same : c.len.result ≡ vec_len s.senders = omega (arith, c.len.ensures, c.put_on.ensures.len) in
     let NoneLater : ℕ → Type 0 = λ x. (k : ℕ) → s.next < k → k < x → goes_placed k x c.args.placed ≡ false in
     λ w. step_event-last (length (puts s.senders.items)) (length (puts c.put_on.new.senders.items)) (vec_len s.senders) w s.pending c.args.placed s.next s.marked
-    c.requires after (puts_counted s.senders) (s.unmarked c.args.placed c.requires) s.turn (s.aimed c.args.placed c.requires) (subst NoneLater same c.in-None.ensures.none)
+    c.requires after (puts_counted s.senders) (s.unmarked c.args.placed c.requires) s.next_within (s.aimed c.args.placed c.requires) (subst NoneLater same c.in-None.ensures.none)

@@ -1,6 +1,6 @@
 use Rattle.std.proofs.Common.{◌≡◌, ◌-◌, ◌<◌, List, Some, None, true}
-use Rattle.trace.specs.declared.records.Placed.{Placed}
-use Rattle.trace.specs.Shares.{goes_placed}
+use Rattle.dag.specs.declared.records.Placed.{Placed}
+use Rattle.dag.specs.Shares.{goes_placed}
 use Rattle.route.specs.Sending.{put_on, AllSent}
 use Rattle.route.specs.Routers.{puts_of, lane_count, pending_of, marked_of, HasSent, IsOnLanes}
 use Rattle.route.proofs.router.Router.send.Given as goal

@@ -2,7 +2,7 @@ use Rattle.std.proofs.Common.{Some, None, List, ℕ, ◌≡◌, ◌∙◌, ◌++
 use Rattle.std.proofs.lemmas.Bool.{eq-eqb}
 use Rattle.std.specs.Map.{lookup}
 use Rattle.indexmap.proofs.CallerLemmas.{insert_entry-new}
-use Rattle.trace.proofs.Lists.{slice_get-last}
+use Rattle.dag.proofs.Lists.{slice_get-last}
 use Rattle.shadow.specs.Cells.{Cell}
 use Rattle.shadow.specs.Pages.{cells_of, IsPageAt}
 use Rattle.shadow.proofs.pages.Pages.find.Goals as goal

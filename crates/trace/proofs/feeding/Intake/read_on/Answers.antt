@@ -4,7 +4,7 @@ use Rattle.std.specs.Option.{option_to_list}
 use Rattle.std.proofs.lemmas.List.{append-nil}
 use Rattle.trace.specs.declared.faults.Fault.{Fault}
 use Rattle.trace.specs.declared.faults.Fault.TheVariants.{Text}
-use Rattle.trace.specs.declared.records.Record.{Record}
+use Rattle.dag.specs.declared.records.Record.{Record}
 use Rattle.trace.specs.Faults.{IsFirstFault}
 use Rattle.trace.specs.Nesting.{Nesting, HasNested}
 use Rattle.trace.specs.Feeding.{Feeding, HasUsed, IsFed}

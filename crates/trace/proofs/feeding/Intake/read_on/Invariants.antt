@@ -1,6 +1,6 @@
 use Rattle.std.proofs.Common.{◌≡◌, ◌-◌, ℕ, List, ◌++◌}
 use Rattle.trace.specs.Devices.{◌⇝◌, Gave, IsSteady}
-use Rattle.trace.specs.declared.records.Record.{Record}
+use Rattle.dag.specs.declared.records.Record.{Record}
 use Rattle.trace.specs.declared.feeding.Ending.TheVariants.{Running}
 use Rattle.trace.specs.Reading.{held_back}
 use Rattle.trace.specs.Feeding.{HasFed}

@@ -1,0 +1,11 @@
+pub mod Lists
+pub mod World
+pub mod Traced
+pub mod Openers
+pub mod Paths
+pub mod Standing
+pub mod Meetings
+pub mod Readers
+pub mod Once
+pub mod Parts
+pub mod ShareLemmas

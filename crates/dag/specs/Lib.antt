@@ -1,0 +1,9 @@
+pub mod Bounds
+pub mod Accesses
+pub mod Backs
+pub mod Traces
+pub mod Dag
+pub mod Races
+pub mod Meeting
+pub mod Shares
+pub mod Parts

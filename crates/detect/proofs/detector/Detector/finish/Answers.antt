@@ -1,5 +1,0 @@
-use Rattle.detect.proofs.Detected.{reported_if}
-use Rattle.detect.proofs.detector.Detector.finish.Goals as goal
-
-pub returns : goal.returns
-returns g c u h = reported_if u _ _ _ c.finish.result h c.finish.ensures.ok

@@ -1,5 +1,0 @@
-use Rattle.detect.specs.LanesBack.{IsFurther}
-use Rattle.detect.proofs.gathering.Gathering.take_turns.Given as goal
-
-abbrev pub invariant-loop-shard : goal.invariant-loop-shard
-invariant-loop-shard l = IsFurther l.fn.self l.self

@@ -1,0 +1,53 @@
+//! Both ends of a new lane.
+ghost use Rattle.std.specs.Prelude.{◌≡◌, ◌≤◌, [], IfOk};
+ghost use Rattle.dag.specs.Bounds.{IsCapacity};
+ghost use Rattle.lane.specs.Lanes.{lane_of, taker_lane, put_of, taken_of, capacity_of, taker_capacity};
+
+use crate::item::MarkLast;
+use crate::sender::{BLOCK, Sender, most_staged};
+use crate::taker::Taker;
+use dag::NoMemory;
+use rtrb::RingBuffer;
+use std::alloc::Global;
+
+/// Makes a lane that holds at most `capacity` items. The mark is an item.
+///
+/// ```rust
+/// let (mut sender, mut taker) = lane::<u32>(rt.alloc(), 2)?;
+/// assert!(rt; (sender.put(1), sender.put(2), sender.put(3)) == (Ok(()), Ok(()), Err(3)));
+/// assert_eq!(rt; taker.take(), Some(Item::One(1)));
+/// assert_eq!(rt; sender.put(3), Ok(()));
+/// assert!(rt; !sender.mark());
+/// assert_eq!(rt; taker.take(), Some(Item::One(2)));
+/// assert!(rt; sender.mark());
+/// assert_eq!(rt; taker.take(), Some(Item::One(3)));
+/// assert_eq!(rt; taker.take(), Some(Item::Finish));
+/// assert_eq!(rt; taker.take(), None);
+/// ```
+pub fn lane<T: Copy + Send>(
+    alloc: Global,
+    capacity: usize,
+) -> Result<(Sender<T>, Taker<T>), NoMemory>
+    requires { IsCapacity capacity }
+    ensures lane { IfOk result (λ r. lane_of r.0 ≡ taker_lane r.1) }
+    ensures empty { IfOk result (λ r. (put_of r.0 ≡ []) × (taken_of r.1 ≡ [])) }
+    ensures capacity { IfOk result (λ r. (capacity_of r.0 ≡ capacity) × (taker_capacity r.1 ≡ capacity)) }
+{
+    let staged = Vec::with_capacity(alloc, BLOCK)?;
+    let Ok((sending, taking)) = RingBuffer::with_protocol::<Global, MarkLast>(alloc, capacity)
+    else {
+        return Err(NoMemory);
+    };
+    let sender = Sender {
+        ring: sending,
+        marked: false,
+        staged,
+        most: most_staged(capacity),
+        limit: 0,
+    };
+    let taker = Taker {
+        ring: taking,
+        ended: false,
+    };
+    Ok((sender, taker))
+}

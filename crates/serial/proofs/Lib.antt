@@ -1,0 +1,4 @@
+pub mod PartRecords
+pub mod Detected
+pub mod Fitting
+pub mod PartReports

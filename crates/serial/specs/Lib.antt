@@ -1,0 +1,3 @@
+pub mod Racy
+pub mod Reported
+pub mod Detected

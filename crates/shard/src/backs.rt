@@ -1,0 +1,46 @@
+//! Puts on the lane back, as soon as there is room.
+ghost use Rattle.std.specs.Prelude.{◌≡◌, false, [], ◌∷◌, ◌++◌};
+ghost use Rattle.lane.specs.declared.item.Item.TheVariants.{One, Finish};
+ghost use Rattle.lane.specs.Items.{has_mark};
+ghost use Rattle.lane.specs.Lanes.{lane_of, end_lane, put_of, all_put};
+
+use crate::Back;
+use lane::{End, Sender, Waiting};
+use std::sync::Wait;
+
+/// Puts the value, as soon as there is room.
+#[cold]
+#[inline(never)]
+pub fn put_back<R: Wait>(rt: &R, back: &mut Sender<Back>, value: Back)
+    requires { has_mark (put_of back.old) ≡ false }
+    ensures lane { lane_of back.new ≡ lane_of back.old }
+    ensures put { put_of back.new ≡ put_of back.old ++ One value ∷ [] }
+    ensures unmarked { has_mark (put_of back.new) ≡ false }
+{
+    let mut left = value;
+    let mut waiting = Waiting::new();
+    for _ in rt.forever() {
+        match back.put(left) {
+            Ok(()) => return,
+            Err(value) => left = value,
+        }
+        waiting.wait(rt);
+    }
+    unreachable!()
+}
+
+/// Puts the mark, as soon as there is room, and gives the receipt.
+pub fn mark<R: Wait>(rt: &R, mut back: Sender<Back>) -> End<Back>
+    requires { has_mark (put_of back) ≡ false }
+    ensures lane { end_lane result ≡ lane_of back }
+    ensures put { all_put result ≡ put_of back ++ Finish ∷ [] }
+{
+    let mut waiting = Waiting::new();
+    for _ in rt.forever() {
+        if back.mark() {
+            return back.end();
+        }
+        waiting.wait(rt);
+    }
+    unreachable!()
+}
