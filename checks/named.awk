@@ -35,6 +35,8 @@ NR == FNR && $1 == "edit" { is_edit[$2, $3]; edits[$2 "/" $3]; is_known[$3] }
 NR == FNR && $1 == "private" { is_private[$2] }
 NR == FNR && $1 == "rests" { rests[$2, $3] = rests[$2, $3] " " $4 }
 NR == FNR && $1 == "opens" { opens[$2] = opens[$2] " " $3 }
+NR == FNR && $1 == "public" { public[$2 "\t" $3] }
+NR == FNR && $1 == "exported" { is_exported[$2, $3] }
 NR == FNR && $1 == "command" { is_command[$2] }
 NR == FNR { next }
 
@@ -328,6 +330,13 @@ END {
     if (PAGE ~ /PROMISES/) {
         for (file in opens)
             look_at_files(opens[file], file)
+        for (crate_and_function in public) {
+            split(crate_and_function, parts, "\t")
+            type = parts[2]
+            sub(/::.*$/, "", type)
+            if (type == "laws" || (parts[1], type) in is_exported)
+                look_at_files(rests[parts[1], parts[2]], parts[2])
+        }
     }
     if (has_edits)
         for (edit in edits)

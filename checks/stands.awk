@@ -1,10 +1,12 @@
 # What stands in the files of the crates, a fact a line, with tabs between its parts:
-#   fn CRATE FUNCTION, where a method is TYPE::NAME and a law laws::NAME
+#   fn CRATE FUNCTION, where a method is TYPE::NAME and a law laws::NAME, and public CRATE FUNCTION if it is `pub`
 #   clause CRATE FUNCTION NAME
 #   cites CRATE FUNCTION NAME, of what a contract cites, and rests CRATE FUNCTION FILE, of the file with its definition
 #   type CRATE NAME, definition CRATE NAME, and field DEFINITION NAME
 #   body DEFINITION DEFINITION, of which the first cites the second
-#   private FILE, and opens FILE FILE, of which the first is promised and takes names from the second
+#   private FILE, and opens FILE FILE, of which the second has definitions: the first is promised, or of another crate,
+#     and takes names from it
+#   exported CRATE NAME, of a type or a function that the crate gives out
 #   word FILE WORD
 BEGIN { OFS = "\t" }
 
@@ -59,7 +61,7 @@ function type_of(line,  depth, i, c) {
     sub(/^.*Rattle\./, "", line)
     split(line, parts, /[.]/)
     file = "crates/" parts[1] "/specs/" parts[3] ".antt"
-    if (is_promised)
+    if (is_promised || parts[1] != crate)
         print "opens", FILENAME, file
     sub(/^[^{]*/, "", line)
     count = words_of(line)
@@ -67,6 +69,15 @@ function type_of(line,  depth, i, c) {
         import[words[i]] = file
     count = words_of($0)
 }
+
+folder == "src" && /^pub use / { is_list = 1 }
+folder == "src" && is_list {
+    for (i = 1; i <= count; i++)
+        print "exported", crate, words[i]
+    if (/;/)
+        is_list = 0
+}
+FILENAME ~ /\/src\/lib\.rt$/ && /^pub (struct|enum|trait|fn) / { print "exported", crate, words[3] }
 
 folder == "src" && /^}/ { type = "" }
 folder == "src" && /^impl/ { type = type_of($0) }
@@ -90,6 +101,10 @@ folder == "src" && /^ *(pub(\([a-z]+\))? )?(const |unsafe )?(extern "C" )?fn [a-
     in_contract = 0
     in_head = 1
     print "fn", crate, func_name
+    if ($1 == "pub")
+        print "public", crate, func_name
+    if (/extern "C"/)
+        print "exported", crate, func_name
 }
 # Closures in a body have contracts of their own.
 folder == "src" && in_head && /^ *(requires|ensures)[*]?( [a-z0-9_]+)? \{/ {
