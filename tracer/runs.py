@@ -13,8 +13,8 @@ import threading
 from source import Failure
 
 HERE = os.path.dirname(os.path.realpath(__file__))
-# What the hooks of a program have in them that can take a look.
-MARK = b"SPBAGS_LOOK"
+# What the hooks of a program have in them that can take a look, and those with the detector inside.
+MARK, INSIDE = b"SPBAGS_LOOK", b"SPBAGS_INSIDE"
 PERSONALITY, ADDR_NO_RANDOMIZE = ctypes.CDLL(None).personality, 0x0040000
 MOST_DEPTH = "1000000"
 
@@ -28,14 +28,15 @@ def checker():
 
 
 def traceable(name):
-    """The program of this name, if spbags-cc has compiled it."""
+    """The program of this name, if spbags-cc has compiled it, and whether the detector is inside."""
     found = shutil.which(name)
     if not found:
         raise Failure(f"{name}: there is no such program")
     with open(found, "rb") as file:
-        if MARK not in file.read():
-            raise Failure(f"{name}: this isn't a program that spbags-cc has compiled")
-    return found
+        code = file.read()
+    if MARK not in code:
+        raise Failure(f"{name}: this isn't a program that spbags-cc has compiled")
+    return found, INSIDE in code
 
 
 class Input:
@@ -147,7 +148,7 @@ class Run:
         self.strict = [line[len("strict: "):] for line in lines if line.startswith("strict: ")]
 
     def is_ended_early(self):
-        return any("the trace has what came before" in line for line in self.lines())
+        return any("has what came before" in line for line in self.lines())
 
     def is_whole(self):
         return self.status >= 0 and not self.is_ended_early()
@@ -164,7 +165,7 @@ class Run:
         """Why a run isn't whole."""
         if self.status < 0:
             return f"the program ended by signal {-self.status} ({signal.strsignal(-self.status)})"
-        return next(line for line in self.lines() if "the trace has what came before" in line)
+        return next(line for line in self.lines() if "has what came before" in line)
 
 
 class Runner:
@@ -172,15 +173,16 @@ class Runner:
     ROOM = 1 << 14
 
     def __init__(self, words, checking, settings, output):
-        self.words, self.settings, self.output = [traceable(words[0]), *words[1:]], settings, output
-        self.check = [checker(), "check", "--depth", MOST_DEPTH, *checking]
+        program, self.is_inside = traceable(words[0])
+        self.words, self.settings, self.output = [program, *words[1:]], settings, output
+        self.checking = checking
         self.input = Input()
         self.program = None
 
-    def execute(self, trace, said, keep, silent, **settings):
+    def execute(self, said, keep, silent, **settings):
         """Starts the program, whose lines about the run go into a pipe."""
-        wanted = {**os.environ, "SPBAGS_PLACES": "", **self.settings, **settings,
-                  "SPBAGS_TRACE": trace, "SPBAGS_SAYS": f"fd:{said.into}", "SPBAGS_ROOM": ""}
+        wanted = {**os.environ, "SPBAGS_PLACES": "", "SPBAGS_TRACE": "", "SPBAGS_REPORT": "", **self.settings,
+                  **settings, "SPBAGS_SAYS": f"fd:{said.into}", "SPBAGS_ROOM": ""}
         # All runs have as long an environment: the program's words lie before it.
         wanted["SPBAGS_ROOM"] = "." * (self.ROOM + length_of(os.environ) - length_of(wanted))
         given = self.input.begin()
@@ -202,20 +204,38 @@ class Runner:
         with open(said.out, encoding="utf-8", errors="replace") as file:
             return status, file.read().splitlines()
 
+    def found(self, keep, silent, **settings):
+        """A run and its report: by the detector inside, or where there is none or the trace is kept, by `spbags check`."""
+        if self.is_inside and not keep:
+            return self.reported(silent, **settings)
+        return self.checked(keep, silent, **settings)
+
+    def reported(self, silent, **settings):
+        """A run whose detector is inside, and its report."""
+        said, answer = Pipe(), tempfile.TemporaryFile()
+        self.execute(said, (answer.fileno(),), silent, SPBAGS_REPORT=f"fd:{answer.fileno()}", **settings)
+        run = Run(*self.wait(said), answer)
+        self.refuse_broken(run)
+        if os.fstat(answer.fileno()).st_size == 0:
+            how = run.ending() if run.status < 0 else f"the program ended with status {run.status}"
+            raise Failure(f"{how}, and there is no report")
+        return run
+
     def checked(self, keep, silent, **settings):
         """A traced run and the report; where the trace is kept it goes into that file, and into a pipe else."""
+        command = [checker(), "check", "--depth", MOST_DEPTH, *self.checking]
         said, answer = Pipe(), tempfile.TemporaryFile()
         output = {"stdout": answer, "stderr": subprocess.PIPE, "text": True, "preexec_fn": prepare_checker}
         if keep:
-            self.execute(keep, said, (), silent, **{**settings, "SPBAGS_PLACES": keep + ".places"})
+            self.execute(said, (), silent, **{**settings, "SPBAGS_TRACE": keep, "SPBAGS_PLACES": keep + ".places"})
             status, lines = self.wait(said)
             self.refuse_broken(Run(status, lines, answer))
-            check = subprocess.Popen([*self.check, keep], **output)
+            check = subprocess.Popen([*command, keep], **output)
         else:
             trace = Pipe()
-            check = subprocess.Popen([*self.check, "-"], stdin=trace.out, **output)
+            check = subprocess.Popen([*command, "-"], stdin=trace.out, **output)
             trace.close("out")
-            self.execute(f"fd:{trace.into}", said, (trace.into,), silent, **settings)
+            self.execute(said, (trace.into,), silent, SPBAGS_TRACE=f"fd:{trace.into}", **settings)
             trace.close("into")
             status, lines = self.wait(said)
         fault = check.communicate()[1].strip()
@@ -244,6 +264,7 @@ class Runner:
         files = (report.fileno(), notes.fileno())
         if ends_at_last:
             settings["SPBAGS_LAST"] = "1"
-        self.execute(f"fd:{files[1]}", said, files, True, SPBAGS_LOOK=f"fd:{files[0]}", SPBAGS_MOST="", **settings)
+        self.execute(said, files, True, SPBAGS_TRACE=f"fd:{files[1]}", SPBAGS_LOOK=f"fd:{files[0]}", SPBAGS_MOST="",
+                     **settings)
         status, lines = self.wait(said)
         return Run(status, lines, notes)

@@ -10,7 +10,7 @@ __attribute__((noinline)) static void any_access(bool writes, uintptr_t at, size
         touch(writes, at, size, code);
 }
 
-/* Of the short way: not all of it is a repeat. */
+/* Of the short way: it has several units, and not all of it is a repeat. */
 __attribute__((noinline)) static void note_access(bool writes, uintptr_t at, size_t size, uintptr_t code) {
     uint32_t *marks = mark_of(at);
     for (size_t unit = 0; unit < size >> unit_shift; unit++)
@@ -27,10 +27,16 @@ static inline bool are_repeats(bool writes, const uint32_t *mark, size_t units) 
 
 /* The short way of most accesses, those that fill whole units and don't lie across regions. */
 static inline void usual_access(bool writes, uintptr_t at, size_t size, uintptr_t stack_pointer, uintptr_t code) {
-    if (stack_pointer >= short_way_end || ((at | size) & unit_mask) != 0 || (at & (size - 1)) != 0)
+    if (stack_pointer >= short_way_end || (size & unit_mask) != 0 || (at & (size - 1)) != 0)
         any_access(writes, at, size, NULL, stack_pointer, code);
-    else if (!has_region(at) || !are_repeats(writes, mark_of(at), size >> unit_shift))
+    else if (!has_region(at))
         note_access(writes, at, size, code);
+    else if (!are_repeats(writes, mark_of(at), size >> unit_shift)) {
+        if (size >> unit_shift == 1)
+            note_unit(writes, at >> unit_shift, mark_of(at), code);
+        else
+            note_access(writes, at, size, code);
+    }
 }
 
 /* The linker's name for the end of what is only read in the program. */

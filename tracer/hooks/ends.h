@@ -16,7 +16,7 @@ static void tell_notes(void) {
         tell("%llu accesses don't fill their units of %u bytes, so neighbours may seem to race: SPBAGS_UNIT=%u tells "
              "them apart",
              (unsigned long long)narrow_accesses, 1u << unit_shift, 1u << __builtin_ctzl(narrow_bits));
-    if (most_procedures > DEFAULT_DEPTH + 1)
+    if (most_procedures > DEFAULT_DEPTH + 1 && !detecting)
         tell("procedures nest %u deep, so spbags needs --depth %u or more", most_procedures - 1, most_procedures - 1);
 #ifdef SPBAGS_OPENMP
     tell_openmp_notes();
@@ -35,6 +35,8 @@ static void end_trace(void) {
     if (looking)
         put_notes();
     tell_notes();
+    if (detecting)
+        put_report();
     close_output(&places);
     close_output(&trace);
     sigprocmask(SIG_SETMASK, &before, NULL);
@@ -86,8 +88,29 @@ static void die_by(int number) {
 
 static void end_by_signal(int number) {
     waiting_signal = 0;
-    tell("the program ends by signal %d (%s), and the trace has what came before", number, strsignal(number));
+    tell("the program ends by signal %d (%s), and the %s has what came before", number, strsignal(number), made());
     end_trace();
+    die_by(number);
+}
+
+/* The signals have a stack of their own, since the program's may be used up. */
+static _Alignas(16) char signal_stack[1 << 18];
+
+/* The handler returns, and the run goes on at its end, there and with all signals blocked: no handler calls the
+   detector. */
+static void end_after_handler(int number, ucontext_t *context) {
+    enum { DIRECTION = 1 << 10 };
+    greg_t *registers = context->uc_mcontext.gregs;
+    registers[REG_RIP] = (greg_t)end_by_signal;
+    registers[REG_RDI] = number;
+    registers[REG_RSP] = (greg_t)(signal_stack + sizeof signal_stack - 8);
+    registers[REG_EFL] &= ~DIRECTION;
+    sigfillset(&context->uc_sigmask);
+}
+
+/* The detector was at work, and can't go on. */
+static void die_inside(int number) {
+    tell("the program ends by signal %d (%s) inside the detector, so there is no report", number, strsignal(number));
     die_by(number);
 }
 
@@ -95,17 +118,19 @@ static void end_by_signal(int number) {
 static void on_signal(int number, siginfo_t *about, void *context) {
     enum { ENOUGH = 4 };
     static int came;
-    (void)context;
     bool fault = is_fault(number, about);
     came++;
     if (!is_traced() || came == ENOUGH)
         die_by(number);
-    else if (changes > 0 && !fault)
+    else if ((changes > 0 || stepping) && !fault)
         waiting_signal = number;
     else {
         if (fault && number == SIGSEGV && is_on_stack(about->si_addr))
             tell("the program needs more stack than its limit, which ulimit -s sets");
-        end_by_signal(number);
+        if (stepping)
+            die_inside(number);
+        else
+            end_after_handler(number, context);
     }
 }
 
@@ -118,10 +143,8 @@ static bool is_harmless(int number) {
     return false;
 }
 
-/* On a stack of its own, since the program's may be used up. */
 static void catch_signals(void) {
-    static char stack[1 << 16];
-    sigaltstack(&(stack_t){.ss_sp = stack, .ss_size = sizeof stack}, NULL);
+    sigaltstack(&(stack_t){.ss_sp = signal_stack, .ss_size = sizeof signal_stack}, NULL);
     struct sigaction caught = {.sa_sigaction = on_signal, .sa_flags = SA_SIGINFO | SA_ONSTACK}, before;
     sigfillset(&caught.sa_mask);
     for (int number = 1; number <= LAST_SIGNAL; number++)
@@ -145,14 +168,14 @@ static bool end_before_exec(void) {
     bool traced = is_traced();
     if (traced) {
         end_trace();
-        tell("the program becomes another one by exec, and the trace has what came before");
+        tell("the program becomes another one by exec, and the %s has what came before", made());
     }
     return traced;
 }
 
 static int after_exec(bool traced, int answer) {
     if (traced)
-        tell("the exec failed, and what comes after it isn't in the trace");
+        tell("the exec failed, and what comes after it isn't in the %s", made());
     return answer;
 }
 

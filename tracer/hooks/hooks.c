@@ -1,13 +1,15 @@
-/* The hooks that write a trace. `spbags-cc` compiles a program with -fsanitize=thread, which puts a call beside each
-   access and at each function's entry and exit, and links it with this file instead of the sanitizer's own runtime.
-   This file is compiled without that flag. The program runs on one thread, in the serial order: a spawned child runs at
-   once, as an ordinary call.
+/* The hooks that write a trace, or hand its records to the detector inside. `spbags-cc` compiles a program with
+   -fsanitize=thread, which puts a call beside each access and at each function's entry and exit, and links it with this
+   file instead of the sanitizer's own runtime. This file is compiled without that flag. The program runs on one thread,
+   in the serial order: a spawned child runs at once, as an ordinary call.
 
-   Each part stands on those before it: the text of the trace; what is held; what a strand has done; locations;
-   procedures; a look at the races' places; the hooks of accesses, of library functions and of locks; the heap; those of
-   C++ and, where SPBAGS_OPENMP is defined, of OpenMP; the ends of the run, and its beginning. */
+   Each part stands on those before it: what goes out; the detector, where SPBAGS_INSIDE is defined; records; what is
+   held; what a strand has done; locations; procedures; a look at the races' places; the hooks of accesses, of library
+   functions and of locks; the heap; those of C++ and, where SPBAGS_OPENMP is defined, of OpenMP; the ends of the run,
+   and its beginning. */
 #define _GNU_SOURCE
 #include <ctype.h>
+#include <dlfcn.h>
 #include <errno.h>
 #include <fcntl.h>
 #include <inttypes.h>
@@ -17,6 +19,7 @@
 #include <signal.h>
 #include <stdarg.h>
 #include <stdbool.h>
+#include <stddef.h>
 #include <stdint.h>
 #include <stdio.h>
 #include <stdlib.h>
@@ -29,10 +32,12 @@
 #include <sys/wait.h>
 #include <threads.h>
 #include <time.h>
+#include <ucontext.h>
 #include <unistd.h>
 #include <unwind.h>
 #include <wchar.h>
 
+#include "../include/spbags_inside.h"
 #include "../spbags_cilk.h"
 /* The real functions of library.table: what is called here by its own name is called in truth. */
 #include "library_names.h"
@@ -67,6 +72,8 @@ static uintptr_t unit_mask;
 static bool looking;
 
 #include "output.h"
+#include "detector.h"
+#include "records.h"
 #include "guards.h"
 #include "marks.h"
 #include "locations.h"

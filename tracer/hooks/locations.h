@@ -44,16 +44,16 @@ static void clear(uintptr_t address, size_t size) {
         memset(stack_marks + first, 0, (end - first) * sizeof *stack_marks);
 }
 
-/* One unit that is accessed, and its mark. */
-static inline void touch_unit(bool writes, uintptr_t unit, uint32_t *mark, uintptr_t code) {
-    if (is_repeat(writes, *mark))
-        return;
+/* One unit that is accessed, and its mark: it is no repeat. */
+__attribute__((noinline)) static void note_unit(bool writes, uintptr_t unit, uint32_t *mark, uintptr_t code) {
     uint64_t location = location_of(unit, *mark);
     *mark = new_mark(writes);
-    if (__builtin_expect(!looking, 1))
-        access_record(writes, location, code);
-    else
-        count_access(writes, location, unit << unit_shift, code);
+    access_record(writes, location, unit << unit_shift, code);
+}
+
+static inline void touch_unit(bool writes, uintptr_t unit, uint32_t *mark, uintptr_t code) {
+    if (!is_repeat(writes, *mark))
+        note_unit(writes, unit, mark, code);
 }
 
 /* One record for each unit that the access touches, but for repeats. No memory of the program reaches further than its

@@ -112,7 +112,7 @@ static void close_part(uintptr_t code) {
 /* The function that calls the hooks here waits. */
 static void write_sync(uintptr_t code) {
     if (tracing)
-        structure(LINE("sync"), code);
+        structure(SPBAGS_SYNC, code);
 }
 
 static void note_wait(uintptr_t code) {
@@ -120,9 +120,9 @@ static void note_wait(uintptr_t code) {
         look_at_wait(&frames[top], code, false);
 }
 
-static void write_open(struct line line, uintptr_t code) {
+static void write_open(enum spbags_kind kind, uintptr_t code) {
     if (tracing)
-        open_procedure(line, code);
+        open_procedure(kind, code);
 }
 
 static void write_return(uintptr_t code) {
@@ -136,10 +136,10 @@ static struct scope *open_child(enum scope_kind kind, uintptr_t code) {
         if (version == 1)
             fail("tasks of one group run beside older ones, which only version 2 of the trace can say: leave out "
                  "SPBAGS_VERSION=1");
-        write_open(LINE("call"), code);
+        write_open(SPBAGS_CALL, code);
         parent->owns = true;
     }
-    write_open(LINE("spawn"), code);
+    write_open(SPBAGS_SPAWN, code);
     return push_scope(kind, true);
 }
 

@@ -45,14 +45,14 @@ static uint32_t *owners;
 static uint32_t procedures, most_procedures;
 
 /* With each record of the structure a strand ends and another begins. */
-static inline void structure(struct line line, uintptr_t code) {
-    structure_record(line, code);
+static inline void structure(enum spbags_kind kind, uintptr_t code) {
+    structure_record(kind, code);
     begin_strand();
 }
 
-static inline void open_procedure(struct line line, uintptr_t code) {
+static inline void open_procedure(enum spbags_kind kind, uintptr_t code) {
     begin_change();
-    structure(line, code);
+    structure(kind, code);
     procedures++;
     end_change();
     owners[procedures] = NONE;
@@ -64,7 +64,7 @@ static inline void open_procedure(struct line line, uintptr_t code) {
 
 static inline void close_procedure(uintptr_t code) {
     begin_change();
-    structure(LINE("return"), code);
+    structure(SPBAGS_RETURN, code);
     procedures--;
     end_change();
 }
@@ -77,7 +77,7 @@ static void sync_children(struct frame *frame, uintptr_t code) {
         look_at_wait(frame, code, false);
     while (procedures > frame->children)
         close_procedure(code);
-    structure(LINE("sync"), code);
+    structure(SPBAGS_SYNC, code);
     owners[procedures] = NONE;
     frame->children = NONE;
 }
@@ -124,11 +124,11 @@ static inline void push_frame(struct frame frame) {
 static void become_procedure(struct frame *frame, uintptr_t code) {
     if (version == 2) {
         if (frame->kind == FUNCTION && frames[top - 1].kind == FUNCTION && !frame->called) {
-            open_procedure(LINE("call"), code);
+            open_procedure(SPBAGS_CALL, code);
             frame->called = true;
         }
     } else if (owners[procedures] != NONE && owners[procedures] != top)
-        open_procedure(LINE("spawn"), code);
+        open_procedure(SPBAGS_SPAWN, code);
     owners[procedures] = (uint32_t)top;
     if (frame->children == NONE)
         frame->children = procedures;
@@ -147,7 +147,7 @@ __spbags_function __spbags_spawn(__spbags_function callee) {
     uintptr_t stack_pointer = STACK_POINTER, code = CODE;
     back_to_function(stack_pointer, code);
     become_procedure(&frames[top], code);
-    open_procedure(LINE("spawn"), code);
+    open_procedure(SPBAGS_SPAWN, code);
     push_frame((struct frame){
         .kind = CHILD, .end = frames[top].end - 1, .stack_pointer = stack_pointer, .callee = callee});
     return callee;

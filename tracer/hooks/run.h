@@ -89,11 +89,37 @@ static void open_outputs(const char *name) {
         open_output(&places, "SPBAGS_PLACES", places_name);
 }
 
+#ifdef SPBAGS_INSIDE
+/* The report goes where SPBAGS_REPORT says, named as a trace is, or else to standard error. */
+static void start_detector(void) {
+    const char *name = getenv("SPBAGS_REPORT"), *places_name = getenv("SPBAGS_PLACES");
+    trace.name = "standard error";
+    if (name && *name)
+        open_output(&trace, "SPBAGS_REPORT", name);
+    else
+        trace.file = move_away("SPBAGS_REPORT", STDERR_FILENO);
+    if (places_name && *places_name)
+        open_output(&places, "SPBAGS_PLACES", places_name);
+    find_heap();
+    session = reserve(spbags_room());
+    spbags_new(session);
+    detecting = true;
+}
+#endif
+
 /* In the way of spbags-run: lines about the run go to it, a second run looks at the places of a report, and where the
    program forks there is no answer. */
 static void refuse_fork(void) {
     if (tracing)
         fail("the program forks, and only one process can be traced");
+}
+
+static void tell_fork(void) {
+    static bool told;
+    if (!tracing || !detecting || told)
+        return;
+    tell("the program forks, and the report is of its first process alone");
+    told = true;
 }
 
 static void open_ways(void) {
@@ -135,9 +161,16 @@ static void find_stack(void) {
     owners = reserve((MOST_DEPTH + 3) * sizeof *owners);
 }
 
+static void put_header(void) {
+    const char *header = version == 2 ? "trace 2\n" : "trace 1\n";
+    memcpy(room(&trace), header, strlen(header));
+    trace.used += strlen(header);
+}
+
 __attribute__((constructor(101))) static void start(void) {
     const char *name = getenv("SPBAGS_TRACE");
-    if (!name || !*name) {
+    bool writes = name && *name;
+    if (!writes && !HAS_DETECTOR) {
         tell("SPBAGS_TRACE isn't set, so no trace is written");
         return;
     }
@@ -148,19 +181,22 @@ __attribute__((constructor(101))) static void start(void) {
         write_repeats();
     fill_digits();
     give_streams_buffers();
-    open_outputs(name);
+    if (writes)
+        open_outputs(name);
+    else
+        start_detector();
     open_ways();
-    /* A traced program that this one starts would write over the trace. */
+    /* A traced program that this one starts would write over the trace, or over the report. */
     unsetenv("SPBAGS_TRACE");
+    unsetenv("SPBAGS_REPORT");
     find_stack();
     frames[top] = (struct frame){.kind = ROOT, .end = UINTPTR_MAX};
     procedures = most_procedures = 1;
     traced_process = getpid();
-    pthread_atfork(NULL, NULL, stop_tracing);
+    pthread_atfork(tell_fork, NULL, stop_tracing);
     at_quick_exit(quick_end);
-    const char *header = version == 2 ? "trace 2\n" : "trace 1\n";
-    memcpy(room(&trace), header, strlen(header));
-    trace.used += looking ? 0 : strlen(header);
+    if (writes && !looking)
+        put_header();
     tracing = true;
     find_short_way();
     catch_signals();

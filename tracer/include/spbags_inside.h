@@ -1,11 +1,12 @@
 /* The detector as a library: a session takes the records of one run as they come, and then gives the text of their
    report, byte for byte that of `spbags check`. The library is the crate `inside`. Its contracts are proved of callers
-   that do what "needs" says here.
+   that do what is said here.
 
    A handle is the address of spbags_room() bytes, which 16 divides. Between spbags_new and spbags_free only these
    functions read or write what lies there. One thread calls them, one call at a time, and no signal handler does. */
 #ifndef SPBAGS_INSIDE_H
 #define SPBAGS_INSIDE_H
+#include <stdbool.h>
 #include <stddef.h>
 #include <stdint.h>
 
@@ -40,4 +41,19 @@ uint16_t spbags_next(void *handle);
 
 /* Frees the session, in each state. The bytes at the handle are the caller's again. */
 void spbags_free(void *handle);
+
+/* The heap of the library, which whoever links it defines. A block has `size` bytes, and `alignment`, which divides 16,
+   divides its address. It is the library's alone until it is given back. Where one is refused, `got` is false, and
+   `block` is any address but null. */
+struct rattle_block {
+    bool got;
+    void *block;
+};
+
+struct rattle_block rattle_alloc(size_t size, size_t alignment);
+
+/* Another size for this block, which may move; its first `kept` bytes stay. If it is refused, the block is as before. */
+struct rattle_block rattle_realloc(void *block, size_t kept, size_t size, size_t alignment);
+
+void rattle_dealloc(void *block);
 #endif

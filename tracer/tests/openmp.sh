@@ -27,6 +27,9 @@ check_openmp_program() {
     SPBAGS_UNIT=$unit found_by_run ./program | sort >found
     same "$wanted" "$(cat found)"
     count $? "$what: spbags-run"
+    # shellcheck disable=SC2086
+    SPBAGS_UNIT=$unit check_inside_program "$what" "$wanted" "$(openmp_compiler "$program")" -fopenmp "$level" $flag \
+        "$(source_of "$program")"
 }
 
 check_openmp_examples() {

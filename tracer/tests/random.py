@@ -2,8 +2,9 @@
 """Random Cilk programs, traced and judged. Each is written twice: as a program in C for spbags-cc, and as one that
 tells judge.h what it does, which says by definition which variables race. Their names have to be those of the locations
 that `spbags check` reports of the trace, with repeats and without, and both reports have to name the same locations.
+With --inside the programs have the detector inside, and its report of each run has to be the checker's.
 
-    random.py [--count 200] [--seed 1] [--seconds 60]
+    random.py [--count 200] [--seed 1] [--seconds 60] [--inside]
 
 CC names the compiler and SPBAGS the checker. It stops after so many seconds, and its last line says how many programs
 it tried and how many of them were wrong."""
@@ -150,9 +151,9 @@ class Function:
 class Batch:
     """Some programs in one file, built both ways."""
 
-    def __init__(self, folder, first, count, seed):
-        self.name = os.path.join(folder, f"b{first}")
-        self.numbers, self.tags = range(first, first + count), {}
+    def __init__(self, folder, first, count, seed, inside):
+        self.name, self.inside = os.path.join(folder, f"b{first}"), ["--inside"] if inside else []
+        self.numbers, self.tags, self.differ = range(first, first + count), {}, set()
         cilk, judged = HEAD.splitlines(), ['#include "judge.h"']
         for number in self.numbers:
             writer = Writer(number, random.Random(f"{seed} {number}"))
@@ -178,7 +179,7 @@ class Batch:
 
     def build(self):
         level = ("-O0", "-O1")[self.numbers[0] // BATCH % 2]
-        self.run(os.path.join(TRACER, "spbags-cc"), level, "-w", "-o", self.name, self.name + ".c")
+        self.run(os.path.join(TRACER, "spbags-cc"), *self.inside, level, "-w", "-o", self.name, self.name + ".c")
         self.run("gcc" if not os.environ.get("CC") else os.environ["CC"], "-w", "-O1", "-I" + HERE, "-o",
                  self.name + "_judged", self.name + "_judged.c")
         told = self.run(self.name + "_judged")
@@ -187,9 +188,12 @@ class Batch:
     def racy(self, number, repeats):
         """The racy locations of a traced run, and the code of the first access of each."""
         trace = f"{self.name}.{number}"
-        self.run(self.name, str(number), SPBAGS_TRACE=trace, SPBAGS_REPEATS=str(repeats),
-                 SPBAGS_VERSION=str(1 + number % 2))
+        settings = {"SPBAGS_REPEATS": str(repeats), "SPBAGS_VERSION": str(1 + number % 2)}
+        self.run(self.name, str(number), SPBAGS_TRACE=trace, SPBAGS_REPORT="", **settings)
         report = self.run(SPBAGS, "check", trace)
+        if self.inside and report != self.own_report(number, trace[:-1] + "~", settings):
+            print(f"program {number}: the report of the detector inside isn't the checker's", file=sys.stderr)
+            self.differ.add(number)
         racy = {line.split()[1] for line in report.splitlines()[1:]}
         codes = {}
         with open(trace, encoding="ascii") as records, open(trace + ".places", "rb") as places:
@@ -201,6 +205,12 @@ class Batch:
         os.remove(trace)
         os.remove(trace + ".places")
         return codes
+
+    def own_report(self, number, name, settings):
+        """That of the detector inside. The environment is as long as in the traced run: the program's words lie before."""
+        self.run(self.name, str(number), SPBAGS_TRACE="", SPBAGS_REPORT=name, **settings)
+        with open(name, encoding="ascii") as file:
+            return file.read()
 
     def names(self, codes):
         """By code the variable whose first access it is."""
@@ -222,17 +232,18 @@ class Batch:
             if found != self.wanted[number] or codes != all_codes:
                 print(f"program {number}: wanted {dict(self.wanted[number])}, found {dict(found)}", file=sys.stderr)
                 wrong.append(number)
-        return wrong
+        return self.differ.union(wrong)
 
 
 def main():
     parser = argparse.ArgumentParser(description=__doc__, formatter_class=argparse.RawDescriptionHelpFormatter)
     for name, value in (("count", 200), ("seed", 1), ("seconds", 60)):
         parser.add_argument("--" + name, type=int, default=value)
+    parser.add_argument("--inside", action="store_true")
     words = parser.parse_args()
     end, tried, wrong, racy = time.monotonic() + words.seconds, 0, 0, 0
     with tempfile.TemporaryDirectory(prefix="spbags-random-") as folder, ThreadPoolExecutor(2) as pool:
-        batches = [Batch(folder, first, min(BATCH, words.count - first), words.seed)
+        batches = [Batch(folder, first, min(BATCH, words.count - first), words.seed, words.inside)
                    for first in range(0, words.count, BATCH)]
         results = [(batch, pool.submit(lambda batch=batch: batch.wrong() if time.monotonic() < end else None))
                    for batch in batches]

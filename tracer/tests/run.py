@@ -1,8 +1,8 @@
 #!/usr/bin/env python3
 """Tries spbags-run on run.c, and on programs and files that go wrong. What has to come out is written here by hand,
 with the lines that tags in the source name. SPBAGS names the checker, and CC the compiler. The last line says how many
-passed and failed. With the word `brief` it prints the JSON object on standard input, a line for each pair of source
-lines."""
+passed and failed. With --inside the programs have the detector inside. With the word `brief` it prints the JSON object
+on standard input, a line for each pair of source lines."""
 import json
 import os
 import pty
@@ -21,6 +21,7 @@ import answers
 import source
 RUN = os.path.join(TRACER, "spbags-run")
 SOURCE = os.path.join(HERE, "run.c")
+INSIDE = [word for word in sys.argv[1:] if word == "--inside"]
 
 
 def lines_of_tags():
@@ -374,6 +375,10 @@ def check_programs_that_go_wrong():
 
 
 def check_a_checker_that_goes_wrong():
+    """With the detector inside there is none."""
+    if INSIDE:
+        same(1, found("global", env={"SPBAGS": "./none"})[0])
+        return
     check_failure("spbags isn't built: .*", "--", "./run", env={"SPBAGS": "./none"})
     with open("spbags_without_memory", "w") as file:
         file.write("#!/bin/sh\necho 'spbags: out of memory' >&2\nexit 2\n")
@@ -413,13 +418,13 @@ def check_a_signal_from_outside():
 
 
 def build():
-    compiler = os.path.join(TRACER, "spbags-cc")
+    compiler = [os.path.join(TRACER, "spbags-cc"), "-w", *INSIDE]
     for name in ("run", "ends", "ways_out", "many", "stores"):
-        subprocess.run([compiler, "-w", "-o", name, os.path.join(HERE, name + ".c")], check=True)
-    subprocess.run([compiler, "-w", "-DRACY", "-o", "traps", os.path.join(TRACER, "examples", "traps.c")], check=True)
+        subprocess.run([*compiler, "-o", name, os.path.join(HERE, name + ".c")], check=True)
+    subprocess.run([*compiler, "-DRACY", "-o", "traps", os.path.join(TRACER, "examples", "traps.c")], check=True)
     with open("faults.c", "w") as file:
         file.write("int main(void) { *(volatile int *)8 = 1; }\n")
-    subprocess.run([compiler, "-w", "-o", "faults", "faults.c"], check=True)
+    subprocess.run([*compiler, "-o", "faults", "faults.c"], check=True)
 
 
 def brief():

@@ -1,0 +1,99 @@
+/* What goes out for each record of the run: a line of the trace, a step of the detector inside, or in a run that looks
+   nothing but its number. */
+#ifdef SPBAGS_INSIDE
+/* In a program with the detector few runs write anything but the report. */
+#define WRITES __attribute__((noinline, cold)) static
+#else
+#define WRITES static inline
+#endif
+
+WRITES void write_place(uintptr_t code) {
+    uint64_t place = code;
+    __builtin_memcpy(room(&places), &place, sizeof place);
+    places.used += sizeof place;
+}
+
+/* A line of the structure has at most eight bytes. So many are copied, since a copy of a fixed size is quick, and the
+   next line goes over those that aren't of this one. */
+struct line {
+    char bytes[8];
+    size_t length;
+};
+#define LINE(TEXT) {TEXT "\n", sizeof TEXT}
+static const struct line lines[] = {[SPBAGS_SPAWN] = LINE("spawn"), [SPBAGS_CALL] = LINE("call"),
+                                    [SPBAGS_RETURN] = LINE("return"), [SPBAGS_SYNC] = LINE("sync")};
+
+/* Of a run that looks: how many records it would have written so far, and the place of the next that is looked at. */
+static uint64_t records, next_place = UINT64_MAX;
+static void look_at_structure(void);
+static void look_at_access(bool writes, uint64_t location, uintptr_t address, uintptr_t code);
+
+__attribute__((noinline, cold)) static void count_structure(void) {
+    if (++records == next_place)
+        look_at_structure();
+}
+
+__attribute__((noinline, cold)) static void count_access(bool writes, uint64_t location, uintptr_t address,
+                                                         uintptr_t code) {
+    if (++records == next_place)
+        look_at_access(writes, location, address, code);
+}
+
+WRITES void write_structure(enum spbags_kind kind) {
+    __builtin_memcpy(room(&trace), lines[kind].bytes, sizeof lines[kind].bytes);
+    in_order();
+    trace.used += lines[kind].length;
+}
+
+static inline void structure_record(enum spbags_kind kind, uintptr_t code) {
+    if (__builtin_expect(looking, 0)) {
+        count_structure();
+        return;
+    }
+    if (places.file >= 0)
+        write_place(code);
+    if (detecting)
+        step(kind, 0);
+    else
+        write_structure(kind);
+}
+
+/* From 00 to 99. */
+static char two_digits[100][2];
+
+static void fill_digits(void) {
+    for (int number = 0; number < 100; number++) {
+        two_digits[number][0] = (char)('0' + number / 10);
+        two_digits[number][1] = (char)('0' + number % 10);
+    }
+}
+
+/* The line is made from its end, and then copied with what follows it, since a copy of a fixed size is quick. */
+WRITES void write_access(bool writes, uint64_t location) {
+    char line[64];
+    char *at = line + 31;
+    *at = '\n';
+    for (; location > 99; location /= 100)
+        __builtin_memcpy(at -= 2, two_digits[location % 100], 2);
+    __builtin_memcpy(at -= 2, two_digits[location], 2);
+    at += location < 10;
+    at -= 6;
+    __builtin_memcpy(at, writes ? "write " : " read ", 6);
+    at += !writes;
+    __builtin_memcpy(room(&trace), at, 32);
+    in_order();
+    trace.used += (size_t)(line + 32 - at);
+}
+
+static inline void access_record(bool writes, uint64_t location, uintptr_t address, uintptr_t code) {
+    if (__builtin_expect(looking, 0)) {
+        count_access(writes, location, address, code);
+        return;
+    }
+    if (places.file >= 0)
+        write_place(code);
+    if (detecting)
+        step(writes ? SPBAGS_WRITE : SPBAGS_READ, location);
+    else
+        write_access(writes, location);
+}
