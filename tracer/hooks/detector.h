@@ -5,7 +5,7 @@ enum { HAS_DETECTOR = true };
 /* By this spbags-run knows that a program has it. */
 __attribute__((used)) static const char inside_mark[] = "SPBAGS_INSIDE";
 static void start_detector(void);
-/* The run writes no trace, and its records go to this session. */
+/* Whether the run writes no trace, and its records go to the detector. */
 static bool detecting;
 static void *session;
 
