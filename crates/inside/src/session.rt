@@ -74,15 +74,22 @@ impl Session {
                     Ok(_) => TAKEN,
                     Err(Refusal::AfterEnd) => AFTER_END,
                     Err(Refusal::TooMany) => TOO_MANY,
-                    Err(Refusal::NoMemory) => {
-                        *self = Session::Stopped;
-                        NO_MEMORY
-                    }
+                    Err(Refusal::NoMemory) => self.stop(),
                 },
             },
             Session::Giving(..) => GIVEN,
             Session::Stopped => NO_MEMORY,
         }
+    }
+
+    // A function of its own, since a step would pay at each record for the room of a session.
+    #[cold]
+    #[inline(never)]
+    fn stop(&mut self) -> u8
+        ensures { (result ≡ no_memory) × (self.new ≡ Session.Stopped) }
+    {
+        *self = Session::Stopped;
+        NO_MEMORY
     }
 
     /// Makes the text of the report of what was taken. From then on the session gives it.
