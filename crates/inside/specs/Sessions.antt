@@ -11,7 +11,7 @@ use Rattle.dag.specs.declared.records.Record.{Record}
 use Rattle.dag.specs.declared.records.Record.TheVariants.{Spawn, Call, Return, Sync, Read, Write}
 use Rattle.shadow.specs.Found.{found, by_location}
 use Rattle.collect.specs.ReportText.{rtext}
-use Rattle.online.specs.Detectors.{IsAfter}
+use Rattle.online.specs.Detectors.{IsAfter, MayWant}
 use Rattle.inside.specs.declared.session.Session.{Session}
 use Rattle.inside.specs.declared.session.Session.TheVariants.{Taking, Giving, Stopped}
 
@@ -83,6 +83,13 @@ pub record HasStepped (before : Session) (kind location : ℕ) (after : Session)
   pub ended : status ≡ after_end → (u : List Record) → HasTaken u before → HasEnded u
   pub many : status ≡ too_many → (u : List Record) → HasTaken u before → length u ≡ most_records
   pub unknown : status ≡ unknown_kind → 5 < kind
+  -- and no record that it could take is refused so; memory may be refused only to a record that may need some
+  pub is_unknown : 5 < kind → (u : List Record) → HasTaken u before → status ≡ unknown_kind
+  pub is_full : kind < 6 → (u : List Record) → HasTaken u before → length u ≡ most_records → status ≡ too_many
+  pub is_ended : kind < 6 → (u : List Record) → HasTaken u before → HasEnded u → length u < most_records
+      → status ≡ after_end
+  pub want : status ≡ no_memory → (u : List Record) (what : Record) → HasTaken u before → IsNamed kind location what
+      → MayWant u what
   -- it answers so after the report was made, and only then
   pub giving : (text : List ℕ) (count : ℕ) → HasGiven text count before → status ≡ given
   pub taking : (u : List Record) → HasTaken u before → status ≢ given

@@ -1,5 +1,7 @@
 //! What C calls. What lies at the handle is a session from `spbags_new` up to `spbags_free`.
-ghost use Rattle.std.specs.Prelude.{◌≢◌, ℕ, []};
+ghost use Rattle.std.specs.Prelude.{◌≡◌, ◌≢◌, ℕ, []};
+ghost use Rattle.std.specs.Mem.{type_size};
+ghost use prog.Memory.{capped};
 ghost use Rattle.std.specs.Borrow.{full_share, sem};
 ghost use Rattle.std.specs.Ptr.{lies_at, room_at};
 ghost use Rattle.inside.specs.declared.session.Session.{Session};
@@ -11,7 +13,9 @@ use std::alloc::Global;
 
 /// How many bytes C reserves for a session, at an address that 16 divides.
 #[unsafe(no_mangle)]
-pub extern "C" fn spbags_room() -> usize {
+pub extern "C" fn spbags_room() -> usize
+    ensures { result ≡ capped (type_size the_row) }
+{
     std::mem::size_of::<Session>()
 }
 

@@ -3,7 +3,7 @@ ghost use Rattle.std.specs.Prelude.{◌≡◌, ◌≢◌, ℕ, ◌+◌, ◌<◌,
 ghost use Rattle.dag.specs.Bounds.{most_records};
 ghost use Rattle.trace.specs.Faults.{HasEnded};
 ghost use Rattle.dag.specs.declared.records.Record.{Record};
-ghost use Rattle.online.specs.Detectors.{IsAfter};
+ghost use Rattle.online.specs.Detectors.{IsAfter, MayWant};
 ghost use Rattle.inside.specs.declared.session.Session.{Session};
 ghost use Rattle.inside.specs.Sessions.{taken, after_end, too_many, no_memory, unknown_kind, given, at_end, no_text};
 ghost use Rattle.inside.specs.Sessions.{IsNamed, HasTaken, HasGiven, report_text};
@@ -63,6 +63,13 @@ impl Session {
         ensures after_end { result ≡ after_end → (u : List Record) → HasTaken u self.old → HasEnded u }
         ensures too_many { result ≡ too_many → (u : List Record) → HasTaken u self.old → length u ≡ most_records }
         ensures unknown { result ≡ unknown_kind → 5 < kind }
+        ensures is_unknown { 5 < kind → (u : List Record) → HasTaken u self.old → result ≡ unknown_kind }
+        ensures is_full { kind < 6 → (u : List Record) → HasTaken u self.old → length u ≡ most_records
+            → result ≡ too_many }
+        ensures is_ended { kind < 6 → (u : List Record) → HasTaken u self.old → HasEnded u → length u < most_records
+            → result ≡ after_end }
+        ensures want { result ≡ no_memory → (u : List Record) (what : Record) → HasTaken u self.old
+            → IsNamed kind location what → MayWant u what }
         ensures giving { (text : List ℕ) (count : ℕ) → HasGiven text count self.old → result ≡ given }
         ensures taking { (u : List Record) → HasTaken u self.old → result ≢ given }
         ensures within { result < 6 }
