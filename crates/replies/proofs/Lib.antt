@@ -2,3 +2,4 @@ pub mod Statuses
 pub mod Endings
 pub mod Named
 pub mod Merged
+pub mod Opened

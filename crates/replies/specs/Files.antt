@@ -1,5 +1,7 @@
 -- Promised: what the names stand for that were asked with, and how the answer ends of what they stand for.
-use Rattle.std.specs.Prelude.{◌≡◌, ℕ, List, Option, Result, string_bytes}
+use Rattle.std.specs.Prelude.{◌≡◌, ℕ, ⊤, List, Option, None, Result, string_bytes}
+use Rattle.std.specs.declared.fs.File.{File}
+use Rattle.std.specs.declared.io.Error.{Error}
 use Rattle.dag.specs.Bounds.{most_records}
 use Rattle.trace.specs.Devices.{Device, Change, ◌⇝◌}
 use Rattle.words.specs.declared.asking.Asked.{Asked}
@@ -9,7 +11,7 @@ use Rattle.words.specs.declared.asking.ConfirmWords.{ConfirmWords}
 use Rattle.words.specs.Asked.{depth_of, trace_name}
 use Rattle.replies.specs.declared.input.Input.{Input}
 pub use Rattle.replies.specs.Inputs.{untried}
-use Rattle.replies.specs.Inputs.{StandsFor, StandsBeside}
+use Rattle.replies.specs.Inputs.{StandsFor, StandsBeside, known_bytes}
 use Rattle.replies.specs.Questions.{Answers, IsWant}
 use Rattle.replies.specs.Answered.{IsAnswered, IsConfirmed}
 use Rattle.replies.specs.Merges.{HasMergedOf}
@@ -38,3 +40,7 @@ module _ {F E : Type 0} (Gives : List ℕ → Result F E → Type 0) (known : In
   IsAnsweredOf (asked.Question q) out err status = HasAnsweredOf q out err status
   IsAnsweredOf (asked.Confirm c) out err status = HasConfirmedOf c out err status
   IsAnsweredOf (asked.Merge m) out err status = HasMergedOf Gives known m out err status
+
+-- The same of the files of the system: no contract says what opening a name gives, or which bytes a file has.
+abbrev pub IsAnsweredOfFiles : Asked → Change → Change → ℕ → Type 0
+IsAnsweredOfFiles = IsAnsweredOf {F = File} {E = Error} (λ name opened. ⊤) (known_bytes (λ file. None))

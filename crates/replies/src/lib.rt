@@ -3,7 +3,7 @@
 
 ghost use Rattle.std.specs.Fn.{FnReturnsAt};
 ghost use Rattle.trace.specs.Devices.{◌⇝◌};
-ghost use Rattle.replies.specs.Files.{HasAnsweredOf, HasConfirmedOf, IsAnsweredOf};
+ghost use Rattle.replies.specs.Files.{HasAnsweredOf, HasConfirmedOf, IsAnsweredOf, IsAnsweredOfFiles};
 ghost use Rattle.replies.specs.Inputs.{known_bytes};
 
 mod checks;
@@ -31,7 +31,10 @@ pub fn answer_asked<T: Threads + Wait + Sync, W: Sink, E: Sink>(
     asked: &Asked,
     out: &mut W,
     err: &mut E,
-) -> u8 {
+) -> u8
+    ensures { IsAnsweredOfFiles asked.now (W.state out.old ⇝ W.state out.new) (E.state err.old ⇝ E.state err.new)
+        result }
+{
     let opener = |name: &str| File::open(rt, name);
     answer_from_files(threads, rt, asked, &opener, out, err)
 }
