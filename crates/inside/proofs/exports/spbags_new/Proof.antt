@@ -1,9 +1,8 @@
 -- Makes a session, and writes it where the handle points.
-use Rattle.inside.proofs.Steps.{◌≢◌, ℕ, List, [], ◌∷◌, ◌++◌, refl, proved, full_share, id⊢, ftrue, froom, fsep, fex, Val, vunit, vstruct, vcons, vnil, fact, tables, WpFn, ‵, raw, ◌⊛◌, some, later, prop, ◌$◌, ◌∵◌, !, qed, done, move, keep, drop, use1, use2, split, join, fjoin, fpack, feq_i, pick, await, regoal, suffices, group, enter, init, of_opd, unit_lit, stop, no_more, and_then, assigns, returns, alloc_all, pass_all, free_all, look_at, get, through, sets, lands_as, part_in, yes, Is, Tells, shows, lone, Ptr, RawPtr, block_ptr, lies_at, room_at, in_a_block, rawptr_vals, rawptr_Tells, plain, nothing, heard, peeks, calls_at, lasts, triple_of, Stays, walk_of, stay_dropped, Goes-dropped, ends_at, framed}
+use Rattle.inside.proofs.Steps.{◌≢◌, [], ◌∷◌, refl, proved, full_share, id⊢, ftrue, fsep, fex, Val, vunit, vstruct, vcons, vnil, fact, tables, WpFn, ‵, raw, ◌⊛◌, some, later, prop, ◌$◌, ◌∵◌, !, qed, done, move, keep, drop, use1, use2, split, join, fjoin, fpack, feq_i, pick, await, regoal, suffices, group, enter, init, of_opd, unit_lit, stop, no_more, and_then, assigns, returns, alloc_all, pass_all, free_all, look_at, get, through, sets, lands_as, part_in, yes, Is, Tells, shows, Ptr, RawPtr, block_ptr, lies_at, room_at, in_a_block, rawptr_vals, rawptr_Tells, plain, nothing, heard, peeks, calls_at, lasts, triple_of, Stays, walk_of, stay_dropped, Goes-dropped, ends_at, framed}
 use denote.Struct.Laws as struct_laws
 use Rattle.std.specs.contracts.alloc.Global as heap
 use Rattle.std.proofs.alloc.Global.TheLaws as heap_laws
-use Rattle.inside.specs.declared.session.Session.{Session}
 use Rattle.inside.specs.declared.session.Session.TheVariants.{Stopped}
 use Rattle.inside.specs.Sessions.{HasTaken}
 use Rattle.inside.specs.contracts.session.Session.{the_row as R}

@@ -1,5 +1,5 @@
 -- Lends what lies at the handle, calls, and takes it back.
-use Rattle.inside.proofs.Steps.{ℕ, List, [], ◌∷◌, ◌++◌, refl, lit<, w8, w64, MutBor, proved, full_share, id⊢, Lft, ftrue, flft, flent, fsep, fex, named, Val, vint, vptr, fact, tables, WpFn, Body, ‵, raw, ◌⊛◌, some, later, prop, ◌$◌, ◌∵◌, !, qed, done, move, keep, drop, use1, use2, use3, split, join, fsplit, fjoin, fpack, pick, await, regoal, suffices, group, enter, of_opd, addr, stop, no_more, and_then, returns, alloc_all, pass_all, free_all, look_at, get, through, sets, lands_as, lft_new, lft_end, u8, u64, yes, Is, shows, lends_ref, ref_back, mem, uint_Makes, uint_vals, uint_Tells, uint_Lawful, Ptr, RawPtr, block_ptr, lies_at, in_a_block, rawptr_vals, rawptr_Tells, MutRef, mut_vals, plain, nothing, owned, heard, peeks, calls_at, lasts, on_entry, triple_of, Stays, walk_of, stay_dropped, Goes-dropped, ends_at, framed}
+use Rattle.inside.proofs.Steps.{ℕ, [], ◌∷◌, ◌++◌, refl, w8, w64, MutBor, proved, full_share, id⊢, Lft, ftrue, flft, flent, fsep, fex, named, vint, vptr, fact, tables, WpFn, Body, ‵, raw, ◌⊛◌, some, later, prop, ◌$◌, ◌∵◌, !, qed, done, move, keep, drop, use1, use2, use3, split, join, fsplit, fjoin, fpack, pick, await, regoal, suffices, group, enter, of_opd, addr, stop, no_more, and_then, returns, alloc_all, pass_all, free_all, look_at, get, through, sets, lands_as, lft_new, lft_end, u8, u64, yes, Is, shows, lends_ref, ref_back, mem, uint_Makes, uint_vals, uint_Tells, uint_Lawful, Ptr, RawPtr, block_ptr, lies_at, in_a_block, rawptr_vals, rawptr_Tells, MutRef, plain, nothing, owned, heard, peeks, calls_at, lasts, on_entry, triple_of, Stays, walk_of, stay_dropped, Goes-dropped, ends_at, framed}
 use Rattle.inside.specs.Sessions.{HasStepped}
 use Rattle.inside.specs.contracts.session.Session.{the_row as R}
 use Rattle.inside.specs.contracts.exports.spbags_step as f
