@@ -2,7 +2,7 @@
 use Rattle.std.proofs.Common.{◌≡◌, ℕ, ◌+◌, ◌<◌, ◌≤◌, List, Bool, true, false, cond, ◌==◌, arith}
 use Rattle.shadow.specs.Cells.{Named, Cell}
 use Rattle.shadow.specs.Before.{IsNameBefore, IsCellBefore}
-use Rattle.shadow.specs.Pages.{cell_of}
+use Rattle.shadow.specs.Pages.{cell_of, Seats}
 use Rattle.shadow.specs.Found.{with_cell}
 use Rattle.shadow.specs.Memory.{Memory, kept_of, IsMemoryBefore}
 
@@ -17,7 +17,7 @@ pub found_before : (m : Memory) (place count l : ℕ) → IsMemoryBefore m → m
 found_before m place count l before later fewer = cell_later (m.last_place + 1) place m.least_count count (kept_of m l) (omega arith) fewer (before l)
 
 -- so the memory stays before the next place
-pub cells_before : (m : Memory) (es : List (ℕ × List Cell)) (place count l : ℕ) (c : Cell) → IsMemoryBefore m → m.last_place < place → m.least_count ≤ count
+pub cells_before : (m : Memory) (es : List (ℕ × Seats)) (place count l : ℕ) (c : Cell) → IsMemoryBefore m → m.last_place < place → m.least_count ≤ count
     → IsCellBefore (place + 1) count c → ((q : ℕ) → cell_of m.shards es q ≡ with_cell l c (kept_of m) q)
     → IsMemoryBefore (record { shards = m.shards; pages = es; last_place = place; least_count = count })
 cells_before m es place count l c before later fewer now is q = rw is (by (q == l))
@@ -26,5 +26,5 @@ cells_before m es place count l c before later fewer now is q = rw is (by (q == 
     by true = now
     by false = cell_later (m.last_place + 1) (place + 1) m.least_count count (kept_of m q) (omega arith) fewer (before q)
 
-pub pages_stay : (m : Memory) (es : List (ℕ × List Cell)) → es ≡ m.pages → IsMemoryBefore m → IsMemoryBefore (record { shards = m.shards; pages = es; last_place = m.last_place; least_count = m.least_count })
+pub pages_stay : (m : Memory) (es : List (ℕ × Seats)) → es ≡ m.pages → IsMemoryBefore m → IsMemoryBefore (record { shards = m.shards; pages = es; last_place = m.last_place; least_count = m.least_count })
 pages_stay m es is before l = rw is (before l)

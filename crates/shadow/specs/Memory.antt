@@ -6,14 +6,14 @@ use Rattle.dag.specs.declared.records.Placed.{Placed}
 use Rattle.bags.specs.Procedures.{Procedures}
 use Rattle.shadow.specs.Cells.{Cell, untouched}
 use Rattle.shadow.specs.Before.{IsCellBefore}
-use Rattle.shadow.specs.Pages.{cell_of}
+use Rattle.shadow.specs.Pages.{cell_of, Seats}
 use Rattle.shadow.specs.Found.{state_after}
 
 -- how many shards the cells are numbered for, the pages of the locations that were touched, the place of the last touch,
 -- and the count of its bags
 pub record Memory : Type 0 where
   pub shards : ℕ
-  pub pages : List (ℕ × List Cell)
+  pub pages : List (ℕ × Seats)
   pub last_place : ℕ
   pub least_count : ℕ
 

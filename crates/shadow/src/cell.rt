@@ -1,9 +1,10 @@
 //! What is kept of one location, and what an access does to it.
-ghost use Rattle.std.specs.Prelude.{◌≡◌, ◌+◌, ◌<◌, ◌≤◌, None, true, false, IsTrue, ◌↔◌};
+ghost use Rattle.std.specs.Prelude.{◌≡◌, ◌+◌, ◌<◌, ◌≤◌, Bool, None, true, false, IsTrue, ◌↔◌};
 ghost use Rattle.std.specs.Option.{ForSome};
 ghost use Rattle.dag.specs.Bounds.{most_records};
 ghost use Rattle.bags.specs.Procedures.{in_p};
-ghost use Rattle.shadow.specs.Cells.{untouched, race_at, race_with, touched, rival, parallel_access, reader_after, name_of};
+ghost use Rattle.shadow.specs.Cells.{race_at, race_with, touched, rival, parallel_access, reader_after, name_of};
+ghost use Rattle.shadow.specs.Pages.{no_names, cell_with};
 ghost use Rattle.shadow.specs.Before.{IsNameBefore, IsCellBefore, CanRace, Executes};
 ghost use Rattle.shadow.specs.Touches.{MayTouch, HasTouched};
 
@@ -101,39 +102,45 @@ impl Slot {
     }
 }
 
-/// The kept writer and the kept reader of a location, and whether its race was reported.
+/// The kept writer and the kept reader of a location.
 #[derive(Drop)]
 pub struct Kept {
     writer: Slot,
     reader: Slot,
-    reported: bool,
 }
 
 impl Model for Kept {
-    ghost use Rattle.shadow.specs.Cells.{Cell};
+    ghost use Rattle.shadow.specs.Pages.{Names};
 
-    ghost Value = { Cell };
+    ghost Value = { Names };
 
-    ghost view = { λ k. record { writer = k.writer; reader = k.reader; reported = k.reported } };
+    ghost view = { λ k. record { writer = k.writer; reader = k.reader } };
 }
 
 impl Kept {
-    /// The state of a location before its first access.
-    pub fn untouched() -> Kept
-        ensures { result ≡ untouched }
+    /// The names of a location before its first access.
+    pub fn empty() -> Kept
+        ensures { result ≡ no_names }
     {
         Kept {
             writer: Slot::empty(),
             reader: Slot::empty(),
-            reported: false,
         }
     }
 
-    /// Takes an access of the location by the executing procedure, and reports its race, if any.
+    /// Takes an access of the location by the executing procedure, and reports its race, if it wasn't `reported`.
     #[inline(always)]
-    pub fn touch(&mut self, bags: &Bags, location: u64, kind: Kind, place: u64) -> Option<Race>
-        requires { MayTouch bags.now place self.old }
-        ensures { HasTouched bags.now location kind place self.old self.new result }
+    pub fn touch(
+        &mut self,
+        reported: &mut bool,
+        bags: &Bags,
+        location: u64,
+        kind: Kind,
+        place: u64,
+    ) -> Option<Race>
+        requires { MayTouch bags.now place (cell_with self.old reported.old) }
+        ensures { HasTouched bags.now location kind place
+            (cell_with self.old reported.old) (cell_with self.new reported.new) result }
     {
         let executing = bags.current();
         let first = rival(bags, executing, kind, place, self);
@@ -142,7 +149,7 @@ impl Kept {
             Kind::Write => self.writer.keep(bags, executing, place),
         }
         match first {
-            Some(first) if self.report() => Some(Race {
+            Some(first) if report(reported) => Some(Race {
                 location,
                 first,
                 second: Access { kind, place },
@@ -150,26 +157,28 @@ impl Kept {
             _ => None,
         }
     }
+}
 
-    // From here on the location's race counts as reported. Whether it wasn't reported before.
-    #[cold]
-    #[inline(never)]
-    fn report(&mut self) -> bool
-        ensures new { IsTrue result ↔ (self.old.reported ≡ false) }
-        ensures reported { self.new ≡ record self.old { reported = true } }
-    {
-        let new = !self.reported;
-        self.reported = true;
-        new
-    }
+// From here on the location's race counts as reported. Whether it wasn't reported before.
+#[cold]
+#[inline(never)]
+fn report(reported: &mut bool) -> bool
+    ensures new { IsTrue result ↔ (reported.old ≡ false) }
+    ensures reported { reported.new ≡ true }
+{
+    let new = !*reported;
+    *reported = true;
+    new
 }
 
 /// The first access of a race with an access by the executing procedure, if there is one.
 #[inline(always)]
 fn rival(bags: &Bags, executing: u64, kind: Kind, place: u64, kept: &Kept) -> Option<Access>
     requires executes { Executes bags.now executing }
-    requires earlier { IsCellBefore place bags.now.count kept.now }
-    ensures first { result ≡ rival bags.now.active kind kept.now }
+    requires writer { ForSome kept.now.writer (IsNameBefore place bags.now.count) }
+    requires reader { ForSome kept.now.reader (IsNameBefore place bags.now.count) }
+    ensures first { result ≡ rival bags.now.active kind (cell_with kept.now false) }
+    ensures first_if_reported { result ≡ rival bags.now.active kind (cell_with kept.now true) }
     ensures can_race { ForSome result (CanRace kind place) }
 {
     let writer = parallel_access(bags, executing, Kind::Write, place, kept.writer.name());

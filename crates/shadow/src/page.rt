@@ -12,16 +12,17 @@ use std::marker::Model;
 /// What is kept of eight locations.
 #[derive(Drop)]
 pub struct Page {
-    cells: [Kept; 8],
+    names: [Kept; 8],
+    // Whether the race of each location was reported. Few accesses look at it, so it stands apart from the names.
+    reported: [bool; 8],
 }
 
 impl Model for Page {
-    ghost use Rattle.std.specs.Prelude.{List};
-    ghost use Rattle.shadow.specs.Cells.{Cell};
+    ghost use Rattle.shadow.specs.Pages.{Seats};
 
-    ghost Value = { List Cell };
+    ghost Value = { Seats };
 
-    ghost view = { λ b. b.cells };
+    ghost view = { λ b. record { names = b.names; reported = b.reported } };
 }
 
 impl Page {
@@ -30,16 +31,17 @@ impl Page {
         ensures { (seat : ℕ) → cell_at result seat ≡ untouched }
     {
         Page {
-            cells: [
-                Kept::untouched(),
-                Kept::untouched(),
-                Kept::untouched(),
-                Kept::untouched(),
-                Kept::untouched(),
-                Kept::untouched(),
-                Kept::untouched(),
-                Kept::untouched(),
+            names: [
+                Kept::empty(),
+                Kept::empty(),
+                Kept::empty(),
+                Kept::empty(),
+                Kept::empty(),
+                Kept::empty(),
+                Kept::empty(),
+                Kept::empty(),
             ],
+            reported: [false; 8],
         }
     }
 
@@ -59,6 +61,6 @@ impl Page {
             (cell_at self.old seat) (cell_at self.new seat) result }
         ensures others { (k : ℕ) → k ≢ seat → cell_at self.new k ≡ cell_at self.old k }
     {
-        self.cells[seat].touch(bags, location, kind, place)
+        self.names[seat].touch(&mut self.reported[seat], bags, location, kind, place)
     }
 }

@@ -1,6 +1,6 @@
 //! The touched pages, by their numbers.
 ghost use Rattle.std.specs.Prelude.{◌≡◌, ◌<◌, [], IfSome, IfOk, IsTrue, OnErr};
-ghost use Rattle.shadow.specs.Pages.{cells_of, cell_in, IsPageAt, IsLookedUp, HasPut, HasSameCells};
+ghost use Rattle.shadow.specs.Pages.{no_seats, cells_of, cell_in, IsPageAt, IsLookedUp, HasPut, HasSameCells};
 ghost use Rattle.shadow.specs.Touches.{MayTouch, HasTouched};
 
 use crate::page::Page;
@@ -29,9 +29,9 @@ pub struct Pages<S: BuildHasher> {
 
 impl<S: BuildHasher> Model for Pages<S> {
     ghost use Rattle.std.specs.Prelude.{ℕ, List};
-    ghost use Rattle.shadow.specs.Cells.{Cell};
+    ghost use Rattle.shadow.specs.Pages.{Seats};
 
-    ghost Value = { List (ℕ × List Cell) };
+    ghost Value = { List (ℕ × Seats) };
 
     ghost view = { λ b. b.map.entries };
 }
@@ -74,7 +74,7 @@ impl<S: BuildHasher> Pages<S> {
         ensures there { IfOk result (λ at. IsPageAt self.new at page) }
         ensures kept { HasSameCells self.old self.new }
         ensures err { OnErr result (self.new ≡ self.old) }
-        ensures not_there { OnErr result (cells_of self.old page ≡ []) }
+        ensures not_there { OnErr result (cells_of self.old page ≡ no_seats) }
     {
         if let Some(index) = self.look_up(slot, page) {
             return Ok(index);

@@ -3,18 +3,17 @@ use Rattle.std.proofs.lemmas.Bool.{eq-eqb}
 use Rattle.std.specs.Map.{lookup}
 use Rattle.indexmap.proofs.CallerLemmas.{insert_entry-new}
 use Rattle.dag.proofs.Lists.{slice_get-last}
-use Rattle.shadow.specs.Cells.{Cell}
-use Rattle.shadow.specs.Pages.{cells_of, IsPageAt}
+use Rattle.shadow.specs.Pages.{cells_of, IsPageAt, Seats, no_seats}
 use Rattle.shadow.proofs.pages.Pages.find.Goals as goal
 
 pub returns-clause-there : goal.returns-clause-there
 returns-clause-there g c =
-    let es : List (ℕ × List Cell) = c.self.inside.map.entries in
+    let es : List (ℕ × Seats) = c.self.inside.map.entries in
     let page : ℕ = c.args.page in
-    let b : List Cell = c.untouched.result in
-    let none : lookup (nat_eq page) es ≡ None = ap (λ (xs : List (ℕ × List Cell)). lookup (nat_eq page) xs) (c.self.view_is ∙ c.in_default.ensures.same) ∙ c.in_default.ensures.found in
+    let b : Seats = c.untouched.result in
+    let none : lookup (nat_eq page) es ≡ None = ap (λ (xs : List (ℕ × Seats)). lookup (nat_eq page) xs) (c.self.view_is ∙ c.in_default.ensures.same) ∙ c.in_default.ensures.found in
     let last : c.insert.new.self.entries ≡ es ++ (page, b) ∷ [] = c.in_ok-insert.ensures.entries ∙ insert_entry-new nat_eq c.self.inside.map page b none in
     let is : cells_of c.insert.new.self.entries page ≡ b
-    = ap (λ (o : Option (List Cell)). unwrap_or o []) (c.in_ok-insert.ensures.updates.0 page ∙ ap (λ t. cond t (Some b) (lookup (nat_eq page) es)) (eq-eqb page page refl)) in
+    = ap (λ (o : Option Seats). unwrap_or o no_seats) (c.in_ok-insert.ensures.updates.0 page ∙ ap (λ t. cond t (Some b) (lookup (nat_eq page) es)) (eq-eqb page page refl)) in
     subst (λ (n : ℕ). IsPageAt c.insert.new.self.entries n page) (sym c.len-index.ensures.len)
-    (ap (λ (xs : List (ℕ × List Cell)). slice_get xs (length es)) last ∙ slice_get-last es (page, b) ∙ ap (λ (x : List Cell). Some (page, x)) (sym is))
+    (ap (λ (xs : List (ℕ × Seats)). slice_get xs (length es)) last ∙ slice_get-last es (page, b) ∙ ap (λ (x : Seats). Some (page, x)) (sym is))

@@ -1,10 +1,10 @@
-use Rattle.std.proofs.Common.{Some, List, ap, sym, ◌∙◌, subst, refl}
+use Rattle.std.proofs.Common.{Some, ap, sym, ◌∙◌, subst, refl}
 use Rattle.std.proofs.lemmas.Cmp.{nat_eq_equiv}
 use Rattle.indexmap.proofs.CallerLemmas.{updates-with_value_at}
 use Rattle.std.specs.Option.{option_copied_mut}
 use Rattle.shadow.specs.Cells.{Cell}
 use Rattle.shadow.specs.Touches.{HasTouched}
-use Rattle.shadow.specs.Pages.{cells_of, cell_at, IsPageAt}
+use Rattle.shadow.specs.Pages.{cells_of, IsPageAt, Seats, cell_at}
 use Rattle.shadow.proofs.PageLemmas.{but_one_seat, put_changed, put_here, some_value, value_there}
 use Rattle.shadow.proofs.pages.Pages.touch.Goals as goal
 
@@ -28,8 +28,8 @@ returns-clause-touched g c =
     let is = value_there es c.args.at page c.in-Some.cells.now there c.in-Some.ensures.value in
     let updates = updates-with_value_at c.self.inside.map c.args.at c.touch.new.self nat_eq_equiv c.get_index_mut.ensures.unique page c.in-Some.cells.now (there ∙ ap (λ b. Some (page, b)) (sym is)) in
     let put = put_changed es _ page seat (cell_at c.touch.new.self seat) c.touch.new.self (λ k. but_one_seat c.in-Some.cells.now c.touch.new.self seat c.touch.ensures.others k ∙ rw is refl) updates.0 in
-    let P : List Cell → Cell → Type 0 = λ old new. HasTouched c.args.bags.now c.args.location c.args.kind c.args.place (cell_at old seat) new c.touch.result in
-    rw (← c.self.view_is) (subst (P (cells_of es page)) (sym (put_here es _ page seat _ put)) (subst (λ (b : List Cell). P b (cell_at c.touch.new.self seat)) is c.touch.ensures.touched))
+    let P : Seats → Cell → Type 0 = λ old new. HasTouched c.args.bags.now c.args.location c.args.kind c.args.place (cell_at old seat) new c.touch.result in
+    rw (← c.self.view_is) (subst (P (cells_of es page)) (sym (put_here es _ page seat _ put)) (subst (λ (b : Seats). P b (cell_at c.touch.new.self seat)) is c.touch.ensures.touched))
 
 pub returns-clause-others : goal.returns-clause-others
 returns-clause-others g c =
