@@ -1,6 +1,6 @@
 //! The end of a lane that puts, and its receipt.
 ghost use Rattle.std.specs.Prelude.{◌≡◌, ◌+◌, ◌<◌, ◌≤◌, true, false, [], ◌∷◌, ◌++◌, length, map, vec_len, vec_capacity};
-ghost use Rattle.std.specs.Prelude.{IsTrue, IsFalse, IfErr, OnOk};
+ghost use Rattle.std.specs.Prelude.{IsTrue, IsFalse, IfErr, IfNone, IfSome, OnOk};
 ghost use Rattle.rtrb.specs.Ring.{sent, known_free, producer_capacity, SameProducer, ProducerLooked};
 ghost use Rattle.lane.specs.declared.sender.TheConstants.{BLOCK};
 ghost use Rattle.lane.specs.declared.item.Item.TheVariants.{One, Finish};
@@ -47,7 +47,7 @@ impl<T: Copy + Send> Sender<T> {
     /// Puts the value behind those put before, or hands it back if the lane is full, when the taker is shown all items
     /// put. It shows values to the taker together: at the latest when `most_staged` of them are staged, or in `flush`.
     #[inline(always)]
-    #[tactic(auto, using(crate::proofs::Marks::has_mark_more))]
+    #[tactic(auto, using(crate::proofs::Marks::has_mark_staged, crate::proofs::Marks::mark_last_staged, crate::proofs::Marks::none_staged))]
     pub fn put(&mut self, value: T) -> Result<(), T>
         requires { has_mark (put_of self.old) ≡ false }
         ensures lane { (lane_of self.new ≡ lane_of self.old) × (capacity_of self.new ≡ capacity_of self.old) }
@@ -60,44 +60,16 @@ impl<T: Copy + Send> Sender<T> {
         ensures shown { IfErr result (λ _. staged_of self.new ≡ []) }
         ensures unmarked { has_mark (put_of self.new) ≡ false }
     {
-        if self.limit == 0 && !self.look() {
-            return Err(value);
-        }
-        self.stage(value);
-        Ok(())
-    }
-
-    // Looks at the other end while nothing is staged; false if the lane is full.
-    #[cold]
-    #[inline(never)]
-    fn look(&mut self) -> bool
-        requires { vec_len self.old.staged ≡ 0 }
-        ensures lane { (lane_of self.new ≡ lane_of self.old) × (capacity_of self.new ≡ capacity_of self.old) }
-        ensures put { put_of self.new ≡ put_of self.old }
-        ensures room { room_of self.old ≤ room_of self.new }
-        ensures none_staged { staged_of self.new ≡ [] }
-        ensures some { IsTrue result → 1 ≤ self.new.limit }
-        ensures full { IsFalse result → (room_of self.new ≡ 0) × (capacity_of self.old ≤ length (put_of self.old)) }
-    {
-        let full = self.ring.is_full();
-        self.limit = self.ring.cached_slots().min(self.most);
-        !full
-    }
-
-    // Stages the value, and shows all if the limit is reached.
-    #[inline(always)]
-    #[tactic(auto, using(crate::proofs::Marks::has_mark_staged, crate::proofs::Marks::mark_last_staged, crate::proofs::Marks::none_staged))]
-    fn stage(&mut self, value: T)
-        requires room { 1 ≤ self.old.limit }
-        requires unmarked { has_mark (put_of self.old) ≡ false }
-        ensures lane { (lane_of self.new ≡ lane_of self.old) × (capacity_of self.new ≡ capacity_of self.old) }
-        ensures put { put_of self.new ≡ put_of self.old ++ One value ∷ [] }
-        ensures room { room_of self.old ≤ room_of self.new + 1 }
-        ensures staged { length (staged_of self.new) < most_staged (capacity_of self.new) }
-    {
         self.staged.push_reserved(Item::One(value));
-        if self.staged.len() == self.limit {
-            self.limit = publish(&mut self.ring, &mut self.staged, self.most);
+        if self.staged.len() < self.limit {
+            return Ok(());
+        }
+        match next_limit(&mut self.ring, &mut self.staged, self.limit, self.most) {
+            Some(limit) => {
+                self.limit = limit;
+                Ok(())
+            }
+            None => Err(value),
         }
     }
 
@@ -194,6 +166,44 @@ pub(crate) fn most_staged(capacity: usize) -> usize
     ensures { result ≡ most_staged capacity }
 {
     (capacity / 2).min(BLOCK).max(1)
+}
+
+// Shows the taker what is staged, if that is as much as the limit, and says how many items may be staged next. If the
+// limit is 0 it first looks at the other end. `None` if the lane is full; then the one item is staged no more.
+#[cold]
+#[inline(never)]
+fn next_limit<T: Copy + Send>(
+    ring: &mut Producer<Item<T>, Global, MarkLast>,
+    staged: &mut Vec<Item<T>>,
+    limit: usize,
+    most: usize,
+) -> Option<usize>
+    requires some { 1 ≤ limit → vec_len staged.old ≤ known_free ring.old }
+    requires one { limit ≡ 0 → vec_len staged.old ≡ 1 }
+    requires last { mark_last (sent ring.old ++ staged.old.items) ≡ true }
+    requires most { 1 ≤ most }
+    ensures ring { SameProducer ring.old ring.new }
+    ensures memory { vec_capacity staged.new ≡ vec_capacity staged.old }
+    ensures put { IfSome result (λ _. sent ring.new ++ staged.new.items ≡ sent ring.old ++ staged.old.items) }
+    ensures room { IfSome result
+        (λ _. known_free ring.old + vec_len staged.new ≤ known_free ring.new + vec_len staged.old) }
+    ensures within { IfSome result (λ limit. (limit ≤ most) × (limit ≤ known_free ring.new)) }
+    ensures below { IfSome result (λ limit. (vec_len staged.new ≤ limit) × (1 ≤ limit → vec_len staged.new < limit)) }
+    ensures less { IfSome result (λ _. vec_len staged.new < most) }
+    ensures full { IfNone result ((limit ≡ 0) × (known_free ring.new ≡ 0) × (known_free ring.old ≡ 0)) }
+    ensures none_staged { IfNone result ((sent ring.new ≡ sent ring.old) × (staged.new.items ≡ [])) }
+{
+    if limit == 0 {
+        if ring.is_full() {
+            staged.clear();
+            return None;
+        }
+        let limit = ring.cached_slots().min(most);
+        if staged.len() < limit {
+            return Some(limit);
+        }
+    }
+    Some(publish(ring, staged, most))
 }
 
 // Shows the taker what is staged, after which nothing is, and says how many items may be staged next.
