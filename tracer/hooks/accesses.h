@@ -1,3 +1,18 @@
+static inline bool are_repeats(bool writes, const uint32_t *mark, size_t units) {
+    const uint32_t least = new_mark(writes);
+#pragma GCC unroll 4
+    for (size_t unit = 0; unit < units; unit++)
+        if (mark[unit] < least)
+            return false;
+    return true;
+}
+
+/* Whether these are some whole units of one region, and all of them repeats. */
+static inline bool is_old(bool writes, uintptr_t at, size_t size) {
+    return ((at | size) & unit_mask) == 0 && size <= region_mask - (at & region_mask) &&
+           regions[region_of(at)] != 0 && are_repeats(writes, mark_at(at, unit_shift), size >> unit_shift);
+}
+
 /* Between a spawn and the entry of what it calls, and between its exit and the return, compilers copy arguments and the
    result through memory of the parent's frame, which no program sees. A library function that is the child itself says
    so by its name. */
@@ -6,37 +21,47 @@ __attribute__((noinline)) static void any_access(bool writes, uintptr_t at, size
     if (!tracing || initialising > 0)
         return;
     leave_jumped(stack_pointer, code);
-    if (frames[top].kind != CHILD || frames[top].callee == self)
+    if ((top->kind != CHILD || top->callee == self) && !is_old(writes, at, size))
         touch(writes, at, size, code);
 }
 
-/* Of the short way: it has several units, and not all of it is a repeat. */
-__attribute__((noinline)) static void note_access(bool writes, uintptr_t at, size_t size, uintptr_t code) {
-    uint32_t *marks = mark_of(at);
-    for (size_t unit = 0; unit < size >> unit_shift; unit++)
-        touch_unit(writes, (at >> unit_shift) + unit, marks + unit, code);
+/* Of the short way: some of these units aren't repeats. */
+__attribute__((noinline)) static void note_several(bool writes, uintptr_t at, size_t size, uintptr_t code) {
+    uint32_t *mark = mark_of(at, USUAL_SHIFT);
+    for (uintptr_t unit = at; unit < at + size; unit += 1 << USUAL_SHIFT, mark++)
+        if (!is_repeat(writes, *mark))
+            note_unit(writes, unit, mark, USUAL_SHIFT, code);
 }
 
-static inline bool are_repeats(bool writes, const uint32_t *mark, size_t units) {
-    do
-        if (!is_repeat(writes, *mark++))
-            return false;
-    while (--units > 0);
-    return true;
+/* Of the short way: the only unit isn't a repeat. */
+__attribute__((noinline)) static void note_usual(bool writes, uintptr_t at, uint32_t *mark, uintptr_t code) {
+    if (__builtin_expect(is_in_no_region(mark), 0))
+        note_several(writes, at, 1 << USUAL_SHIFT, code);
+    else
+        note_unit(writes, at, mark, USUAL_SHIFT, code);
 }
 
-/* The short way of most accesses, those that fill whole units and don't lie across regions. */
+static inline void usual_unit(bool writes, uintptr_t at, uintptr_t code) {
+    uint32_t *mark = mark_at(at, USUAL_SHIFT);
+    if (!is_repeat(writes, *mark))
+        note_usual(writes, at, mark, code);
+}
+
+/* The short way of most accesses: the unit is the usual one, and they fill one or several units. */
 static inline void usual_access(bool writes, uintptr_t at, size_t size, uintptr_t stack_pointer, uintptr_t code) {
-    if (stack_pointer >= short_way_end || (size & unit_mask) != 0 || (at & (size - 1)) != 0)
+    if (size >> USUAL_SHIFT == 0 || stack_pointer >= short_way_end || (at & (size - 1)) != 0)
         any_access(writes, at, size, NULL, stack_pointer, code);
-    else if (!has_region(at))
-        note_access(writes, at, size, code);
-    else if (!are_repeats(writes, mark_of(at), size >> unit_shift)) {
-        if (size >> unit_shift == 1)
-            note_unit(writes, at >> unit_shift, mark_of(at), code);
-        else
-            note_access(writes, at, size, code);
-    }
+    else if (size >> USUAL_SHIFT == 1)
+        usual_unit(writes, at, code);
+    else if (!are_repeats(writes, mark_at(at, USUAL_SHIFT), size >> USUAL_SHIFT))
+        note_several(writes, at, size, code);
+}
+
+void __spbags_stored(const volatile void *at, unsigned long size) {
+    if (short_way_bits != 0 && size == 1 << USUAL_SHIFT && ((uintptr_t)at & (size - 1)) == 0)
+        usual_unit(true, (uintptr_t)at, CODE);
+    else if (tracing)
+        touch(true, (uintptr_t)at, size, CODE);
 }
 
 /* The linker's name for the end of what is only read in the program. */

@@ -22,6 +22,7 @@ __attribute__((noinline, cold, noreturn)) static void refuse_handler(void) {
     fail("a signal handler of the program's own came into the detector, so the run ends here, and there is no report");
 }
 
+/* Whether a signal waits then is the caller's to ask. */
 static inline void step(enum spbags_kind kind, uint64_t location) {
     if (__builtin_expect(stepping, 0))
         refuse_handler();
@@ -32,8 +33,6 @@ static inline void step(enum spbags_kind kind, uint64_t location) {
     stepping = false;
     if (__builtin_expect(status != SPBAGS_TAKEN, 0))
         refuse_step(status);
-    if (__builtin_expect(waiting_signal != 0, 0) && changes == 0)
-        end_by_signal(waiting_signal);
 }
 
 static void put_report(void) {

@@ -8,7 +8,7 @@ static bool is_traced(void) { return tracing && getpid() == traced_process; }
 
 static void stop_tracing(void) {
     tracing = false;
-    short_way_end = 0;
+    find_short_way();
 }
 
 static void tell_notes(void) {
@@ -73,8 +73,8 @@ static bool is_fault(int number, const siginfo_t *about) {
 
 /* All that lies between the stack's end and its limit grows by itself, so a fault there is beyond the limit. */
 static bool is_on_stack(const void *address) {
-    uintptr_t unit = (uintptr_t)address >> unit_shift, below = ((uintptr_t)1 << 20) >> unit_shift;
-    return unit - (stack_first - below) < stack_units + below;
+    const uintptr_t below = (uintptr_t)1 << 20;
+    return (uintptr_t)address - (stack_first - below) < stack_size + below;
 }
 
 static void die_by(int number) {

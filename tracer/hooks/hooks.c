@@ -3,8 +3,8 @@
    file instead of the sanitizer's own runtime. This file is compiled without that flag. The program runs on one thread,
    in the serial order: a spawned child runs at once, as an ordinary call.
 
-   Each part stands on those before it: what goes out; the detector, where SPBAGS_INSIDE is defined; records; what is
-   held; what a strand has done; locations; procedures; a look at the races' places; the hooks of accesses, of library
+   Each part stands on those before it: what goes out; the detector, where SPBAGS_INSIDE is defined; what a strand has
+   done; records; what is held; locations; procedures; a look at the races' places; the hooks of accesses, of library
    functions and of locks; the heap; those of C++ and, where SPBAGS_OPENMP is defined, of OpenMP; the ends of the run,
    and its beginning. */
 #define _GNU_SOURCE
@@ -48,14 +48,14 @@
 
 /* The version of the trace's text where SPBAGS_VERSION doesn't say. */
 enum { DEFAULT_VERSION = 2 };
-/* The unit of accesses in bytes where SPBAGS_UNIT doesn't say. */
-enum { DEFAULT_UNIT = 4 };
+/* The unit of accesses in bytes where SPBAGS_UNIT doesn't say: 1 << USUAL_SHIFT. */
+enum { DEFAULT_UNIT = 4, USUAL_SHIFT = 2 };
 /* No checker reads a trace that nests deeper, and that alone without being told. */
 enum { MOST_DEPTH = 1000000, DEFAULT_DEPTH = 65536 };
 
 /* Of the function that called the hook: its stack pointer at the call, the address after the call, and the address
    right above its stack memory. It keeps its frame pointer, which the hook finds saved in its own frame. */
-#define STACK_POINTER ((uintptr_t)__builtin_frame_address(0) + 16)
+#define STACK_POINTER ((uintptr_t)__builtin_dwarf_cfa())
 #define CODE ((uintptr_t)__builtin_return_address(0))
 #define FRAME_END (*(uintptr_t *)__builtin_frame_address(0) + 16)
 
@@ -73,9 +73,9 @@ static bool looking;
 
 #include "output.h"
 #include "detector.h"
+#include "marks.h"
 #include "records.h"
 #include "guards.h"
-#include "marks.h"
 #include "locations.h"
 #include "procedures.h"
 #include "look.h"

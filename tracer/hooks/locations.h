@@ -1,8 +1,8 @@
-/* Accesses are told in units. Stack memory comes again for other variables, so a unit of it
-   gets a fresh number at its first touch, and loses it when its frame ends: an odd location. Other memory is never
-   given back, so its units keep theirs: twice the address in units, an even location. */
-static uintptr_t stack_first, stack_units;
-/* By unit of the stack, from stack_first on: a unit that is marked has its number. */
+/* Accesses are told in units. Stack memory comes again for other variables, so a unit of it gets a fresh number at its
+   first touch, and loses it when its frame ends: an odd location. Other memory is never given back, so its units keep
+   theirs: twice the address in units, an even location. */
+static uintptr_t stack_first, stack_size;
+/* By unit of the stack, from its first address on: a unit that is marked has its number. */
 static uint64_t *numbers, last_number;
 
 static uint64_t narrow_accesses;
@@ -10,55 +10,55 @@ static uintptr_t narrow_bits;
 /* Whether the access at hand doesn't fill its units. */
 static bool is_narrow;
 
-static inline uint64_t location_of(uintptr_t unit, uint32_t mark) {
-    uintptr_t at = unit - stack_first;
-    if (at >= stack_units)
-        return 2 * unit;
+/* Of the unit that begins at this address, which has this mark. */
+static inline uint64_t location_of(uintptr_t address, uint32_t mark, unsigned shift) {
+    uintptr_t at = address - stack_first;
+    if (at >= stack_size)
+        return 2 * (address >> shift);
     if (mark == UNTOUCHED) {
-        numbers[at] = ++last_number;
-        if (at < lowest)
-            lowest = at;
+        numbers[at >> shift] = ++last_number;
+        if (address < lowest)
+            lowest = address;
     }
-    return 2 * numbers[at] + 1;
+    return 2 * numbers[at >> shift] + 1;
 }
 
-/* The stack memory below this address has no variable any more. Mostly it is a few units. */
-static inline void clear_below(uintptr_t address) {
-    enum { FEW = 16 };
-    uintptr_t end = (address >> unit_shift) - stack_first;
-    if (lowest >= end)
-        return;
-    if (end - lowest > FEW)
-        memset(stack_marks + lowest, 0, (end - lowest) * sizeof *stack_marks);
+/* Down to the lowest of these marks, and so many together that those below may be among them. */
+static inline void clear_marks(uint32_t *lowest_mark, uint32_t *end) {
+    enum { FEW = 64 };
+    if (end - lowest_mark > FEW)
+        memset(lowest_mark, 0, (uintptr_t)end - (uintptr_t)lowest_mark);
     else
-        for (uintptr_t at = lowest; at < end; at++)
-            stack_marks[at] = UNTOUCHED;
-    lowest = end;
+        while (end > lowest_mark)
+            __builtin_memset(end -= CLEARED, 0, CLEARED * sizeof *end);
+}
+
+/* The stack memory below this address has no variable any more. */
+static inline void clear_below(uintptr_t address) {
+    if (lowest >= address)
+        return;
+    clear_marks(stack_mark(lowest), stack_mark(address));
+    lowest = address & ~unit_mask;
 }
 
 /* Nor has this memory. A unit that is partly another variable's keeps its number. */
 static void clear(uintptr_t address, size_t size) {
-    uintptr_t first = ((address + unit_mask) >> unit_shift) - stack_first;
-    uintptr_t end = ((address + size) >> unit_shift) - stack_first;
-    if (first < end && end <= stack_units)
-        memset(stack_marks + first, 0, (end - first) * sizeof *stack_marks);
+    uintptr_t first = (address + unit_mask) & ~unit_mask, end = (address + size) & ~unit_mask;
+    if (end - stack_first <= stack_size)
+        for (; first < end; first += unit_mask + 1)
+            *stack_mark(first) = UNTOUCHED;
 }
 
-/* One unit that is accessed, and its mark: it is no repeat. */
-__attribute__((noinline)) static void note_unit(bool writes, uintptr_t unit, uint32_t *mark, uintptr_t code) {
-    uint64_t location = location_of(unit, *mark);
+/* A unit that is accessed, by its first address and its mark: it is no repeat. */
+static inline void note_unit(bool writes, uintptr_t address, uint32_t *mark, unsigned shift, uintptr_t code) {
+    uint64_t location = location_of(address, *mark, shift);
     *mark = new_mark(writes);
-    access_record(writes, location, unit << unit_shift, code);
-}
-
-static inline void touch_unit(bool writes, uintptr_t unit, uint32_t *mark, uintptr_t code) {
-    if (!is_repeat(writes, *mark))
-        note_unit(writes, unit, mark, code);
+    access_record(writes, location, address, code);
 }
 
 /* One record for each unit that the access touches, but for repeats. No memory of the program reaches further than its
    addresses do. */
-static void touch(bool writes, uintptr_t address, size_t size, uintptr_t code) {
+__attribute__((noinline)) static void touch(bool writes, uintptr_t address, size_t size, uintptr_t code) {
     const uintptr_t end = (uintptr_t)1 << 47;
     if (size == 0 || address >= end || size > end - address)
         return;
@@ -67,8 +67,13 @@ static void touch(bool writes, uintptr_t address, size_t size, uintptr_t code) {
         narrow_bits |= address | size;
         is_narrow = true;
     }
-    uintptr_t last = (address + size - 1) >> unit_shift;
-    for (uintptr_t unit = address >> unit_shift; unit <= last; unit++)
-        touch_unit(writes, unit, mark_of(unit << unit_shift), code);
+    uintptr_t unit = address & ~unit_mask;
+    uint32_t *mark = mark_of(unit, unit_shift);
+    for (; unit < address + size; unit += unit_mask + 1, mark++) {
+        if ((unit & region_mask) == 0)
+            mark = mark_of(unit, unit_shift);
+        if (!is_repeat(writes, *mark))
+            note_unit(writes, unit, mark, unit_shift, code);
+    }
     is_narrow = false;
 }

@@ -61,6 +61,8 @@ static bool is_program(uintptr_t code) {
            !is_between(code, __start_spbags_hooks, __stop_spbags_hooks);
 }
 
+static size_t top_at(void) { return (size_t)(top - frames); }
+
 struct unwinding {
     uintptr_t end, code;
 };
@@ -124,9 +126,9 @@ static uint32_t meeting(uint32_t one, uint32_t other) {
 
 /* How many functions stand on the stack up to the one whose memory this is, or 0. */
 static uint32_t owner_of(uintptr_t address) {
-    if ((address >> unit_shift) - stack_first >= stack_units)
+    if (address - stack_first >= stack_size)
         return 0;
-    size_t frame = top;
+    size_t frame = top_at();
     while (frame > 0 && (frames[frame].kind != FUNCTION || frames[frame].end <= address))
         frame--;
     return nodes[node_of(frame)].functions;
@@ -200,7 +202,7 @@ static bool has_race(uintptr_t address, size_t size) {
 static void look_at_block(uintptr_t address, size_t size, uintptr_t stack_pointer, uintptr_t code) {
     if (size == 0 || !has_race(address, size))
         return;
-    size_t frame = top;
+    size_t frame = top_at();
     while (frames[frame].end <= stack_pointer)
         frame--;
     blocks[blocks_count++] = (struct block){address, size, code_in(frame, code), node_of(frame)};
@@ -310,8 +312,8 @@ static void look_at_access(bool writes, uint64_t location, uintptr_t address, ui
     if (look->writes != writes || race->location != location) {
         go_astray("a %s of location %" PRIu64, writes ? "write" : "read", location);
     } else {
-        look->node = node_of(top);
-        look->code = code_in(top, code);
+        look->node = node_of(top_at());
+        look->code = code_in(top_at(), code);
         look->guards = guards_now();
         look->is_narrow = is_narrow;
         if (look == &race->second)

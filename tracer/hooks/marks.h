@@ -3,63 +3,87 @@
    none, so it isn't written. Each unit of memory has a mark, which says what was done there last: twice the number of
    the strand, and one more where it wrote. */
 enum { UNTOUCHED = 0, TOUCHED = 1 };
+/* So many marks are cleared at once. */
+enum { CLEARED = 4 };
 /* The greatest number of a strand. */
 #ifndef MOST_STRANDS
 #define MOST_STRANDS 0x7ffffffeu
 #endif
 
-/* The marks of the current strand. Where repeats are written no unit gets either. */
-static uint32_t has_read = 2, has_written = 3;
+/* What the current strand has read has this mark, and what it has written one more. */
+static uint32_t has_read = 2;
+/* Each record of an access begins a strand, so that there are no repeats. */
 static bool writes_repeats;
 
 /* What is a thread's own isn't shared, so nothing in it is recorded: with this mark all that is done there counts as a
    repeat. No other mark is above that of a write in the current strand. */
 static const uint32_t own_mark = UINT32_MAX;
 
-static inline bool is_repeat(bool writes, uint32_t mark) { return mark >= (writes ? has_written : has_read); }
+static inline bool is_repeat(bool writes, uint32_t mark) { return writes ? mark > has_read : mark >= has_read; }
 
-static inline uint32_t new_mark(bool writes) { return writes_repeats ? TOUCHED : writes ? has_written : has_read; }
+static inline uint32_t new_mark(bool writes) { return has_read + writes; }
 
 /* The marks of a region of memory come with its first access. Those of the stack are there from the start. */
 enum { REGION_BITS = 24, REGIONS = 1 << 23 };
 static const uintptr_t region_mask = ((uintptr_t)1 << REGION_BITS) - 1;
-static uint32_t *regions[REGIONS];
+/* Those of a region that has none, by the usual unit: all of it is untouched. */
+static uint32_t no_marks[1 << (REGION_BITS - USUAL_SHIFT)];
+/* How many bytes behind those the marks of each region begin. */
+static uintptr_t regions[REGIONS];
 /* The regions that came with an access, in that order. */
 static uint32_t *added, regions_added;
 static uint32_t *stack_regions, *stack_regions_end;
-/* By unit of the stack from its first on. No mark of the stack stands below the lowest. */
-static uint32_t *stack_marks;
+/* Where the mark of the unit 0 would stand, if those of the stack went on. */
+static uintptr_t stack_marks;
+/* No mark of the stack stands below this address, which begins a unit. */
 static uintptr_t lowest;
 
 static inline size_t region_of(uintptr_t address) { return (address >> REGION_BITS) & (REGIONS - 1); }
 
 static size_t region_size(void) { return (sizeof(uint32_t) << REGION_BITS) >> unit_shift; }
 
-static inline bool has_region(uintptr_t address) { return regions[region_of(address)] != NULL; }
+static inline uint32_t *region_marks(size_t region) { return (uint32_t *)((uintptr_t)no_marks + regions[region]); }
 
-__attribute__((noinline)) static void add_region(size_t region) {
-    regions[region] = reserve(region_size());
+static void set_region_marks(size_t region, const uint32_t *marks) {
+    regions[region] = (uintptr_t)marks - (uintptr_t)no_marks;
+}
+
+__attribute__((noinline, cold)) static void add_region(size_t region) {
+    set_region_marks(region, reserve(region_size()));
     added[regions_added++] = (uint32_t)region;
 }
 
-static inline uint32_t *mark_of(uintptr_t address) {
-    size_t region = region_of(address);
-    if (__builtin_expect(!regions[region], 0))
-        add_region(region);
-    return regions[region] + ((address & region_mask) >> unit_shift);
+/* The mark of an address. As long as its region has none it is one of the above, if the unit is the usual one. */
+static inline uint32_t *mark_at(uintptr_t address, unsigned shift) {
+    return region_marks(region_of(address)) + ((address & region_mask) >> shift);
+}
+
+/* Whether this is the mark of such an address. */
+static inline bool is_in_no_region(const uint32_t *mark) {
+    return (uintptr_t)mark - (uintptr_t)no_marks < sizeof no_marks;
+}
+
+static inline uint32_t *mark_of(uintptr_t address, unsigned shift) {
+    if (__builtin_expect(regions[region_of(address)] == 0, 0))
+        add_region(region_of(address));
+    return mark_at(address, shift);
+}
+
+static inline uint32_t *stack_mark(uintptr_t address) {
+    return (uint32_t *)(stack_marks + (address >> unit_shift) * sizeof(uint32_t));
 }
 
 /* Makes the marks of the stack, which lies between these. */
 static void make_marks(uintptr_t first, uintptr_t end) {
-    size_t region = region_of(first), last = region_of(end);
+    size_t region = region_of(first - (CLEARED << unit_shift)), last = region_of(end);
     added = reserve(REGIONS * sizeof *added);
     size_t size = (last - region + 1) * region_size();
     stack_regions = reserve(size);
     stack_regions_end = stack_regions + size / sizeof *stack_regions;
     for (size_t number = region; number <= last; number++)
-        regions[number] = stack_regions + (number - region) * (region_size() / sizeof *stack_regions);
-    stack_marks = mark_of(first);
-    lowest = (end - first) >> unit_shift;
+        set_region_marks(number, stack_regions + (number - region) * (region_size() / sizeof *stack_regions));
+    stack_marks = (uintptr_t)mark_at(first, unit_shift) - (first >> unit_shift) * sizeof(uint32_t);
+    lowest = end & ~unit_mask;
 }
 
 /* What each thread has of its own: the program's variables that are local to a thread, and copies for reductions. */
@@ -71,34 +95,25 @@ static struct own_memory {
 static void mark_own(uintptr_t first, uintptr_t end) {
     uintptr_t unit = (uintptr_t)1 << unit_shift;
     for (uintptr_t at = first & ~(unit - 1); at < end; at += unit)
-        *mark_of(at) = own_mark;
+        *mark_of(at, unit_shift) = own_mark;
 }
 
 /* All numbers are taken: they begin again, and no mark may have an old one. What was touched stays touched, since that
    says on the stack that a unit has its number. */
-__attribute__((noinline)) static void forget_strands(void) {
-    for (uint32_t *mark = stack_marks + lowest; mark < stack_regions_end; mark++)
+__attribute__((noinline, cold)) static void forget_strands(void) {
+    for (uint32_t *mark = stack_mark(lowest); mark < stack_regions_end; mark++)
         if (*mark != UNTOUCHED)
             *mark = TOUCHED;
     for (uint32_t at = 0; at < regions_added; at++)
-        if (madvise(regions[added[at]], region_size(), MADV_DONTNEED) != 0)
+        if (madvise(region_marks(added[at]), region_size(), MADV_DONTNEED) != 0)
             fail("out of memory: %s", strerror(errno));
     for (size_t at = THREAD; at <= COPIES; at++)
         mark_own(own[at].first, own[at].end);
     has_read = 0;
-    has_written = 1;
 }
 
 static inline void begin_strand(void) {
-    if (writes_repeats)
-        return;
     if (__builtin_expect(has_read / 2 == MOST_STRANDS, 0))
         forget_strands();
     has_read += 2;
-    has_written += 2;
-}
-
-static void write_repeats(void) {
-    writes_repeats = true;
-    has_read = has_written = UINT32_MAX;
 }

@@ -97,14 +97,14 @@ static void open_part(enum kind kind, uintptr_t stack_pointer, uintptr_t code) {
     if (!tracing)
         return;
     leave_jumped(stack_pointer, code);
-    uintptr_t end = kind == LOOP_PART ? frames[top].end - 1 : stack_pointer;
-    push_frame((struct frame){.kind = kind, .end = end, .code = code});
+    push_frame(kind, kind == LOOP_PART ? top->end - 1 : stack_pointer);
+    top->code = code;
 }
 
 static void close_part(uintptr_t code) {
     if (!tracing)
         return;
-    while (top > 0 && frames[top].kind < CALLED)
+    while (top > frames && top->kind < CALLED)
         leave_top(code);
     leave_top(code);
 }
@@ -116,8 +116,8 @@ static void write_sync(uintptr_t code) {
 }
 
 static void note_wait(uintptr_t code) {
-    if (tracing && frames[top].node != NONE)
-        look_at_wait(&frames[top], code, false);
+    if (tracing && top->node != NONE)
+        look_at_wait(top, code, false);
 }
 
 static void write_open(enum spbags_kind kind, uintptr_t code) {

@@ -6,6 +6,12 @@ static void end_by_signal(int number);
 /* What stands before it in the text is done before what stands behind it, as a handler sees it. */
 static inline void in_order(void) { __atomic_signal_fence(__ATOMIC_SEQ_CST); }
 
+/* A signal that waited, where none has to wait any more. */
+static inline void let_signal_end(void) {
+    if (__builtin_expect(waiting_signal != 0, 0) && changes == 0)
+        end_by_signal(waiting_signal);
+}
+
 static inline void begin_change(void) {
     changes++;
     in_order();
@@ -14,8 +20,7 @@ static inline void begin_change(void) {
 static inline void end_change(void) {
     in_order();
     changes--;
-    if (changes == 0 && __builtin_expect(waiting_signal != 0, 0))
-        end_by_signal(waiting_signal);
+    let_signal_end();
 }
 
 /* No record has more bytes, nor has the header. */

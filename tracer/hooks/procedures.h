@@ -1,11 +1,13 @@
 /* The last three are parts of OpenMP, whose procedures are no matter of frames: a function that the hooks call, a task,
    and some iterations of a loop. */
-enum kind { ROOT, FUNCTION, CHILD, CALLED, TASK_PART, LOOP_PART };
+enum kind { FUNCTION, ROOT, CHILD, CALLED, TASK_PART, LOOP_PART };
 enum { NONE = 0 };
 
 /* An active function, or a child that was spawned: the child's frame stands below the frame of the function that it
    calls, and is left by __spbags_return. */
 struct frame {
+    /* Right above its stack memory. A child has none of its own, and ends with its parent. */
+    uintptr_t end;
     enum kind kind;
     /* A `call` stands open for this function. */
     bool called;
@@ -13,8 +15,6 @@ struct frame {
     uint32_t children;
     /* In a run that looks, what stands for it there, or NONE. */
     uint32_t node;
-    /* Right above its stack memory. A child has none of its own, and ends with its parent. */
-    uintptr_t end;
     /* Of a child: its parent's stack pointer at the spawn, and what it calls. */
     uintptr_t stack_pointer;
     __spbags_function callee;
@@ -24,50 +24,60 @@ struct frame {
 
 static void look_at_wait(const struct frame *frame, uintptr_t code, bool ends);
 
-static struct frame *frames;
-static size_t top;
-static size_t most_frames;
+static struct frame *frames, *frames_end;
+/* The newest frame. */
+static struct frame *top;
 
 /* How many local statics of C++ are being initialised, while nothing is recorded. */
 static unsigned initialising;
 
-/* An access goes the short way where the stack pointer is below this: the run is traced, no child waits for what it
-   calls, no static is initialised, and the newest frame hasn't ended. */
-static uintptr_t short_way_end;
+/* An access goes the short way where the stack pointer is below this: accesses are recorded by the usual unit, no child
+   waits for what it calls, and the newest frame hasn't ended. A function's entry and its end go it where its stack
+   memory ends within so many bytes of the stack: none if nothing is recorded. */
+static uintptr_t short_way_end, short_way_stack;
+/* All bits, or none if no access goes the short way. */
+static uintptr_t short_way_bits;
 
-static inline void find_short_way(void) {
-    short_way_end = frames[top].kind != CHILD && initialising == 0 ? frames[top].end : 0;
+static inline void follow_top(void) { short_way_end = top->kind != CHILD ? top->end & short_way_bits : 0; }
+
+static void find_short_way(void) {
+    bool records = tracing && initialising == 0;
+    short_way_stack = records ? stack_size : 0;
+    short_way_bits = records && unit_shift == USUAL_SHIFT ? UINTPTR_MAX : 0;
+    follow_top();
 }
 
 /* The procedures that stand open in the trace, from 1, the root's. Each has the frame whose unsynced children it holds,
    or none: that of the root, which spawns nothing. */
-static uint32_t *owners;
+static struct frame **owners;
 static uint32_t procedures, most_procedures;
 
 /* With each record of the structure a strand ends and another begins. */
 static inline void structure(enum spbags_kind kind, uintptr_t code) {
+    begin_change();
     structure_record(kind, code);
+    if (kind == SPBAGS_RETURN)
+        procedures--;
+    else if (kind != SPBAGS_SYNC)
+        procedures++;
+    end_change();
     begin_strand();
 }
 
-static inline void open_procedure(enum spbags_kind kind, uintptr_t code) {
-    begin_change();
-    structure(kind, code);
-    procedures++;
-    end_change();
-    owners[procedures] = NONE;
-    if (procedures > most_procedures)
-        most_procedures = procedures;
+__attribute__((noinline, cold)) static void nest_deeper(void) {
+    most_procedures = procedures;
     if (procedures > MOST_DEPTH + 1)
         fail("procedures nest deeper than %d", MOST_DEPTH);
 }
 
-static inline void close_procedure(uintptr_t code) {
-    begin_change();
-    structure(SPBAGS_RETURN, code);
-    procedures--;
-    end_change();
+static inline void open_procedure(enum spbags_kind kind, uintptr_t code) {
+    structure(kind, code);
+    owners[procedures] = NULL;
+    if (procedures > most_procedures)
+        nest_deeper();
 }
+
+static inline void close_procedure(uintptr_t code) { structure(SPBAGS_RETURN, code); }
 
 /* In version 1 procedures may have been opened above the one that holds these children; they end here. */
 static void sync_children(struct frame *frame, uintptr_t code) {
@@ -78,67 +88,72 @@ static void sync_children(struct frame *frame, uintptr_t code) {
     while (procedures > frame->children)
         close_procedure(code);
     structure(SPBAGS_SYNC, code);
-    owners[procedures] = NONE;
+    owners[procedures] = NULL;
     frame->children = NONE;
 }
 
-static inline void leave_top(uintptr_t code) {
-    struct frame *frame = &frames[top];
-    if (__builtin_expect(frame->node != NONE, 0))
-        look_at_wait(frame, code, true);
-    if (frame->kind == CHILD || frame->called)
+static void leave_top(uintptr_t code) {
+    if (__builtin_expect(top->node != NONE, 0))
+        look_at_wait(top, code, true);
+    if (top->kind == CHILD || top->called)
         close_procedure(code);
-    else if (frame->children != NONE)
-        sync_children(frame, code);
+    else
+        sync_children(top, code);
     top--;
-    find_short_way();
+    follow_top();
 }
 
 /* Leaves the frames that ended at or below this address. */
 static inline void leave_below(uintptr_t address, uintptr_t code) {
-    while (frames[top].end <= address)
+    while (top->end <= address)
+        leave_top(code);
+}
+
+static inline void leave_children(uintptr_t code) {
+    while (top->kind == CHILD)
         leave_top(code);
 }
 
 /* Leaves the frames that a longjmp left, and the children among them; a strand begins then. */
-static inline void leave_jumped(uintptr_t address, uintptr_t code) {
-    if (frames[top].end > address)
-        return;
+__attribute__((noinline, cold)) static void leave_left(uintptr_t address, uintptr_t code) {
     leave_below(address, code);
-    while (frames[top].kind == CHILD)
-        leave_top(code);
+    leave_children(code);
     begin_strand();
 }
 
-static inline void push_frame(struct frame frame) {
-    if (++top == most_frames)
+static inline void leave_jumped(uintptr_t address, uintptr_t code) {
+    if (__builtin_expect(top->end <= address, 0))
+        leave_left(address, code);
+}
+
+static inline void push_frame(enum kind kind, uintptr_t end) {
+    if (__builtin_expect(++top == frames_end, 0))
         fail("functions nest too deep");
-    frames[top] = frame;
-    find_short_way();
+    *top = (struct frame){.kind = kind, .end = end};
+    follow_top();
 }
 
 /* A sync waits for the children of its own function, and a procedure of the trace waits for all its own. So a function
    that was called has to be a procedure of its own where its caller may have children. Version 2 has a record for
    that. Version 1 hasn't: there a spawn is put in, whose procedure holds the rest of the function, and of its callers
    up to the sync of the one that has children now. */
-static void become_procedure(struct frame *frame, uintptr_t code) {
+static inline void become_procedure(uintptr_t code) {
     if (version == 2) {
-        if (frame->kind == FUNCTION && frames[top - 1].kind == FUNCTION && !frame->called) {
+        if (top->kind == FUNCTION && top[-1].kind == FUNCTION && !top->called) {
             open_procedure(SPBAGS_CALL, code);
-            frame->called = true;
+            top->called = true;
         }
-    } else if (owners[procedures] != NONE && owners[procedures] != top)
+    } else if (owners[procedures] && owners[procedures] != top)
         open_procedure(SPBAGS_SPAWN, code);
-    owners[procedures] = (uint32_t)top;
-    if (frame->children == NONE)
-        frame->children = procedures;
+    owners[procedures] = top;
+    if (top->children == NONE)
+        top->children = procedures;
 }
 
 /* A spawn and a sync are in a function itself: a child that is still open above it was left by a longjmp. */
-static void back_to_function(uintptr_t stack_pointer, uintptr_t code) {
+static inline void back_to_function(uintptr_t stack_pointer, uintptr_t code) {
     leave_jumped(stack_pointer, code);
-    while (frames[top].kind == CHILD)
-        leave_top(code);
+    leave_children(code);
 }
 
 __spbags_function __spbags_spawn(__spbags_function callee) {
@@ -146,16 +161,12 @@ __spbags_function __spbags_spawn(__spbags_function callee) {
         return callee;
     uintptr_t stack_pointer = STACK_POINTER, code = CODE;
     back_to_function(stack_pointer, code);
-    become_procedure(&frames[top], code);
+    become_procedure(code);
     open_procedure(SPBAGS_SPAWN, code);
-    push_frame((struct frame){
-        .kind = CHILD, .end = frames[top].end - 1, .stack_pointer = stack_pointer, .callee = callee});
+    push_frame(CHILD, top->end - 1);
+    top->stack_pointer = stack_pointer;
+    top->callee = callee;
     return callee;
-}
-
-void __spbags_stored(const volatile void *at, unsigned long size) {
-    if (tracing)
-        touch(true, (uintptr_t)at, size, CODE);
 }
 
 /* Arguments that pass on the stack stood below the stack pointer at the spawn. */
@@ -164,9 +175,9 @@ void __spbags_return(const volatile void *result, unsigned long size) {
         return;
     uintptr_t code = CODE;
     leave_below(STACK_POINTER, code);
-    if (frames[top].kind != CHILD)
+    if (top->kind != CHILD)
         return;
-    clear_below(frames[top].stack_pointer);
+    clear_below(top->stack_pointer);
     clear((uintptr_t)result, size);
     leave_top(code);
 }
@@ -175,25 +186,51 @@ void __spbags_sync(void) {
     if (!tracing)
         return;
     back_to_function(STACK_POINTER, CODE);
-    sync_children(&frames[top], CODE);
+    sync_children(top, CODE);
 }
+
+__attribute__((noinline)) static void enter_function(uintptr_t end, uintptr_t code) {
+    if (!tracing)
+        return;
+    if (end - stack_first > stack_size)
+        fail("the program runs on a stack of its own, or on more than %zu bytes", (size_t)stack_size);
+    leave_jumped(end, code);
+    clear_below(end);
+    push_frame(FUNCTION, end);
+}
+
+__attribute__((noinline)) static void leave_function(uintptr_t end, uintptr_t code) {
+    if (!tracing)
+        return;
+    leave_below(end, code);
+    clear_below(end);
+}
+
+static inline bool goes_short_way(uintptr_t end) { return end - stack_first < short_way_stack; }
 
 void __tsan_func_entry(void *caller) {
     (void)caller;
-    if (!tracing)
+    uintptr_t end = FRAME_END;
+    if (!goes_short_way(end) || end >= top->end) {
+        enter_function(end, CODE);
         return;
-    uintptr_t end = FRAME_END, code = CODE;
-    if ((end >> unit_shift) - stack_first > stack_units)
-        fail("the program runs on a stack of its own, or on more than %zu bytes", (size_t)stack_units << unit_shift);
-    leave_jumped(end, code);
+    }
     clear_below(end);
-    push_frame((struct frame){.kind = FUNCTION, .end = end});
+    push_frame(FUNCTION, end);
+}
+
+/* Whether no record comes of a frame's end. A function is of kind 0. */
+static inline bool ends_quietly(const struct frame *frame) {
+    return (frame->kind | frame->called | frame->children | frame->node) == 0;
 }
 
 void __tsan_func_exit(void) {
-    if (!tracing)
-        return;
     uintptr_t end = FRAME_END;
-    leave_below(end, CODE);
+    if (!goes_short_way(end) || end != top->end || !ends_quietly(top)) {
+        leave_function(end, CODE);
+        return;
+    }
     clear_below(end);
+    top--;
+    follow_top();
 }

@@ -1,13 +1,15 @@
 /* What goes out for each record of the run: a line of the trace, a step of the detector inside, or in a run that looks
    nothing but its number. */
 #ifdef SPBAGS_INSIDE
-/* In a program with the detector few runs write anything but the report. */
-#define WRITES __attribute__((noinline, cold)) static
+/* Whether a record goes to the detector, and that is all. In a program with the detector few runs do anything else. */
+static bool only_detects;
+#define OTHERWISE __attribute__((noinline, cold)) static
 #else
-#define WRITES static inline
+enum { only_detects = false };
+#define OTHERWISE static inline
 #endif
 
-WRITES void write_place(uintptr_t code) {
+static inline void write_place(uintptr_t code) {
     uint64_t place = code;
     __builtin_memcpy(room(&places), &place, sizeof place);
     places.used += sizeof place;
@@ -39,13 +41,13 @@ __attribute__((noinline, cold)) static void count_access(bool writes, uint64_t l
         look_at_access(writes, location, address, code);
 }
 
-WRITES void write_structure(enum spbags_kind kind) {
+static inline void write_structure(enum spbags_kind kind) {
     __builtin_memcpy(room(&trace), lines[kind].bytes, sizeof lines[kind].bytes);
     in_order();
     trace.used += lines[kind].length;
 }
 
-static inline void structure_record(enum spbags_kind kind, uintptr_t code) {
+OTHERWISE void other_structure_record(enum spbags_kind kind, uintptr_t code) {
     if (__builtin_expect(looking, 0)) {
         count_structure();
         return;
@@ -56,6 +58,13 @@ static inline void structure_record(enum spbags_kind kind, uintptr_t code) {
         step(kind, 0);
     else
         write_structure(kind);
+}
+
+static inline void structure_record(enum spbags_kind kind, uintptr_t code) {
+    if (__builtin_expect(only_detects, 1))
+        step(kind, 0);
+    else
+        other_structure_record(kind, code);
 }
 
 /* From 00 to 99. */
@@ -69,7 +78,7 @@ static void fill_digits(void) {
 }
 
 /* The line is made from its end, and then copied with what follows it, since a copy of a fixed size is quick. */
-WRITES void write_access(bool writes, uint64_t location) {
+static inline void write_access(bool writes, uint64_t location) {
     char line[64];
     char *at = line + 31;
     *at = '\n';
@@ -85,15 +94,29 @@ WRITES void write_access(bool writes, uint64_t location) {
     trace.used += (size_t)(line + 32 - at);
 }
 
-static inline void access_record(bool writes, uint64_t location, uintptr_t address, uintptr_t code) {
-    if (__builtin_expect(looking, 0)) {
+static inline void step_access(bool writes, uint64_t location) {
+    step(writes ? SPBAGS_WRITE : SPBAGS_READ, location);
+    let_signal_end();
+}
+
+OTHERWISE void other_access_record(bool writes, uint64_t location, uintptr_t address, uintptr_t code) {
+    if (__builtin_expect(looking, 0))
         count_access(writes, location, address, code);
-        return;
+    else {
+        if (places.file >= 0)
+            write_place(code);
+        if (detecting)
+            step_access(writes, location);
+        else
+            write_access(writes, location);
     }
-    if (places.file >= 0)
-        write_place(code);
-    if (detecting)
-        step(writes ? SPBAGS_WRITE : SPBAGS_READ, location);
+    if (writes_repeats)
+        begin_strand();
+}
+
+static inline void access_record(bool writes, uint64_t location, uintptr_t address, uintptr_t code) {
+    if (__builtin_expect(only_detects, 1))
+        step_access(writes, location);
     else
-        write_access(writes, location);
+        other_access_record(writes, location, address, code);
 }

@@ -151,13 +151,14 @@ static void find_stack(void) {
     if (getrlimit(RLIMIT_STACK, &limit) == 0 && limit.rlim_cur < most)
         size = limit.rlim_cur;
     uintptr_t end = (uintptr_t)environ;
-    stack_first = (end - size) >> unit_shift;
-    stack_units = (end >> unit_shift) - stack_first;
-    make_marks(stack_first << unit_shift, end);
-    numbers = reserve(stack_units * sizeof *numbers);
+    stack_first = (end - size) & ~unit_mask;
+    stack_size = (end & ~unit_mask) - stack_first;
+    make_marks(stack_first, end);
+    numbers = reserve((stack_size >> unit_shift) * sizeof *numbers);
     /* A frame has at least its return address and its frame pointer, and at most one open child. */
-    most_frames = size / 16 * 2;
-    frames = reserve(most_frames * sizeof *frames);
+    size_t most_frames = size / 16 * 2;
+    top = frames = reserve(most_frames * sizeof *frames);
+    frames_end = frames + most_frames;
     owners = reserve((MOST_DEPTH + 3) * sizeof *owners);
 }
 
@@ -177,8 +178,7 @@ __attribute__((constructor(101))) static void start(void) {
     version = choice("SPBAGS_VERSION", "12", DEFAULT_VERSION);
     unit_shift = (unsigned)__builtin_ctz(choice("SPBAGS_UNIT", "1248", DEFAULT_UNIT));
     unit_mask = ((uintptr_t)1 << unit_shift) - 1;
-    if (choice("SPBAGS_REPEATS", "01", 0) == 1)
-        write_repeats();
+    writes_repeats = choice("SPBAGS_REPEATS", "01", 0) == 1;
     fill_digits();
     give_streams_buffers();
     if (writes)
@@ -190,13 +190,16 @@ __attribute__((constructor(101))) static void start(void) {
     unsetenv("SPBAGS_TRACE");
     unsetenv("SPBAGS_REPORT");
     find_stack();
-    frames[top] = (struct frame){.kind = ROOT, .end = UINTPTR_MAX};
+    *top = (struct frame){.kind = ROOT, .end = UINTPTR_MAX};
     procedures = most_procedures = 1;
     traced_process = getpid();
     pthread_atfork(tell_fork, NULL, stop_tracing);
     at_quick_exit(quick_end);
     if (writes && !looking)
         put_header();
+#ifdef SPBAGS_INSIDE
+    only_detects = detecting && !looking && places.file < 0 && !writes_repeats;
+#endif
     tracing = true;
     find_short_way();
     catch_signals();
