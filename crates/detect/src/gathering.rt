@@ -12,6 +12,7 @@ use lane::{BLOCK, Item, Taker, Waiting};
 use route::Router;
 use shard::Back;
 use std::sync::Wait;
+use std::time::Clock;
 
 /// The lanes back from the shards, and the races that came over them.
 #[derive(Drop)]
@@ -35,7 +36,7 @@ impl Gathering {
     }
 
     /// Waits at a full lane. Its shard may be waiting for room on its lane back.
-    pub(crate) fn wait<R: Wait>(&mut self, rt: &R)
+    pub(crate) fn wait<R: Wait + Clock>(&mut self, rt: &R)
         ensures { IsFurther self.old self.new }
     {
         self.take_from_all();
@@ -52,7 +53,7 @@ impl Gathering {
     }
 
     /// Takes from the first `count` lanes until each has given its mark.
-    pub(crate) fn finish_lanes<R: Wait>(&mut self, rt: &R, count: usize)
+    pub(crate) fn finish_lanes<R: Wait + Clock>(&mut self, rt: &R, count: usize)
         requires { count ≤ vec_len self.old.backs }
         ensures further { IsFurther self.old self.new }
         ensures ended { (k : ℕ) → k < count → HasBackMark self.new k }
@@ -62,7 +63,7 @@ impl Gathering {
         }
     }
 
-    fn finish_lane<R: Wait>(&mut self, rt: &R, shard: usize)
+    fn finish_lane<R: Wait + Clock>(&mut self, rt: &R, shard: usize)
         requires { shard < vec_len self.old.backs }
         ensures further { IsFurther self.old self.new }
         ensures ended { HasBackMark self.new shard }

@@ -13,6 +13,7 @@ ghost use Rattle.detect.specs.Sent.{MaySend, GoesOn};
 use crate::gathering::Gathering;
 use route::{Progress, Router};
 use std::sync::Wait;
+use std::time::Clock;
 use trace::{Fault, Intake, Limits, Part, Placed, Source};
 
 /// What the reading thread holds while it sends a part's records and takes the races that come back.
@@ -25,7 +26,7 @@ pub(crate) struct Sending {
 
 impl Sending {
     /// Reads the trace to its end, or to its first fault, and sends what the part has of its records.
-    pub(crate) fn send_all<T: Wait, R: Source>(
+    pub(crate) fn send_all<T: Wait + Clock, R: Source>(
         &mut self,
         rt: &T,
         limits: Limits,
@@ -69,7 +70,7 @@ impl Sending {
 
     // Sends what the part has of the record.
     #[inline(always)]
-    fn send<T: Wait>(&mut self, rt: &T, placed: Placed)
+    fn send<T: Wait + Clock>(&mut self, rt: &T, placed: Placed)
         requires { MaySend self.old }
         ensures sent { (w : List Placed) → HasSent (records_of self.old.part w) self.old.router
             → HasSent (records_of self.old.part (w ++ placed ∷ [])) self.new.router }
@@ -84,7 +85,7 @@ impl Sending {
 
     // Sends the record to the lanes that it goes to.
     #[inline(always)]
-    fn send_own<T: Wait>(&mut self, rt: &T, placed: Placed)
+    fn send_own<T: Wait + Clock>(&mut self, rt: &T, placed: Placed)
         requires { MaySend self.old }
         ensures sent { (w : List Placed) → HasSent w self.old.router → HasSent (w ++ placed ∷ []) self.new.router }
         ensures ready { MaySend self.new }
@@ -100,7 +101,7 @@ impl Sending {
     // Puts the pending record on the lanes that lack it; this lane was full.
     #[cold]
     #[inline(never)]
-    fn send_rest<T: Wait>(&mut self, rt: &T, lane: usize)
+    fn send_rest<T: Wait + Clock>(&mut self, rt: &T, lane: usize)
         requires { marked_of self.old.router ≡ 0 }
         ensures sent { (w : List Placed) (p : Placed) → pending_of self.old.router ≡ Some p
             → HasSent w self.old.router → HasSent (w ++ p ∷ []) self.new.router }
@@ -128,7 +129,7 @@ impl Sending {
     }
 
     /// Puts the mark on every lane.
-    pub(crate) fn mark_all<T: Wait>(&mut self, rt: &T)
+    pub(crate) fn mark_all<T: Wait + Clock>(&mut self, rt: &T)
         requires { pending_of self.old.router ≡ None }
         ensures sent { (w : List Placed) → HasSent w self.old.router → HasSent w self.new.router }
         ensures idle { pending_of self.new.router ≡ None }
@@ -148,7 +149,7 @@ impl Sending {
     // Waits at a full lane. Its shard may be waiting for room on its lane back, or others for what they aren't shown.
     #[cold]
     #[inline(never)]
-    fn wait<T: Wait>(&mut self, rt: &T)
+    fn wait<T: Wait + Clock>(&mut self, rt: &T)
         ensures shown { ShowsAll self.new.router }
         ensures unchanged { IsUnchanged self.old.router self.new.router }
         ensures sent { (w : List Placed) → HasSent w self.old.router → HasSent w self.new.router }

@@ -17,6 +17,7 @@ use std::hash::BuildHasher;
 use std::sync::Wait;
 use std::thread;
 use std::thread::{Scope, Threads};
+use std::time::Clock;
 use trace::{Fault, Limits, Part, Placed, Source};
 
 /// The result of a run with shards.
@@ -49,7 +50,12 @@ pub struct Run {
 /// let race = run.report.races()[0];
 /// assert!(rt; (race.location, race.first.place, race.second.place) == (5, 2, 4));
 /// ```
-pub fn detect<T: Threads + Wait + Sync, R: Source, G: Gate + Sync, S: BuildHasher + Send + Drop>(
+pub fn detect<
+    T: Threads + Wait + Clock + Sync,
+    R: Source,
+    G: Gate + Sync,
+    S: BuildHasher + Send + Drop,
+>(
     rt: &T,
     alloc: Global,
     plan: Plan,
@@ -75,7 +81,7 @@ where
 /// location as soon as it has read it, and no shard gets it. The shards divide the numbers of the part's locations:
 /// shard j of n has the numbers with remainder j modulo n.
 pub fn detect_part<
-    T: Threads + Wait + Sync,
+    T: Threads + Wait + Clock + Sync,
     R: Source,
     G: Gate + Sync,
     S: BuildHasher + Send + Drop,
@@ -126,7 +132,7 @@ where
 fn run_workers<
     's,
     E,
-    T: Threads + Wait + Sync,
+    T: Threads + Wait + Clock + Sync,
     R: Source,
     G: Gate + Sync,
     S: BuildHasher + Send + Drop + 's,

@@ -11,6 +11,7 @@ use std::hash::BuildHasher;
 use std::snapshot::Snapshot;
 use std::sync::Wait;
 use std::thread::{Promise, PromisedHandle, Scope, Threads};
+use std::time::Clock;
 use trace::{Fault, Placed};
 
 /// A shard, the lane to it, and the lane back.
@@ -34,7 +35,13 @@ impl<S: BuildHasher + Drop> Promise<Worked<S>> for WorkOf {
 
 /// Starts a worker on each job. The handles are in the order of the jobs. After a refused start it drops the jobs
 /// that are left.
-pub(crate) fn start_all<'s, E, T: Wait + Sync, G: Gate + Sync, S: BuildHasher + Send + Drop + 's>(
+pub(crate) fn start_all<
+    's,
+    E,
+    T: Wait + Clock + Sync,
+    G: Gate + Sync,
+    S: BuildHasher + Send + Drop + 's,
+>(
     rt: &'s T,
     scope: &Scope<'s, E>,
     gate: &'s G,
@@ -58,7 +65,7 @@ where
     Ok(())
 }
 
-fn start<'s, E, T: Wait + Sync, G: Gate + Sync, S: BuildHasher + Send + Drop + 's>(
+fn start<'s, E, T: Wait + Clock + Sync, G: Gate + Sync, S: BuildHasher + Send + Drop + 's>(
     rt: &'s T,
     scope: &Scope<'s, E>,
     gate: &'s G,

@@ -3,14 +3,14 @@ use std::hint::spin_loop;
 use std::sync::Wait;
 use std::thread;
 use std::thread::Parker;
-use std::time::Duration;
+use std::time::{Clock, Duration, Instant};
 
 /// How an end of a lane waits for the other one, whether for items or for room.
 ///
 /// It lets other threads run and looks again, up to a number of times. Then it naps. If other programs use the
 /// processor, a thread that gives way gets it back only after a time slice, and a lane fills in less than a hundredth
-/// of a slice. A thread that slept gets the processor when it wakes. So an end that sees this naps at once for a
-/// while, and for longer the more often it sees it.
+/// of a slice. A thread that slept gets the processor when it wakes. So an end that gets the processor back late naps
+/// at once for a while, and for longer the more often that happens.
 ///
 /// The last waits decide how often it looks before a nap, and how long a nap takes. Looks that found what they waited
 /// for lead to more looks. If half of the lane filled during a nap, or emptied for a sender, the nap was too long,
@@ -26,7 +26,7 @@ pub struct Waiting {
     nap: u64,
     shortest_nap: u64,
     // how many waits are naps from the start, since others want the processor; how many will be when that is seen
-    // again; and how many looks since then came in time
+    // again; and how often the processor came back in time since then
     busy: u32,
     next_busy: u32,
     in_time: u32,
@@ -53,8 +53,12 @@ const SHORTEST_NAP: u64 = 3;
 
 const LONGEST_NAP: u64 = 800;
 
-// How many waits are naps after a thread that gave way waited so long that another program must have had the
-// processor: at first, and if this happens again and again. After `IN_TIME` looks in time the number halves.
+// A thread that gave way for so many microseconds has waited for another program: the threads of this one wait for each
+// other sooner than that.
+const LATE: u128 = 500;
+
+// How many waits are naps after a thread got the processor back late: at first, and if this happens again and again.
+// When it came back in time `IN_TIME` times the number halves.
 const SHORTEST_BUSY: u32 = 4;
 
 const LONGEST_BUSY: u32 = 1024;
@@ -63,9 +67,6 @@ const IN_TIME: u32 = 256;
 
 // Less than this part of the lane is no reason to look on.
 const FEW: usize = 64;
-
-// A lane of fewer items may be filled or emptied while other threads of this program run.
-const LARGE: usize = 512;
 
 impl Waiting {
     /// An end that hasn't waited yet.
@@ -95,7 +96,7 @@ impl Waiting {
     /// Waits a little if a look showed nothing. Otherwise it learns from the number of items, or the room, that the
     /// look showed of the lane's capacity.
     #[inline(always)]
-    pub fn after_look<R: Wait>(&mut self, rt: &R, shown: usize, capacity: usize) {
+    pub fn after_look<R: Wait + Clock>(&mut self, rt: &R, shown: usize, capacity: usize) {
         if shown == 0 {
             self.wait(rt);
         } else {
@@ -104,12 +105,16 @@ impl Waiting {
     }
 
     /// Waits a little.
-    pub fn wait<R: Wait>(&mut self, rt: &R) {
+    pub fn wait<R: Wait + Clock>(&mut self, rt: &R) {
         if self.busy == 0 && self.left > 0 {
             self.left -= 1;
             self.last = Rest::Look;
             pause();
-            thread::yield_now();
+            if gives_way_for_long(rt) {
+                self.nap_for_long();
+            } else {
+                self.came_in_time();
+            }
         } else {
             self.busy = self.busy.saturating_sub(1);
             self.last = Rest::Nap;
@@ -129,11 +134,6 @@ impl Waiting {
     }
 
     fn learn_from_look(&mut self, shown: usize, capacity: usize) {
-        if LARGE <= capacity && capacity - capacity / 4 <= shown {
-            self.nap_for_long();
-        } else {
-            self.came_in_time();
-        }
         if capacity / FEW <= shown {
             self.looks = self.looks.saturating_mul(2).min(self.most_looks);
             self.left = self.looks;
@@ -141,7 +141,7 @@ impl Waiting {
         self.last = Rest::Nothing;
     }
 
-    // Others had the processor meanwhile.
+    // Another program had the processor.
     fn nap_for_long(&mut self) {
         self.busy = self.next_busy;
         self.next_busy = self.next_busy.saturating_mul(4).min(LONGEST_BUSY);
@@ -166,6 +166,20 @@ impl Waiting {
         }
         self.left = self.looks;
         self.last = Rest::Nothing;
+    }
+}
+
+// Lets other threads run. Whether it took so long that another program must have had the processor; no if the clock
+// can't be read.
+fn gives_way_for_long<C: Clock>(clock: &C) -> bool {
+    let begun = Instant::now(clock);
+    thread::yield_now();
+    match begun {
+        Ok(begun) => match begun.elapsed(clock) {
+            Ok(time) => time.as_micros() >= LATE,
+            Err(_) => false,
+        },
+        Err(_) => false,
     }
 }
 

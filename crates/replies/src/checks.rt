@@ -19,6 +19,7 @@ use std::alloc::Global;
 use std::hash::{BuildHasherDefault, FoldHasher};
 use std::sync::Wait;
 use std::thread::Threads;
+use std::time::Clock;
 use texts::{say, say_fault};
 use trace::{Fault, Limits, NoMemory, Sink, Source, WriteFault, put_all};
 use words::{CheckWords, Question, WordsFault};
@@ -28,7 +29,7 @@ pub const MOST_RECORDS: u64 = 1 << 48;
 
 /// Answers a question about a trace alone, and gives the exit status: 0 for no race or for the numbers of a trace, 1
 /// for a race, 2 for a fault. For `check` this starts threads and waits for them.
-pub fn answer<T: Threads + Wait + Sync, R: Source, W: Sink, E: Sink>(
+pub fn answer<T: Threads + Wait + Clock + Sync, R: Source, W: Sink, E: Sink>(
     rt: &T,
     alloc: Global,
     question: &Question,
@@ -51,7 +52,7 @@ pub fn answer<T: Threads + Wait + Sync, R: Source, W: Sink, E: Sink>(
 }
 
 // The races of a part of a trace's locations, which may be the whole.
-fn answer_check<T: Threads + Wait + Sync, R: Source, W: Sink, E: Sink>(
+fn answer_check<T: Threads + Wait + Clock + Sync, R: Source, W: Sink, E: Sink>(
     rt: &T,
     alloc: Global,
     check: &CheckWords,
@@ -76,7 +77,7 @@ fn answer_check<T: Threads + Wait + Sync, R: Source, W: Sink, E: Sink>(
 }
 
 // Detects the races of a part, with a thread for each shard.
-fn run_on<T: Threads + Wait + Sync, R: Source>(
+fn run_on<T: Threads + Wait + Clock + Sync, R: Source>(
     rt: &T,
     alloc: Global,
     check: &CheckWords,

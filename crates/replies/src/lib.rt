@@ -21,11 +21,12 @@ use std::io;
 use std::io::{BufReader, Read};
 use std::sync::Wait;
 use std::thread::Threads;
+use std::time::Clock;
 use trace::{Counted, Sink};
 use words::{Asked, ConfirmWords, Question, WordsFault};
 
 /// Answers the words from the files of the system, and gives the exit status.
-pub fn answer_asked<T: Threads + Wait + Sync, W: Sink, E: Sink>(
+pub fn answer_asked<T: Threads + Wait + Clock + Sync, W: Sink, E: Sink>(
     threads: &T,
     rt: &HostRuntime,
     asked: &Asked,
@@ -53,7 +54,7 @@ pub fn answer_from_files<T, F, O, W: Sink, E: Sink>(
     err: &mut E,
 ) -> u8
 where
-    T: Threads + Wait + Sync,
+    T: Threads + Wait + Clock + Sync,
     F: Read + Drop,
     O: Fn(&str) -> io::Result<F>,
     requires { O.IsAlwaysCallable opener.now }
@@ -77,7 +78,7 @@ fn question_from_files<T, F, O, W: Sink, E: Sink>(
     err: &mut E,
 ) -> u8
 where
-    T: Threads + Wait + Sync,
+    T: Threads + Wait + Clock + Sync,
     F: Read + Drop,
     O: Fn(&str) -> io::Result<F>,
     requires { O.IsAlwaysCallable opener.now }

@@ -17,6 +17,7 @@ use std::process::Abort;
 use std::sync::Wait;
 use std::test::*;
 use std::thread::Threads;
+use std::time::Clock;
 use trace::{Counted, Sink, Source};
 use words::{Asked, read_words};
 
@@ -37,7 +38,7 @@ pub struct Left<'a> {
 }
 
 /// Runs the program on a trace, with a reader that hands out at most `step` bytes a call.
-pub fn run<T: Threads + Wait + Sync>(
+pub fn run<T: Threads + Wait + Clock + Sync>(
     rt: &T,
     alloc: Global,
     line: &str,
@@ -48,7 +49,7 @@ pub fn run<T: Threads + Wait + Sync>(
 }
 
 /// Runs the program on a trace and a report.
-pub fn run_with_report<T: Threads + Wait + Sync>(
+pub fn run_with_report<T: Threads + Wait + Clock + Sync>(
     rt: &T,
     alloc: Global,
     line: &str,
@@ -62,7 +63,7 @@ pub fn run_with_report<T: Threads + Wait + Sync>(
 }
 
 /// Runs the program on these devices, with this room on standard output.
-pub fn run_on<T: Threads + Wait + Sync, R: Source, Q: Source>(
+pub fn run_on<T: Threads + Wait + Clock + Sync, R: Source, Q: Source>(
     rt: &T,
     alloc: Global,
     line: &str,
@@ -86,7 +87,7 @@ pub fn run_on<T: Threads + Wait + Sync, R: Source, Q: Source>(
 }
 
 /// Answers the words, whatever they ask.
-fn answer_words<T: Threads + Wait + Sync, R: Source, Q: Source, W: Sink, E: Sink>(
+fn answer_words<T: Threads + Wait + Clock + Sync, R: Source, Q: Source, W: Sink, E: Sink>(
     rt: &T,
     alloc: Global,
     words: &[String],
@@ -109,7 +110,7 @@ pub fn assert_left<R: Abort>(rt: &R, ran: &Ran, status: u8, out: &[u8], err: &[u
 }
 
 /// Asserts what a line leaves of a trace and a report, which come a byte at a time and then many.
-pub fn assert_answer<T: Threads + Wait + Sync + Abort>(
+pub fn assert_answer<T: Threads + Wait + Clock + Sync + Abort>(
     rt: &T,
     alloc: Global,
     line: &str,
@@ -134,7 +135,7 @@ pub fn assert_answer<T: Threads + Wait + Sync + Abort>(
 
 /// Answers a question from these sources. It reads the report only if the question needs it. The reports of `merge`
 /// are in files, and these are none.
-fn answer_any<T: Threads + Wait + Sync, R: Source, Q: Source, W: Sink, E: Sink>(
+fn answer_any<T: Threads + Wait + Clock + Sync, R: Source, Q: Source, W: Sink, E: Sink>(
     rt: &T,
     alloc: Global,
     asked: &Asked,

@@ -7,11 +7,12 @@ ghost use Rattle.lane.specs.Lanes.{lane_of, end_lane, put_of, all_put};
 use crate::Back;
 use lane::{End, Sender, Waiting};
 use std::sync::Wait;
+use std::time::Clock;
 
 /// Puts the value, as soon as there is room.
 #[cold]
 #[inline(never)]
-pub fn put_back<R: Wait>(rt: &R, back: &mut Sender<Back>, value: Back)
+pub fn put_back<R: Wait + Clock>(rt: &R, back: &mut Sender<Back>, value: Back)
     requires { has_mark (put_of back.old) ≡ false }
     ensures lane { lane_of back.new ≡ lane_of back.old }
     ensures put { put_of back.new ≡ put_of back.old ++ One value ∷ [] }
@@ -30,7 +31,7 @@ pub fn put_back<R: Wait>(rt: &R, back: &mut Sender<Back>, value: Back)
 }
 
 /// Puts the mark, as soon as there is room, and gives the receipt.
-pub fn mark<R: Wait>(rt: &R, mut back: Sender<Back>) -> End<Back>
+pub fn mark<R: Wait + Clock>(rt: &R, mut back: Sender<Back>) -> End<Back>
     requires { has_mark (put_of back) ≡ false }
     ensures lane { end_lane result ≡ lane_of back }
     ensures put { all_put result ≡ put_of back ++ Finish ∷ [] }

@@ -14,6 +14,7 @@ use dag::Placed;
 use lane::{Item, Sender};
 use std::hash::BuildHasher;
 use std::sync::Wait;
+use std::time::Clock;
 
 /// A shard, its lane back, and whether it has stopped applying records: after a refused growth or a record out of
 /// order.
@@ -31,7 +32,12 @@ pub struct Worker<S: BuildHasher + Drop> {
 impl<S: BuildHasher + Drop> Worker<S> {
     /// Applies each record of a block after it has passed the gate. At the end it shows the races of these records to
     /// the taker of the lane back.
-    pub fn apply_block<R: Wait, G: Gate>(&mut self, rt: &R, gate: &G, block: &[Item<Placed>])
+    pub fn apply_block<R: Wait + Clock, G: Gate>(
+        &mut self,
+        rt: &R,
+        gate: &G,
+        block: &[Item<Placed>],
+    )
         ensures worked { (u : List Placed) → HasWorked u self.old.shard (put_of self.old.back) self.old.stopped →
             HasWorked (u ++ records block.now) self.new.shard (put_of self.new.back) self.new.stopped }
         ensures lane { lane_of self.new.back ≡ lane_of self.old.back }
@@ -42,7 +48,7 @@ impl<S: BuildHasher + Drop> Worker<S> {
         self.back.flush();
     }
 
-    fn apply_item<R: Wait, G: Gate>(&mut self, rt: &R, gate: &G, item: Item<Placed>)
+    fn apply_item<R: Wait + Clock, G: Gate>(&mut self, rt: &R, gate: &G, item: Item<Placed>)
         ensures worked { (u : List Placed) → HasWorked u self.old.shard (put_of self.old.back) self.old.stopped →
             HasWorked (u ++ records (item ∷ [])) self.new.shard (put_of self.new.back) self.new.stopped }
         ensures lane { lane_of self.new.back ≡ lane_of self.old.back }
@@ -58,7 +64,7 @@ impl<S: BuildHasher + Drop> Worker<S> {
 
     /// Applies a record and reports its race. After a refused growth, which it reports once, and after a
     /// record out of order it only counts.
-    pub fn apply<R: Wait>(&mut self, rt: &R, placed: Placed)
+    pub fn apply<R: Wait + Clock>(&mut self, rt: &R, placed: Placed)
         ensures worked { (u : List Placed) → HasWorked u self.old.shard (put_of self.old.back) self.old.stopped →
             HasWorked (u ++ placed ∷ []) self.new.shard (put_of self.new.back) self.new.stopped }
         ensures lane { lane_of self.new.back ≡ lane_of self.old.back }

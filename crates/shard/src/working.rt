@@ -13,6 +13,7 @@ use dag::Placed;
 use lane::{BLOCK, End, Item, Sender, Taker, Waiting};
 use std::hash::BuildHasher;
 use std::sync::Wait;
+use std::time::Clock;
 
 /// What a worker returns: its taker, the receipt of its lane back, and its shard.
 #[derive(Drop)]
@@ -45,7 +46,7 @@ pub struct Worked<S: BuildHasher + Drop> {
 /// let done = work(&rt, shard, taker, back, &Open);
 /// assert!(rt; done.shard.taken() == 4 && matches!(races.take(), Some(Item::One(Back::Race(_)))));
 /// ```
-pub fn work<R: Wait, S: BuildHasher + Drop, G: Gate>(
+pub fn work<R: Wait + Clock, S: BuildHasher + Drop, G: Gate>(
     rt: &R,
     shard: Shard<S>,
     mut taker: Taker<Placed>,

@@ -15,6 +15,7 @@ use std::sync::atomic::{AtomicU64, Ordering};
 use std::test::*;
 use std::thread;
 use std::thread::Promise;
+use std::time::Clock;
 use trace::Kind::{Read, Write};
 use trace::{Kind, NoMemory, Placed, Race, Record};
 
@@ -363,7 +364,7 @@ fn lanes(
 
 /// What a worker of shard 7 puts on its lane back for these records, and its count. It passes the gate at each
 /// record.
-fn worked<R: Wait + Abort>(
+fn worked<R: Wait + Clock + Abort>(
     rt: &R,
     alloc: Global,
     records: &[Record],
@@ -464,7 +465,7 @@ fn put_next(sender: &mut Sender<Placed>, records: &[Record], next: usize) -> usi
 }
 
 /// Puts the records and the mark, while it takes what comes back up to the mark, and returns the number of races.
-fn exchange<R: Wait>(
+fn exchange<R: Wait + Clock>(
     rt: &R,
     sender: &mut Sender<Placed>,
     back: &mut Taker<Back>,

@@ -12,6 +12,7 @@ use std::hash::{BuildHasherDefault, FoldHasher};
 use std::process::Abort;
 use std::sync::Wait;
 use std::thread::Threads;
+use std::time::Clock;
 use trace::{Counted, Failed, Fault, Limits, NoMemory, Part, Source};
 
 pub type Hasher = BuildHasherDefault<FoldHasher>;
@@ -48,7 +49,7 @@ pub fn text_plain(
 }
 
 /// Detects with a thread for each shard, over lanes of this capacity.
-pub fn run_from<T: Threads + Wait + Sync, R: Source, G: Gate + Sync>(
+pub fn run_from<T: Threads + Wait + Clock + Sync, R: Source, G: Gate + Sync>(
     rt: &T,
     alloc: Global,
     shards: u32,
@@ -81,7 +82,7 @@ pub struct Answer {
 }
 
 /// The answer of a run from the source. It asserts the capacity of the lanes to the shards.
-pub fn answer_from<T: Threads + Wait + Sync + Abort, R: Source, G: Gate + Sync>(
+pub fn answer_from<T: Threads + Wait + Clock + Sync + Abort, R: Source, G: Gate + Sync>(
     rt: &T,
     alloc: Global,
     shards: u32,
@@ -101,7 +102,7 @@ pub fn answer_from<T: Threads + Wait + Sync + Abort, R: Source, G: Gate + Sync>(
 }
 
 /// The answer of a run from a source that hands out one byte at each call.
-pub fn answer_of<T: Threads + Wait + Sync + Abort>(
+pub fn answer_of<T: Threads + Wait + Clock + Sync + Abort>(
     rt: &T,
     alloc: Global,
     shards: u32,
@@ -114,7 +115,7 @@ pub fn answer_of<T: Threads + Wait + Sync + Abort>(
 }
 
 /// The report of a part of the locations by the same kind of run, and the number of records that each shard took.
-pub fn answer_of_part<T: Threads + Wait + Sync + Abort>(
+pub fn answer_of_part<T: Threads + Wait + Clock + Sync + Abort>(
     rt: &T,
     alloc: Global,
     shards: u32,

@@ -11,6 +11,7 @@ use std::alloc::Global;
 use std::process::Abort;
 use std::sync::Wait;
 use std::thread::Threads;
+use std::time::Clock;
 use trace::{Failed, Fault, Limits, Source};
 
 /// Where a text is cut. If asked to, a call fails there, and then the bytes come one by one.
@@ -64,7 +65,7 @@ impl<'a> Source for TwoPieces<'a> {
 }
 
 /// The text of the report by this number of shards, or by one thread.
-fn text_from<T: Threads + Wait + Sync + Abort>(
+fn text_from<T: Threads + Wait + Clock + Sync + Abort>(
     rt: &T,
     alloc: Global,
     shards: Option<u32>,
@@ -97,7 +98,7 @@ fn assert_answer<R: Abort>(
 }
 
 /// Asserts what one thread, one shard and three answer.
-fn assert_answers<T: Threads + Wait + Sync + Abort>(
+fn assert_answers<T: Threads + Wait + Clock + Sync + Abort>(
     rt: &T,
     alloc: Global,
     limits: Limits,

@@ -19,6 +19,7 @@ use std::process::Abort;
 use std::sync::Wait;
 use std::test::Fail;
 use std::thread::Threads;
+use std::time::Clock;
 use trace::{Failed, Fault, Limits, Source};
 
 /// Hands out the bytes, in pieces of one size, and shows those that are left. It never fails.
@@ -56,7 +57,7 @@ fn report_plain(alloc: Global, limits: Limits, bytes: &[u8], size: usize) -> Res
 }
 
 // The report with a thread for each shard.
-fn report_sharded<T: Threads + Wait + Sync>(
+fn report_sharded<T: Threads + Wait + Clock + Sync>(
     rt: &T,
     alloc: Global,
     shards: u32,
@@ -88,7 +89,7 @@ fn known_plain<R: Abort>(
 }
 
 /// The same with shards.
-fn known_sharded<T: Threads + Wait + Sync + Abort>(
+fn known_sharded<T: Threads + Wait + Clock + Sync + Abort>(
     rt: &T,
     alloc: Global,
     shards: u32,

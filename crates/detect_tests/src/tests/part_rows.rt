@@ -10,6 +10,7 @@ use std::process::Abort;
 use std::sync::Wait;
 use std::test::Fail;
 use std::thread::Threads;
+use std::time::Clock;
 use trace::{Fault, Limits, Part, Race};
 
 /// The numbers of parts.
@@ -39,7 +40,7 @@ fn plain(alloc: Global, limits: Limits, part: Part, bytes: &[u8]) -> Result<Repo
 }
 
 /// The report with shards.
-fn sharded<T: Threads + Wait + Sync + Abort>(
+fn sharded<T: Threads + Wait + Clock + Sync + Abort>(
     rt: &T,
     alloc: Global,
     shards: u32,
@@ -51,7 +52,7 @@ fn sharded<T: Threads + Wait + Sync + Abort>(
 }
 
 /// How many records of the part each shard takes.
-fn taken<T: Threads + Wait + Sync + Abort>(
+fn taken<T: Threads + Wait + Clock + Sync + Abort>(
     rt: &T,
     alloc: Global,
     shards: u32,
@@ -86,7 +87,7 @@ fn assert_races<R: Abort>(
 }
 
 // The part of the row has the races of the part's locations, and no other.
-fn judge<T: Threads + Wait + Sync + Abort>(
+fn judge<T: Threads + Wait + Clock + Sync + Abort>(
     rt: &T,
     alloc: Global,
     part: Part,
@@ -102,7 +103,7 @@ fn judge<T: Threads + Wait + Sync + Abort>(
     Ok(())
 }
 
-fn judge_all<T: Threads + Wait + Sync + Abort>(
+fn judge_all<T: Threads + Wait + Clock + Sync + Abort>(
     rt: &T,
     alloc: Global,
     part: Part,
@@ -124,7 +125,12 @@ fn parts_report_their_locations(rt: HostRuntime) -> Result<(), Fail> {
     Ok(())
 }
 
-fn judge_fault<T: Threads + Wait + Sync + Abort>(rt: &T, alloc: Global, part: Part, row: Faulty) {
+fn judge_fault<T: Threads + Wait + Clock + Sync + Abort>(
+    rt: &T,
+    alloc: Global,
+    part: Part,
+    row: Faulty,
+) {
     let fault = plain(alloc, row.limits, part, row.text).err();
     assert_fault(rt, fault, row.fault, row.name, 0);
     let fault = sharded(rt, alloc, 3, part, row.limits, row.text).err();

@@ -8,6 +8,7 @@ use std::process::Abort;
 use std::sync::Wait;
 use std::test::Fail;
 use std::thread::Threads;
+use std::time::Clock;
 
 /// How many shards each row is run with, and how many items each lane holds then.
 const SHARDS: [(u32, u32); 8] = [
@@ -46,7 +47,7 @@ fn same_faults(rt: HostRuntime) {
     }
 }
 
-fn check_shares<T: Threads + Wait + Sync + Abort>(
+fn check_shares<T: Threads + Wait + Clock + Sync + Abort>(
     rt: &T,
     alloc: Global,
     shards: u32,

@@ -11,10 +11,11 @@ use std::process::Abort;
 use std::sync::Wait;
 use std::test::Fail;
 use std::thread::Threads;
+use std::time::Clock;
 
 const RUNS: usize = 50;
 
-fn run_often<T: Threads + Wait + Sync + Abort>(rt: &T, alloc: Global) -> Result<(), Fail> {
+fn run_often<T: Threads + Wait + Clock + Sync + Abort>(rt: &T, alloc: Global) -> Result<(), Fail> {
     let trace = trace_text(alloc)?;
     let report = report_text(alloc)?;
     for count in 0..RUNS {

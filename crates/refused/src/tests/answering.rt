@@ -7,6 +7,7 @@ use std::io::{self, Write};
 use std::process::Abort;
 use std::sync::Wait;
 use std::thread::Threads;
+use std::time::Clock;
 use trace::{Counted, Part};
 use words::{CheckWords, ConfirmWords, MeasureWords, PairsWords, Question};
 
@@ -76,7 +77,7 @@ fn judge<R: Print + Abort>(
 }
 
 /// Answers a question about a trace.
-fn ask<T: Threads + Wait + Sync + Abort + Print>(
+fn ask<T: Threads + Wait + Clock + Sync + Abort + Print>(
     rt: &T,
     alloc: Global,
     trace: &[u8],

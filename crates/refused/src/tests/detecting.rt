@@ -8,6 +8,7 @@ use std::alloc::{AllocError, Global};
 use std::process::Abort;
 use std::sync::Wait;
 use std::thread::Threads;
+use std::time::Clock;
 use trace::{Counted, Fault, Limits, Part, TextFault, TextKind};
 
 const LIMITS: Limits = Limits {
@@ -61,7 +62,7 @@ fn hashers(alloc: Global, count: u32) -> Result<Vec<Hasher>, AllocError> {
 }
 
 /// The report with shards.
-fn detect_sharded<T: Threads + Wait + Sync + Abort>(
+fn detect_sharded<T: Threads + Wait + Clock + Sync + Abort>(
     rt: &T,
     alloc: Global,
     shards: u32,
@@ -76,7 +77,7 @@ fn detect_sharded<T: Threads + Wait + Sync + Abort>(
 }
 
 /// The report of a part so.
-fn detect_sharded_part<T: Threads + Wait + Sync + Abort>(
+fn detect_sharded_part<T: Threads + Wait + Clock + Sync + Abort>(
     rt: &T,
     alloc: Global,
     shards: u32,

@@ -6,6 +6,7 @@ use shard::{Back, Open, Shard, work};
 use std::alloc::Global;
 use std::process::Abort;
 use std::sync::Wait;
+use std::time::Clock;
 use trace::Record::{Return, Spawn, Write};
 use trace::{NoMemory, Placed, Record};
 
@@ -33,7 +34,7 @@ fn fill<R: Abort>(rt: &R, mut sender: Sender<Placed>, records: &[Record]) {
 
 /// Records with one race, and the mark, by a worker. Whatever it is refused, it takes them all, and its lane back has
 /// the race or the refusal, and the mark.
-fn run<R: Print + Wait + Abort>(
+fn run<R: Print + Wait + Clock + Abort>(
     rt: &R,
     alloc: Global,
     capacity: usize,

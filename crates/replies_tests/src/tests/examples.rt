@@ -13,6 +13,7 @@ use std::process::Abort;
 use std::sync::Wait;
 use std::test::Fail;
 use std::thread::Threads;
+use std::time::Clock;
 
 #[derive(Clone, Copy)]
 struct Example {
@@ -44,7 +45,7 @@ const EXAMPLES: [Example; 12] = [
 ];
 
 // Asserts the report of an example, by one shard and by several.
-fn check_example<T: Threads + Wait + Sync + Abort>(
+fn check_example<T: Threads + Wait + Clock + Sync + Abort>(
     rt: &T,
     alloc: Global,
     example: &Example,
@@ -59,7 +60,7 @@ fn check_example<T: Threads + Wait + Sync + Abort>(
 }
 
 // Asserts that an example's report is confirmed.
-fn confirm_example<T: Threads + Wait + Sync + Abort>(
+fn confirm_example<T: Threads + Wait + Clock + Sync + Abort>(
     rt: &T,
     alloc: Global,
     example: &Example,
@@ -71,7 +72,7 @@ fn confirm_example<T: Threads + Wait + Sync + Abort>(
 }
 
 // Asserts what is answered about an example.
-fn ask_example<T: Threads + Wait + Sync + Abort>(
+fn ask_example<T: Threads + Wait + Clock + Sync + Abort>(
     rt: &T,
     alloc: Global,
     example: &Example,
@@ -93,7 +94,7 @@ fn ask_example<T: Threads + Wait + Sync + Abort>(
 }
 
 // Asserts all answers of these examples.
-fn answer_examples<T: Threads + Wait + Sync + Abort>(
+fn answer_examples<T: Threads + Wait + Clock + Sync + Abort>(
     rt: &T,
     alloc: Global,
     examples: &[Example],
@@ -113,7 +114,7 @@ fn answers_examples(rt: HostRuntime) -> Result<(), Fail> {
 }
 
 // Asserts what is said of races of examples.
-fn explain_examples<T: Threads + Wait + Sync + Abort>(
+fn explain_examples<T: Threads + Wait + Clock + Sync + Abort>(
     rt: &T,
     alloc: Global,
     rows: &[(Example, &str, &str)],

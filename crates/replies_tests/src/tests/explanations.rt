@@ -5,6 +5,7 @@ use std::process::Abort;
 use std::sync::Wait;
 use std::test::Fail;
 use std::thread::Threads;
+use std::time::Clock;
 
 // Traces, and what is said of their location 1.
 const EXPLAINED: [(&str, &str); 12] = [
@@ -66,7 +67,7 @@ const EXPLAINED: [(&str, &str); 12] = [
 ];
 
 // Asserts what is said of the location 1 of these traces.
-fn explain_rows<T: Threads + Wait + Sync + Abort>(
+fn explain_rows<T: Threads + Wait + Clock + Sync + Abort>(
     rt: &T,
     alloc: Global,
     rows: &[(&str, &str)],

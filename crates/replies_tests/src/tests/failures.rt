@@ -8,6 +8,7 @@ use std::process::Abort;
 use std::sync::Wait;
 use std::test::Fail;
 use std::thread::Threads;
+use std::time::Clock;
 use trace::Counted;
 use words::WordsFault;
 
@@ -23,7 +24,7 @@ const COMMANDS: [&str; 6] = [
 const REPORT: &[u8] = b"races 1\nrace 5 write 2 write 4\n";
 
 // Runs a command on a trace of which a call fails.
-fn run_halting<T: Threads + Wait + Sync>(
+fn run_halting<T: Threads + Wait + Clock + Sync>(
     rt: &T,
     alloc: Global,
     line: &str,
@@ -42,7 +43,7 @@ fn kind_of(call: usize) -> ErrorKind {
 }
 
 // Asserts that a command says that it can't read, whichever call of the trace fails.
-fn halt_trace<T: Threads + Wait + Sync + Abort>(
+fn halt_trace<T: Threads + Wait + Clock + Sync + Abort>(
     rt: &T,
     alloc: Global,
     line: &str,
@@ -70,7 +71,7 @@ fn every_call_of_the_trace_fails(rt: HostRuntime) -> Result<(), Fail> {
 }
 
 // Asserts what each command says of a trace whose end can't be read.
-fn judge_front<T: Threads + Wait + Sync + Abort>(
+fn judge_front<T: Threads + Wait + Clock + Sync + Abort>(
     rt: &T,
     alloc: Global,
     trace: &str,
@@ -101,7 +102,7 @@ fn judges_what_came_before(rt: HostRuntime) -> Result<(), Fail> {
 }
 
 // Asserts that `confirm` says that it can't read, whichever kind of error this call of the report has.
-fn halt_report<T: Threads + Wait + Sync + Abort>(
+fn halt_report<T: Threads + Wait + Clock + Sync + Abort>(
     rt: &T,
     alloc: Global,
     call: usize,
@@ -127,7 +128,7 @@ fn every_call_of_the_report_fails(rt: HostRuntime) -> Result<(), Fail> {
 }
 
 // Asserts that a command leaves the beginning of its answer for which there is room.
-fn assert_front<T: Threads + Wait + Sync + Abort>(
+fn assert_front<T: Threads + Wait + Clock + Sync + Abort>(
     rt: &T,
     alloc: Global,
     line: &str,
@@ -148,7 +149,7 @@ fn assert_front<T: Threads + Wait + Sync + Abort>(
 }
 
 // Asserts what a command leaves, whichever of its writes fails, and then its flush.
-fn fill_output<T: Threads + Wait + Sync + Abort>(
+fn fill_output<T: Threads + Wait + Clock + Sync + Abort>(
     rt: &T,
     alloc: Global,
     line: &str,

@@ -7,6 +7,7 @@ use std::process::Abort;
 use std::sync::Wait;
 use std::test::Fail;
 use std::thread::Threads;
+use std::time::Clock;
 use std::{fs, process};
 use trace::Counted;
 use words::{Asked, read_words};
@@ -122,7 +123,7 @@ fn words_with_names(alloc: Global, front: &str, line: &str) -> Result<Vec<String
 }
 
 // What the words leave of the files.
-fn ran_of<T: Threads + Wait + Sync>(threads: &T, rt: &HostRuntime, asked: &Asked) -> Ran {
+fn ran_of<T: Threads + Wait + Clock + Sync>(threads: &T, rt: &HostRuntime, asked: &Asked) -> Ran {
     let mut out = Vec::new(rt.alloc());
     let mut err = Vec::new(rt.alloc());
     let status = answer_asked(
@@ -136,7 +137,7 @@ fn ran_of<T: Threads + Wait + Sync>(threads: &T, rt: &HostRuntime, asked: &Asked
 }
 
 // Asserts what each line leaves of the files whose names have this front.
-fn read_files<T: Threads + Wait + Sync + Abort>(
+fn read_files<T: Threads + Wait + Clock + Sync + Abort>(
     threads: &T,
     rt: &HostRuntime,
     front: &str,

@@ -13,12 +13,13 @@ use std::alloc::Global;
 use std::sync::Wait;
 use std::test::Fail;
 use std::thread::Threads;
+use std::time::Clock;
 use trace::{Counted, Sink};
 use words::{Asked, Question, read_words};
 
 // Answers what is asked of the trace whose text these bytes are. With status 0 or 1 what was written answers it, and
 // nothing was written beside it.
-fn answer_bytes<T: Threads + Wait + Sync, W: Sink, E: Sink>(
+fn answer_bytes<T: Threads + Wait + Clock + Sync, W: Sink, E: Sink>(
     rt: &T,
     alloc: Global,
     question: &Question,
@@ -49,7 +50,7 @@ const ANSWERS: [(&str, &str, u8); 4] = [
 ];
 
 // What a question leaves of the trace with these bytes.
-fn ran_of<T: Threads + Wait + Sync>(
+fn ran_of<T: Threads + Wait + Clock + Sync>(
     rt: &T,
     alloc: Global,
     question: &Question,

@@ -6,6 +6,7 @@ use std::process::Abort;
 use std::sync::Wait;
 use std::test::Fail;
 use std::thread::Threads;
+use std::time::Clock;
 use trace::Counted;
 
 const WRITE_WRITE: &str = "spawn, write 5, return, write 5, return";
@@ -157,7 +158,7 @@ const ANSWERS_OF_CALLS: [(&str, &str, &str, u8); 8] = [
 ];
 
 // Asserts the answers about traces with this header.
-fn ask_rows<T: Threads + Wait + Sync + Abort>(
+fn ask_rows<T: Threads + Wait + Clock + Sync + Abort>(
     rt: &T,
     alloc: Global,
     header: &[u8],
@@ -242,7 +243,7 @@ const CONFIRMED_OF_CALLS: [(&str, &str, &str); 5] = [
 ];
 
 // Asserts the answers about reports of traces with this header.
-fn confirm_rows<T: Threads + Wait + Sync + Abort>(
+fn confirm_rows<T: Threads + Wait + Clock + Sync + Abort>(
     rt: &T,
     alloc: Global,
     header: &[u8],
@@ -294,7 +295,7 @@ const BAD_REPORTS: [(&str, u64); 9] = [
 ];
 
 // Asserts which line of these reports is said, whether or not the trace is one.
-fn refuse_reports<T: Threads + Wait + Sync + Abort>(
+fn refuse_reports<T: Threads + Wait + Clock + Sync + Abort>(
     rt: &T,
     alloc: Global,
     rows: &[(&str, u64)],

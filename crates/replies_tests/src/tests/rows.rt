@@ -5,6 +5,7 @@ use std::process::Abort;
 use std::sync::Wait;
 use std::test::Fail;
 use std::thread::Threads;
+use std::time::Clock;
 
 // Traces by their records, and the lines of their reports after the head.
 const ROWS: [(&str, &str); 17] = [
@@ -87,7 +88,7 @@ const WAYS: [(&str, usize); 4] = [
 ];
 
 // Asserts what a line leaves of a trace with these records, in each way.
-fn assert_ways<T: Threads + Wait + Sync + Abort>(
+fn assert_ways<T: Threads + Wait + Clock + Sync + Abort>(
     rt: &T,
     alloc: Global,
     line: &str,
@@ -112,7 +113,7 @@ fn report_of(alloc: Global, lines: &str) -> Result<String, AllocError> {
 }
 
 // Checks traces with this header in each way.
-fn check_rows<T: Threads + Wait + Sync + Abort>(
+fn check_rows<T: Threads + Wait + Clock + Sync + Abort>(
     rt: &T,
     alloc: Global,
     header: &[u8],
@@ -160,7 +161,7 @@ fn lines_of_part(alloc: Global, lines: &str, index: u64, count: u64) -> Result<S
 }
 
 // Checks the part `index` of `count` of a trace with these records, whose report has these lines.
-fn check_part<T: Threads + Wait + Sync + Abort>(
+fn check_part<T: Threads + Wait + Clock + Sync + Abort>(
     rt: &T,
     alloc: Global,
     (records, lines): (&str, &str),
@@ -177,7 +178,7 @@ fn check_part<T: Threads + Wait + Sync + Abort>(
 }
 
 // Checks each of these parts of each row.
-fn check_parts<T: Threads + Wait + Sync + Abort>(
+fn check_parts<T: Threads + Wait + Clock + Sync + Abort>(
     rt: &T,
     alloc: Global,
     rows: &[(&str, &str)],
@@ -284,7 +285,7 @@ const FAULTS: [(&str, &str, &str); 32] = [
 ];
 
 // Asserts what is said of these faults, in each way.
-fn name_faults<T: Threads + Wait + Sync + Abort>(
+fn name_faults<T: Threads + Wait + Clock + Sync + Abort>(
     rt: &T,
     alloc: Global,
     rows: &[(&str, &str, &str)],
@@ -369,7 +370,7 @@ fn nested(alloc: Global, depth: u32) -> Result<Vec<u8>, AllocError> {
 }
 
 // Asserts what a line says at its depth, and that a trace that is one deeper is refused.
-fn keep_to_depth<T: Threads + Wait + Sync + Abort>(
+fn keep_to_depth<T: Threads + Wait + Clock + Sync + Abort>(
     rt: &T,
     alloc: Global,
     line: &str,
