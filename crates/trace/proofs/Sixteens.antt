@@ -179,9 +179,6 @@ shifted b base z = z * (base * b + 1) % (b * b) / b
 two_digits : (x y : ℕ) → x < 10 → y < 10 → shifted 256 10 (x + 256 * y) ≡ x * 10 + y
 two_digits x y X Y = omega arith
 
-four_digits : (x y : ℕ) → x < 100 → y < 100 → shifted 65536 100 (x + 65536 * y) ≡ x * 100 + y
-four_digits x y X Y = omega arith
-
 pub twos_are : (ds : List ℕ) → length ds ≡ 16 → AllBelowBase 10 ds → map (shifted 256 10) (digits_l 65536 8 (number_l 256 ds)) ≡ paired 10 ds
 twos_are ds long h = ap (map (shifted 256 10)) (elements 256 (omega arith) 8 ds long (below_all 10 256 (omega arith) ds h)) ∙ each_element 256 10 (shifted 256 10) two_digits 8 ds long h
 
@@ -202,23 +199,27 @@ number_below b some (z ∷ zs) h = omega (arith, h.0, pow-suc b (length zs), mul
 regrouped_is : (b c n : ℕ) → 0 < b → (zs : List ℕ) → AllBelowBase b zs → b ^ length zs ≡ 256 ^ 16 → regrouped b c n zs ≡ digits_l c n (number_l b zs)
 regrouped_is b c n some zs h e = let below = number_below b some zs h in ap (digits_l c n) (number_of_digits 256 16 (number_l b zs) (omega arith) (rw e at below))
 
-pub fours_are : (zs : List ℕ) → length zs ≡ 8 → AllBelowBase 100 zs → map (shifted 65536 100) (regrouped 65536 4294967296 4 zs) ≡ paired 100 zs
+-- the same, after a multiplication of the lower half and a sum
+abbrev added : ℕ → ℕ → ℕ → ℕ
+added b base w = (bit_and w (b - 1) * base % (b * b) + w / b) % (b * b)
+
+four_digits : (x y : ℕ) → x < 100 → y < 100 → added 65536 100 (x + 65536 * y) ≡ x * 100 + y
+four_digits x y X Y = omega (arith, and_mask (x + 65536 * y) 16)
+
+pub fours_are : (zs : List ℕ) → length zs ≡ 8 → AllBelowBase 100 zs → map (added 65536 100) (regrouped 65536 4294967296 4 zs) ≡ paired 100 zs
 fours_are zs long h =
     let wide = below_all 100 65536 (omega arith) zs h in
-    ap (map (shifted 65536 100)) (regrouped_is 65536 4294967296 4 (omega arith) zs wide (ap (λ n. 65536 ^ n) long) ∙ elements 65536 (omega arith) 4 zs long wide)
-    ∙ each_element 65536 100 (shifted 65536 100) four_digits 4 zs long h
+    ap (map (added 65536 100)) (regrouped_is 65536 4294967296 4 (omega arith) zs wide (ap (λ n. 65536 ^ n) long) ∙ elements 65536 (omega arith) 4 zs long wide)
+    ∙ each_element 65536 100 (added 65536 100) four_digits 4 zs long h
 
-abbrev added : ℕ → ℕ
-added w = (bit_and w 4294967295 * 10000 % 18446744073709551616 + w / 4294967296) % 18446744073709551616
-
-eight_digits : (x y : ℕ) → x < 10000 → y < 10000 → added (x + 4294967296 * y) ≡ x * 10000 + y
+eight_digits : (x y : ℕ) → x < 10000 → y < 10000 → added 4294967296 10000 (x + 4294967296 * y) ≡ x * 10000 + y
 eight_digits x y X Y = omega (arith, and_mask (x + 4294967296 * y) 32)
 
-pub eights_are : (zs : List ℕ) → length zs ≡ 4 → AllBelowBase 10000 zs → map added (regrouped 4294967296 18446744073709551616 2 zs) ≡ paired 10000 zs
+pub eights_are : (zs : List ℕ) → length zs ≡ 4 → AllBelowBase 10000 zs → map (added 4294967296 10000) (regrouped 4294967296 18446744073709551616 2 zs) ≡ paired 10000 zs
 eights_are zs long h =
     let wide = below_all 10000 4294967296 (omega arith) zs h in
-    ap (map added) (regrouped_is 4294967296 18446744073709551616 2 (omega arith) zs wide (ap (λ n. 4294967296 ^ n) long) ∙ elements 4294967296 (omega arith) 2 zs long wide)
-    ∙ each_element 4294967296 10000 added eight_digits 2 zs long h
+    ap (map (added 4294967296 10000)) (regrouped_is 4294967296 18446744073709551616 2 (omega arith) zs wide (ap (λ n. 4294967296 ^ n) long) ∙ elements 4294967296 (omega arith) 2 zs long wide)
+    ∙ each_element 4294967296 10000 (added 4294967296 10000) eight_digits 2 zs long h
 
 paired_long : (b k : ℕ) (ds : List ℕ) → length ds ≡ k + k → length (paired b ds) ≡ k
 paired_long b k [] e = omega arith

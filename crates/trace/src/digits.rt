@@ -58,7 +58,8 @@ fn fours(twos: u16x8) -> u32x4
     ensures below { AllBelowBase 10000 result }
     ensures paired { result ≡ paired 100 twos }
 {
-    (u32x4::from_le_bytes(twos.to_le_bytes()) * u32x4::splat(100 * 0x1_0000 + 1)) >> 16
+    let words = u32x4::from_le_bytes(twos.to_le_bytes());
+    (words & u32x4::splat(0xFFFF)) * u32x4::splat(100) + (words >> 16)
 }
 
 // Eight digits an element.
