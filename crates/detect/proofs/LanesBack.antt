@@ -3,7 +3,7 @@ use Rattle.std.proofs.Common.{◌≡◌, ℕ, zero, suc, ◌+◌, ◌<◌, Bool,
 use Rattle.std.proofs.lemmas.Bool.{cases_eq}
 use Rattle.std.specs.Prelude.{Vec}
 use Rattle.std.specs.Vec.{with_item}
-use Rattle.std.proofs.lemmas.List.{map-set, get_or-map, get_or-set_same, set-set, length-map}
+use Rattle.std.proofs.lemmas.List.{append-nil, map-set, get_or-map, get_or-set_same, set-get_or, set-set, length-map}
 use Rattle.std.proofs.Math.Seq.{map-set_same, take-suc}
 use Rattle.dag.specs.declared.back.Back.{Back}
 use Rattle.dag.specs.declared.back.Back.TheVariants.{Race, NoMemory}
@@ -52,6 +52,15 @@ further_some old k s t xs refused collector waiting lt at lane more gathers =
       gathers = λ h. subst P (sym given) (gathers h);
       marks = λ j h. let Q : List (List (Item Back)) → Type 0 = λ ls. has_mark (get_or ls j []) ≡ true in subst Q (sym given) (marks_stay lists k j xs h);
     }
+
+-- nothing was taken of a lane
+pub further_none : (old : Gathering) (k : ℕ) (s t : Taker Back) → k < length old.backs.items → s ≡ get_or old.backs.items k s → taker_lane t ≡ taker_lane s → taken_of t ≡ taken_of s
+    → IsFurther old (record { backs = with_item old.backs k t; collector = old.collector; refused = old.refused; waiting = old.waiting })
+further_none old k s t lt at lane same =
+    let lists : List (List (Item Back)) = given_by old.backs.items in
+    let still : with_items lists k [] ≡ lists = ap (set lists k) (append-nil (get_or lists k [])) ∙ set-get_or lists k [] in
+    let P : List (List (Item Back)) → Type 0 = λ ls. Gathers ls old.refused old.collector in
+    further_some old k s t [] old.refused old.collector old.waiting lt at lane (same ∙ sym (append-nil (taken_of s))) (subst P (sym still))
 
 -- a race or the news of a refused growth came
 pub gathers_one : (lists : List (List (Item Back))) (k : ℕ) (back : Back) (refused refused' : Bool) (c c' : Collection) → k < length lists

@@ -79,15 +79,31 @@ impl Gathering {
         unreachable!()
     }
 
-    // Takes a block of the items on the lane; false if there was none.
+    // Takes items on the lane; false if there was none. Mostly there is none, and then no room for a block is made.
     fn take_from(&mut self, shard: usize) -> bool
+        requires { shard < vec_len self.old.backs }
+        ensures { IsFurther self.old self.new }
+    {
+        match self.backs[shard].take() {
+            None => false,
+            Some(item) => {
+                self.keep_item(item);
+                self.take_block_from(shard);
+                true
+            }
+        }
+    }
+
+    // Takes a block of the items on the lane.
+    #[cold]
+    #[inline(never)]
+    fn take_block_from(&mut self, shard: usize)
         requires { shard < vec_len self.old.backs }
         ensures { IsFurther self.old self.new }
     {
         let mut block = [Item::Finish; BLOCK];
         let count = self.backs[shard].take_block(&mut block);
         self.keep_all(&block[..count]);
-        count > 0
     }
 
     // Gives what a lane gave to the collector.
