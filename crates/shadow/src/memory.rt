@@ -126,7 +126,7 @@ impl<S: BuildHasher> Shadow<S> {
         let at = if self.pages.is_at(remembered, spot.page) {
             remembered
         } else {
-            self.pages.find(spot.slot, spot.page)?
+            self.pages.find(spot.slot, spot.neighbour, spot.page)?
         };
         self.last_place = place;
         self.least_count = bags.count();

@@ -13,10 +13,7 @@ use std::hash::BuildHasher;
 use std::marker::Model;
 
 /// The number of remembered indices.
-const SLOTS: usize = 256;
-
-/// The slot of a page lies this many slots after that of the page whose locations come just before.
-const NEIGHBOUR: usize = 9;
+const SLOTS: usize = 1024;
 
 /// Pages by their numbers. They remember where late look-ups found a page, and the next look-up tries this index
 /// first.
@@ -69,14 +66,15 @@ impl<S: BuildHasher> Pages<S> {
     ///
     /// An error leaves all as it was.
     #[inline(never)]
-    pub fn find(&mut self, slot: usize, page: u64) -> Result<usize, NoMemory>
-        requires { slot < 256 }
+    pub fn find(&mut self, slot: usize, neighbour: usize, page: u64) -> Result<usize, NoMemory>
+        requires slot { slot < 1024 }
+        requires neighbour { neighbour < 1024 }
         ensures there { IfOk result (λ at. IsPageAt self.new at page) }
         ensures kept { HasSameCells self.old self.new }
         ensures err { OnErr result (self.new ≡ self.old) }
         ensures not_there { OnErr result (cells_of self.old page ≡ no_seats) }
     {
-        if let Some(index) = self.look_up(slot, page) {
+        if let Some(index) = self.look_up(slot, neighbour, page) {
             return Ok(index);
         }
         let index = self.map.len();
@@ -86,27 +84,29 @@ impl<S: BuildHasher> Pages<S> {
     }
 
     // Where the page of this number stands, if it is there. It is remembered for the slot.
-    fn look_up(&mut self, slot: usize, page: u64) -> Option<usize>
-        requires { slot < 256 }
+    fn look_up(&mut self, slot: usize, neighbour: usize, page: u64) -> Option<usize>
+        requires slot { slot < 1024 }
+        requires neighbour { neighbour < 1024 }
         ensures same { self.new ≡ self.old }
         ensures found { IsLookedUp self.old page result }
     {
-        if let Some(index) = self.behind_its_neighbour(slot, page) {
+        if let Some(index) = self.behind_its_neighbour(neighbour, page) {
             self.recent[slot] = index;
             return Some(index);
         }
         self.search(slot, page)
     }
 
-    // The page's index, if it stands one or two behind the last one found of the neighbour's slot. A program that goes
-    // through an array adds its pages one after another, or by turns with those of the locations between.
-    fn behind_its_neighbour(&self, slot: usize, page: u64) -> Option<usize>
-        requires { slot < 256 }
+    // The page's index, if it stands 1, 2, 4 or 8 behind the last one found of the neighbour's slot. A program that
+    // goes through an array adds its pages one after another, or by turns with those of the locations between, and
+    // those of another array that it goes through at the same time.
+    fn behind_its_neighbour(&self, neighbour: usize, page: u64) -> Option<usize>
+        requires { neighbour < 1024 }
         ensures { IfSome result (λ i. IsPageAt self.now i page) }
     {
-        let neighbour = self.recent[(slot + SLOTS - NEIGHBOUR) % SLOTS];
-        for step in 1..3 {
-            let near = neighbour.wrapping_add(step);
+        let before = self.recent[neighbour];
+        for step in [1, 2, 4, 8] {
+            let near = before.wrapping_add(step);
             if self.is_at(near, page) {
                 return Some(near);
             }
@@ -115,7 +115,7 @@ impl<S: BuildHasher> Pages<S> {
     }
 
     fn search(&mut self, slot: usize, page: u64) -> Option<usize>
-        requires { slot < 256 }
+        requires { slot < 1024 }
         ensures same { self.new ≡ self.old }
         ensures found { IsLookedUp self.old page result }
     {
@@ -161,7 +161,7 @@ mod tests {
         for number in 0..10_000u64 {
             if 1 <= shards && shards <= 64 {
                 let spot = spot_of(number.wrapping_mul(shards).wrapping_add(2), shards);
-                let _ = pages.find(spot.slot, spot.page)?;
+                let _ = pages.find(spot.slot, spot.neighbour, spot.page)?;
             }
         }
         Ok(pages.map.len())

@@ -5,6 +5,9 @@ ghost use Rattle.shadow.specs.Pages.{page_of, seat_of};
 /// The number of cells of a page.
 const SEATS: u64 = 8;
 
+/// 2^64 by the golden ratio.
+const SPREAD: u64 = 0x9E37_79B9_7F4A_7C15;
+
 /// Where a location's cell is.
 #[derive(Clone, Copy)]
 pub struct Spot {
@@ -12,10 +15,13 @@ pub struct Spot {
     pub page: u64,
     /// The cell's seat in the page.
     pub seat: usize,
-    /// The page's slot among the 256 that each remember an index.
+    /// The page's slot among the 1,024 that each remember an index.
     pub slot: usize,
+    /// The slot of the page whose locations come just before.
+    pub neighbour: usize,
     ghost seat_within: { seat < 8 },
-    ghost slot_within: { slot < 256 },
+    ghost slot_within: { slot < 1024 },
+    ghost neighbour_within: { neighbour < 1024 },
 }
 
 /// Where the location's cell is, if there are `shards` shards. A division by a constant compiles to a multiplication,
@@ -57,13 +63,15 @@ fn spot_at(number: u64, shard: u64, shards: u64) -> Spot
         page: own * shards + shard,
         seat: (number / 8 % SEATS) as usize,
         slot: slot_of(own),
+        neighbour: slot_of(own.wrapping_sub(8)),
     }
 }
 
-// The slot of a page, by its number among those of its shard. Numbers that lie side by side have slots of their own.
+// The slot of a page, by its number among those of its shard: the first ten bits of a product, which any pattern of
+// numbers spreads over.
 #[inline(always)]
 fn slot_of(own: u64) -> usize
-    ensures { result < 256 }
+    ensures { result < 1024 }
 {
-    ((own / 8 + own % 256) % 256) as usize
+    (own.wrapping_mul(SPREAD) >> 54) as usize
 }
