@@ -18,13 +18,13 @@ found_before m place count l before later fewer = cell_later (m.last_place + 1) 
 
 -- so the memory stays before the next place
 pub cells_before : (m : Memory) (es : List (ℕ × Seats)) (place count l : ℕ) (c : Cell) → IsMemoryBefore m → m.last_place < place → m.least_count ≤ count
-    → IsCellBefore (place + 1) count c → ((q : ℕ) → cell_of m.shards es q ≡ with_cell l c (kept_of m) q)
-    → IsMemoryBefore (record { shards = m.shards; pages = es; last_place = place; least_count = count })
+    → IsCellBefore (place + 1) count c → ((q : ℕ) → cell_of m.layout es q ≡ with_cell l c (kept_of m) q)
+    → IsMemoryBefore (record { layout = m.layout; pages = es; last_place = place; least_count = count })
 cells_before m es place count l c before later fewer now is q = rw is (by (q == l))
   where
     by : (b : Bool) → IsCellBefore (place + 1) count (cond b c (kept_of m q))
     by true = now
     by false = cell_later (m.last_place + 1) (place + 1) m.least_count count (kept_of m q) (omega arith) fewer (before q)
 
-pub pages_stay : (m : Memory) (es : List (ℕ × Seats)) → es ≡ m.pages → IsMemoryBefore m → IsMemoryBefore (record { shards = m.shards; pages = es; last_place = m.last_place; least_count = m.least_count })
+pub pages_stay : (m : Memory) (es : List (ℕ × Seats)) → es ≡ m.pages → IsMemoryBefore m → IsMemoryBefore (record { layout = m.layout; pages = es; last_place = m.last_place; least_count = m.least_count })
 pages_stay m es is before l = rw is (before l)

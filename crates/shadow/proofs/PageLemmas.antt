@@ -12,7 +12,9 @@ use Rattle.bags.specs.Procedures.{Procedures}
 use Rattle.shadow.specs.Before.{IsCellBefore}
 use Rattle.shadow.specs.Touches.{HasTouched}
 use Rattle.shadow.specs.Cells.{Cell, touched}
-use Rattle.shadow.specs.Pages.{cells_of, cell_in, cell_of, page_of, seat_of, IsPageAt, HasPut, HasSameCells, Seats, no_seats, cell_at}
+use Rattle.shadow.specs.Pages.{cells_of, cell_in, cell_of, page_of, seat_of, IsPageAt, HasPut, HasSameCells, Seats, no_seats, cell_at, shards_of, apart_of, own_page_of}
+use Rattle.shadow.specs.declared.spot.Layout.{Layout}
+use Rattle.shadow.specs.declared.spot.Layout.TheVariants.{Program, Shards}
 use Rattle.shadow.specs.Found.{with_cell}
 
 -- a number at the place that its look-up gives
@@ -82,15 +84,19 @@ pub touch_before : {s : Procedures} {l place : ℕ} {kind : Kind} {old new : Cel
 touch_before {s = s} {place = place} t = subst (IsCellBefore (place + 1) s.count) t.kept t.earlier
 
 -- two numbers of a shard's locations that have one page there have seats of their own
-one_number : (a b : ℕ) → a / 64 * 8 + a % 8 ≡ b / 64 * 8 + b % 8 → a / 8 % 8 ≡ b / 8 % 8 → a ≡ b
-one_number a b pages seats = omega (arith, pages, seats)
+one_number : (y : Layout) (a b : ℕ) → own_page_of (apart_of y) a ≡ own_page_of (apart_of y) b → a / apart_of y % 8 ≡ b / apart_of y % 8 → a ≡ b
+one_number Program a b pages seats = omega (arith, pages, seats)
+one_number (Shards n) a b pages seats = omega (arith, pages, seats)
 
 -- two locations of one page have seats of their own
-one_seat : (n l q : ℕ) → 1 ≤ n → page_of n l ≡ page_of n q → seat_of n l ≡ seat_of n q → l ≡ q
-one_seat n l q some pages seats = sym (div-add-mod' l n) ∙ ap (λ x. x * n + l % n) numbers ∙ ap (λ x. q / n * n + x) shards ∙ div-add-mod' q n
+one_seat : (y : Layout) (l q : ℕ) → 1 ≤ shards_of y → page_of y l ≡ page_of y q → seat_of y l ≡ seat_of y q → l ≡ q
+one_seat y l q some pages seats = sym (div-add-mod' l n) ∙ ap (λ x. x * n + l % n) numbers ∙ ap (λ x. q / n * n + x) shards ∙ div-add-mod' q n
   where
+    n : ℕ
+    n = shards_of y
+
     own : ℕ → ℕ
-    own x = x / 64 * 8 + x % 8
+    own x = own_page_of (apart_of y) x
 
     shards : l % n ≡ q % n
     shards = sym (mod-mul-add (own (l / n)) n (l % n) (mod-lt l some)) ∙ ap (λ x. x % n) pages ∙ mod-mul-add (own (q / n)) n (q % n) (mod-lt q some)
@@ -99,10 +105,10 @@ one_seat n l q some pages seats = sym (div-add-mod' l n) ∙ ap (λ x. x * n + l
     owns = sym (div-mul-add (own (l / n)) n (l % n) (mod-lt l some)) ∙ ap (λ x. x / n) pages ∙ div-mul-add (own (q / n)) n (q % n) (mod-lt q some)
 
     numbers : l / n ≡ q / n
-    numbers = one_number (l / n) (q / n) owns seats
+    numbers = one_number y (l / n) (q / n) owns seats
 
 -- a location's cell is a seat of its own, so a put there changes what is kept of no other location
-pub put_is_of : (n : ℕ) (es fs : List (ℕ × Seats)) (l : ℕ) (c : Cell) → 1 ≤ n → HasPut (page_of n l) (seat_of n l) c es fs
+pub put_is_of : (n : Layout) (es fs : List (ℕ × Seats)) (l : ℕ) (c : Cell) → 1 ≤ shards_of n → HasPut (page_of n l) (seat_of n l) c es fs
     → (q : ℕ) → cell_of n fs q ≡ with_cell l c (cell_of n es) q
 put_is_of n es fs l c some put q = put (page_of n q) (seat_of n q) ∙ ap (λ t. if t then c else cell_of n es q) (⊎_elim same other (eqb_tells q l))
   where

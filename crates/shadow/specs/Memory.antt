@@ -8,18 +8,19 @@ use Rattle.shadow.specs.Cells.{Cell, untouched}
 use Rattle.shadow.specs.Before.{IsCellBefore}
 use Rattle.shadow.specs.Pages.{cell_of, Seats}
 use Rattle.shadow.specs.Found.{state_after}
+use Rattle.shadow.specs.declared.spot.Layout.{Layout}
 
--- how many shards the cells are numbered for, the pages of the locations that were touched, the place of the last touch,
+-- how the cells are numbered, the pages of the locations that were touched, the place of the last touch,
 -- and the count of its bags
 pub record Memory : Type 0 where
-  pub shards : ℕ
+  pub layout : Layout
   pub pages : List (ℕ × Seats)
   pub last_place : ℕ
   pub least_count : ℕ
 
 -- what is kept of a location
 abbrev pub kept_of : Memory → ℕ → Cell
-kept_of m l = cell_of m.shards m.pages l
+kept_of m l = cell_of m.layout m.pages l
 
 abbrev pub last_place_of : Memory → ℕ
 last_place_of m = m.last_place

@@ -2,6 +2,8 @@
 use Rattle.std.specs.Prelude.{◌≡◌, ℕ, ◌+◌, ◌*◌, ◌/◌, ◌%◌, ◌==◌, ◌&&◌, if◌then◌else◌, Bool, false, List, [], Option, Some, None, nat_eq, slice_get, slice_index_or, unwrap_or}
 use Rattle.std.specs.Map.{lookup}
 use Rattle.shadow.specs.Cells.{Named, Cell}
+use Rattle.shadow.specs.declared.spot.Layout.{Layout}
+use Rattle.shadow.specs.declared.spot.Layout.TheVariants.{Program, Shards}
 
 -- the kept writer and the kept reader of a location
 pub record Names : Type 0 where
@@ -27,14 +29,27 @@ no_seats = record { names = []; reported = [] }
 abbrev pub cell_at : Seats → ℕ → Cell
 cell_at s seat = cell_with (slice_index_or s.names seat no_names) (slice_index_or s.reported seat false)
 
--- The number of a location's page, with n shards. A shard's locations are n apart, and location l is the (l / n)th of
--- them. The locations of one page are one shard's, and eight apart among these.
-abbrev pub page_of : ℕ → ℕ → ℕ
-page_of n l = (l / n / 64 * 8 + l / n % 8) * n + l % n
+-- the number of shards
+abbrev pub shards_of : Layout → ℕ
+shards_of Program = 1
+shards_of (Shards n) = n
+
+-- how far apart the locations of one page are, among those of their shard
+abbrev pub apart_of : Layout → ℕ
+apart_of Program = 2
+apart_of (Shards n) = 8
+
+-- the number of a shard's page, by the number of one of its locations among those of the shard, where the page's are a apart
+abbrev pub own_page_of : ℕ → ℕ → ℕ
+own_page_of a number = number / a / 8 * a + number % a
+
+-- The number of a location's page. With n shards a shard's locations are n apart, and location l is the (l / n)th of them.
+abbrev pub page_of : Layout → ℕ → ℕ
+page_of y l = own_page_of (apart_of y) (l / shards_of y) * shards_of y + l % shards_of y
 
 -- the seat of a location in its page
-abbrev pub seat_of : ℕ → ℕ → ℕ
-seat_of n l = l / n / 8 % 8
+abbrev pub seat_of : Layout → ℕ → ℕ
+seat_of y l = l / shards_of y / apart_of y % 8
 
 -- the page of this number; if it isn't there, an untouched one
 abbrev pub cells_of : List (ℕ × Seats) → ℕ → Seats
@@ -44,9 +59,9 @@ cells_of pages page = unwrap_or (lookup (nat_eq page) pages) no_seats
 abbrev pub cell_in : List (ℕ × Seats) → ℕ → ℕ → Cell
 cell_in pages page seat = cell_at (cells_of pages page) seat
 
--- what is kept of a location, with n shards
-abbrev pub cell_of : ℕ → List (ℕ × Seats) → ℕ → Cell
-cell_of n pages l = cell_in pages (page_of n l) (seat_of n l)
+-- what is kept of a location
+abbrev pub cell_of : Layout → List (ℕ × Seats) → ℕ → Cell
+cell_of y pages l = cell_in pages (page_of y l) (seat_of y l)
 
 -- the page of this number stands at this index of the list
 abbrev pub IsPageAt : List (ℕ × Seats) → ℕ → ℕ → Type 0

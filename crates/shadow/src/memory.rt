@@ -3,9 +3,10 @@ ghost use Rattle.std.specs.Prelude.{◌≡◌, ℕ, ◌<◌, ◌≤◌, IfOk, On
 ghost use Rattle.dag.specs.Bounds.{most_records};
 ghost use Rattle.shadow.specs.Cells.{untouched, race_at, touched};
 ghost use Rattle.shadow.specs.Found.{with_cell};
+ghost use Rattle.shadow.specs.Pages.{shards_of};
 
 use crate::pages::Pages;
-use crate::spot::spot_of;
+use crate::spot::{Layout, spot_of};
 use bags::Bags;
 use dag::{Kind, NoMemory, Race};
 use std::alloc::Global;
@@ -15,11 +16,11 @@ use std::marker::Model;
 /// The shadow memory of a serial run: the kept writer and the kept reader of each location.
 #[derive(Drop)]
 pub struct Shadow<S: BuildHasher> {
-    shards: u64,
+    layout: Layout,
     pages: Pages<S>,
     last_place: u64,
     least_count: u64,
-    ghost shards_within: { 1 ≤ shards },
+    ghost shards_within: { 1 ≤ shards_of layout },
 }
 
 impl<S: BuildHasher> Model for Shadow<S> {
@@ -28,14 +29,14 @@ impl<S: BuildHasher> Model for Shadow<S> {
     ghost Value = { Memory };
 
     ghost view = { λ s. record {
-      shards = s.shards;
+      layout = s.layout;
       pages = s.pages;
       last_place = s.last_place;
       least_count = s.least_count;
     } };
 
     ghost invariant = { λ s. IsMemoryBefore (record {
-      shards = s.shards;
+      layout = s.layout;
       pages = s.pages;
       last_place = s.last_place;
       least_count = s.least_count;
@@ -54,6 +55,16 @@ impl<S: BuildHasher> Shadow<S> {
         Shadow::for_shards(alloc, hasher, 1)
     }
 
+    /// The shadow memory of a program whose units of memory have even numbers, as the tracer numbers them. If it goes
+    /// through an array, the pages are full, and the array's cells stand side by side. It takes no memory.
+    pub fn for_program(alloc: Global, hasher: S) -> Shadow<S>
+        ensures kept { (l : ℕ) → kept_of result l ≡ untouched }
+        ensures last_place { last_place_of result ≡ 0 }
+        ensures least_count { least_count_of result ≡ 1 }
+    {
+        Shadow::with_layout(alloc, hasher, Layout::Program)
+    }
+
     /// The shadow memory of one of `shards` shards, before the first access. If only locations of one shard are
     /// touched, the pages are full. It takes no memory.
     pub fn for_shards(alloc: Global, hasher: S, shards: u64) -> Shadow<S>
@@ -62,8 +73,17 @@ impl<S: BuildHasher> Shadow<S> {
         ensures last_place { last_place_of result ≡ 0 }
         ensures least_count { least_count_of result ≡ 1 }
     {
+        Shadow::with_layout(alloc, hasher, Layout::Shards(shards))
+    }
+
+    fn with_layout(alloc: Global, hasher: S, layout: Layout) -> Shadow<S>
+        requires { 1 ≤ shards_of layout }
+        ensures kept { (l : ℕ) → kept_of result l ≡ untouched }
+        ensures last_place { last_place_of result ≡ 0 }
+        ensures least_count { least_count_of result ≡ 1 }
+    {
         Shadow {
-            shards,
+            layout,
             pages: Pages::with_hasher(alloc, hasher),
             last_place: 0,
             least_count: 1,
@@ -121,12 +141,13 @@ impl<S: BuildHasher> Shadow<S> {
         ensures err { OnErr result (IsSameMemory self.old self.new) }
         ensures not_there { OnErr result (kept_of self.old location ≡ untouched) }
     {
-        let spot = spot_of(location, self.shards);
+        let spot = spot_of(location, self.layout);
         let remembered = self.pages.remembered(spot);
         let at = if self.pages.is_at(remembered, spot.page) {
             remembered
         } else {
-            self.pages.find(spot.slot, spot.neighbour, spot.page)?
+            self.pages
+                .find(spot.slot, spot.page, spot.shards, spot.apart)?
         };
         self.last_place = place;
         self.least_count = bags.count();

@@ -4,7 +4,7 @@ ghost use Rattle.shadow.specs.Pages.{no_seats, cells_of, cell_in, IsPageAt, IsLo
 ghost use Rattle.shadow.specs.Touches.{MayTouch, HasTouched};
 
 use crate::page::Page;
-use crate::spot::Spot;
+use crate::spot::{Spot, slot_before};
 use bags::Bags;
 use dag::{Kind, NoMemory, Race};
 use indexmap::IndexMap;
@@ -20,8 +20,8 @@ const SLOTS: usize = 1024;
 #[derive(Drop)]
 pub struct Pages<S: BuildHasher> {
     map: IndexMap<u64, Page, S>,
-    // Indices in the map, one for all numbers of a slot. None of them is trusted.
-    recent: [usize; SLOTS],
+    // Indices in the map, one for all numbers of a slot. None of them is trusted, so 32 bits of each do.
+    recent: [u32; SLOTS],
 }
 
 impl<S: BuildHasher> Model for Pages<S> {
@@ -47,7 +47,7 @@ impl<S: BuildHasher> Pages<S> {
     /// The remembered index of this slot. It may be the index of another page.
     #[inline(always)]
     pub fn remembered(&self, spot: Spot) -> usize {
-        self.recent[spot.slot]
+        self.recent[spot.slot] as usize
     }
 
     /// Whether the page of this number is at this index.
@@ -66,20 +66,25 @@ impl<S: BuildHasher> Pages<S> {
     ///
     /// An error leaves all as it was.
     #[inline(never)]
-    pub fn find(&mut self, slot: usize, neighbour: usize, page: u64) -> Result<usize, NoMemory>
-        requires slot { slot < 1024 }
-        requires neighbour { neighbour < 1024 }
+    pub fn find(
+        &mut self,
+        slot: usize,
+        page: u64,
+        shards: u64,
+        apart: u64,
+    ) -> Result<usize, NoMemory>
+        requires { slot < 1024 }
         ensures there { IfOk result (λ at. IsPageAt self.new at page) }
         ensures kept { HasSameCells self.old self.new }
         ensures err { OnErr result (self.new ≡ self.old) }
         ensures not_there { OnErr result (cells_of self.old page ≡ no_seats) }
     {
-        if let Some(index) = self.look_up(slot, neighbour, page) {
+        if let Some(index) = self.look_up(slot, slot_before(page, shards, apart), page) {
             return Ok(index);
         }
         let index = self.map.len();
         self.map.insert(page, Page::untouched())?;
-        self.recent[slot] = index;
+        self.recent[slot] = remembered(index);
         Ok(index)
     }
 
@@ -91,7 +96,7 @@ impl<S: BuildHasher> Pages<S> {
         ensures found { IsLookedUp self.old page result }
     {
         if let Some(index) = self.behind_its_neighbour(neighbour, page) {
-            self.recent[slot] = index;
+            self.recent[slot] = remembered(index);
             return Some(index);
         }
         self.search(slot, page)
@@ -104,7 +109,7 @@ impl<S: BuildHasher> Pages<S> {
         requires { neighbour < 1024 }
         ensures { IfSome result (λ i. IsPageAt self.now i page) }
     {
-        let before = self.recent[neighbour];
+        let before = self.recent[neighbour] as usize;
         for step in [1, 2, 4, 8] {
             let near = before.wrapping_add(step);
             if self.is_at(near, page) {
@@ -120,7 +125,7 @@ impl<S: BuildHasher> Pages<S> {
         ensures found { IsLookedUp self.old page result }
     {
         let index = self.map.get_index_of(&page)?;
-        self.recent[slot] = index;
+        self.recent[slot] = remembered(index);
         Some(index)
     }
 
@@ -148,10 +153,14 @@ impl<S: BuildHasher> Pages<S> {
     }
 }
 
+fn remembered(index: usize) -> u32 {
+    (index % (1 << 32)) as u32
+}
+
 #[cfg(test)]
 mod tests {
     use super::*;
-    use crate::spot::spot_of;
+    use crate::spot::{Layout, spot_of};
     use std::hash::{BuildHasherDefault, FoldHasher};
     use std::test::Fail;
 
@@ -160,8 +169,11 @@ mod tests {
         let mut pages = Pages::with_hasher(alloc, BuildHasherDefault::<FoldHasher>::default());
         for number in 0..10_000u64 {
             if 1 <= shards && shards <= 64 {
-                let spot = spot_of(number.wrapping_mul(shards).wrapping_add(2), shards);
-                let _ = pages.find(spot.slot, spot.neighbour, spot.page)?;
+                let spot = spot_of(
+                    number.wrapping_mul(shards).wrapping_add(2),
+                    Layout::Shards(shards),
+                );
+                let _ = pages.find(spot.slot, spot.page, spot.shards, spot.apart)?;
             }
         }
         Ok(pages.map.len())
@@ -173,6 +185,17 @@ mod tests {
             let taken = pages_taken(rt.alloc(), shards)?;
             assert!(rt; 1250 <= taken && taken <= 1264, "{shards}");
         }
+        Ok(())
+    }
+
+    #[test]
+    fn pages_of_a_program_are_full(rt: HostRuntime) -> Result<(), Fail> {
+        let mut pages = Pages::with_hasher(rt.alloc(), BuildHasherDefault::<FoldHasher>::default());
+        for unit in 0..10_000u64 {
+            let spot = spot_of(2 * unit, Layout::Program);
+            let _ = pages.find(spot.slot, spot.page, spot.shards, spot.apart)?;
+        }
+        assert_eq!(rt; pages.map.len(), 1250);
         Ok(())
     }
 }

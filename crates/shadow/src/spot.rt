@@ -1,12 +1,19 @@
 //! Where the cell of a location is.
 ghost use Rattle.std.specs.Prelude.{◌≡◌, ◌+◌, ◌*◌, ◌/◌, ◌%◌, ◌<◌, ◌≤◌, ◌^◌};
-ghost use Rattle.shadow.specs.Pages.{page_of, seat_of};
+ghost use Rattle.shadow.specs.declared.spot.Layout.TheVariants.{Program, Shards};
+ghost use Rattle.shadow.specs.Pages.{page_of, seat_of, shards_of, own_page_of};
 
 /// The number of cells of a page.
 const SEATS: u64 = 8;
 
-/// 2^64 by the golden ratio.
-const SPREAD: u64 = 0x9E37_79B9_7F4A_7C15;
+/// How the cells are numbered.
+#[derive(Clone, Copy)]
+pub enum Layout {
+    /// For one shard. The locations of a page are two apart.
+    Program,
+    /// For so many shards. The locations of a page are eight apart among those of their shard.
+    Shards(u64),
+}
 
 /// Where a location's cell is.
 #[derive(Clone, Copy)]
@@ -17,20 +24,34 @@ pub struct Spot {
     pub seat: usize,
     /// The page's slot among the 1,024 that each remember an index.
     pub slot: usize,
-    /// The slot of the page whose locations come just before.
-    pub neighbour: usize,
+    /// The number of shards.
+    pub shards: u64,
+    /// How far apart the locations of the page are, among those of their shard.
+    pub apart: u64,
     ghost seat_within: { seat < 8 },
     ghost slot_within: { slot < 1024 },
-    ghost neighbour_within: { neighbour < 1024 },
 }
 
-/// Where the location's cell is, if there are `shards` shards. A division by a constant compiles to a multiplication,
-/// which is faster, so the usual numbers of processors have cases of their own.
+/// Where the location's cell is.
 #[inline(always)]
-pub fn spot_of(location: u64, shards: u64) -> Spot
+pub fn spot_of(location: u64, layout: Layout) -> Spot
+    requires { 1 ≤ shards_of layout }
+    ensures page { result.page ≡ page_of layout location }
+    ensures seat { result.seat ≡ seat_of layout location }
+{
+    match layout {
+        Layout::Program => spot_of_program(location),
+        Layout::Shards(shards) => spot_among(location, shards),
+    }
+}
+
+// The same for `shards` shards. A division by a constant compiles to a multiplication, which is faster, so the usual
+// numbers of processors have cases of their own.
+#[inline(always)]
+fn spot_among(location: u64, shards: u64) -> Spot
     requires { 1 ≤ shards }
-    ensures page { result.page ≡ page_of shards location }
-    ensures seat { result.seat ≡ seat_of shards location }
+    ensures page { result.page ≡ page_of (Shards shards) location }
+    ensures seat { result.seat ≡ seat_of (Shards shards) location }
 {
     // One shard needs no jump by its number.
     if shards < 2 {
@@ -50,28 +71,54 @@ pub fn spot_of(location: u64, shards: u64) -> Spot
     }
 }
 
+// The same for one shard, where the locations of a page are two apart.
+#[inline(always)]
+fn spot_of_program(location: u64) -> Spot
+    ensures page { result.page ≡ page_of Program location }
+    ensures seat { result.seat ≡ seat_of Program location }
+{
+    let own = location / 2 / SEATS * 2 + location % 2;
+    Spot {
+        page: own,
+        seat: (location / 2 % SEATS) as usize,
+        slot: slot_of(own),
+        shards: 1,
+        apart: 2,
+    }
+}
+
 // Where the cell of a shard's location lies, by its number among those of the shard. Locations of one page are eight
 // apart among these, so pages are filled by programs whose accesses are one, two, four or eight bytes apart.
 #[inline(always)]
 fn spot_at(number: u64, shard: u64, shards: u64) -> Spot
     requires { number * shards + shard < 2 ^ 64 }
-    ensures page { result.page ≡ (number / 64 * 8 + number % 8) * shards + shard }
+    ensures page { result.page ≡ own_page_of 8 number * shards + shard }
     ensures seat { result.seat ≡ number / 8 % 8 }
 {
-    let own = number / (8 * SEATS) * 8 + number % 8;
+    let own = number / 8 / SEATS * 8 + number % 8;
     Spot {
         page: own * shards + shard,
         seat: (number / 8 % SEATS) as usize,
         slot: slot_of(own),
-        neighbour: slot_of(own.wrapping_sub(8)),
+        shards,
+        apart: 8,
     }
 }
 
-// The slot of a page, by its number among those of its shard: the first ten bits of a product, which any pattern of
-// numbers spreads over.
+// The slot of a page, by its number among those of its shard. Numbers that lie side by side have slots of their own, and
+// so have arrays that lie a power of two apart.
 #[inline(always)]
 fn slot_of(own: u64) -> usize
     ensures { result < 1024 }
 {
-    (own.wrapping_mul(SPREAD) >> 54) as usize
+    ((own % 1024 + own / 512 * 37) % 1024) as usize
+}
+
+/// The slot of the page whose locations come just before those of a page.
+pub fn slot_before(page: u64, shards: u64, apart: u64) -> usize
+    ensures { result < 1024 }
+{
+    // One shard needs no division.
+    let own = if shards < 2 { page } else { page / shards };
+    slot_of(own.wrapping_sub(apart))
 }

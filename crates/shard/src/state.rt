@@ -1,9 +1,10 @@
 //! The state of a shard: the records that it has taken, as bags and shadow memory.
-ghost use Rattle.std.specs.Prelude.{◌≡◌, ◌↔◌, ◌+◌, ◌<◌, ◌≤◌, List, [], ◌∷◌, ◌++◌, IsTrue, IfOk, IfSome, OnOk, OnErr};
+ghost use Rattle.std.specs.Prelude.{◌≡◌, ℕ, ◌↔◌, ◌+◌, ◌<◌, ◌≤◌, List, [], ◌∷◌, ◌++◌, IsTrue, IfOk, IfSome, OnOk, OnErr};
 ghost use Rattle.std.specs.Option.{option_to_list};
 ghost use Rattle.dag.specs.declared.records.Placed.{Placed};
 ghost use Rattle.shadow.specs.Found.{found};
-ghost use Rattle.shadow.specs.Memory.{HaveSeen, MayGrow};
+ghost use Rattle.shadow.specs.Cells.{untouched};
+ghost use Rattle.shadow.specs.Memory.{kept_of, last_place_of, least_count_of, HaveSeen, MayGrow};
 ghost use Rattle.shard.specs.Shards.{Accepts, IsFresh, IsSameShard, is_root_return, capped_count};
 
 use bags::Bags;
@@ -50,12 +51,13 @@ impl<S: BuildHasher + Drop> Model for Shard<S> {
 }
 
 impl<S: BuildHasher + Drop> Shard<S> {
-    /// The shard of this number, before its first record.
+    /// The shard of this number, before its first record. It takes any location. It needs the least memory if the
+    /// locations are even numbers, as those of the tracer's arrays.
     pub fn new(alloc: Global, index: u32, hasher: S) -> Result<Shard<S>, NoMemory>
         ensures new { IfOk result IsFresh }
         ensures index { IfOk result (λ shard. shard.index ≡ index) }
     {
-        Shard::of_shards(alloc, index, 1, hasher)
+        Shard::with_memory(alloc, index, 1, Shadow::for_program(alloc, hasher))
     }
 
     /// The shard of this number among `shards` shards, before its first record. It takes any location. It needs the
@@ -70,11 +72,27 @@ impl<S: BuildHasher + Drop> Shard<S> {
         ensures new { IfOk result IsFresh }
         ensures index { IfOk result (λ shard. shard.index ≡ index) }
     {
+        let memory = Shadow::for_shards(alloc, hasher, shards);
+        Shard::with_memory(alloc, index, shards, memory)
+    }
+
+    fn with_memory(
+        alloc: Global,
+        index: u32,
+        shards: u64,
+        memory: Shadow<S>,
+    ) -> Result<Shard<S>, NoMemory>
+        requires kept { (l : ℕ) → kept_of memory l ≡ untouched }
+        requires last_place { last_place_of memory ≡ 0 }
+        requires least_count { least_count_of memory ≡ 1 }
+        ensures new { IfOk result IsFresh }
+        ensures index { IfOk result (λ shard. shard.index ≡ index) }
+    {
         Ok(Shard {
             index,
             shards,
             bags: Bags::new(alloc)?,
-            shadow: Shadow::for_shards(alloc, hasher, shards),
+            shadow: memory,
             last_place: 0,
             ended: false,
             taken: 0,
@@ -113,11 +131,21 @@ impl<S: BuildHasher + Drop> Shard<S> {
         ensures may_grow { OnErr result (MayGrow self.old.memory placed.what) }
     {
         let ended = matches!(placed.what, Record::Return) && self.bags.active() == 1;
-        let race = shadow::apply(&mut self.bags, &mut self.shadow, placed)?;
-        self.last_place = placed.place;
-        self.ended = ended;
-        self.count_one();
-        Ok(race)
+        // The rare race has an arm of its own, so that the other records carry none along.
+        match shadow::apply(&mut self.bags, &mut self.shadow, placed)? {
+            None => {
+                self.last_place = placed.place;
+                self.ended = ended;
+                self.count_one();
+                Ok(None)
+            }
+            Some(race) => {
+                self.last_place = placed.place;
+                self.ended = ended;
+                self.count_one();
+                Ok(Some(race))
+            }
+        }
     }
 
     /// Counts a record.

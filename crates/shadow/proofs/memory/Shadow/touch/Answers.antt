@@ -11,15 +11,15 @@ use Rattle.shadow.proofs.memory.Shadow.touch.Goals.{then-is_at, else-is_at+in_ok
 
 pub invariant_of-self : goal.invariant_of-self
 invariant_of-self g c =
-    pages_stay (record { shards = c.self.inside.shards; pages = c.self.inside.pages; last_place = c.self.inside.last_place; least_count = c.self.inside.least_count }) _ c.in_err-at.ensures.err c.self.invariant
+    pages_stay (record { layout = c.self.inside.layout; pages = c.self.inside.pages; last_place = c.self.inside.last_place; least_count = c.self.inside.least_count }) _ c.in_err-at.ensures.err c.self.invariant
 
 pub touch-requires-clause-may : goal.touch-requires-clause-may
 touch-requires-clause-may g c =
     let last : c.self.inside.last_place ≡ c.args.self.now.last_place = ap (λ (m : Memory). m.last_place) c.self.view_is in
     let least : c.self.inside.least_count ≡ c.args.self.now.least_count = ap (λ (m : Memory). m.least_count) c.self.view_is in
-    let n = c.self.inside.shards in
+    let n = c.self.inside.layout in
     let l = c.args.location in
-    let before = found_before (record { shards = c.self.inside.shards; pages = c.self.inside.pages; last_place = c.self.inside.last_place; least_count = c.self.inside.least_count }) c.args.place c.args.bags.now.count l c.self.invariant (omega arith) (omega arith) in
+    let before = found_before (record { layout = c.self.inside.layout; pages = c.self.inside.pages; last_place = c.self.inside.last_place; least_count = c.self.inside.least_count }) c.args.place c.args.bags.now.count l c.self.invariant (omega arith) (omega arith) in
     let same : HasSameCells c.self.inside.pages c.if-is_at.self-inside.1.1.0 = elim c.if-is_at.branch [
       | then-is_at w ↦ rw w.self-inside-is (λ q k. refl)
       | else-is_at+in_ok-at w ↦ rw w.self-inside-is w.find.ensures.kept
@@ -34,7 +34,7 @@ pub invariant_of-self-2 : goal.invariant_of-self-2
 invariant_of-self-2 g c =
     let last : c.self.inside.last_place ≡ c.args.self.now.last_place = ap (λ (m : Memory). m.last_place) c.self.view_is in
     let least : c.self.inside.least_count ≡ c.args.self.now.least_count = ap (λ (m : Memory). m.least_count) c.self.view_is in
-    let n = c.self.inside.shards in
+    let n = c.self.inside.layout in
     let es = c.self.inside.pages in
     let ps = c.if-is_at.self-inside.1.1.0 in
     let fs = c.touch.new.self in
@@ -48,12 +48,12 @@ invariant_of-self-2 g c =
     let o : HasPut (page_of n l) (seat_of n l) (cell_of n fs l) ps fs = rw (c.spot_of-spot.ensures.page, c.spot_of-spot.ensures.seat) at c.touch.ensures.others in
     let t = subst (λ x. HasTouched c.args.bags.now l c.args.kind c.args.place x (cell_of n fs l) c.touch.result) (same (page_of n l) (seat_of n l)) at in
     rw c.count-self-inside.ensures.procedures
-    (cells_before (record { shards = n; pages = es; last_place = c.self.inside.last_place; least_count = c.self.inside.least_count }) fs c.args.place c.args.bags.now.count l cell c.self.invariant (omega arith) (omega arith)
+    (cells_before (record { layout = n; pages = es; last_place = c.self.inside.last_place; least_count = c.self.inside.least_count }) fs c.args.place c.args.bags.now.count l cell c.self.invariant (omega arith) (omega arith)
     (touch_before t) (put_is_of n es fs l cell c.self.inside.shards_within (touch_put es fs (page_of n l) (seat_of n l) t (put_over es ps fs (page_of n l) (seat_of n l) _ same o))))
 
 pub returns-clause-kept : goal.returns-clause-kept
 returns-clause-kept g c =
-    let n = c.self.inside.shards in
+    let n = c.self.inside.layout in
     let es = c.self.inside.pages in
     let ps = c.if-is_at.self-inside.1.1.0 in
     let fs = c.touch.new.self in
