@@ -81,7 +81,7 @@ fn spot_of_program(location: u64) -> Spot
     Spot {
         page: own,
         seat: (location / 2 % SEATS) as usize,
-        slot: slot_of(own),
+        slot: slot_of_program(own),
         shards: 1,
         apart: 2,
     }
@@ -99,16 +99,24 @@ fn spot_at(number: u64, shard: u64, shards: u64) -> Spot
     Spot {
         page: own * shards + shard,
         seat: (number / 8 % SEATS) as usize,
-        slot: slot_of(own),
+        slot: slot_among(own),
         shards,
         apart: 8,
     }
 }
 
-// The slot of a page, by its number among those of its shard. Numbers that lie side by side have slots of their own, and
-// so have arrays that lie a power of two apart.
+// The slot of a shard's page, by its number among those of the shard. Numbers that lie side by side have slots of their
+// own.
 #[inline(always)]
-fn slot_of(own: u64) -> usize
+fn slot_among(own: u64) -> usize
+    ensures { result < 1024 }
+{
+    ((own / 8 + own % 1024) % 1024) as usize
+}
+
+// The slot of a program's page. Neighbours have slots of their own, and so have arrays that lie a power of two apart.
+#[inline(always)]
+fn slot_of_program(own: u64) -> usize
     ensures { result < 1024 }
 {
     ((own % 1024 + own / 512 * 37) % 1024) as usize
@@ -118,7 +126,10 @@ fn slot_of(own: u64) -> usize
 pub fn slot_before(page: u64, shards: u64, apart: u64) -> usize
     ensures { result < 1024 }
 {
+    if apart == 2 {
+        return slot_of_program(page.wrapping_sub(apart));
+    }
     // One shard needs no division.
     let own = if shards < 2 { page } else { page / shards };
-    slot_of(own.wrapping_sub(apart))
+    slot_among(own.wrapping_sub(apart))
 }
