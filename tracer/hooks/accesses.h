@@ -16,16 +16,25 @@ static inline bool is_old(bool writes, uintptr_t at, size_t size) {
 /* Between a spawn and the entry of what it calls, and between its exit and the return, compilers copy arguments and the
    result through memory of the parent's frame, which no program sees. A library function that is the child itself says
    so by its name. */
-__attribute__((noinline)) static void any_access(bool writes, uintptr_t at, size_t size, __spbags_function self,
-                                                 uintptr_t stack_pointer, uintptr_t code) {
+static inline bool is_on_the_way(__spbags_function self) { return top->kind == CHILD && top->callee != self; }
+
+__attribute__((noinline)) static void other_access(bool writes, uintptr_t at, size_t size, __spbags_function self,
+                                                   uintptr_t stack_pointer, uintptr_t code) {
     if (!tracing || initialising > 0)
         return;
     leave_jumped(stack_pointer, code);
-    if ((top->kind != CHILD || top->callee == self) && !is_old(writes, at, size))
+    if (!is_on_the_way(self) && !is_old(writes, at, size))
         touch(writes, at, size, code);
 }
 
-/* Of the short way: some of these units aren't repeats. */
+static inline void any_access(bool writes, uintptr_t at, size_t size, __spbags_function self, uintptr_t stack_pointer,
+                              uintptr_t code) {
+    if (!tracing || (is_on_the_way(self) && stack_pointer < top->end))
+        return;
+    other_access(writes, at, size, self, stack_pointer, code);
+}
+
+/* Of the short way: some of these units aren't repeats, or their region has no marks. */
 __attribute__((noinline)) static void note_several(bool writes, uintptr_t at, size_t size, uintptr_t code) {
     uint32_t *mark = mark_of(at, USUAL_SHIFT);
     for (uintptr_t unit = at; unit < at + size; unit += 1 << USUAL_SHIFT, mark++)
@@ -35,31 +44,40 @@ __attribute__((noinline)) static void note_several(bool writes, uintptr_t at, si
 
 /* Of the short way: the only unit isn't a repeat. */
 __attribute__((noinline)) static void note_usual(bool writes, uintptr_t at, uint32_t *mark, uintptr_t code) {
-    if (__builtin_expect(is_in_no_region(mark), 0))
-        note_several(writes, at, 1 << USUAL_SHIFT, code);
-    else
-        note_unit(writes, at, mark, USUAL_SHIFT, code);
+    note_unit(writes, at, mark, USUAL_SHIFT, code);
 }
 
-static inline void usual_unit(bool writes, uintptr_t at, uintptr_t code) {
-    uint32_t *mark = mark_at(at, USUAL_SHIFT);
-    if (!is_repeat(writes, *mark))
-        note_usual(writes, at, mark, code);
+/* Some units of the usual size in one region. */
+static inline void usual_units(bool writes, uintptr_t at, size_t size, uintptr_t code) {
+    uintptr_t behind = regions[region_of(at)];
+    uint32_t *mark = (uint32_t *)(at + behind);
+    if (__builtin_expect(behind == 0, 0))
+        note_several(writes, at, size, code);
+    else if (!__builtin_expect(are_repeats(writes, mark, size >> USUAL_SHIFT), 1)) {
+        if (size >> USUAL_SHIFT == 1)
+            note_usual(writes, at, mark, code);
+        else
+            note_several(writes, at, size, code);
+    }
+}
+
+/* An access of the program that doesn't go the short way. */
+__attribute__((noinline)) static void long_way(bool writes, uintptr_t at, size_t size, uintptr_t stack_pointer,
+                                               uintptr_t code) {
+    any_access(writes, at, size, NULL, stack_pointer, code);
 }
 
 /* The short way of most accesses: the unit is the usual one, and they fill one or several units. */
 static inline void usual_access(bool writes, uintptr_t at, size_t size, uintptr_t stack_pointer, uintptr_t code) {
     if (size >> USUAL_SHIFT == 0 || stack_pointer >= short_way_end || (at & (size - 1)) != 0)
-        any_access(writes, at, size, NULL, stack_pointer, code);
-    else if (size >> USUAL_SHIFT == 1)
-        usual_unit(writes, at, code);
-    else if (!are_repeats(writes, mark_at(at, USUAL_SHIFT), size >> USUAL_SHIFT))
-        note_several(writes, at, size, code);
+        long_way(writes, at, size, stack_pointer, code);
+    else
+        usual_units(writes, at, size, code);
 }
 
 void __spbags_stored(const volatile void *at, unsigned long size) {
     if (short_way_bits != 0 && size == 1 << USUAL_SHIFT && ((uintptr_t)at & (size - 1)) == 0)
-        usual_unit(true, (uintptr_t)at, CODE);
+        usual_units(true, (uintptr_t)at, 1 << USUAL_SHIFT, CODE);
     else if (tracing)
         touch(true, (uintptr_t)at, size, CODE);
 }
@@ -91,6 +109,10 @@ __attribute__((noinline)) static void library_read(uintptr_t at, size_t size, __
     void __sanitizer_cov_load##SIZE(void *at) { OFTEN(false, at, SIZE); } \
     void __sanitizer_cov_store##SIZE(void *at) { OFTEN(true, at, SIZE); }
 ACCESSES(1) ACCESSES(2) ACCESSES(4) ACCESSES(8) ACCESSES(16)
+
+/* What the text in beside.s calls for the only unit of such an access: it has this mark, and is no repeat. */
+void __spbags_first_read(void *at, uint32_t *mark) { note_usual(false, (uintptr_t)at, mark, CODE); }
+void __spbags_first_write(void *at, uint32_t *mark) { note_usual(true, (uintptr_t)at, mark, CODE); }
 
 void __tsan_read_range(void *at, size_t size) { READ(at, size); }
 void __tsan_write_range(void *at, size_t size) { WRITE(at, size); }

@@ -22,15 +22,22 @@ __attribute__((noinline, cold, noreturn)) static void refuse_handler(void) {
     fail("a signal handler of the program's own came into the detector, so the run ends here, and there is no report");
 }
 
-/* Whether a signal waits then is the caller's to ask. */
-static inline void step(enum spbags_kind kind, uint64_t location) {
+static inline void begin_step(void) {
     if (__builtin_expect(stepping, 0))
         refuse_handler();
     stepping = true;
     in_order();
-    uint8_t status = spbags_step(session, (uint8_t)kind, location);
+}
+
+static inline void end_step(void) {
     in_order();
     stepping = false;
+    let_signal_end();
+}
+
+/* Between both of these. */
+static inline void step(enum spbags_kind kind, uint64_t location) {
+    uint8_t status = spbags_step(session, (uint8_t)kind, location);
     if (__builtin_expect(status != SPBAGS_TAKEN, 0))
         refuse_step(status);
 }
@@ -83,6 +90,8 @@ void rattle_dealloc(void *block) { library_free(block); }
 #else
 enum { HAS_DETECTOR = false, detecting = false, stepping = false };
 static void start_detector(void) {}
+static inline void begin_step(void) {}
+static inline void end_step(void) {}
 static inline void step(enum spbags_kind kind, uint64_t location) { (void)kind, (void)location; }
 static void put_report(void) {}
 #endif

@@ -4,14 +4,15 @@
    the strand, and one more where it wrote. */
 enum { UNTOUCHED = 0, TOUCHED = 1 };
 /* So many marks are cleared at once. */
-enum { CLEARED = 4 };
+enum { CLEARED = 16 };
 /* The greatest number of a strand. */
 #ifndef MOST_STRANDS
 #define MOST_STRANDS 0x7ffffffeu
 #endif
 
-/* What the current strand has read has this mark, and what it has written one more. */
-static uint32_t has_read = 2;
+/* What the current strand has read has this mark, and what it has written one more. Like all whose names in the
+   assembler's text stand here, this is of use beside the accesses too. */
+uint32_t has_read __asm__("__spbags_has_read") = 2;
 /* Each record of an access begins a strand, so that there are no repeats. */
 static bool writes_repeats;
 
@@ -26,10 +27,8 @@ static inline uint32_t new_mark(bool writes) { return has_read + writes; }
 /* The marks of a region of memory come with its first access. Those of the stack are there from the start. */
 enum { REGION_BITS = 24, REGIONS = 1 << 23 };
 static const uintptr_t region_mask = ((uintptr_t)1 << REGION_BITS) - 1;
-/* Those of a region that has none, by the usual unit: all of it is untouched. */
-static uint32_t no_marks[1 << (REGION_BITS - USUAL_SHIFT)];
-/* How many bytes behind those the marks of each region begin. */
-static uintptr_t regions[REGIONS];
+/* How many bytes behind each region its marks begin, or 0 where it has none. */
+uintptr_t regions[REGIONS] __asm__("__spbags_regions");
 /* The regions that came with an access, in that order. */
 static uint32_t *added, regions_added;
 static uint32_t *stack_regions, *stack_regions_end;
@@ -42,10 +41,10 @@ static inline size_t region_of(uintptr_t address) { return (address >> REGION_BI
 
 static size_t region_size(void) { return (sizeof(uint32_t) << REGION_BITS) >> unit_shift; }
 
-static inline uint32_t *region_marks(size_t region) { return (uint32_t *)((uintptr_t)no_marks + regions[region]); }
+static inline uint32_t *region_marks(size_t region) { return (uint32_t *)((region << REGION_BITS) + regions[region]); }
 
 static void set_region_marks(size_t region, const uint32_t *marks) {
-    regions[region] = (uintptr_t)marks - (uintptr_t)no_marks;
+    regions[region] = (uintptr_t)marks - (region << REGION_BITS);
 }
 
 __attribute__((noinline, cold)) static void add_region(size_t region) {
@@ -53,14 +52,9 @@ __attribute__((noinline, cold)) static void add_region(size_t region) {
     added[regions_added++] = (uint32_t)region;
 }
 
-/* The mark of an address. As long as its region has none it is one of the above, if the unit is the usual one. */
+/* The mark of an address whose region has marks. */
 static inline uint32_t *mark_at(uintptr_t address, unsigned shift) {
     return region_marks(region_of(address)) + ((address & region_mask) >> shift);
-}
-
-/* Whether this is the mark of such an address. */
-static inline bool is_in_no_region(const uint32_t *mark) {
-    return (uintptr_t)mark - (uintptr_t)no_marks < sizeof no_marks;
 }
 
 static inline uint32_t *mark_of(uintptr_t address, unsigned shift) {

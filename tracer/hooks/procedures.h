@@ -9,8 +9,8 @@ struct frame {
     /* Right above its stack memory. A child has none of its own, and ends with its parent. */
     uintptr_t end;
     enum kind kind;
-    /* A `call` stands open for this function. */
-    bool called;
+    /* Whether a `call` stands open for this function. */
+    uint32_t called;
     /* The procedure which holds the unsynced children of this function, or NONE. */
     uint32_t children;
     /* In a run that looks, what stands for it there, or NONE. */
@@ -34,7 +34,8 @@ static unsigned initialising;
 /* An access goes the short way where the stack pointer is below this: accesses are recorded by the usual unit, no child
    waits for what it calls, and the newest frame hasn't ended. A function's entry and its end go it where its stack
    memory ends within so many bytes of the stack: none if nothing is recorded. */
-static uintptr_t short_way_end, short_way_stack;
+uintptr_t short_way_end __asm__("__spbags_short_way_end");
+static uintptr_t short_way_stack;
 /* All bits, or none if no access goes the short way. */
 static uintptr_t short_way_bits;
 
@@ -52,15 +53,29 @@ static void find_short_way(void) {
 static struct frame **owners;
 static uint32_t procedures, most_procedures;
 
-/* With each record of the structure a strand ends and another begins. */
-static inline void structure(enum spbags_kind kind, uintptr_t code) {
-    begin_change();
-    structure_record(kind, code);
+static inline void count_procedures(enum spbags_kind kind) {
     if (kind == SPBAGS_RETURN)
         procedures--;
     else if (kind != SPBAGS_SYNC)
         procedures++;
+}
+
+OTHERWISE void other_structure(enum spbags_kind kind, uintptr_t code) {
+    begin_change();
+    other_structure_record(kind, code);
+    count_procedures(kind);
     end_change();
+}
+
+/* With each record of the structure a strand ends and another begins. */
+static inline void structure(enum spbags_kind kind, uintptr_t code) {
+    if (__builtin_expect(only_detects, 1)) {
+        begin_step();
+        step(kind, 0);
+        count_procedures(kind);
+        end_step();
+    } else
+        other_structure(kind, code);
     begin_strand();
 }
 
@@ -129,7 +144,10 @@ static inline void leave_jumped(uintptr_t address, uintptr_t code) {
 static inline void push_frame(enum kind kind, uintptr_t end) {
     if (__builtin_expect(++top == frames_end, 0))
         fail("functions nest too deep");
-    *top = (struct frame){.kind = kind, .end = end};
+    top->end = end;
+    top->kind = kind;
+    top->called = false;
+    top->children = top->node = NONE;
     follow_top();
 }
 

@@ -54,17 +54,12 @@ OTHERWISE void other_structure_record(enum spbags_kind kind, uintptr_t code) {
     }
     if (places.file >= 0)
         write_place(code);
-    if (detecting)
+    if (detecting) {
+        begin_step();
         step(kind, 0);
-    else
+        end_step();
+    } else
         write_structure(kind);
-}
-
-static inline void structure_record(enum spbags_kind kind, uintptr_t code) {
-    if (__builtin_expect(only_detects, 1))
-        step(kind, 0);
-    else
-        other_structure_record(kind, code);
 }
 
 /* From 00 to 99. */
@@ -95,8 +90,9 @@ static inline void write_access(bool writes, uint64_t location) {
 }
 
 static inline void step_access(bool writes, uint64_t location) {
+    begin_step();
     step(writes ? SPBAGS_WRITE : SPBAGS_READ, location);
-    let_signal_end();
+    end_step();
 }
 
 OTHERWISE void other_access_record(bool writes, uint64_t location, uintptr_t address, uintptr_t code) {

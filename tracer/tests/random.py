@@ -178,8 +178,9 @@ class Batch:
         return done.stdout
 
     def build(self):
-        level = ("-O0", "-O1")[self.numbers[0] // BATCH % 2]
-        self.run(os.path.join(TRACER, "spbags-cc"), *self.inside, level, "-w", "-o", self.name, self.name + ".c")
+        batch = self.numbers[0] // BATCH
+        ways = ("-O0", "-O1")[batch % 2], *[["--beside"], []][batch // 2 % 2]
+        self.run(os.path.join(TRACER, "spbags-cc"), *self.inside, *ways, "-w", "-o", self.name, self.name + ".c")
         self.run("gcc" if not os.environ.get("CC") else os.environ["CC"], "-w", "-O1", "-I" + HERE, "-o",
                  self.name + "_judged", self.name + "_judged.c")
         told = self.run(self.name + "_judged")
