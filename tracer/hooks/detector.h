@@ -53,40 +53,6 @@ static void put_report(void) {
     }
     spbags_free(session);
 }
-
-/* The detector's heap is that of the C library, where memory comes again. The tracer's own malloc stands before it, so
-   no other code calls it. */
-static void *(*library_malloc)(size_t);
-static void *(*library_realloc)(void *, size_t);
-static void (*library_free)(void *);
-
-static void find_heap(void) {
-    library_malloc = dlsym(RTLD_NEXT, "malloc");
-    library_realloc = dlsym(RTLD_NEXT, "realloc");
-    library_free = dlsym(RTLD_NEXT, "free");
-    if (!library_malloc || !library_realloc || !library_free)
-        fail("the C library has no heap for the detector");
-}
-
-/* The program's errno is none of the detector's. */
-static struct rattle_block answer_with(void *block, int error) {
-    static max_align_t nothing;
-    errno = error;
-    return block ? (struct rattle_block){true, block} : (struct rattle_block){false, &nothing};
-}
-
-struct rattle_block rattle_alloc(size_t size, size_t alignment) {
-    int error = errno;
-    return answer_with(library_malloc(size > 0 ? size : alignment), error);
-}
-
-struct rattle_block rattle_realloc(void *block, size_t kept, size_t size, size_t alignment) {
-    int error = errno;
-    (void)kept;
-    return answer_with(library_realloc(block, size > 0 ? size : alignment), error);
-}
-
-void rattle_dealloc(void *block) { library_free(block); }
 #else
 enum { HAS_DETECTOR = false, detecting = false, stepping = false };
 static void start_detector(void) {}

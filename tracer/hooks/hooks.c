@@ -3,10 +3,10 @@
    file instead of the sanitizer's own runtime. This file is compiled without that flag. The program runs on one thread,
    in the serial order: a spawned child runs at once, as an ordinary call.
 
-   Each part stands on those before it: what goes out; the detector, where SPBAGS_INSIDE is defined; what a strand has
-   done; records; what is held; locations; procedures; a look at the races' places; the hooks of accesses, of library
-   functions and of locks; the heap; those of C++ and, where SPBAGS_OPENMP is defined, of OpenMP; the ends of the run,
-   and its beginning. */
+   Each part stands on those before it: what goes out; the detector and its heap, where SPBAGS_INSIDE is defined; what a
+   strand has done; records; what is held; locations; procedures; a look at the races' places; the hooks of accesses, of
+   library functions and of locks; the heap; those of C++ and, where SPBAGS_OPENMP is defined, of OpenMP; the ends of
+   the run, and its beginning. */
 #define _GNU_SOURCE
 #include <ctype.h>
 #include <dlfcn.h>
@@ -73,6 +73,7 @@ static bool looking;
 
 #include "output.h"
 #include "detector.h"
+#include "detector_heap.h"
 #include "marks.h"
 #include "records.h"
 #include "guards.h"
