@@ -1,6 +1,8 @@
 -- Private: what sends records goes on.
-use Rattle.std.specs.Prelude.{◌≡◌, None}
-use Rattle.route.specs.Routers.{pending_of, marked_of, IsOnLanes}
+use Rattle.std.specs.Prelude.{◌≡◌, List, [], ◌∷◌, ◌++◌, Some, None}
+use Rattle.dag.specs.declared.records.Placed.{Placed}
+use Rattle.route.specs.declared.router.Router.{Router}
+use Rattle.route.specs.Routers.{pending_of, marked_of, HasSent, IsOnLanes}
 use Rattle.detect.specs.declared.sending.Sending.{Sending}
 use Rattle.detect.specs.LanesBack.{IsFurther}
 
@@ -8,6 +10,14 @@ use Rattle.detect.specs.LanesBack.{IsFurther}
 pub record MaySend (s : Sending) : Type 0 where
   pub idle : pending_of s.router ≡ None
   pub unmarked : marked_of s.router ≡ 0
+
+-- of these records all but the last were sent whole, and that one is pending
+pub record LacksLast (w : List Placed) (r : Router) : Type 0 where
+  pub before : List Placed
+  pub last : Placed
+  pub all : before ++ last ∷ [] ≡ w
+  pub pending : pending_of r ≡ Some last
+  pub sent : HasSent before r
 
 -- the same part is sent on the same lanes, and more was taken of the lanes back
 pub record GoesOn (old new : Sending) : Type 0 where

@@ -1,5 +1,5 @@
 //! From the source to the shards: the reading thread sends the records, and at last the marks.
-ghost use Rattle.std.specs.Prelude.{◌≡◌, ◌++◌, ◌∷◌, [], List};
+ghost use Rattle.std.specs.Prelude.{◌≡◌, ◌++◌, ◌∷◌, [], List, IfNone, IfSome};
 ghost use Rattle.std.specs.Option.{option_to_list};
 ghost use Rattle.dag.specs.declared.records.Placed.{Placed};
 ghost use Rattle.dag.specs.Traces.{placed};
@@ -8,7 +8,7 @@ ghost use Rattle.trace.specs.Devices.{◌⇝◌};
 ghost use Rattle.trace.specs.Feeding.{GivesNext, HasSameLimits};
 ghost use Rattle.trace.specs.Endings.{EndsReading, IsWantOfMemory};
 ghost use Rattle.route.specs.Routers.{lane_count, pending_of, marked_of, HasSent, IsUnchanged, ShowsAll};
-ghost use Rattle.detect.specs.Sent.{MaySend, GoesOn};
+ghost use Rattle.detect.specs.Sent.{MaySend, LacksLast, GoesOn};
 
 use crate::gathering::Gathering;
 use route::{Progress, Router};
@@ -42,7 +42,11 @@ impl Sending {
         let mut intake = Intake::new(limits);
         'records: loop {
             match intake.next_known() {
-                Some(placed) => self.send(rt, placed),
+                Some(placed) => {
+                    if let Some(lane) = self.put(placed) {
+                        self.send_rest(rt, lane);
+                    }
+                }
                 None => {
                     self.router.flush();
                     match self.read_on(&mut intake, source)? {
@@ -69,7 +73,6 @@ impl Sending {
     }
 
     // Sends what the part has of the record.
-    #[inline(always)]
     fn send<T: Wait + Clock>(&mut self, rt: &T, placed: Placed)
         requires { MaySend self.old }
         ensures sent { (w : List Placed) → HasSent (records_of self.old.part w) self.old.router
@@ -77,24 +80,46 @@ impl Sending {
         ensures ready { MaySend self.new }
         ensures goes_on { GoesOn self.old self.new }
     {
-        match taken_by(self.part, placed) {
-            Some(own) => self.send_own(rt, own),
-            None => {}
+        if let Some(lane) = self.put(placed) {
+            self.send_rest(rt, lane);
         }
     }
 
-    // Sends the record to the lanes that it goes to.
+    // Puts what the part has of the record on its lanes. If one of them is full, it is the answer, and the record is
+    // pending.
     #[inline(always)]
-    fn send_own<T: Wait + Clock>(&mut self, rt: &T, placed: Placed)
+    fn put(&mut self, placed: Placed) -> Option<usize>
         requires { MaySend self.old }
-        ensures sent { (w : List Placed) → HasSent w self.old.router → HasSent (w ++ placed ∷ []) self.new.router }
-        ensures ready { MaySend self.new }
+        ensures sent { IfNone result ((w : List Placed) → HasSent (records_of self.old.part w) self.old.router
+            → HasSent (records_of self.old.part (w ++ placed ∷ [])) self.new.router) }
+        ensures ready { IfNone result (MaySend self.new) }
+        ensures left { IfSome result (λ _. (w : List Placed) → HasSent (records_of self.old.part w) self.old.router
+            → LacksLast (records_of self.old.part (w ++ placed ∷ [])) self.new.router) }
+        ensures unmarked { marked_of self.new.router ≡ 0 }
+        ensures goes_on { GoesOn self.old self.new }
+    {
+        match taken_by(self.part, placed) {
+            Some(own) => self.put_own(own),
+            None => None,
+        }
+    }
+
+    // Puts the record on its lanes, likewise.
+    #[inline(always)]
+    fn put_own(&mut self, placed: Placed) -> Option<usize>
+        requires { MaySend self.old }
+        ensures sent { IfNone result ((w : List Placed) → HasSent w self.old.router
+            → HasSent (w ++ placed ∷ []) self.new.router) }
+        ensures ready { IfNone result (MaySend self.new) }
+        ensures left { IfSome result (λ _. (w : List Placed) → HasSent w self.old.router
+            → LacksLast (w ++ placed ∷ []) self.new.router) }
+        ensures unmarked { marked_of self.new.router ≡ 0 }
         ensures goes_on { GoesOn self.old self.new }
     {
         match self.router.send(placed) {
-            Progress::Idle => {}
+            Progress::Idle => None,
             Progress::Moved => unreachable!(),
-            Progress::Blocked(lane) => self.send_rest(rt, lane as usize),
+            Progress::Blocked(lane) => Some(lane as usize),
         }
     }
 
@@ -103,8 +128,7 @@ impl Sending {
     #[inline(never)]
     fn send_rest<T: Wait + Clock>(&mut self, rt: &T, lane: usize)
         requires { marked_of self.old.router ≡ 0 }
-        ensures sent { (w : List Placed) (p : Placed) → pending_of self.old.router ≡ Some p
-            → HasSent w self.old.router → HasSent (w ++ p ∷ []) self.new.router }
+        ensures sent { (w : List Placed) → LacksLast w self.old.router → HasSent w self.new.router }
         ensures ready { MaySend self.new }
         ensures goes_on { GoesOn self.old self.new }
     {

@@ -1,4 +1,5 @@
 pub mod Lists
+pub mod Powers
 pub mod Sent
 pub mod Rising
 pub mod LaneShares

@@ -21,28 +21,38 @@ pub fn first_lane(what: Record, count: usize) -> usize
     }
 }
 
-/// The lane that an access of the location goes to. A remainder by a constant compiles to a multiplication, which is
-/// faster, so the usual numbers of processors have cases of their own.
+/// The lane that an access of the location goes to.
 #[inline(always)]
 pub fn lane_of(location: u64, count: usize) -> usize
     requires { 1 ≤ count }
     ensures value { result ≡ location % count }
     ensures within { result < count }
 {
-    let lane = match count {
-        1 => 0,
+    let below = count as u64 - 1;
+    // A power of two has no bit in common with the number below it, which has the bits of each remainder.
+    if count as u64 & below == 0 {
+        (location & below) as usize
+    } else {
+        remainder(location, count as u64) as usize
+    }
+}
+
+// A remainder by a constant compiles to a multiplication, which is faster, so the usual numbers of processors have cases
+// of their own. Without those that are powers of two, the compiler makes one division of the others.
+#[inline(always)]
+fn remainder(location: u64, count: u64) -> u64
+    requires { 1 ≤ count }
+    ensures value { result ≡ location % count }
+    ensures within { result < count }
+{
+    match count {
         2 => location % 2,
         3 => location % 3,
         4 => location % 4,
         6 => location % 6,
-        8 => location % 8,
         12 => location % 12,
-        16 => location % 16,
-        32 => location % 32,
-        64 => location % 64,
-        _ => location % count as u64,
-    };
-    lane as usize
+        _ => location % count,
+    }
 }
 
 /// The next lane after this one that the record goes to.

@@ -29,26 +29,51 @@ records-init g c =
       depths = ap (λ (s : Feeding). s.nesting.max_depth) c.new-intake.ensures;
     }
 
-pub records-smaller-in-Some : goal.records-smaller-in-Some
-records-smaller-in-Some g c =
+pub records-smaller-in_default : goal.records-smaller-in_default
+records-smaller-in_default g c =
     let i = c.records.invariant in
     let next = c.in-Some.ensures.fed i.trace i.came i.fed in
     omega (arith, next.1.has_used.has_read.count_is, next.1.has_used.has_read.within, i.fed.has_used.has_read.count_is, c.next_known.ensures.limits.records, i.records, length-append i.trace (c.in-Some.placed.what ∷ []))
 
-pub records-preserved-in-Some : goal.records-preserved-in-Some
-records-preserved-in-Some g c =
+pub records-preserved-in_default : goal.records-preserved-in_default
+records-preserved-in_default g c =
     let i = c.records.invariant in
     let next = c.in-Some.ensures.fed i.trace i.came i.fed in
-    let P : List Placed → Type 0 = λ u. HasSent (records_of c.args.self.now.part u) c.send.new.self.router in
-    let sent = same_part c.args.self.now c.records.self c.send.new.self.router (placed i.trace) c.in-Some.placed i.goes_on (c.send.ensures.sent (placed i.trace)) i.sent in
+    let P : List Placed → Type 0 = λ u. HasSent (records_of c.args.self.now.part u) c.put.new.self.router in
+    let sent = same_part c.args.self.now c.records.self c.put.new.self.router (placed i.trace) c.in-Some.placed i.goes_on (c.in_default.ensures.sent (placed i.trace)) i.sent in
     record {
       trace = i.trace ++ c.in-Some.placed.what ∷ [];
       came = i.came;
       gave = i.gave;
       fed = next.1;
       sent = subst P (sym (placed-next i.trace c.in-Some.placed next.0)) sent;
-      ready = c.send.ensures.ready;
-      goes_on = goes_on_trans _ _ _ i.goes_on c.send.ensures.goes_on;
+      ready = c.in_default.ensures.ready;
+      goes_on = goes_on_trans _ _ _ i.goes_on c.put.ensures.goes_on;
+      steady = i.steady;
+      records = c.next_known.ensures.limits.records ∙ i.records;
+      depths = c.next_known.ensures.limits.depths ∙ i.depths;
+    }
+
+pub records-smaller-in-Some-put : goal.records-smaller-in-Some-put
+records-smaller-in-Some-put g c =
+    let i = c.records.invariant in
+    let next = c.in-Some.ensures.fed i.trace i.came i.fed in
+    omega (arith, next.1.has_used.has_read.count_is, next.1.has_used.has_read.within, i.fed.has_used.has_read.count_is, c.next_known.ensures.limits.records, i.records, length-append i.trace (c.in-Some.placed.what ∷ []))
+
+pub records-preserved-in-Some-put : goal.records-preserved-in-Some-put
+records-preserved-in-Some-put g c =
+    let i = c.records.invariant in
+    let next = c.in-Some.ensures.fed i.trace i.came i.fed in
+    let P : List Placed → Type 0 = λ u. HasSent (records_of c.args.self.now.part u) c.send_rest.new.self.router in
+    let sent = same_part c.args.self.now c.records.self c.send_rest.new.self.router (placed i.trace) c.in-Some.placed i.goes_on (λ h. c.send_rest.ensures.sent _ (c.in-Some-put.ensures.left (placed i.trace) h)) i.sent in
+    record {
+      trace = i.trace ++ c.in-Some.placed.what ∷ [];
+      came = i.came;
+      gave = i.gave;
+      fed = next.1;
+      sent = subst P (sym (placed-next i.trace c.in-Some.placed next.0)) sent;
+      ready = c.send_rest.ensures.ready;
+      goes_on = goes_on_trans _ _ _ i.goes_on (goes_on_trans _ _ _ c.put.ensures.goes_on c.send_rest.ensures.goes_on);
       steady = i.steady;
       records = c.next_known.ensures.limits.records ∙ i.records;
       depths = c.next_known.ensures.limits.depths ∙ i.depths;
@@ -100,18 +125,18 @@ records-preserved g c =
     let fed = c.in_ok-read_on-in-None.ensures.fed i.trace i.came kept in
     let change : Change = g.R.Source.state c.records.source ⇝ g.R.Source.state c.read_on.new.source in
     let next = given_next _ _ _ _ change _ _ _ c.in-Some-2.is fed.2 in
-    let P : List Placed → Type 0 = λ u. HasSent (records_of c.args.self.now.part u) c.send-in-Some-2.new.self.router in
+    let P : List Placed → Type 0 = λ u. HasSent (records_of c.args.self.now.part u) c.send.new.self.router in
     let flushed = goes_on_trans _ _ _ i.goes_on (goes_on_router c.records.self c.flush.new.self c.flush.ensures.lanes) in
     let before = c.flush.ensures.sent (records_of c.args.self.now.part (placed i.trace)) i.sent in
-    let sent = same_part c.args.self.now (record c.records.self { router = c.flush.new.self }) c.send-in-Some-2.new.self.router (placed i.trace) c.in-Some-2.placed flushed (c.send-in-Some-2.ensures.sent (placed i.trace)) before in
+    let sent = same_part c.args.self.now (record c.records.self { router = c.flush.new.self }) c.send.new.self.router (placed i.trace) c.in-Some-2.placed flushed (c.send.ensures.sent (placed i.trace)) before in
     record {
       trace = i.trace ++ c.in-Some-2.placed.what ∷ [];
       came = i.came ++ fed.0;
       gave = consumes_more _ _ _ i.came fed.0 i.gave fed.1;
       fed = next.1;
       sent = subst P (sym (placed-next i.trace c.in-Some-2.placed next.0)) sent;
-      ready = c.send-in-Some-2.ensures.ready;
-      goes_on = goes_on_trans _ _ _ flushed c.send-in-Some-2.ensures.goes_on;
+      ready = c.send.ensures.ready;
+      goes_on = goes_on_trans _ _ _ flushed c.send.ensures.goes_on;
       steady = next.2 ∙ i.steady;
       records = c.read_on.ensures.limits.records ∙ c.next_known.ensures.limits.records ∙ i.records;
       depths = c.read_on.ensures.limits.depths ∙ c.next_known.ensures.limits.depths ∙ i.depths;

@@ -1,4 +1,4 @@
-use Rattle.std.proofs.Common.{Option, Some, refl, sym, subst, ◌∙◌}
+use Rattle.std.proofs.Common.{List, Option, Some, refl, sym, subst, ◌∙◌}
 use Rattle.dag.specs.declared.records.Placed.{Placed}
 use Rattle.route.specs.Sending.{sent_whole}
 use Rattle.route.specs.Routers.{HasSent}
@@ -16,8 +16,9 @@ loop-init g c = record {
 }
 
 pub returns-in-Idle-clause-sent : goal.returns-in-Idle-clause-sent
-returns-in-Idle-clause-sent g c w p is h =
-    sent_idle p w _ _ c.step.new.self (c.in-Idle.ensures.idle.0 refl) (c.step.ensures.sent _ (c.loop.invariant.sent w p is h))
+returns-in-Idle-clause-sent g c w h =
+    let P : List Placed → Type 0 = λ u. HasSent u c.step.new.self in
+    subst P h.all (sent_idle h.last h.before _ _ c.step.new.self (c.in-Idle.ensures.idle.0 refl) (c.step.ensures.sent _ (c.loop.invariant.sent h.before h.last h.pending h.sent)))
 
 pub loop-preserved-in_default : goal.loop-preserved-in_default
 loop-preserved-in_default g c =
