@@ -1,23 +1,25 @@
 -- Sixteen digits in a vector: which are digits, how they are moved, and the number that they write.
-use Rattle.std.proofs.Common.{◌≡◌, ◌≢◌, decimal, ℕ, zero, suc, ◌+◌, ◌-◌, ◌*◌, ◌/◌, ◌%◌, ◌^◌, ◌<◌, ◌≤◌, Bool, true, false, true≢false, not, cond, leb, w8, Fits, take_all, List, [], ◌∷◌, ◌++◌, map, length, take, drop, get_or, replicate, refl, sym, ap, ◌∙◌, arith, length-append, length-take, mod-eq_of_lt, div-lt_iff_lt-mul, div-add-mod', pow-suc, bit_and}
+use Rattle.std.proofs.Common.{◌≡◌, ◌≢◌, decimal, ℕ, zero, suc, ◌+◌, ◌-◌, ◌*◌, ◌/◌, ◌%◌, ◌^◌, ◌<◌, ◌≤◌, Bool, true, false, true≢false, not, cond, leb, w8, Fits, take_all, List, [], ◌∷◌, ◌++◌, map, length, take, drop, get_or, replicate, refl, sym, ap, subst, ◌∙◌, arith, length-take, mod-eq_of_lt, div-lt_iff_lt-mul, div-add-mod', pow-suc, bit_and}
 use native.Mathlib.Decide.{dec_le}
-use Rattle.std.proofs.Math.Seq.{drop-cons}
 use Rattle.std.proofs.Math.Nat.{add-mul-mod_self_left, add-mul-div_left, mul-le-mul_left, div-eq_of_lt}
-use Rattle.std.proofs.lemmas.Bool.{le-leb, leb-true, lt-leb, leb-false}
-use Rattle.std.proofs.lemmas.List.{length-map, length-replicate, drop_all, get_or-append-add, get_or_append_left, get_or-replicate, get_or-take}
+use Rattle.std.proofs.lemmas.Bool.{leb-true, leb-false}
+use Rattle.std.proofs.lemmas.List.{length-map, ext_get_or}
+use Rattle.std.proofs.lemmas.List.FromFn.{length-map-range_with_len, get_or-map-range_with_len}
 use Rattle.std.proofs.lemmas.List.Sums.{prefix_len-le-length, prefix_len_stops}
 use Rattle.std.proofs.lemmas.Nat.{and_mask}
 use Rattle.std.proofs.lemmas.Int.Digits.{number_lt}
 use Rattle.trace.proofs.Decimals.{front_is_decimal}
-use Rattle.std.proofs.lemmas.Simd.{zip2_splat, tops_compared, zip2_splat_left, mask_l-mod, trailing_mask_l}
+use Rattle.std.proofs.lemmas.Simd.{zip2_splat, tops_compared, zip2_splat_left, mask_l-mod, trailing_mask_l, swz_l, SwzOk}
 use Rattle.std.specs.Int.Digits.{number_from_digits, number_from_digits_after, AllBelowBase}
-use Rattle.std.specs.List.{prefix_len}
+use Rattle.std.specs.List.{prefix_len, range_with_len}
+use Rattle.std.specs.Prelude.{⊤}
 use lib.Count.{count_trailing_zeros}
 use Rattle.std.specs.Char.{digit_value}
 use Rattle.std.specs.Str.Parse.{AllDigits, digits_value_after}
 use Rattle.std.proofs.lemmas.Str.{digit_value_digit}
-use lib.Lanes.{Each1, mask_l, top, zip2, number_l, digits_l}
+use lib.Lanes.{Each1, mask_l, top, zip2, number_l, digits_l, chunk}
 use Rattle.trace.specs.Digits.{paired}
+use Rattle.trace.specs.declared.digits.TheConstants.{PLACES}
 
 -- ---- the values that are no digit's
 
@@ -82,43 +84,41 @@ first_is v long some =
 
 -- ---- the values moved to the back
 
-abbrev moved_at : List ℕ → ℕ → ℕ → ℕ
-moved_at v n j = cond (leb 128 ((j + (240 + n)) % 256)) 0 (get_or v (0 + (j + (240 + n)) % 256) 0)
-
-abbrev from : ℕ → ℕ → List ℕ
-from j zero = []
-from j (suc m) = j ∷ from (suc j) m
-
-abbrev zeros : ℕ → List ℕ
-zeros n = replicate (16 - n) 0
-
-zeros_long : (n : ℕ) → length (zeros n) ≡ 16 - n
-zeros_long n = length-replicate {A = ℕ} (16 - n) 0
-
 abbrev behind : ℕ → List ℕ → List ℕ
-behind n v = zeros n ++ take n v
+behind n v = replicate (16 - n) 0 ++ take n v
 
-module _ (v : List ℕ) (n : ℕ) (long : length v ≡ 16) (few : n < 16) where
-  behind_long : length (behind n v) ≡ 16
-  behind_long = omega (arith, length-append (zeros n) (take n v), zeros_long n, length-take n v)
+abbrev Each : (ℕ → Type 0) → ℕ → Type 0
+Each P zero = ⊤
+Each P (suc n) = P n × Each P n
 
-  is_at : (j : ℕ) → j < 16 → moved_at v n j ≡ get_or (behind n v) j 0
-  is_at j within = go (dec_le (suc j) (16 - n))
-    where
-      go : Dec (suc j ≤ 16 - n) → moved_at v n j ≡ get_or (behind n v) j 0
-      go (yes front) =
-          let place : (j + (240 + n)) % 256 ≡ j + (240 + n) = omega arith in
-          let high : leb 128 (j + (240 + n)) ≡ true = le-leb 128 (j + (240 + n)) (omega arith) in
-          rw (place, high) (sym (get_or_append_left (zeros n) (take n v) 0 j (omega (arith, zeros_long n)) ∙ get_or-replicate (16 - n) j 0 0 front))
-      go (no back) =
-          let place : (j + (240 + n)) % 256 ≡ j - (16 - n) = omega arith in
-          let low : leb 128 (j - (16 - n)) ≡ false = lt-leb 128 (j - (16 - n)) (omega arith) in
-          let at : j ≡ length (zeros n) + (j - (16 - n)) = omega (arith, zeros_long n) in
-          rw (place, low, native.Mathlib.Nat.zero-add (j - (16 - n))) (sym (ap (λ i. get_or (behind n v) i 0) at ∙ get_or-append-add (zeros n) (take n v) (j - (16 - n)) 0 ∙ get_or-take n v (j - (16 - n)) 0 (omega arith)))
+each : (P : ℕ → Type 0) (n k : ℕ) → Each P n → k < n → P k
+each P zero k h l = absurd (omega arith)
+each P (suc n) k h l = elim (dec_le n k) [ yes last ↦ let e : n ≡ k = omega arith in subst P e h.0 | no below ↦ each P n k h.1 (omega arith) ]
 
-  pub moved : (m j : ℕ) → j + m ≡ 16 → map (moved_at v n) (from j m) ≡ drop j (behind n v)
-  moved zero j e = sym (drop_all j (behind n v) (omega (arith, behind_long)))
-  moved (suc m) j e = (λ i. is_at j (omega arith) i ∷ moved m (suc j) (omega arith) i) ∙ sym (drop-cons (behind n v) j 0 (omega (arith, behind_long)))
+abbrev listed : (ℕ → ℕ) → List ℕ
+listed f = map f (range_with_len 0 16)
+
+-- a fact of each sixteen values, from the same of sixteen values written out
+spelled_out : (P : List ℕ → Type 0) → ((f : ℕ → ℕ) → P (listed f)) → (v : List ℕ) → length v ≡ 16 → P v
+spelled_out P h v long =
+    let f = λ (k : ℕ). get_or v k 0 in
+    let many = length-map-range_with_len f 0 16 in
+    subst P (ext_get_or 0 _ v (many ∙ sym long) (λ i l. get_or-map-range_with_len f 0 16 i i 0 (omega arith) (omega arith))) (h f)
+
+-- the sixteen places from an index on
+abbrev window : ℕ → List ℕ
+window n = chunk 0 16 (take (n + 16 - n) (drop n PLACES.now))
+
+abbrev Moves : List ℕ → ℕ → Type 0
+Moves v n = SwzOk w8 16 16 0 (window n) × (swz_l w8 16 v 0 (window n) ≡ behind n v)
+
+fine : SwzOk w8 16 16 0 (window 0)
+fine = (tt, (tt, (tt, (tt, (tt, (tt, (tt, (tt, (tt, (tt, (tt, (tt, (tt, (tt, (tt, (tt, tt))))))))))))))))
+
+pub moved : (n : ℕ) → n < 16 → (v : List ℕ) → length v ≡ 16 → Moves v n
+moved n few = spelled_out (λ v. Moves v n) (λ f. each (Moves (listed f)) 16 n
+    ((fine, refl), ((fine, refl), ((fine, refl), ((fine, refl), ((fine, refl), ((fine, refl), ((fine, refl), ((fine, refl), ((fine, refl), ((fine, refl), ((fine, refl), ((fine, refl), ((fine, refl), ((fine, refl), ((fine, refl), ((fine, refl), tt))))))))))))))))
+    few)
 
 -- ---- the number that they write
 
@@ -199,18 +199,18 @@ number_below b some (z ∷ zs) h = omega (arith, h.0, pow-suc b (length zs), mul
 regrouped_is : (b c n : ℕ) → 0 < b → (zs : List ℕ) → AllBelowBase b zs → b ^ length zs ≡ 256 ^ 16 → regrouped b c n zs ≡ digits_l c n (number_l b zs)
 regrouped_is b c n some zs h e = let below = number_below b some zs h in ap (digits_l c n) (number_of_digits 256 16 (number_l b zs) (omega arith) (rw e at below))
 
+four_digits : (x y : ℕ) → x < 100 → y < 100 → shifted 65536 100 (x + 65536 * y) ≡ x * 100 + y
+four_digits x y X Y = omega arith
+
+pub fours_are : (zs : List ℕ) → length zs ≡ 8 → AllBelowBase 100 zs → map (shifted 65536 100) (regrouped 65536 4294967296 4 zs) ≡ paired 100 zs
+fours_are zs long h =
+    let wide = below_all 100 65536 (omega arith) zs h in
+    ap (map (shifted 65536 100)) (regrouped_is 65536 4294967296 4 (omega arith) zs wide (ap (λ n. 65536 ^ n) long) ∙ elements 65536 (omega arith) 4 zs long wide)
+    ∙ each_element 65536 100 (shifted 65536 100) four_digits 4 zs long h
+
 -- the same, after a multiplication of the lower half and a sum
 abbrev added : ℕ → ℕ → ℕ → ℕ
 added b base w = (bit_and w (b - 1) * base % (b * b) + w / b) % (b * b)
-
-four_digits : (x y : ℕ) → x < 100 → y < 100 → added 65536 100 (x + 65536 * y) ≡ x * 100 + y
-four_digits x y X Y = omega (arith, and_mask (x + 65536 * y) 16)
-
-pub fours_are : (zs : List ℕ) → length zs ≡ 8 → AllBelowBase 100 zs → map (added 65536 100) (regrouped 65536 4294967296 4 zs) ≡ paired 100 zs
-fours_are zs long h =
-    let wide = below_all 100 65536 (omega arith) zs h in
-    ap (map (added 65536 100)) (regrouped_is 65536 4294967296 4 (omega arith) zs wide (ap (λ n. 65536 ^ n) long) ∙ elements 65536 (omega arith) 4 zs long wide)
-    ∙ each_element 65536 100 (added 65536 100) four_digits 4 zs long h
 
 eight_digits : (x y : ℕ) → x < 10000 → y < 10000 → added 4294967296 10000 (x + 4294967296 * y) ≡ x * 10000 + y
 eight_digits x y X Y = omega (arith, and_mask (x + 4294967296 * y) 32)

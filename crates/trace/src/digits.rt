@@ -20,15 +20,18 @@ pub fn first_other(values: u8x16) -> Option<usize>
     Some(others.trailing_zeros() as usize)
 }
 
+// Where the moved values come from: sixteen times nowhere, since a place of 128 or more gives 0, and then 0 to 15.
+const PLACES: &[u8; 32] =
+    b"\xf0\xf1\xf2\xf3\xf4\xf5\xf6\xf7\xf8\xf9\xfa\xfb\xfc\xfd\xfe\xff\x00\x01\x02\x03\x04\x05\x06\x07\x08\x09\x0a\x0b\x0c\x0d\x0e\x0f";
+
 /// Moves the first `count` values to the back, with zeros in front of them.
 #[inline(always)]
 pub fn moved_back(values: u8x16, count: usize) -> u8x16
     requires { count < 16 }
     ensures { result ≡ replicate (16 - count) 0 ++ take count values }
 {
-    let places = u8x16::from_array([0, 1, 2, 3, 4, 5, 6, 7, 8, 9, 10, 11, 12, 13, 14, 15]);
-    // A place of 128 or more gives 0.
-    values.swizzle_dyn_within::<16>(places + u8x16::splat(240 + count as u8))
+    let places: &[u8] = PLACES;
+    values.swizzle_dyn_within::<16>(u8x16::from_slice(&places[count..count + 16]))
 }
 
 /// The number that the sixteen digits spell.
@@ -59,7 +62,7 @@ fn fours(twos: u16x8) -> u32x4
     ensures paired { result ≡ paired 100 twos }
 {
     let words = u32x4::from_le_bytes(twos.to_le_bytes());
-    (words & u32x4::splat(0xFFFF)) * u32x4::splat(100) + (words >> 16)
+    (words * u32x4::splat(100 * 0x1_0000 + 1)) >> 16
 }
 
 // Eight digits an element.

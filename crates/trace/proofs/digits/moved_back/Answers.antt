@@ -1,6 +1,8 @@
-use Rattle.std.proofs.Common.{arith}
 use Rattle.trace.proofs.Sixteens.{moved}
 use Rattle.trace.proofs.digits.moved_back.Goals as goal
 
+pub swizzle : goal.swizzle
+swizzle c = (moved c.args.count c.requires c.args.values c.fits-values.0).0
+
 pub returns : goal.returns
-returns c = moved c.args.values c.args.count c.fits-values.0 c.requires 16 0 (omega arith)
+returns c = (moved c.args.count c.requires c.args.values c.fits-values.0).1
