@@ -97,8 +97,8 @@ module _ (u : List Record) (n : Nesting) (h : HasNested u n) where
   running : n.ended ≡ false → HasEnded u → ⊥
   running open_yet e = false≢true (sym open_yet ∙ h.ended_is.1 e)
 
-  pub misplaced_deep : n.ended ≡ false → n.max_depth ≤ n.depth → (r : Record) → (r ≡ Spawn) ⊎ (r ≡ Call) → IsMisplaced n.max_depth u r TooDeep
-  misplaced_deep open_yet full r kind = too_deep (running open_yet) (opens_one r kind) (omega (arith, h.depth_is))
+  pub misplaced_deep : n.ended ≡ false → n.max_depth ≤ n.depth → (r : Record) → opens r ≡ 1 → IsMisplaced n.max_depth u r TooDeep
+  misplaced_deep open_yet full r one = too_deep (running open_yet) one (omega (arith, h.depth_is))
 
   -- one more record, which isn't misplaced
   accepted : n.ended ≡ false → (r : Record) → ((k : NestKind) → IsMisplaced n.max_depth u r k → ⊥) → (deep : ℕ) (ended : Bool) → deep ≡ (n.depth + opens r) - closes r → (IsTrue ended ↔ ((r ≡ Return) × (n.depth ≡ 0)))

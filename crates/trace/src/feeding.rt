@@ -56,7 +56,7 @@ impl Model for Intake {
     } };
 
     ghost invariant = { λ s. (s.start ≤ s.end) × (s.end ≤ length s.buffer) × (s.nest.count ≤ s.reader.count)
-        × (s.start < s.easy_until → IsEasy s.reader s.ending (s.easy_until - s.start))
+        × (s.start < s.easy_until → IsEasy s.reader s.nest s.ending (s.easy_until - s.start))
         × (s.start < s.easy_until → s.easy_until + longest_line ≤ s.end) };
 }
 
@@ -114,14 +114,10 @@ impl Intake {
         }
         let bytes: &[u8] = &self.buffer;
         let front = self.reader.front(&bytes[self.start..self.end])?;
-        match self.nest.accept(front.record) {
-            Err(_) => None,
-            Ok(placed) => {
-                self.reader.count_one();
-                self.start += front.used;
-                Some(placed)
-            }
-        }
+        let placed = self.nest.accept_inside(front.record)?;
+        self.reader.count_one();
+        self.start += front.used;
+        Some(placed)
     }
 
     // The next placed record, whether its line is easy or not.
@@ -220,6 +216,7 @@ impl Intake {
         ensures answered { (f : Fault) → self.new.ending ≡ Bad f → result ≡ Err f }
         ensures limits { HasSameLimits self.old self.new }
     {
+        self.easy_until = 0;
         match self.nest.accept(what) {
             Ok(placed) => {
                 self.look_ahead();
@@ -235,7 +232,11 @@ impl Intake {
         ensures same { self.new ≡ self.old }
     {
         let bytes = (self.end - self.start).saturating_sub(LONGEST);
-        let records = self.reader.room() as usize;
+        let records = if self.nest.has_ended() {
+            0
+        } else {
+            self.reader.room() as usize
+        };
         self.easy_until = self.start + bytes.min(records);
     }
 

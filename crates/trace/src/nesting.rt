@@ -1,6 +1,8 @@
 //! How the procedures of a trace nest: each record gets its place, and a record may come only while a procedure runs.
 ghost use Rattle.std.specs.Prelude.{◌≡◌, ℕ, ◌≤◌, ◌+◌, ◌<◌, ◌++◌, ◌∷◌, [], List, length, IfOk, IfErr, OnOk, OnErr, MatchResult};
+ghost use Rattle.std.specs.Prelude.{IfSome, IfNone, false, ◌⊎◌};
 ghost use Rattle.dag.specs.declared.records.Record.{Record};
+ghost use Rattle.dag.specs.declared.records.Record.TheVariants.{Return};
 ghost use Rattle.dag.specs.Bounds.{most_records};
 
 use crate::faults::{NestFault, NestKind};
@@ -30,7 +32,7 @@ impl Model for Nest {
 
 impl Nest {
     ghost use Rattle.trace.specs.Nesting.{at_first_place, HasNested};
-    ghost use Rattle.dag.specs.Traces.{IsWellNested};
+    ghost use Rattle.dag.specs.Traces.{IsWellNested, opens};
     ghost use Rattle.trace.specs.Faults.{IsMisplaced, HasEnded};
     ghost use Rattle.trace.specs.declared.faults.NestKind.TheVariants.{Unfinished};
 
@@ -75,26 +77,65 @@ impl Nest {
             });
         }
         match what {
+            Record::Return if self.depth == 0 => {
+                self.ended = true;
+                self.count = place;
+                Ok(Placed { place, what })
+            }
+            _ => match self.accept_inside(what) {
+                Some(placed) => Ok(placed),
+                None => Err(NestFault {
+                    place,
+                    kind: NestKind::TooDeep,
+                }),
+            },
+        }
+    }
+
+    /// Gives the next record its place while the root runs. The answer `None` is for a procedure that lies too deep, and
+    /// for the root's return; it changes nothing.
+    #[inline(always)]
+    pub(crate) fn accept_inside(&mut self, what: Record) -> Option<Placed>
+        requires room { self.old.count < most_records }
+        requires not_ended { self.old.ended ≡ false }
+        ensures place { IfSome result (λ p. p ≡ record { place = self.old.count + 1; what = what }) }
+        ensures accepted { (u : List Record) → HasNested u self.old
+            → IfSome result (λ _. HasNested (u ++ what ∷ []) self.new) }
+        ensures why { IfNone result (((opens what ≡ 1) × (self.old.max_depth ≤ self.old.depth))
+            ⊎ ((what ≡ Return) × (self.old.depth ≡ 0))) }
+        ensures none { IfNone result (self.new ≡ self.old) }
+        ensures limit { self.new.max_depth ≡ self.old.max_depth }
+        ensures count { IfSome result (λ _. self.new.count ≡ self.old.count + 1) }
+        ensures not_ended { self.new.ended ≡ false }
+    {
+        match what {
             Record::Spawn | Record::Call => {
                 if self.depth >= self.max_depth {
-                    return Err(NestFault {
-                        place,
-                        kind: NestKind::TooDeep,
-                    });
+                    return None;
                 }
                 self.depth += 1;
             }
             Record::Return => {
                 if self.depth == 0 {
-                    self.ended = true;
-                } else {
-                    self.depth -= 1;
+                    return None;
                 }
+                self.depth -= 1;
             }
             Record::Sync | Record::Read(_) | Record::Write(_) => {}
         }
-        self.count = place;
-        Ok(Placed { place, what })
+        self.count += 1;
+        Some(Placed {
+            place: self.count,
+            what,
+        })
+    }
+
+    /// Whether the root has returned.
+    #[inline(always)]
+    pub(crate) fn has_ended(&self) -> bool
+        ensures { result ≡ self.now.ended }
+    {
+        self.ended
     }
 
     /// Whether the accepted records are a well nested trace, so that no record may follow.
