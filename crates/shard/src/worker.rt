@@ -1,7 +1,9 @@
 //! A worker: a shard, and its lane back.
-ghost use Rattle.std.specs.Prelude.{◌≡◌, false, List, [], ◌∷◌, ◌++◌};
+ghost use Rattle.std.specs.Prelude.{◌≡◌, false, List, [], ◌∷◌, ◌++◌, map};
+ghost use Rattle.std.specs.Option.{option_to_list};
 ghost use Rattle.dag.specs.declared.records.Placed.{Placed};
 ghost use Rattle.lane.specs.declared.item.Item.{Item};
+ghost use Rattle.lane.specs.declared.item.Item.TheVariants.{One};
 ghost use Rattle.lane.specs.Items.{has_mark, records};
 ghost use Rattle.lane.specs.Lanes.{lane_of, put_of};
 ghost use Rattle.shard.specs.Working.{HasWorked};
@@ -43,44 +45,51 @@ impl<S: BuildHasher + Drop> Worker<S> {
         ensures lane { lane_of self.new.back ≡ lane_of self.old.back }
     {
         for item in block {
-            self.apply_item(rt, gate, *item);
+            // Only a race and a refused growth, which are rare, need the runtime.
+            if let Some(back) = self.apply_item(gate, *item) {
+                put_back(rt, &mut self.back, back);
+            }
         }
         self.back.flush();
     }
 
-    fn apply_item<R: Wait + Clock, G: Gate>(&mut self, rt: &R, gate: &G, item: Item<Placed>)
+    /// Applies the record of an item after it has passed the gate, and gives what is to be put on the lane back.
+    #[inline(always)]
+    fn apply_item<G: Gate>(&mut self, gate: &G, item: Item<Placed>) -> Option<Back>
         ensures worked { (u : List Placed) → HasWorked u self.old.shard (put_of self.old.back) self.old.stopped →
-            HasWorked (u ++ records (item ∷ [])) self.new.shard (put_of self.new.back) self.new.stopped }
-        ensures lane { lane_of self.new.back ≡ lane_of self.old.back }
+            HasWorked (u ++ records (item ∷ [])) self.new.shard
+            (put_of self.old.back ++ map One (option_to_list result)) self.new.stopped }
+        ensures back { self.new.back ≡ self.old.back }
     {
         match item {
             Item::One(placed) => {
                 gate.pass(self.shard.index(), placed.place);
-                self.apply(rt, placed);
+                self.apply(placed)
             }
-            Item::Finish => {}
+            Item::Finish => None,
         }
     }
 
-    /// Applies a record and reports its race. After a refused growth, which it reports once, and after a
-    /// record out of order it only counts.
-    pub fn apply<R: Wait + Clock>(&mut self, rt: &R, placed: Placed)
+    /// Applies a record and gives its race. After a refused growth, which it gives once, and after a record out of
+    /// order it only counts.
+    #[inline(always)]
+    fn apply(&mut self, placed: Placed) -> Option<Back>
         ensures worked { (u : List Placed) → HasWorked u self.old.shard (put_of self.old.back) self.old.stopped →
-            HasWorked (u ++ placed ∷ []) self.new.shard (put_of self.new.back) self.new.stopped }
-        ensures lane { lane_of self.new.back ≡ lane_of self.old.back }
+            HasWorked (u ++ placed ∷ []) self.new.shard
+            (put_of self.old.back ++ map One (option_to_list result)) self.new.stopped }
+        ensures back { self.new.back ≡ self.old.back }
     {
         if self.stopped || !self.shard.accepts(placed.place) {
             self.stopped = true;
             self.shard.count_one();
-            return;
+            return None;
         }
         match self.shard.apply(placed) {
-            Ok(None) => {}
-            Ok(Some(race)) => put_back(rt, &mut self.back, Back::Race(race)),
+            Ok(race) => Some(Back::Race(race?)),
             Err(_) => {
                 self.stopped = true;
                 self.shard.count_one();
-                put_back(rt, &mut self.back, Back::NoMemory);
+                Some(Back::NoMemory)
             }
         }
     }
