@@ -1,5 +1,5 @@
 //! The state of a shard: the records that it has taken, as bags and shadow memory.
-ghost use Rattle.std.specs.Prelude.{◌≡◌, ℕ, ◌↔◌, ◌+◌, ◌<◌, ◌≤◌, List, [], ◌∷◌, ◌++◌, IsTrue, IfOk, IfSome, OnOk, OnErr};
+ghost use Rattle.std.specs.Prelude.{◌≡◌, false, ℕ, ◌↔◌, ◌+◌, ◌<◌, ◌≤◌, List, [], ◌∷◌, ◌++◌, IsTrue, IfOk, IfSome, OnOk, OnErr};
 ghost use Rattle.std.specs.Option.{option_to_list};
 ghost use Rattle.dag.specs.declared.records.Placed.{Placed};
 ghost use Rattle.shadow.specs.Found.{found};
@@ -135,16 +135,27 @@ impl<S: BuildHasher + Drop> Shard<S> {
         match shadow::apply(&mut self.bags, &mut self.shadow, placed)? {
             None => {
                 self.last_place = placed.place;
-                self.ended = ended;
+                self.set_ended(ended);
                 self.count_one();
                 Ok(None)
             }
             Some(race) => {
                 self.last_place = placed.place;
-                self.ended = ended;
+                self.set_ended(ended);
                 self.count_one();
                 Ok(Some(race))
             }
+        }
+    }
+
+    /// Sets whether the root has returned. It had not, so that no other record has to write this down.
+    #[inline(always)]
+    fn set_ended(&mut self, ended: bool)
+        requires { self.old.ended ≡ false }
+        ensures { self.new ≡ record self.old { ended = ended } }
+    {
+        if ended {
+            self.ended = true;
         }
     }
 
