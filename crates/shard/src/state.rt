@@ -23,13 +23,15 @@ pub struct Shard<S: BuildHasher + Drop> {
     bags: Bags,
     shadow: Shadow<S>,
     last_place: u64,
-    ended: bool,
+    /// The greatest place that a record may have: 2^48, and 0 once the root has returned.
+    limit: u64,
     taken: u64,
 }
 
 impl<S: BuildHasher + Drop> Model for Shard<S> {
-    ghost use Rattle.std.specs.Prelude.{◌+◌};
+    ghost use Rattle.std.specs.Prelude.{◌≡◌, ◌+◌, ◌==◌, false};
     ghost use Rattle.std.specs.Coded.{codes};
+    ghost use Rattle.dag.specs.Bounds.{most_records};
     ghost use Rattle.bags.specs.Procedures.{coded_procedures};
     ghost use Rattle.shadow.specs.Memory.{AreReadyFor};
     ghost use Rattle.shard.specs.Shards.{ShardState};
@@ -43,11 +45,12 @@ impl<S: BuildHasher + Drop> Model for Shard<S> {
       bags = s.bags;
       memory = s.shadow;
       last_place = s.last_place;
-      ended = s.ended;
+      ended = s.limit == 0;
       taken = s.taken;
     } };
 
-    ghost invariant = { λ s. AreReadyFor s.bags s.shadow (s.last_place + 1) };
+    ghost invariant = { λ s. AreReadyFor s.bags s.shadow (s.last_place + 1)
+        × (s.limit == 0 ≡ false → s.limit ≡ most_records) };
 }
 
 impl<S: BuildHasher + Drop> Shard<S> {
@@ -94,7 +97,7 @@ impl<S: BuildHasher + Drop> Shard<S> {
             bags: Bags::new(alloc)?,
             shadow: memory,
             last_place: 0,
-            ended: false,
+            limit: 1 << 48,
             taken: 0,
         })
     }
@@ -104,7 +107,7 @@ impl<S: BuildHasher + Drop> Shard<S> {
     pub fn accepts(&self, place: u64) -> bool
         ensures { IsTrue result ↔ Accepts self.now place }
     {
-        !self.ended && self.last_place < place && place <= 1 << 48
+        self.last_place < place && place <= self.limit
     }
 
     /// Takes a record of the shard's share, and reports its race, if any. The root's return changes no bags.
@@ -148,14 +151,14 @@ impl<S: BuildHasher + Drop> Shard<S> {
         }
     }
 
-    /// Sets whether the root has returned. It had not, so that no other record has to write this down.
+    /// Sets whether the root has returned. It hadn't, so nothing is written if it still hasn't.
     #[inline(always)]
     fn set_ended(&mut self, ended: bool)
         requires { self.old.ended ≡ false }
         ensures { self.new ≡ record self.old { ended = ended } }
     {
         if ended {
-            self.ended = true;
+            self.limit = 0;
         }
     }
 

@@ -92,8 +92,8 @@ impl Nest {
         }
     }
 
-    /// Gives the next record its place while the root runs. The answer `None` is for a procedure that lies too deep, and
-    /// for the root's return; it changes nothing.
+    /// Gives the next record its place while the root runs. The answer `None` is for a procedure that lies too deep,
+    /// and for the root's return; it changes nothing.
     #[inline(always)]
     pub(crate) fn accept_inside(&mut self, what: Record) -> Option<Placed>
         requires room { self.old.count < most_records }
