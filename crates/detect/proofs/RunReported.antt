@@ -1,5 +1,5 @@
 -- What a run has found, from what was compared at its end.
-use Rattle.std.proofs.Common.{◌≡◌, ℕ, ◌<◌, ◌≤◌, Bool, false, List, [], ◌∷◌, ◌++◌, length, map, get_or, Option, None, refl, sym, ap, subst, ◌∙◌, arith}
+use Rattle.std.proofs.Common.{◌≡◌, ℕ, ◌<◌, ◌≤◌, Bool, false, List, [], ◌∷◌, ◌++◌, length, map, get_or, refl, sym, ap, subst, ◌∙◌, arith}
 use Rattle.dag.specs.declared.records.Placed.{Placed}
 use Rattle.dag.specs.Shares.{share}
 use Rattle.dag.proofs.Once.{AllAbove, Rises, increasing-from_rises}
@@ -22,7 +22,7 @@ use Rattle.detect.specs.Closing.{taken_by, given_back, counts_of, IsSettled}
 use Rattle.detect.specs.Finished.{IsFinished}
 use Rattle.detect.specs.RunReports.{TookSharesOf}
 use Rattle.detect.specs.RunFinds.{RunFinds}
-use Rattle.detect.proofs.RunEnds.{IsWork, IsEnd, OrderlyShares, did_at, took_share, counted_share, given_share}
+use Rattle.detect.proofs.RunEnds.{IsEnd, OrderlyShares, did_at, took_share, counted_share, given_share}
 use Rattle.detect.proofs.Verdicts.{verdict_of_shares}
 
 abbrev place_of : Placed → ℕ

@@ -6,9 +6,7 @@ use Rattle.dag.specs.Parts.{records_of}
 use Rattle.route.specs.declared.router.Router.{Router}
 use Rattle.route.specs.Sending.{sent_whole}
 use Rattle.route.specs.Routers.{HasSent, IsOnLanes}
-use Rattle.detect.specs.declared.gathering.Gathering.{Gathering}
 use Rattle.detect.specs.declared.sending.Sending.{Sending}
-use Rattle.detect.specs.LanesBack.{IsFurther}
 use Rattle.detect.specs.Sent.{GoesOn}
 use Rattle.detect.proofs.LanesBack.{further_refl, further_trans}
 

@@ -1,4 +1,4 @@
-use Rattle.std.proofs.Common.{rules, map, refl, sym, ap, ◌∙◌}
+use Rattle.std.proofs.Common.{rules, refl, ap, ◌∙◌}
 use Rattle.std.proofs.Math.Seq.{map-set_same}
 use Rattle.lane.specs.Lanes.{end_lane, taker_lane, taken_of, all_put}
 use Rattle.shard.specs.declared.working.Worked.{Worked}

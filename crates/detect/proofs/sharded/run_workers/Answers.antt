@@ -1,7 +1,6 @@
 use Rattle.std.proofs.Common.{vec_len, ap, subst, sym, ◌∙◌, arith}
-use Rattle.route.specs.Routers.{pending_of, IsOnLanes}
+use Rattle.route.specs.Routers.{pending_of}
 use Rattle.detect.specs.declared.sending.Sending.{Sending}
-use Rattle.detect.specs.LanesBack.{IsFurther}
 use Rattle.detect.specs.Sent.{GoesOn}
 use Rattle.detect.proofs.LanesBack.{further_trans}
 use Rattle.detect.proofs.Sendings.{goes_on_refl, goes_on_trans}

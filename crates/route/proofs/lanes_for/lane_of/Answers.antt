@@ -1,5 +1,4 @@
-use Rattle.std.proofs.Common.{subst, sym, arith}
-use Rattle.std.proofs.lemmas.Nat.{mod_below}
+use Rattle.std.proofs.Common.{arith}
 use Rattle.route.proofs.Powers.{remainder_of_power}
 use Rattle.route.proofs.lanes_for.lane_of.Goals as goal
 

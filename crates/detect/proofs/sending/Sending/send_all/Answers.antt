@@ -8,7 +8,6 @@ use Rattle.trace.specs.Feeding.{Feeding, HasFed, IsWhole}
 use Rattle.trace.proofs.Feedings.{consumes_none, consumes_more, fed_none, at_limits}
 use Rattle.trace.proofs.Endings.{ends_refused, refused_by_fault, given_next, given_end}
 use Rattle.serial.proofs.Detected.{placed-next}
-use Rattle.route.specs.declared.router.Router.{Router}
 use Rattle.route.specs.Routers.{HasSent}
 use Rattle.detect.proofs.Sendings.{goes_on_refl, goes_on_trans, goes_on_router, same_part}
 use Rattle.detect.proofs.sending.Sending.send_all.Goals as goal

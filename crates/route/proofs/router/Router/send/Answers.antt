@@ -1,4 +1,4 @@
-use Rattle.std.proofs.Common.{◌≡◌, ℕ, ◌<◌, [], ◌∷◌, ◌++◌, List, Option, Some, None, length, refl, sym, subst, ◌∙◌, arith}
+use Rattle.std.proofs.Common.{◌≡◌, ℕ, [], ◌∷◌, ◌++◌, Option, Some, None, refl, sym, subst, ◌∙◌}
 use Rattle.lane.specs.declared.item.Item.TheVariants.{One}
 use Rattle.dag.specs.declared.records.Placed.{Placed}
 use Rattle.route.specs.Sending.{put_on, with_put, sent_whole, AllSent}
