@@ -7,7 +7,7 @@ ghost use Rattle.dag.specs.Parts.{records_of};
 ghost use Rattle.trace.specs.Devices.{◌⇝◌};
 ghost use Rattle.trace.specs.Feeding.{GivesNext, HasSameLimits};
 ghost use Rattle.trace.specs.Endings.{EndsReading, IsWantOfMemory};
-ghost use Rattle.route.specs.Routers.{lane_count, pending_of, marked_of, HasSent, IsUnchanged, ShowsAll};
+ghost use Rattle.route.specs.Routers.{lane_count, pending_of, marked_of, HasSent, IsUnchanged, IsStuck, ShowsAll};
 ghost use Rattle.detect.specs.Sent.{MaySend, LacksLast, GoesOn};
 
 use crate::gathering::Gathering;
@@ -95,6 +95,7 @@ impl Sending {
         ensures ready { IfNone result (MaySend self.new) }
         ensures left { IfSome result (λ _. (w : List Placed) → HasSent (records_of self.old.part w) self.old.router
             → LacksLast (records_of self.old.part (w ++ placed ∷ [])) self.new.router) }
+        ensures full { IfSome result (IsStuck self.new.router) }
         ensures unmarked { marked_of self.new.router ≡ 0 }
         ensures goes_on { GoesOn self.old self.new }
     {
@@ -104,7 +105,7 @@ impl Sending {
         }
     }
 
-    // Puts the record on its lanes, likewise.
+    // Puts the record on the lanes that it goes to, with the answer of `put`.
     #[inline(always)]
     fn put_own(&mut self, placed: Placed) -> Option<usize>
         requires { MaySend self.old }
@@ -113,6 +114,7 @@ impl Sending {
         ensures ready { IfNone result (MaySend self.new) }
         ensures left { IfSome result (λ _. (w : List Placed) → HasSent w self.old.router
             → LacksLast (w ++ placed ∷ []) self.new.router) }
+        ensures full { IfSome result (IsStuck self.new.router) }
         ensures unmarked { marked_of self.new.router ≡ 0 }
         ensures goes_on { GoesOn self.old self.new }
     {
@@ -127,7 +129,8 @@ impl Sending {
     #[cold]
     #[inline(never)]
     fn send_rest<T: Wait + Clock>(&mut self, rt: &T, lane: usize)
-        requires { marked_of self.old.router ≡ 0 }
+        requires unmarked { marked_of self.old.router ≡ 0 }
+        requires full { IsStuck self.old.router lane }
         ensures sent { (w : List Placed) → LacksLast w self.old.router → HasSent w self.new.router }
         ensures ready { MaySend self.new }
         ensures goes_on { GoesOn self.old self.new }

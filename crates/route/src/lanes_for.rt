@@ -37,8 +37,8 @@ pub fn lane_of(location: u64, count: usize) -> usize
     }
 }
 
-// A remainder by a constant compiles to a multiplication, which is faster, so the usual numbers of processors have cases
-// of their own. Without those that are powers of two, the compiler makes one division of the others.
+// A remainder by a constant compiles to a multiplication, which is faster, so the usual numbers of processors have
+// cases of their own. 2 and 4 never come, but without their cases the compiler makes one division of the others.
 #[inline(always)]
 fn remainder(location: u64, count: u64) -> u64
     requires { 1 ≤ count }

@@ -24,7 +24,7 @@ pub struct Shard<S: BuildHasher + Drop> {
     shadow: Shadow<S>,
     last_place: u64,
     /// The greatest place that a record may have: 2^48, and 0 once the root has returned.
-    limit: u64,
+    greatest_place: u64,
     taken: u64,
 }
 
@@ -45,12 +45,12 @@ impl<S: BuildHasher + Drop> Model for Shard<S> {
       bags = s.bags;
       memory = s.shadow;
       last_place = s.last_place;
-      ended = s.limit == 0;
+      ended = s.greatest_place == 0;
       taken = s.taken;
     } };
 
     ghost invariant = { λ s. AreReadyFor s.bags s.shadow (s.last_place + 1)
-        × (s.limit == 0 ≡ false → s.limit ≡ most_records) };
+        × (s.greatest_place == 0 ≡ false → s.greatest_place ≡ most_records) };
 }
 
 impl<S: BuildHasher + Drop> Shard<S> {
@@ -97,7 +97,7 @@ impl<S: BuildHasher + Drop> Shard<S> {
             bags: Bags::new(alloc)?,
             shadow: memory,
             last_place: 0,
-            limit: 1 << 48,
+            greatest_place: 1 << 48,
             taken: 0,
         })
     }
@@ -107,7 +107,7 @@ impl<S: BuildHasher + Drop> Shard<S> {
     pub fn accepts(&self, place: u64) -> bool
         ensures { IsTrue result ↔ Accepts self.now place }
     {
-        self.last_place < place && place <= self.limit
+        self.last_place < place && place <= self.greatest_place
     }
 
     /// Takes a record of the shard's share, and reports its race, if any. The root's return changes no bags.
@@ -151,14 +151,14 @@ impl<S: BuildHasher + Drop> Shard<S> {
         }
     }
 
-    /// Sets whether the root has returned. It hadn't, so nothing is written if it still hasn't.
+    // Sets whether the root has returned. It hadn't, so nothing is written if it still hasn't.
     #[inline(always)]
     fn set_ended(&mut self, ended: bool)
         requires { self.old.ended ≡ false }
         ensures { self.new ≡ record self.old { ended = ended } }
     {
         if ended {
-            self.limit = 0;
+            self.greatest_place = 0;
         }
     }
 

@@ -53,7 +53,7 @@ impl<S: BuildHasher + Drop> Worker<S> {
         self.back.flush();
     }
 
-    /// Applies the record of an item after it has passed the gate, and gives what is to be put on the lane back.
+    // Applies the record of an item after it has passed the gate, and gives what is to be put on the lane back.
     #[inline(always)]
     fn apply_item<G: Gate>(&mut self, gate: &G, item: Item<Placed>) -> Option<Back>
         ensures worked { (u : List Placed) → HasWorked u self.old.shard (put_of self.old.back) self.old.stopped →
@@ -70,8 +70,8 @@ impl<S: BuildHasher + Drop> Worker<S> {
         }
     }
 
-    /// Applies a record and gives its race. After a refused growth, which it gives once, and after a record out of
-    /// order it only counts.
+    // Applies a record and gives its race. After a refused growth, which it gives once, and after a record out of order
+    // it only counts.
     #[inline(always)]
     fn apply(&mut self, placed: Placed) -> Option<Back>
         ensures worked { (u : List Placed) → HasWorked u self.old.shard (put_of self.old.back) self.old.stopped →

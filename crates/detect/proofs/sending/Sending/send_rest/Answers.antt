@@ -11,7 +11,7 @@ loop-init g c = record {
       let P : Option Placed → Type 0 = λ o. HasSent (sent_whole w (Some p) o) c.wait.new.self.router in
       subst P (sym (c.wait.ensures.unchanged.pending ∙ is)) (c.wait.ensures.sent w h);
   pending = λ p is. sym c.wait.ensures.unchanged.pending ∙ is;
-  unmarked = c.wait.ensures.unchanged.marked ∙ c.requires;
+  unmarked = c.wait.ensures.unchanged.marked ∙ c.requires.unmarked;
   goes_on = c.wait.ensures.goes_on;
 }
 
