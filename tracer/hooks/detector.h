@@ -9,14 +9,48 @@ static void start_detector(void);
 static bool detecting;
 static void *session;
 
-/* While the detector takes a record, a signal waits. */
-static volatile sig_atomic_t stepping;
+/* The detector has a thread of its own, which alone calls it. The program's thread hands it the records in bundles, and
+   fills one while the detector goes through those before. A bundle that isn't full is the last. */
+enum { BUNDLE_RECORDS = 1 << 13, BUNDLES = 8 };
+static struct bundle {
+    size_t used;
+    /* Each is the location and, in the lowest bits, the kind. No location is so large that this loses any of it. */
+    uint64_t records[BUNDLE_RECORDS];
+} bundles[BUNDLES];
+enum { KIND_BITS = 3 };
+static sem_t full_bundles, free_bundles;
+static pthread_t detector;
+/* The bundle that is filled, where the next record goes, and where the bundle ends. */
+static struct bundle *filling;
+static uint64_t *next_record, *bundle_end;
 
-__attribute__((noinline, cold, noreturn)) static void refuse_step(unsigned status) {
-    if (status == SPBAGS_NO_MEMORY)
-        fail("out of memory: the detector was refused some, so the run ends here, and there is no report");
-    fail("the detector took no record, with status %u, so the run ends here, and there is no report", status);
+static void wait_for(sem_t *bundle) {
+    while (sem_wait(bundle) != 0)
+        continue;
 }
+
+static void fill_bundle(size_t number) {
+    filling = &bundles[number];
+    next_record = filling->records;
+    bundle_end = next_record + BUNDLE_RECORDS;
+}
+
+static void hand_over(void) {
+    filling->used = (size_t)(next_record - filling->records);
+    sem_post(&full_bundles);
+}
+
+/* The program's errno is none of ours. */
+__attribute__((noinline)) static void next_bundle(void) {
+    int error = errno;
+    hand_over();
+    wait_for(&free_bundles);
+    fill_bundle((size_t)(filling - bundles + 1) % BUNDLES);
+    errno = error;
+}
+
+/* While a record is put into a bundle, a signal waits. */
+static volatile sig_atomic_t stepping;
 
 __attribute__((noinline, cold, noreturn)) static void refuse_handler(void) {
     fail("a signal handler of the program's own came into the detector, so the run ends here, and there is no report");
@@ -37,11 +71,28 @@ static inline void end_step(void) {
 
 /* Between both of these. */
 static inline void step(enum spbags_kind kind, uint64_t location) {
-    uint8_t status = spbags_step(session, (uint8_t)kind, location);
-    if (__builtin_expect(status != SPBAGS_TAKEN, 0))
-        refuse_step(status);
+    *next_record++ = location << KIND_BITS | kind;
+    if (__builtin_expect(next_record == bundle_end, 0))
+        next_bundle();
 }
 
+/* What follows is done in the detector's thread. */
+__attribute__((noinline, cold, noreturn)) static void refuse_step(unsigned status) {
+    if (status == SPBAGS_NO_MEMORY)
+        fail("out of memory: the detector was refused some, so the run ends here, and there is no report");
+    fail("the detector took no record, with status %u, so the run ends here, and there is no report", status);
+}
+
+static void take_bundle(const struct bundle *bundle) {
+    for (size_t at = 0; at < bundle->used; at++) {
+        uint64_t record = bundle->records[at];
+        uint8_t kind = record & ((1 << KIND_BITS) - 1), status = spbags_step(session, kind, record >> KIND_BITS);
+        if (__builtin_expect(status != SPBAGS_TAKEN, 0))
+            refuse_step(status);
+    }
+}
+
+/* The program's thread waits meanwhile. */
 static void put_report(void) {
     uint8_t status = spbags_report(session);
     if (status != SPBAGS_TAKEN)
@@ -51,7 +102,26 @@ static void put_report(void) {
         *room(&trace) = (char)byte;
         trace.used++;
     }
+}
+
+static void *detect(void *nothing) {
+    bool is_last = false;
+    spbags_new(session);
+    for (size_t number = 0; !is_last; number = (number + 1) % BUNDLES) {
+        wait_for(&full_bundles);
+        take_bundle(&bundles[number]);
+        is_last = bundles[number].used < BUNDLE_RECORDS;
+        sem_post(&free_bundles);
+    }
+    put_report();
     spbags_free(session);
+    return nothing;
+}
+
+/* Hands over what is left, and waits until the report is out. */
+static void end_detector(void) {
+    hand_over();
+    pthread_join(detector, NULL);
 }
 #else
 enum { HAS_DETECTOR = false, detecting = false, stepping = false };
@@ -59,7 +129,7 @@ static void start_detector(void) {}
 static inline void begin_step(void) {}
 static inline void end_step(void) {}
 static inline void step(enum spbags_kind kind, uint64_t location) { (void)kind, (void)location; }
-static void put_report(void) {}
+static void end_detector(void) {}
 #endif
 
 /* What the run makes, for a line about it. */

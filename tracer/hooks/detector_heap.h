@@ -1,4 +1,4 @@
-/* The heap of the detector inside. */
+/* The heap of the detector inside: its thread alone calls what follows. */
 #ifdef SPBAGS_INSIDE
 /* It is that of the C library, where memory comes again. The tracer's own malloc stands before it, so no other code
    calls it. */
@@ -70,27 +70,23 @@ static void *become_large(struct large_block *large, void *block, size_t kept, s
     return first;
 }
 
-/* The program's errno is none of the detector's. */
-static struct rattle_block answer_with(void *block, int error) {
+static struct rattle_block answer_with(void *block) {
     static max_align_t nothing;
-    errno = error;
     return block ? (struct rattle_block){true, block} : (struct rattle_block){false, &nothing};
 }
 
 struct rattle_block rattle_alloc(size_t size, size_t alignment) {
-    int error = errno;
     struct large_block *large = size >= LARGE ? large_block_at(NULL) : NULL;
-    return answer_with(large ? resize_large(large, size) : library_malloc(size > 0 ? size : alignment), error);
+    return answer_with(large ? resize_large(large, size) : library_malloc(size > 0 ? size : alignment));
 }
 
 struct rattle_block rattle_realloc(void *block, size_t kept, size_t size, size_t alignment) {
-    int error = errno;
     if (size == 0)
         size = alignment;
     struct large_block *large = large_block_at(block), *taken = size >= LARGE ? large_block_at(NULL) : NULL;
     if (large)
-        return answer_with(resize_large(large, size), error);
-    return answer_with(taken ? become_large(taken, block, kept, size) : library_realloc(block, size), error);
+        return answer_with(resize_large(large, size));
+    return answer_with(taken ? become_large(taken, block, kept, size) : library_realloc(block, size));
 }
 
 void rattle_dealloc(void *block) {

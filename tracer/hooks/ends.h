@@ -36,7 +36,7 @@ static void end_trace(void) {
         put_notes();
     tell_notes();
     if (detecting)
-        put_report();
+        end_detector();
     close_output(&places);
     close_output(&trace);
     sigprocmask(SIG_SETMASK, &before, NULL);

@@ -90,6 +90,27 @@ static void open_outputs(const char *name) {
 }
 
 #ifdef SPBAGS_INSIDE
+/* No signal comes to the detector's thread. What the library allocates for it isn't the program's, whose blocks have
+   the same addresses as in a run without the detector. */
+static void start_thread(void) {
+    enum { ROOM = 1 << 20 };
+    sigset_t all, before;
+    uintptr_t at = heap_at, end = heap_end;
+    heap_at = (uintptr_t)reserve(ROOM);
+    heap_end = heap_at + ROOM;
+    sem_init(&full_bundles, 0, 0);
+    sem_init(&free_bundles, 0, BUNDLES - 1);
+    fill_bundle(0);
+    sigfillset(&all);
+    sigprocmask(SIG_BLOCK, &all, &before);
+    int error = __real_pthread_create(&detector, NULL, detect, NULL);
+    sigprocmask(SIG_SETMASK, &before, NULL);
+    if (error != 0)
+        fail("the detector has no thread: %s", strerror(error));
+    heap_at = at;
+    heap_end = end;
+}
+
 /* The report goes where SPBAGS_REPORT says, named as a trace is, or else to standard error. */
 static void start_detector(void) {
     const char *name = getenv("SPBAGS_REPORT"), *places_name = getenv("SPBAGS_PLACES");
@@ -102,7 +123,7 @@ static void start_detector(void) {
         open_output(&places, "SPBAGS_PLACES", places_name);
     find_heap();
     session = reserve(spbags_room());
-    spbags_new(session);
+    start_thread();
     detecting = true;
 }
 #endif

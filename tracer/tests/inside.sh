@@ -144,12 +144,14 @@ check_inside_refused() {
         status=$?
         if [ $status = 2 ] && [ ! -s report ] && [ "$(cat errors)" = "$line" ]; then
             refused=$((refused + 1))
-        elif [ $status != 0 ] || ! cmp -s wanted report || [ ! -s letters ]; then
+        elif [ $status != 0 ] || ! cmp -s wanted report || ! grep -q w letters; then
             break
         fi
     done
-    [ "$refused" -gt 3 ] && [ ! -s letters ] && [ $status = 0 ] && cmp wanted report >&2
+    [ "$refused" -gt 3 ] && ! grep -q w letters && [ $status = 0 ] && cmp wanted report >&2
     count $? "$CC: inside, growth $growth is refused without a line, or with a report that isn't whole"
+    check_no_report 'its thread is refused' 2 'the detector has no thread: Resource temporarily unavailable' \
+        env REFUSED_START=1 LD_PRELOAD=./refusing.so ./racy 3>letters
 }
 
 # Where the report goes.
