@@ -14,10 +14,8 @@ static void *session;
 enum { BUNDLE_RECORDS = 1 << 13, BUNDLES = 8 };
 static struct bundle {
     size_t used;
-    /* Each is the location and, in the lowest bits, the kind. No location is so large that this loses any of it. */
     uint64_t records[BUNDLE_RECORDS];
 } bundles[BUNDLES];
-enum { KIND_BITS = 3 };
 static sem_t full_bundles, free_bundles;
 static pthread_t detector;
 /* The bundle that is filled, where the next record goes, and where the bundle ends. */
@@ -71,7 +69,7 @@ static inline void end_step(void) {
 
 /* Between both of these. */
 static inline void step(enum spbags_kind kind, uint64_t location) {
-    *next_record++ = location << KIND_BITS | kind;
+    *next_record++ = spbags_record(kind, location);
     if (__builtin_expect(next_record == bundle_end, 0))
         next_bundle();
 }
@@ -84,12 +82,9 @@ __attribute__((noinline, cold, noreturn)) static void refuse_step(unsigned statu
 }
 
 static void take_bundle(const struct bundle *bundle) {
-    for (size_t at = 0; at < bundle->used; at++) {
-        uint64_t record = bundle->records[at];
-        uint8_t kind = record & ((1 << KIND_BITS) - 1), status = spbags_step(session, kind, record >> KIND_BITS);
-        if (__builtin_expect(status != SPBAGS_TAKEN, 0))
-            refuse_step(status);
-    }
+    uint8_t status = spbags_steps(session, bundle->records, bundle->used);
+    if (status != SPBAGS_TAKEN)
+        refuse_step(status);
 }
 
 /* The program's thread waits meanwhile. */

@@ -1,5 +1,5 @@
 -- Promised: what lies at a handle, and what a session has taken or gives.
-use Rattle.std.specs.Prelude.{◌≡◌, ◌≢◌, ℕ, ◌+◌, ◌<◌, ◌≤◌, List, [], ◌∷◌, ◌++◌, length, slice_index_or}
+use Rattle.std.specs.Prelude.{◌≡◌, ◌≢◌, ℕ, ◌+◌, ◌<◌, ◌≤◌, ◌/◌, ◌%◌, ◌⊎◌, List, [], ◌∷◌, ◌++◌, length, slice_index_or}
 use base.Fraction.{full_share}
 use base.Fml.{Fml, ftrue, fsep, fex}
 use denote.RattleType.{RattleType}
@@ -94,6 +94,13 @@ pub record HasStepped (before : Session) (kind location : ℕ) (after : Session)
   pub giving : (text : List ℕ) (count : ℕ) → HasGiven text count before → status ≡ given
   pub taking : (u : List Record) → HasTaken u before → status ≢ given
   pub within : status < 6
+
+-- What the steps of these records do in turn, up to the first that isn't taken, if any: its status is that of all. A
+-- record is eight times its location, plus its kind.
+abbrev pub HaveStepped : Session → List ℕ → Session → ℕ → Type 0
+HaveStepped before [] after status = (after ≡ before) × (status ≡ taken)
+HaveStepped before (r ∷ rs) after status = (between : Session) × (s : ℕ) × HasStepped before (r % 8) (r / 8) between s
+    × (((s ≡ taken) × HaveStepped between rs after status) ⊎ ((s ≢ taken) × (after ≡ between) × (status ≡ s)))
 
 -- What the call does that makes the text of the report.
 pub record HasReported (before after : Session) (status : ℕ) : Type 0 where

@@ -1,12 +1,10 @@
 //! A session: it takes records, and then gives the text of their report.
-ghost use Rattle.std.specs.Prelude.{◌≡◌, ◌≢◌, ℕ, ◌+◌, ◌<◌, ◌≤◌, List, [], ◌∷◌, ◌++◌, length, slice_index_or, IfOk, IfSome};
-ghost use Rattle.dag.specs.Bounds.{most_records};
-ghost use Rattle.trace.specs.Faults.{HasEnded};
+ghost use Rattle.std.specs.Prelude.{◌≡◌, ◌≢◌, ℕ, ◌+◌, ◌<◌, ◌≤◌, List, [], length, slice_index_or, IfOk, IfSome};
 ghost use Rattle.dag.specs.declared.records.Record.{Record};
-ghost use Rattle.online.specs.Detectors.{IsAfter, MayWant};
+ghost use Rattle.online.specs.Detectors.{IsAfter};
 ghost use Rattle.inside.specs.declared.session.Session.{Session};
-ghost use Rattle.inside.specs.Sessions.{taken, after_end, too_many, no_memory, unknown_kind, given, at_end, no_text};
-ghost use Rattle.inside.specs.Sessions.{IsNamed, HasTaken, HasGiven, report_text};
+ghost use Rattle.inside.specs.Sessions.{taken, no_memory, given, at_end, no_text};
+ghost use Rattle.inside.specs.Sessions.{IsNamed, HasTaken, HasGiven, HasStepped, HaveStepped, report_text};
 
 use crate::text::Text;
 use collect::write_report;
@@ -54,25 +52,7 @@ impl Session {
 
     /// Takes the record of this kind. The location is that of a read or a write.
     pub(crate) fn step(&mut self, kind: u8, location: u64) -> u8
-        ensures took { result ≡ taken → (u : List Record) (what : Record) → HasTaken u self.old
-            → IsNamed kind location what → HasTaken (u ++ what ∷ []) self.new }
-        ensures named { result ≡ taken → kind < 6 }
-        ensures unchanged { result ≢ taken → result ≢ no_memory → self.new ≡ self.old }
-        ensures stops { result ≡ no_memory → self.new ≡ Session.Stopped }
-        ensures stopped { self.old ≡ Session.Stopped → result ≡ no_memory }
-        ensures after_end { result ≡ after_end → (u : List Record) → HasTaken u self.old → HasEnded u }
-        ensures too_many { result ≡ too_many → (u : List Record) → HasTaken u self.old → length u ≡ most_records }
-        ensures unknown { result ≡ unknown_kind → 5 < kind }
-        ensures is_unknown { 5 < kind → (u : List Record) → HasTaken u self.old → result ≡ unknown_kind }
-        ensures is_full { kind < 6 → (u : List Record) → HasTaken u self.old → length u ≡ most_records
-            → result ≡ too_many }
-        ensures is_ended { kind < 6 → (u : List Record) → HasTaken u self.old → HasEnded u → length u < most_records
-            → result ≡ after_end }
-        ensures want { result ≡ no_memory → (u : List Record) (what : Record) → HasTaken u self.old
-            → IsNamed kind location what → MayWant u what }
-        ensures giving { (text : List ℕ) (count : ℕ) → HasGiven text count self.old → result ≡ given }
-        ensures taking { (u : List Record) → HasTaken u self.old → result ≢ given }
-        ensures within { result < 6 }
+        ensures { HasStepped self.old kind location self.new result }
     {
         match self {
             Session::Taking(detector, _) => match record_of(kind, location) {
@@ -87,6 +67,20 @@ impl Session {
             Session::Giving(..) => GIVEN,
             Session::Stopped => NO_MEMORY,
         }
+    }
+
+    /// Takes the records in turn, up to the first that it can't take, whose status it answers. A record is eight times
+    /// its location, plus its kind.
+    pub(crate) fn steps(&mut self, records: &[u64]) -> u8
+        ensures { HaveStepped self.old records.now self.new result }
+    {
+        for record in records {
+            let status = self.step((*record % 8) as u8, *record / 8);
+            if status != TAKEN {
+                return status;
+            }
+        }
+        TAKEN
     }
 
     // A function of its own, since a step would pay at each record for the room of a session.
