@@ -30,6 +30,9 @@ size_t spbags_room(void);
 /* Makes a session that has taken no record. If memory is refused, it has stopped. */
 void spbags_new(void *handle);
 
+/* Takes the next record. The location is that of a read or a write. */
+uint8_t spbags_step(void *handle, uint8_t kind, uint64_t location);
+
 /* A record as spbags_steps takes it: eight times its location, which is below 2^61, plus its kind. Records other than
    reads and writes have no location. */
 static inline uint64_t spbags_record(enum spbags_kind kind, uint64_t location) { return location << 3 | kind; }
@@ -37,12 +40,6 @@ static inline uint64_t spbags_record(enum spbags_kind kind, uint64_t location) {
 /* Takes so many records in turn, up to the first that it can't take, whose status it answers. Their number is below
    2^60, and nothing writes them meanwhile. */
 uint8_t spbags_steps(void *handle, const uint64_t *records, size_t count);
-
-/* Takes the next record. */
-static inline uint8_t spbags_step(void *handle, enum spbags_kind kind, uint64_t location) {
-    uint64_t record = spbags_record(kind, location);
-    return spbags_steps(handle, &record, 1);
-}
 
 /* Makes the text of the report of all records that were taken. No record is taken after that. */
 uint8_t spbags_report(void *handle);

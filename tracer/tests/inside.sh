@@ -154,6 +154,19 @@ check_inside_refused() {
         env REFUSED_START=1 LD_PRELOAD=./refusing.so ./racy 3>letters
 }
 
+# The library without the tracer.
+check_inside_library() {
+    local wanted='races 1
+race 5 write 2 write 4
+races 1
+race 18446744073709551615 write 2 write 4
+races 1
+race 5 write 2 write 4'
+    [ "$has_inside" ] || return 0
+    "$CC" -o steps tracer/tests/steps.c "$here/../crates/inside/out/libinside.a" && same "$wanted" "$(./steps)"
+    count $? "$CC: inside: a program that calls the library"
+}
+
 # Where the report goes.
 check_inside_outputs() {
     [ "$has_inside" ] || return 0

@@ -95,11 +95,15 @@ pub record HasStepped (before : Session) (kind location : ℕ) (after : Session)
   pub taking : (u : List Record) → HasTaken u before → status ≢ given
   pub within : status < 6
 
--- What the steps of these records do in turn, up to the first that isn't taken, if any: its status is that of all. A
--- record is eight times its location, plus its kind.
-abbrev pub HaveStepped : Session → List ℕ → Session → ℕ → Type 0
+-- the kind and the location of a record in one number
+abbrev pub unpacked : ℕ → ℕ × ℕ
+unpacked r = (r % 8, r / 8)
+
+-- What the steps of records of these kinds and locations do in turn, up to the first that isn't taken, if any: its
+-- status is that of all.
+abbrev pub HaveStepped : Session → List (ℕ × ℕ) → Session → ℕ → Type 0
 HaveStepped before [] after status = (after ≡ before) × (status ≡ taken)
-HaveStepped before (r ∷ rs) after status = (between : Session) × (s : ℕ) × HasStepped before (r % 8) (r / 8) between s
+HaveStepped before (r ∷ rs) after status = (between : Session) × (s : ℕ) × HasStepped before r.0 r.1 between s
     × (((s ≡ taken) × HaveStepped between rs after status) ⊎ ((s ≢ taken) × (after ≡ between) × (status ≡ s)))
 
 -- What the call does that makes the text of the report.

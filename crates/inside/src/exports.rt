@@ -1,5 +1,5 @@
 //! What C calls. What lies at the handle is a session from `spbags_new` up to `spbags_free`.
-ghost use Rattle.std.specs.Prelude.{◌≡◌, ◌≢◌, ℕ, ◌<◌, ◌^◌, List, []};
+ghost use Rattle.std.specs.Prelude.{◌≡◌, ◌≢◌, ℕ, ◌<◌, ◌^◌, List, [], map};
 ghost use Rattle.std.specs.Mem.{type_size};
 ghost use prog.Memory.{capped};
 ghost use Rattle.std.specs.Borrow.{full_share, sem};
@@ -9,7 +9,7 @@ ghost use denote.Builtin.{u64};
 ghost use Rattle.std.specs.Ptr.{lies_at, room_at};
 ghost use Rattle.inside.specs.declared.session.Session.{Session};
 ghost use Rattle.inside.specs.contracts.session.Session.{the_row};
-ghost use Rattle.inside.specs.Sessions.{held, HasTaken, HaveStepped, HasReported, HasNext};
+ghost use Rattle.inside.specs.Sessions.{held, unpacked, HasTaken, HasStepped, HaveStepped, HasReported, HasNext};
 
 use crate::session::Session;
 use std::alloc::Global;
@@ -31,6 +31,16 @@ pub unsafe extern "C" fn spbags_new(alloc: Global, handle: *mut u8)
     std::ptr::write(handle as *mut Session, Session::new(alloc))
 }
 
+/// Takes the next record.
+#[unsafe(no_mangle)]
+pub unsafe extern "C" fn spbags_step(handle: *mut u8, kind: u8, location: u64) -> u8
+    ghost before: { Session }
+    requires* { sem 𝓛 (lies_at the_row full_share handle before) }
+    ensures* { sem 𝓛 (held the_row handle (λ after. HasStepped before kind location after result)) }
+{
+    Session::step(&mut *(handle as *mut Session), kind, location)
+}
+
 /// Takes so many records in turn, up to the first that it can't take, whose status it answers. A record is eight times
 /// its location, plus its kind.
 #[unsafe(no_mangle)]
@@ -38,7 +48,7 @@ pub unsafe extern "C" fn spbags_steps(handle: *mut u8, records: *const u64, coun
     ghost before: { Session × Share × List ℕ }
     requires* { sem 𝓛 (lies_at the_row full_share handle before.0)
         ∗ sem 𝓛 (lies_at (Array u64 count) before.1 records before.2) ∗ ⌜ count < 2 ^ 60 ⌝ }
-    ensures* { sem 𝓛 (held the_row handle (λ after. HaveStepped before.0 before.2 after result))
+    ensures* { sem 𝓛 (held the_row handle (λ after. HaveStepped before.0 (map unpacked before.2) after result))
         ∗ sem 𝓛 (lies_at (Array u64 count) before.1 records before.2) }
 {
     Session::steps(

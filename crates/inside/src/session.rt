@@ -1,9 +1,10 @@
 //! A session: it takes records, and then gives the text of their report.
-ghost use Rattle.std.specs.Prelude.{◌≡◌, ◌≢◌, ℕ, ◌+◌, ◌<◌, ◌≤◌, List, [], length, slice_index_or, IfOk, IfSome};
+ghost use Rattle.std.specs.Prelude.{◌≡◌, ◌≢◌, ℕ, ◌+◌, ◌<◌, ◌≤◌, List, [], length, map, slice_index_or, IfOk, IfSome};
 ghost use Rattle.dag.specs.declared.records.Record.{Record};
 ghost use Rattle.online.specs.Detectors.{IsAfter};
 ghost use Rattle.inside.specs.declared.session.Session.{Session};
-ghost use Rattle.inside.specs.Sessions.{taken, no_memory, given, at_end, no_text};
+ghost use Rattle.inside.specs.Sessions.{unpacked, taken, no_memory, given, at_end, no_text};
+ghost use Rattle.inside.specs.Naming.{named_with};
 ghost use Rattle.inside.specs.Sessions.{IsNamed, HasTaken, HasGiven, HasStepped, HaveStepped, report_text};
 
 use crate::text::Text;
@@ -23,6 +24,9 @@ const NO_MEMORY: u8 = 3;
 const UNKNOWN_KIND: u8 = 4;
 
 const GIVEN: u8 = 5;
+
+// It is below 8, and no record has this kind.
+const NO_KIND: u8 = 7;
 
 const AT_END: u16 = 256;
 
@@ -54,6 +58,35 @@ impl Session {
     pub(crate) fn step(&mut self, kind: u8, location: u64) -> u8
         ensures { HasStepped self.old kind location self.new result }
     {
+        self.run(location, &[kind.min(NO_KIND) as u64])
+    }
+
+    /// Takes the records in turn, up to the first that it can't take, whose status it answers. A record is eight times
+    /// its location, plus its kind.
+    pub(crate) fn steps(&mut self, records: &[u64]) -> u8
+        ensures { HaveStepped self.old (map unpacked records.now) self.new result }
+    {
+        self.run(0, records)
+    }
+
+    // All locations have these bits besides their own. One loop for both, since the compiler puts all of a step into it
+    // only if nothing else calls `take`.
+    #[inline(never)]
+    fn run(&mut self, bits: u64, records: &[u64]) -> u8
+        ensures { HaveStepped self.old (map (named_with bits) records.now) self.new result }
+    {
+        for record in records {
+            let status = self.take((*record % 8) as u8, bits | *record / 8);
+            if status != TAKEN {
+                return status;
+            }
+        }
+        TAKEN
+    }
+
+    fn take(&mut self, kind: u8, location: u64) -> u8
+        ensures { HasStepped self.old kind location self.new result }
+    {
         match self {
             Session::Taking(detector, _) => match record_of(kind, location) {
                 None => UNKNOWN_KIND,
@@ -67,20 +100,6 @@ impl Session {
             Session::Giving(..) => GIVEN,
             Session::Stopped => NO_MEMORY,
         }
-    }
-
-    /// Takes the records in turn, up to the first that it can't take, whose status it answers. A record is eight times
-    /// its location, plus its kind.
-    pub(crate) fn steps(&mut self, records: &[u64]) -> u8
-        ensures { HaveStepped self.old records.now self.new result }
-    {
-        for record in records {
-            let status = self.step((*record % 8) as u8, *record / 8);
-            if status != TAKEN {
-                return status;
-            }
-        }
-        TAKEN
     }
 
     // A function of its own, since a step would pay at each record for the room of a session.

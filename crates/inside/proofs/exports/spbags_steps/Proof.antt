@@ -1,6 +1,6 @@
 -- Lends what lies at the handle and the records, calls, and takes both back.
-use Rattle.inside.proofs.Steps.{sym, ℕ, ◌<◌, ◌^◌, ◌*◌, arith, length, subst, [], ◌∷◌, ◌++◌, List, refl, w8, w64, Bor, MutBor, proved, full_share, id⊢, Lft, Incl-refl, ftrue, flft, flent, fsep, fex, named, vint, vptr, fact, tables, WpFn, Body, ‵, raw, ◌⊛◌, some, later, prop, ◌$◌, ◌∵◌, !, qed, done, move, keep, drop, use1, use2, use3, split, join, fsplit, fjoin, feq_l, feq_i, fpack, pick, await, regoal, suffices, group, enter, of_opd, addr, stop, no_more, and_then, returns, alloc_all, pass_all, free_all, look_at, get, through, sets, lands_as, agg, lft_new, lft_end, lent_back, u8, u64, usize, yes, Is, shows, lends_ref, lends_shr_slice, ref_back, mem, shares, arr_parts, part_at, uint_vals, uint_Tells, uint_Lawful, uint_Copied, Ptr, RawPtr, block_ptr, lies_at, in_a_block, rawptr_vals, rawptr_Tells, Array, Array-apart, Array-whole, MutRef, ShrSlice, slice_val, plain, nothing, heard, peeks, calls_at, lasts, on_entry, triple_of, Stays, walk_of, stay_dropped, Goes-dropped, ends_at, framed}
-use Rattle.inside.specs.Sessions.{HaveStepped}
+use Rattle.inside.proofs.Steps.{sym, ℕ, ◌<◌, ◌^◌, ◌*◌, arith, length, map, subst, [], ◌∷◌, ◌++◌, List, refl, w8, w64, Bor, MutBor, proved, full_share, id⊢, Lft, Incl-refl, ftrue, flft, flent, fsep, fex, named, vint, vptr, fact, tables, WpFn, Body, ‵, raw, ◌⊛◌, some, later, prop, ◌$◌, ◌∵◌, !, qed, done, move, keep, drop, use1, use2, use3, split, join, fsplit, fjoin, feq_l, feq_i, fpack, pick, await, regoal, suffices, group, enter, of_opd, addr, stop, no_more, and_then, returns, alloc_all, pass_all, free_all, look_at, get, through, sets, lands_as, agg, lft_new, lft_end, lent_back, u8, u64, usize, yes, Is, shows, lends_ref, lends_shr_slice, ref_back, mem, shares, arr_parts, part_at, uint_vals, uint_Tells, uint_Lawful, uint_Copied, Ptr, RawPtr, block_ptr, lies_at, in_a_block, rawptr_vals, rawptr_Tells, Array, Array-apart, Array-whole, MutRef, ShrSlice, slice_val, plain, nothing, heard, peeks, calls_at, lasts, on_entry, triple_of, Stays, walk_of, stay_dropped, Goes-dropped, ends_at, framed}
+use Rattle.inside.specs.Sessions.{unpacked, HaveStepped}
 use Rattle.inside.specs.contracts.session.Session.{the_row as R}
 use Rattle.inside.specs.contracts.exports.spbags_steps as f
 use Rattle.inside.proofs.exports.spbags_steps.Statement.{statement}
@@ -63,8 +63,8 @@ spbags_steps_spec 𝓤 𝓛 𝓜 𝓡 wired =
     -- [the loan's last value; its borrow; the rest; the status; the records; the loan's lifetime is over; what the lender keeps]
     move ! (5 ∷ 6 ∷ 0 ∷ []) $ use3 𝓛 (later (‵ (lies_at R full_share (block_ptr b o) ws.0))) (ref_back 𝓛 R κ δ ws.0 b o) $ await ! tt $
     returns ! (look_at ! 0 refl) $ free_all ! refl $ keep ! (0 ∷ 3 ∷ 4 ∷ []) $
-    nothing ! $ fpack ! (HaveStepped before.0 xs ws.0 s) (λ _. ftrue) ran $ move ! (1 ∷ 0 ∷ []) $ fjoin ! $
-    fpack ! R.Denot (λ d. fsep (lies_at R full_share (block_ptr b o) d) (fex (HaveStepped before.0 xs d s) (λ _. ftrue))) ws.0 $
+    nothing ! $ fpack ! (HaveStepped before.0 (map unpacked xs) ws.0 s) (λ _. ftrue) ran $ move ! (1 ∷ 0 ∷ []) $ fjoin ! $
+    fpack ! R.Denot (λ d. fsep (lies_at R full_share (block_ptr b o) d) (fex (HaveStepped before.0 (map unpacked xs) d s) (λ _. ftrue))) ws.0 $
     -- [what is held; the status; the records]
     move ! (2 ∷ []) $ use1 𝓛 (‵ (part_at (Array u64 k) q xs b′ o′)) (Array-whole 𝓛 u64 q k xs b′ o′) $ move ! (1 ∷ 0 ∷ []) $ join ! $
     suffices ! _ (ends_at 𝓛 f.ended stayed c (y (block_ptr b o) (block_ptr b′ o′) k) v s (tt, (tt, (tt, tt))) (tt, (tt, (tt, tt)))) $

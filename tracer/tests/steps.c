@@ -1,0 +1,63 @@
+/* The detector's library by its header alone: a child and its parent write one location, by a call for each record and by
+   one call for all. Compiled by the plain compiler. */
+#include "../include/spbags_inside.h"
+#include <inttypes.h>
+#include <stdio.h>
+#include <stdlib.h>
+
+static struct rattle_block answer_with(void *block) {
+    static max_align_t nothing;
+    return block ? (struct rattle_block){true, block} : (struct rattle_block){false, &nothing};
+}
+
+struct rattle_block rattle_alloc(size_t size, size_t alignment) { return answer_with(malloc(size > 0 ? size : alignment)); }
+
+struct rattle_block rattle_realloc(void *block, size_t kept, size_t size, size_t alignment) {
+    (void)kept;
+    return answer_with(realloc(block, size > 0 ? size : alignment));
+}
+
+void rattle_dealloc(void *block) { free(block); }
+
+static void expect(const char *what, uint8_t wanted, uint8_t status) {
+    if (status != wanted)
+        printf("%s: status %d, not %d\n", what, status, wanted);
+}
+
+enum { RECORDS = 5 };
+static const uint8_t kinds[RECORDS] = {SPBAGS_SPAWN, SPBAGS_WRITE, SPBAGS_RETURN, SPBAGS_WRITE, SPBAGS_RETURN};
+
+static void step_by_step(void *session, uint64_t location) {
+    expect("a kind that no record has", SPBAGS_UNKNOWN_KIND, spbags_step(session, SPBAGS_WRITE + 8, location));
+    for (int at = 0; at < RECORDS; at++)
+        expect("a step", SPBAGS_TAKEN, spbags_step(session, kinds[at], location));
+    expect("a step after the end", SPBAGS_AFTER_END, spbags_step(session, SPBAGS_SYNC, 0));
+}
+
+static void all_at_once(void *session, uint64_t location) {
+    uint64_t records[RECORDS + 1];
+    for (int at = 0; at < RECORDS; at++)
+        records[at] = spbags_record(kinds[at], location);
+    records[RECORDS] = spbags_record(SPBAGS_SYNC, 0);
+    expect("no steps", SPBAGS_TAKEN, spbags_steps(session, records, 0));
+    expect("steps", SPBAGS_AFTER_END, spbags_steps(session, records, RECORDS + 1));
+}
+
+static void print_report(void (*run)(void *session, uint64_t location), uint64_t location) {
+    void *session = aligned_alloc(16, (spbags_room() + 15) / 16 * 16);
+    spbags_new(session);
+    run(session, location);
+    expect("the report", SPBAGS_TAKEN, spbags_report(session));
+    for (uint16_t byte; (byte = spbags_next(session)) < SPBAGS_AT_END;)
+        putchar(byte);
+    expect("a step after the report", SPBAGS_GIVEN, spbags_step(session, SPBAGS_SYNC, 0));
+    spbags_free(session);
+    free(session);
+}
+
+int main(void) {
+    print_report(step_by_step, 5);
+    print_report(step_by_step, UINT64_MAX);
+    print_report(all_at_once, 5);
+    return 0;
+}
