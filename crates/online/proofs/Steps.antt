@@ -1,22 +1,17 @@
 -- What a new detector has taken, and what one has taken after one more record.
-use Rattle.std.proofs.Common.{◌≡◌, ◌≢◌, ℕ, zero, suc, ◌+◌, ◌-◌, ◌<◌, ◌≤◌, ◌^◌, ◌↔◌, ◌==◌, min, Bool, true, false, List, [], ◌∷◌, ◌++◌, length, Option, Some, None, ◌⊎◌, inl, inr, ⊎_elim, refl, sym, ap, subst, ◌∙◌, arith, length-append}
-use Rattle.std.specs.Option.{option_to_list}
-use Rattle.std.specs.List.{sum_by}
-use Rattle.std.proofs.lemmas.Bool.{cases_Bool, eq-eqb, eqb-true}
+use Rattle.std.proofs.Common.{◌≡◌, suc, ◌+◌, ◌≤◌, ◌==◌, true, false, List, [], ◌∷◌, ◌++◌, length, ⊎_elim, refl, sym, ap, subst, ◌∙◌, arith, length-append}
 use Rattle.std.proofs.lemmas.List.Sums.{sum_by-append}
 use Rattle.dag.specs.declared.records.Record.{Record}
 use Rattle.dag.specs.declared.records.Record.TheVariants.{Spawn, Call, Return, Sync, Read, Write}
 use Rattle.dag.specs.declared.records.Placed.{Placed}
-use Rattle.dag.specs.Bounds.{most_records}
 use Rattle.trace.specs.Faults.{HasEnded}
 use Rattle.dag.specs.Traces.{placed, depth, opens, closes}
 use Rattle.trace.proofs.Places.{depth-next, ended_by, ended_after}
-use Rattle.bags.specs.Procedures.{Procedures, Active, event, after_sync, after_return, bags_from}
-use Rattle.shadow.specs.Memory.{Memory, HaveSeen, MayGrow, kept_of}
-use Rattle.shadow.specs.Found.{found, state_after}
-use Rattle.shadow.proofs.FoundLaws.{bags-state_after}
-use Rattle.shard.specs.Shards.{ShardState, Accepts, IsFresh, is_root_return, capped_count}
-use Rattle.collect.specs.Collected.{Collection, KeepsBest}
+use Rattle.bags.specs.Procedures.{Procedures, Active, event, after_return}
+use Rattle.shadow.specs.Memory.{Memory, HaveSeen, MayGrow}
+use Rattle.shard.specs.Shards.{Accepts, IsFresh, is_root_return, capped_count}
+use Rattle.shard.proofs.Orders.{root_is, root_by, length-sync, length-event, bags_next}
+use Rattle.collect.specs.Collected.{KeepsBest}
 use Rattle.serial.specs.Detected.{HasDetected}
 use Rattle.serial.proofs.Detected.{placed-next}
 use Rattle.online.specs.Detectors.{DetectorState, AreActive, IsAfter, IsOpening}
@@ -46,40 +41,17 @@ after_none d fresh keeps going = record {
 pub detected : {u : List Record} {d : DetectorState} → IsAfter u d → HasDetected (placed u) d.shard.bags d.shard.memory d.kept
 detected h = record { seen = h.seen; given = h.given; holds = h.holds; none_failed = h.none_failed; races = h.races }
 
--- the root's return
-root_is : (b : Procedures) (r : Record) → is_root_return b r ≡ true → (r ≡ Return) × (length b.active ≡ 1)
-root_is b Return e = (refl, eqb-true (length b.active) 1 e)
-root_is b Spawn e = absurd (cc)
-root_is b Call e = absurd (cc)
-root_is b Sync e = absurd (cc)
-root_is b (Read l) e = absurd (cc)
-root_is b (Write l) e = absurd (cc)
-
-root_by : (b : Procedures) (r : Record) → r ≡ Return → length b.active ≡ 1 → is_root_return b r ≡ true
-root_by b Return is one = eq-eqb (length b.active) 1 one
-root_by b Spawn is one = absurd (cc)
-root_by b Call is one = absurd (cc)
-root_by b Sync is one = absurd (cc)
-root_by b (Read l) is one = absurd (cc)
-root_by b (Write l) is one = absurd (cc)
+closes-one : (r : Record) → closes r ≤ 1
+closes-one Spawn = omega arith
+closes-one Call = omega arith
+closes-one Return = omega arith
+closes-one Sync = omega arith
+closes-one (Read l) = omega arith
+closes-one (Write l) = omega arith
 
 -- how many procedures are active after a record that isn't the root's return
-length-sync : (fs : List Active) → length (after_sync fs) ≡ length fs
-length-sync [] = refl
-length-sync (f ∷ fs) = refl
-
-length-return : (fs : List Active) → 1 ≤ length fs → (length fs == 1) ≡ false → length (after_return fs) + 1 ≡ length fs
-length-return [] some e = absurd (omega arith)
-length-return (f ∷ []) some e = absurd (cc)
-length-return (g ∷ f ∷ fs) some e = omega arith
-
 active-event : (b : Procedures) (r : Record) → 1 ≤ length b.active → is_root_return b r ≡ false → length (event b r).active + closes r ≡ length b.active + opens r
-active-event b Spawn some e = omega arith
-active-event b Call some e = omega arith
-active-event b Return some e = let h = length-return b.active some e in omega arith
-active-event b Sync some e = let h = length-sync b.active in omega arith
-active-event b (Read l) some e = omega arith
-active-event b (Write l) some e = omega arith
+active-event b r some e = omega (arith, length-event b r e, closes-one r, some)
 
 some_active : (b : Procedures) (r : Record) → 1 ≤ length b.active → is_root_return b r ≡ false → 1 ≤ length (event b r).active
 some_active b Spawn some e = omega arith
@@ -93,14 +65,6 @@ some_active b Return some e = some_left b.active some e
 some_active b Sync some e = let h = length-sync b.active in omega arith
 some_active b (Read l) some e = some
 some_active b (Write l) some e = some
-
-bags_from-push : (s : Procedures) (u : List Placed) (p : Placed) → bags_from s (u ++ p ∷ []) ≡ event (bags_from s u) p.what
-bags_from-push s [] p = refl
-bags_from-push s (q ∷ u) p = bags_from-push (event s q.what) u p
-
-bags_next : (u : List Placed) (p : Placed) (b c : Procedures) (m n : Memory) → HaveSeen u b m → HaveSeen (u ++ p ∷ []) c n → c ≡ event b p.what
-bags_next u p b c m n h k =
-    k.bags_are ∙ bags-state_after (u ++ p ∷ []) ∙ bags_from-push _ u p ∙ ap (λ (x : Procedures). event x p.what) (sym (h.bags_are ∙ bags-state_after u))
 
 -- one more record
 module _ (u : List Record) (p : Placed) (d e : DetectorState) (h : IsAfter u d) (a : Accepts d.shard p.place) (place : p.place ≡ length u + 1)

@@ -7,7 +7,7 @@ use Rattle.dag.specs.declared.records.Placed.{Placed}
 use Rattle.dag.specs.Traces.{opens, closes}
 use Rattle.bags.specs.Procedures.{Procedures, Active, event, after_sync, after_return, bags_from}
 use Rattle.shadow.proofs.FoundLaws.{bags-state_after}
-use Rattle.shadow.specs.Memory.{HaveSeen}
+use Rattle.shadow.specs.Memory.{Memory, HaveSeen}
 use Rattle.shard.specs.Shards.{ShardState, Accepts, IsFresh, is_root_return}
 use Rattle.shard.proofs.Follows.{following}
 use Rattle.shard.specs.Working.{Follow, AreInOrder, MayTake}
@@ -41,7 +41,7 @@ pub length-in_order : (u : List Placed) → AreInOrder u → length u ≤ 2 ^ 48
 length-in_order u h = let few = length-follow 0 1 u (omega arith) ((following u).0 h) in omega arith
 
 -- the root's return
-root_is : (b : Procedures) (r : Record) → is_root_return b r ≡ true → (r ≡ Return) × (length b.active ≡ 1)
+pub root_is : (b : Procedures) (r : Record) → is_root_return b r ≡ true → (r ≡ Return) × (length b.active ≡ 1)
 root_is b Return e = (refl, eqb-true (length b.active) 1 e)
 root_is b Spawn e = absurd (cc)
 root_is b Call e = absurd (cc)
@@ -49,7 +49,7 @@ root_is b Sync e = absurd (cc)
 root_is b (Read l) e = absurd (cc)
 root_is b (Write l) e = absurd (cc)
 
-root_by : (b : Procedures) (r : Record) → r ≡ Return → length b.active ≡ 1 → is_root_return b r ≡ true
+pub root_by : (b : Procedures) (r : Record) → r ≡ Return → length b.active ≡ 1 → is_root_return b r ≡ true
 root_by b Return is one = eq-eqb (length b.active) 1 one
 root_by b Spawn is one = absurd (cc)
 root_by b Call is one = absurd (cc)
@@ -57,7 +57,7 @@ root_by b Sync is one = absurd (cc)
 root_by b (Read l) is one = absurd (cc)
 root_by b (Write l) is one = absurd (cc)
 
-length-sync : (fs : List Active) → length (after_sync fs) ≡ length fs
+pub length-sync : (fs : List Active) → length (after_sync fs) ≡ length fs
 length-sync [] = refl
 length-sync (f ∷ fs) = refl
 
@@ -67,7 +67,7 @@ length-return (f ∷ []) e = absurd (cc)
 length-return (g ∷ f ∷ fs) e = omega arith
 
 -- how many procedures are active after a record
-length-event : (b : Procedures) (r : Record) → is_root_return b r ≡ false → length (event b r).active ≡ (length b.active + opens r) - closes r
+pub length-event : (b : Procedures) (r : Record) → is_root_return b r ≡ false → length (event b r).active ≡ (length b.active + opens r) - closes r
 length-event b Spawn e = omega arith
 length-event b Call e = omega arith
 length-event b Return e = length-return b.active e
@@ -79,10 +79,10 @@ bags_from-push : (s : Procedures) (u : List Placed) (p : Placed) → bags_from s
 bags_from-push s [] p = refl
 bags_from-push s (q ∷ u) p = bags_from-push (event s q.what) u p
 
--- the bags of a shard after one more record
-bags_next : (u : List Placed) (p : Placed) (s z : ShardState) → HaveSeen u s.bags s.memory → HaveSeen (u ++ p ∷ []) z.bags z.memory → z.bags ≡ event s.bags p.what
-bags_next u p s z h k =
-    k.bags_are ∙ bags-state_after (u ++ p ∷ []) ∙ bags_from-push _ u p ∙ ap (λ (b : Procedures). event b p.what) (sym (h.bags_are ∙ bags-state_after u))
+-- the bags after one more record
+pub bags_next : (u : List Placed) (p : Placed) (b c : Procedures) (m n : Memory) → HaveSeen u b m → HaveSeen (u ++ p ∷ []) c n → c ≡ event b p.what
+bags_next u p b c m n h k =
+    k.bags_are ∙ bags-state_after (u ++ p ∷ []) ∙ bags_from-push _ u p ∙ ap (λ (x : Procedures). event x p.what) (sym (h.bags_are ∙ bags-state_after u))
 
 -- a new shard may take any records in order
 pub takes_new : (s : ShardState) → IsFresh s → (rest : List Placed) → AreInOrder rest ↔ MayTake s rest
@@ -110,7 +110,7 @@ takes_one s p a = record { after_end = λ e. absurd (let z = a.running in cc); b
 -- what may be taken after one more record
 module _ (u : List Placed) (p : Placed) (s z : ShardState) (a : Accepts s p.place) (h : HaveSeen u s.bags s.memory) (k : HaveSeen (u ++ p ∷ []) z.bags z.memory) (place : z.last_place ≡ p.place) (ended : z.ended ≡ is_root_return s.bags p.what) (rest : List Placed) where
   active : z.ended ≡ false → length z.bags.active ≡ (length s.bags.active + opens p.what) - closes p.what
-  active e = ap (λ (b : Procedures). length b.active) (bags_next u p s z h k) ∙ length-event s.bags p.what (sym ended ∙ e)
+  active e = ap (λ (b : Procedures). length b.active) (bags_next u p _ _ _ _ h k) ∙ length-event s.bags p.what (sym ended ∙ e)
 
   to_next : MayTake s (p ∷ rest) → MayTake z rest
   to_next m =

@@ -1,4 +1,4 @@
-use Rattle.std.proofs.Common.{◌≡◌, List, [], ◌∷◌, ◌++◌, Option, sym, subst}
+use Rattle.std.proofs.Common.{◌≡◌, [], ◌∷◌, ◌++◌, Option, sym, subst}
 use Rattle.std.specs.Option.{option_to_list}
 use Rattle.dag.specs.Accesses.{RaceAt}
 use Rattle.shadow.specs.Found.{found}

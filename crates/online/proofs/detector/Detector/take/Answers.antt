@@ -1,4 +1,4 @@
-use Rattle.std.proofs.Common.{rules, ◌≡◌, ℕ, ◌+◌, List, [], ◌∷◌, ◌++◌, length, sym, ap, subst, ◌∙◌}
+use Rattle.std.proofs.Common.{rules, ◌≡◌, ◌+◌, List, length, ap, ◌∙◌}
 use Rattle.dag.specs.declared.records.Record.{Record}
 use Rattle.dag.specs.declared.records.Placed.{Placed}
 use Rattle.dag.specs.Traces.{placed}
