@@ -1,6 +1,9 @@
 -- Sending one record, step by step.
-use Rattle.std.proofs.Common.{◌≡◌, List, [], ◌∷◌, ◌++◌, Option, Some, None, refl, sym, subst, ◌∙◌}
+use Rattle.std.proofs.Common.{◌≡◌, ◌+◌, length, List, [], ◌∷◌, ◌++◌, Option, Some, None, refl, sym, subst, ◌∙◌}
 use Rattle.dag.specs.declared.records.Placed.{Placed}
+use Rattle.dag.specs.declared.records.Record.{Record}
+use Rattle.dag.specs.Traces.{placed}
+use Rattle.serial.proofs.Detected.{placed-next}
 use Rattle.dag.specs.declared.part.Part.{Part}
 use Rattle.dag.specs.Parts.{records_of}
 use Rattle.route.specs.declared.router.Router.{Router}
@@ -52,8 +55,10 @@ pub sent_whole-none : (w : List Placed) (p : Placed) (after : Option Placed) (r 
 sent_whole-none w p after r some h = let P : Option Placed → Type 0 = λ o. HasSent (sent_whole w (Some p) o) r in subst P some h
 
 -- a record more of the part, which is the same
-pub same_part : (old now : Sending) (r : Router) (w : List Placed) (p : Placed) → GoesOn old now
-    → (HasSent (records_of now.part w) now.router → HasSent (records_of now.part (w ++ p ∷ [])) r) → HasSent (records_of old.part w) now.router → HasSent (records_of old.part (w ++ p ∷ [])) r
-same_part old now r w p on sent h =
-    let P : Part → Type 0 = λ x. HasSent (records_of x w) now.router → HasSent (records_of x (w ++ p ∷ [])) r in
-    subst P on.part sent h
+pub sent_more : (old before after : Sending) (w : List Record) (p : Placed) → p.place ≡ length w + 1 → GoesOn old before
+    → (HasSent (records_of before.part (placed w)) before.router → HasSent (records_of before.part (placed w ++ p ∷ [])) after.router) → HasSent (records_of old.part (placed w)) before.router
+    → HasSent (records_of old.part (placed (w ++ p.what ∷ []))) after.router
+sent_more old before after w p at on sent h =
+    let P : Part → Type 0 = λ x. HasSent (records_of x (placed w)) before.router → HasSent (records_of x (placed w ++ p ∷ [])) after.router in
+    let Q : List Placed → Type 0 = λ u. HasSent (records_of old.part u) after.router in
+    subst Q (sym (placed-next w p at)) (subst P on.part sent h)

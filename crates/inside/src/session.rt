@@ -1,11 +1,11 @@
 //! A session: it takes records, and then gives the text of their report.
-ghost use Rattle.std.specs.Prelude.{◌≡◌, ◌≢◌, ℕ, ◌+◌, ◌<◌, ◌≤◌, List, [], length, map, slice_index_or, IfOk, IfSome};
+ghost use Rattle.std.specs.Prelude.{◌≡◌, ◌≢◌, ℕ, ◌<◌, List, [], map, IfOk, IfSome};
 ghost use Rattle.dag.specs.declared.records.Record.{Record};
 ghost use Rattle.online.specs.Detectors.{IsAfter};
 ghost use Rattle.inside.specs.declared.session.Session.{Session};
-ghost use Rattle.inside.specs.Sessions.{unpacked, taken, no_memory, given, at_end, no_text};
 ghost use Rattle.inside.specs.Naming.{named_with};
-ghost use Rattle.inside.specs.Sessions.{IsNamed, HasTaken, HasGiven, HasStepped, HaveStepped, report_text};
+ghost use Rattle.inside.specs.Sessions.{unpacked, no_memory, IsNamed, HasTaken, report_text};
+ghost use Rattle.inside.specs.Sessions.{HasStepped, HaveStepped, HasReported, HasNext};
 
 use crate::text::Text;
 use collect::write_report;
@@ -114,13 +114,7 @@ impl Session {
 
     /// Makes the text of the report of what was taken. From then on the session gives it.
     pub(crate) fn report(&mut self) -> u8
-        ensures text { result ≡ taken → (u : List Record) → HasTaken u self.old
-            → HasGiven (report_text u) 0 self.new }
-        ensures unchanged { result ≡ given → self.new ≡ self.old }
-        ensures stops { result ≢ taken → result ≢ given → (result ≡ no_memory) × (self.new ≡ Session.Stopped) }
-        ensures stopped { self.old ≡ Session.Stopped → result ≡ no_memory }
-        ensures giving { (text : List ℕ) (count : ℕ) → HasGiven text count self.old → result ≡ given }
-        ensures taking { (u : List Record) → HasTaken u self.old → result ≢ given }
+        ensures { HasReported self.old self.new result }
     {
         match std::mem::replace(self, Session::Stopped) {
             Session::Taking(detector, alloc) => match text_of(detector, alloc) {
@@ -140,12 +134,7 @@ impl Session {
 
     /// The next byte of the text.
     pub(crate) fn next(&mut self) -> u16
-        ensures byte { (text : List ℕ) (count : ℕ) → HasGiven text count self.old → count < length text
-            → (result ≡ slice_index_or text count 0) × HasGiven text (count + 1) self.new }
-        ensures end { (text : List ℕ) (count : ℕ) → HasGiven text count self.old → length text ≤ count
-            → (result ≡ at_end) × HasGiven text count self.new }
-        ensures none { (u : List Record) → HasTaken u self.old → (result ≡ no_text) × HasTaken u self.new }
-        ensures stopped { self.old ≡ Session.Stopped → (result ≡ no_text) × (self.new ≡ Session.Stopped) }
+        ensures { HasNext self.old self.new result }
     {
         match self {
             Session::Giving(text, count) => {

@@ -38,16 +38,15 @@ spbags_next_spec 𝓤 𝓛 𝓜 𝓡 wired =
     calls_at ! (framed 𝓤 𝓛.H 𝓜 (tables 𝓤 𝓛.H 𝓜 𝓡 𝓡.env)) G (met 𝓤 𝓛 𝓜 𝓡 (code.calls-inside::session::Session::next 𝓡.env wired)) z
     (and_then ! (get ! refl) (no_more !)) (λ v.
     use1 𝓛 (later (some (λ (s : ℕ). ((‵ (flft κ full_share) ⊛ ‵ ftrue) ⊛ ‵ (u16.own_val s (v ∷ []))) ⊛
-    some (λ (ws : R.Denot × Unit {0}). ‵ (lasts g.ended z.0.0 z.0.3 ws) ⊛ raw (fact 𝓤 _) ⊛ raw (fact 𝓤 _) ⊛ raw (fact 𝓤 _) ⊛ raw (fact 𝓤 _))))) (id⊢ 𝓤 _) $
+    some (λ (ws : R.Denot × Unit {0}). ‵ (lasts g.ended z.0.0 z.0.3 ws) ⊛ raw (fact 𝓤 _))))) (id⊢ 𝓤 _) $
     await ! tt $ pick ! (λ s. split ! $ split ! $ split ! $ lft_end ! tt $ move ! (2 ∷ []) $
     -- [the status; the lifetime is over; nothing; the clause; what the lender keeps]
     peeks ! u16 (Is u16) (shows 𝓛 u16) s (v ∷ []) (λ is. lands_as ! refl refl ((uint_Lawful 𝓛 w16).typed s _ is).0 $
-    move ! (3 ∷ []) $ pick ! (λ ws. split ! $ move ! (1 ∷ []) $ split ! $ heard ! _ (λ byte. split ! $ heard ! _ (λ end. split ! $ heard ! _ (λ none. heard ! _ (λ stopped.
-    let said : HasNext n ws.0 s = record { byte = byte; end = end; none = none; stopped = stopped } in fsplit ! $ fsplit ! $
+    move ! (3 ∷ []) $ pick ! (λ ws. split ! $ move ! (1 ∷ []) $ heard ! _ (λ said. fsplit ! $ fsplit ! $
     -- [the loan's last value; its borrow; the rest; the status; the lifetime is over; nothing; what the lender keeps]
     move ! (4 ∷ 6 ∷ 0 ∷ []) $ use3 𝓛 (later (‵ (lies_at R full_share (block_ptr b o) ws.0))) (ref_back 𝓛 R κ δ ws.0 b o) $ await ! tt $
     returns ! (look_at ! 0 refl) $ free_all ! refl $ keep ! (0 ∷ 3 ∷ []) $
     nothing ! $ fpack ! (HasNext n ws.0 s) (λ _. ftrue) said $ move ! (1 ∷ 0 ∷ []) $ fjoin ! $
     fpack ! R.Denot (λ d. fsep (lies_at R full_share (block_ptr b o) d) (fex (HasNext n d s) (λ _. ftrue))) ws.0 $
     suffices ! _ (ends_at 𝓛 f.ended stayed c (y (block_ptr b o)) v s (tt, tt) (tt, tt)) $
-    move ! (1 ∷ 0 ∷ []) $ nothing ! $ nothing ! $ join ! $ nothing ! $ group ! 3 $ done !)))))))))))))
+    move ! (1 ∷ 0 ∷ []) $ nothing ! $ nothing ! $ join ! $ nothing ! $ group ! 3 $ done !))))))))))

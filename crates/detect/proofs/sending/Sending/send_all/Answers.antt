@@ -1,5 +1,4 @@
-use Rattle.std.proofs.Common.{rules, ◌≡◌, ℕ, List, [], ◌∷◌, ◌++◌, refl, sym, ap, subst, ◌∙◌, arith, length-append}
-use Rattle.dag.specs.declared.records.Placed.{Placed}
+use Rattle.std.proofs.Common.{rules, ◌≡◌, ℕ, [], ◌∷◌, ◌++◌, refl, sym, ap, subst, ◌∙◌, arith, length-append}
 use Rattle.dag.specs.Traces.{placed}
 use Rattle.dag.specs.Parts.{records_of}
 use Rattle.trace.specs.Devices.{Change, ◌⇝◌}
@@ -7,9 +6,8 @@ use Rattle.trace.specs.Endings.{IsWantOfMemory}
 use Rattle.trace.specs.Feeding.{Feeding, HasFed, IsWhole}
 use Rattle.trace.proofs.Feedings.{consumes_none, consumes_more, fed_none, at_limits}
 use Rattle.trace.proofs.Endings.{ends_refused, refused_by_fault, given_next, given_end}
-use Rattle.serial.proofs.Detected.{placed-next}
-use Rattle.route.specs.Routers.{HasSent}
-use Rattle.detect.proofs.Sendings.{goes_on_refl, goes_on_trans, goes_on_router, same_part}
+use Rattle.detect.specs.declared.sending.Sending.{Sending}
+use Rattle.detect.proofs.Sendings.{goes_on_refl, goes_on_trans, goes_on_router, sent_more}
 use Rattle.detect.proofs.sending.Sending.send_all.Goals as goal
 
 pub records-init : goal.records-init
@@ -38,14 +36,12 @@ pub records-preserved-in_default : goal.records-preserved-in_default
 records-preserved-in_default g c =
     let i = c.records.invariant in
     let next = c.in-Some.ensures.fed i.trace i.came i.fed in
-    let P : List Placed → Type 0 = λ u. HasSent (records_of c.args.self.now.part u) c.put.new.self.router in
-    let sent = same_part c.args.self.now c.records.self c.put.new.self.router (placed i.trace) c.in-Some.placed i.goes_on (c.in_default.ensures.sent (placed i.trace)) i.sent in
     record {
       trace = i.trace ++ c.in-Some.placed.what ∷ [];
       came = i.came;
       gave = i.gave;
       fed = next.1;
-      sent = subst P (sym (placed-next i.trace c.in-Some.placed next.0)) sent;
+      sent = sent_more c.args.self.now c.records.self c.put.new.self i.trace c.in-Some.placed next.0 i.goes_on (c.in_default.ensures.sent (placed i.trace)) i.sent;
       ready = c.in_default.ensures.ready;
       goes_on = goes_on_trans _ _ _ i.goes_on c.put.ensures.goes_on;
       steady = i.steady;
@@ -63,14 +59,12 @@ pub records-preserved-in-Some-put : goal.records-preserved-in-Some-put
 records-preserved-in-Some-put g c =
     let i = c.records.invariant in
     let next = c.in-Some.ensures.fed i.trace i.came i.fed in
-    let P : List Placed → Type 0 = λ u. HasSent (records_of c.args.self.now.part u) c.send_rest.new.self.router in
-    let sent = same_part c.args.self.now c.records.self c.send_rest.new.self.router (placed i.trace) c.in-Some.placed i.goes_on (λ h. c.send_rest.ensures.sent _ (c.in-Some-put.ensures.left (placed i.trace) h)) i.sent in
     record {
       trace = i.trace ++ c.in-Some.placed.what ∷ [];
       came = i.came;
       gave = i.gave;
       fed = next.1;
-      sent = subst P (sym (placed-next i.trace c.in-Some.placed next.0)) sent;
+      sent = sent_more c.args.self.now c.records.self c.send_rest.new.self i.trace c.in-Some.placed next.0 i.goes_on (λ h. c.send_rest.ensures.sent _ (c.in-Some-put.ensures.left (placed i.trace) h)) i.sent;
       ready = c.send_rest.ensures.ready;
       goes_on = goes_on_trans _ _ _ i.goes_on (goes_on_trans _ _ _ c.put.ensures.goes_on c.send_rest.ensures.goes_on);
       steady = i.steady;
@@ -124,18 +118,17 @@ records-preserved g c =
     let fed = c.in_ok-read_on-in-None.ensures.fed i.trace i.came kept in
     let change : Change = g.R.Source.state c.records.source ⇝ g.R.Source.state c.read_on.new.source in
     let next = given_next _ _ _ _ change _ _ _ c.in-Some-2.is fed.2 in
-    let P : List Placed → Type 0 = λ u. HasSent (records_of c.args.self.now.part u) c.send.new.self.router in
-    let flushed = goes_on_trans _ _ _ i.goes_on (goes_on_router c.records.self c.flush.new.self c.flush.ensures.lanes) in
+    let flushed : Sending = record c.records.self { router = c.flush.new.self } in
+    let goes_on = goes_on_trans _ _ _ i.goes_on (goes_on_router c.records.self c.flush.new.self c.flush.ensures.lanes) in
     let before = c.flush.ensures.sent (records_of c.args.self.now.part (placed i.trace)) i.sent in
-    let sent = same_part c.args.self.now (record c.records.self { router = c.flush.new.self }) c.send.new.self.router (placed i.trace) c.in-Some-2.placed flushed (c.send.ensures.sent (placed i.trace)) before in
     record {
       trace = i.trace ++ c.in-Some-2.placed.what ∷ [];
       came = i.came ++ fed.0;
       gave = consumes_more _ _ _ i.came fed.0 i.gave fed.1;
       fed = next.1;
-      sent = subst P (sym (placed-next i.trace c.in-Some-2.placed next.0)) sent;
+      sent = sent_more c.args.self.now flushed c.send.new.self i.trace c.in-Some-2.placed next.0 goes_on (c.send.ensures.sent (placed i.trace)) before;
       ready = c.send.ensures.ready;
-      goes_on = goes_on_trans _ _ _ flushed c.send.ensures.goes_on;
+      goes_on = goes_on_trans _ _ _ goes_on c.send.ensures.goes_on;
       steady = next.2 ∙ i.steady;
       records = c.read_on.ensures.limits.records ∙ c.next_known.ensures.limits.records ∙ i.records;
       depths = c.read_on.ensures.limits.depths ∙ c.next_known.ensures.limits.depths ∙ i.depths;
