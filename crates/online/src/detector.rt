@@ -1,5 +1,5 @@
 //! The detector and its answers.
-ghost use Rattle.std.specs.Prelude.{◌≡◌, ◌≢◌, ◌↔◌, ◌+◌, ◌<◌, ℕ, List, [], ◌∷◌, ◌++◌, length, IfOk, IfSome, IfErr, IsErr, OnOk, OnErr};
+ghost use Rattle.std.specs.Prelude.{◌≡◌, ◌≢◌, ◌↔◌, ◌+◌, ◌<◌, ◌≤◌, ℕ, List, [], ◌∷◌, ◌++◌, length, IfOk, IfSome, IfErr, IsErr, OnOk, OnErr};
 ghost use Rattle.std.specs.Option.{option_to_list};
 ghost use Rattle.dag.specs.Bounds.{most_records};
 ghost use Rattle.dag.specs.declared.records.Record.{Record};
@@ -94,13 +94,9 @@ impl Detector {
         if self.stopped {
             return Err(Refusal::NoMemory);
         }
-        let taken = self.shard.taken();
-        if taken >= MOST_RECORDS {
-            return Err(Refusal::TooMany);
-        }
-        let place = taken + 1;
+        let place = self.shard.taken().wrapping_add(1);
         if !self.shard.accepts(place) {
-            return Err(Refusal::AfterEnd);
+            return Err(self.refusal());
         }
         match self.follow(Placed { place, what }) {
             Ok(race) => Ok(race),
@@ -108,6 +104,19 @@ impl Detector {
                 self.stopped = true;
                 Err(Refusal::NoMemory)
             }
+        }
+    }
+
+    // Why no record may come.
+    #[cold]
+    fn refusal(&self) -> Refusal
+        ensures too_many { most_records ≤ self.now.shard.taken → result ≡ Refusal.TooMany }
+        ensures after_end { self.now.shard.taken < most_records → result ≡ Refusal.AfterEnd }
+    {
+        if self.shard.taken() >= MOST_RECORDS {
+            Refusal::TooMany
+        } else {
+            Refusal::AfterEnd
         }
     }
 
