@@ -247,8 +247,9 @@ class Runner:
     @staticmethod
     def refuse_broken(run):
         """What a program that failed leaves in a file is no trace, and may be no file."""
-        if run.faults and not run.is_ended_early():
-            raise Failure(run.faults[0])
+        broken = [line for line in run.faults if "has what came before" not in line]
+        if broken:
+            raise Failure(broken[0])
 
     @staticmethod
     def explain_fault(run, fault):

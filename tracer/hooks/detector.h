@@ -113,7 +113,7 @@ static void *detect(void *nothing) {
     return nothing;
 }
 
-/* Hands over what is left, and waits until the report is out. */
+/* Hands over what is left, and waits until the report is made. */
 static void end_detector(void) {
     hand_over();
     pthread_join(detector, NULL);

@@ -51,10 +51,9 @@ static void *resize_large(struct large_block *block, size_t size) {
         return NULL;
     bool done = block->first ? mremap(block->first, block->size, size, MREMAP_MAYMOVE | MREMAP_FIXED, first) == first
                              : mprotect(first, size, PROT_READ | PROT_WRITE) == 0;
-    if (!done) {
-        munmap(first, size);
+    /* The addresses stay reserved: after a mremap that failed they may be another one's. */
+    if (!done)
         return NULL;
-    }
     madvise(first, size, MADV_HUGEPAGE);
     *block = (struct large_block){first, size};
     return first;

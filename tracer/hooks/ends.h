@@ -77,18 +77,27 @@ static bool is_on_stack(const void *address) {
     return (uintptr_t)address - (stack_first - below) < stack_size + below;
 }
 
+void (*__real_signal(int number, void (*handler)(int)))(int);
+int __real_sigaction(int number, const struct sigaction *wanted, struct sigaction *before);
+
 static void die_by(int number) {
     sigset_t one;
     sigemptyset(&one);
     sigaddset(&one, number);
-    signal(number, SIG_DFL);
+    __real_signal(number, SIG_DFL);
     raise(number);
     sigprocmask(SIG_UNBLOCK, &one, NULL);
 }
 
+/* strsignal may take memory. */
+static const char *name_of(int number) {
+    const char *name = sigdescr_np(number);
+    return name ? name : "a real-time signal";
+}
+
 static void end_by_signal(int number) {
     waiting_signal = 0;
-    tell("the program ends by signal %d (%s), and the %s has what came before", number, strsignal(number), made());
+    tell("the program ends by signal %d (%s), and the %s has what came before", number, name_of(number), made());
     end_trace();
     die_by(number);
 }
@@ -110,7 +119,7 @@ static void end_after_handler(int number, ucontext_t *context) {
 
 /* The detector was at work, and can't go on. */
 static void die_inside(int number) {
-    tell("the program ends by signal %d (%s) inside the detector, so there is no report", number, strsignal(number));
+    tell("the program ends by signal %d (%s) inside the detector, so there is no report", number, name_of(number));
     die_by(number);
 }
 
@@ -143,13 +152,35 @@ static bool is_harmless(int number) {
     return false;
 }
 
-static void catch_signals(void) {
-    sigaltstack(&(stack_t){.ss_sp = signal_stack, .ss_size = sizeof signal_stack}, NULL);
-    struct sigaction caught = {.sa_sigaction = on_signal, .sa_flags = SA_SIGINFO | SA_ONSTACK}, before;
+static int catch_signal(int number, struct sigaction *before) {
+    struct sigaction caught = {.sa_sigaction = on_signal, .sa_flags = SA_SIGINFO | SA_ONSTACK};
     sigfillset(&caught.sa_mask);
+    return __real_sigaction(number, &caught, before);
+}
+
+static void catch_signals(void) {
+    struct sigaction before;
+    sigaltstack(&(stack_t){.ss_sp = signal_stack, .ss_size = sizeof signal_stack}, NULL);
     for (int number = 1; number <= LAST_SIGNAL; number++)
-        if (!is_harmless(number) && sigaction(number, NULL, &before) == 0 && before.sa_handler == SIG_DFL)
-            sigaction(number, &caught, NULL);
+        if (!is_harmless(number) && __real_sigaction(number, NULL, &before) == 0 && before.sa_handler == SIG_DFL)
+            catch_signal(number, NULL);
+}
+
+/* For the program the handler above is the system's own end by a signal, and where it wants that, it gets the handler. */
+int __wrap_sigaction(int number, const struct sigaction *wanted, struct sigaction *before) {
+    bool ends = wanted && wanted->sa_handler == SIG_DFL && is_traced() && !is_harmless(number);
+    int answer = ends ? catch_signal(number, before) : __real_sigaction(number, wanted, before);
+    if (answer == 0 && before && before->sa_sigaction == on_signal)
+        *before = (struct sigaction){.sa_handler = SIG_DFL};
+    return answer;
+}
+
+void (*__wrap_signal(int number, void (*handler)(int)))(int) {
+    struct sigaction wanted = {.sa_handler = SIG_DFL}, before;
+    if (handler == SIG_DFL)
+        return __wrap_sigaction(number, &wanted, &before) == 0 ? before.sa_handler : SIG_ERR;
+    void (*replaced)(int) = __real_signal(number, handler);
+    return replaced == (void (*)(int))on_signal ? SIG_DFL : replaced;
 }
 
 /* ---- Ends without handlers ---- */
@@ -190,6 +221,8 @@ EXEC(execve, (const char *path, char *const words[], char *const settings[]), (p
 EXEC(execvp, (const char *name, char *const words[]), (name, words))
 EXEC(execvpe, (const char *name, char *const words[], char *const settings[]), (name, words, settings))
 EXEC(fexecve, (int file, char *const words[], char *const settings[]), (file, words, settings))
+EXEC(execveat, (int folder, const char *path, char *const words[], char *const settings[], int flags),
+     (folder, path, words, settings, flags))
 
 /* Those that take the words one by one, up to a null pointer. */
 static size_t count_words(va_list rest) {
@@ -217,3 +250,13 @@ static size_t count_words(va_list rest) {
 EXEC_LIST(execl, execv, NO_SETTINGS)
 EXEC_LIST(execlp, execvp, NO_SETTINGS)
 EXEC_LIST(execle, execve, SETTINGS)
+
+/* Its first process ends in the library. */
+int __real_daemon(int stays, int keeps);
+int __wrap_daemon(int stays, int keeps) {
+    if (is_traced()) {
+        end_trace();
+        tell("the program becomes a daemon, and the %s has what came before", made());
+    }
+    return __real_daemon(stays, keeps);
+}

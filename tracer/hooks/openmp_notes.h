@@ -15,14 +15,14 @@ __attribute__((format(__printf__, 2, 3))) static void note(const char *what, con
     char line[1000];
     va_list rest;
     va_start(rest, format);
-    int length = vsnprintf(line, sizeof line - 1, format, rest);
+    vsnprintf(line, sizeof line, format, rest);
     va_end(rest);
-    length = length < (int)sizeof line - 1 ? length : (int)sizeof line - 2;
-    line[length] = '\n';
-    dprintf(says, "%s: %.*s", says == STDERR_FILENO ? "spbags" : what, length + 1, line);
-    notes_length += (size_t)length + 1;
+    put_line(what, line);
+    size_t length = strlen(line) + 1;
+    line[length - 1] = '\n';
+    notes_length += length;
     if (places.file >= 0)
-        add_to_places(line, (size_t)length + 1);
+        add_to_places(line, length);
 }
 
 static void end_notes(void) {

@@ -45,12 +45,26 @@ static struct output places = {.file = -1, .room = LONGEST, .most = UINT64_MAX};
    is, and no signal comes of it that nobody reads. */
 static int says = STDERR_FILENO;
 
+/* No stream and no block of the heap: a signal may come while the program's heap is locked, and a line more moves none of
+   its blocks. */
+static void put_line(const char *what, const char *line) {
+    char whole[1100], *left = whole;
+    int length = snprintf(whole, sizeof whole, "%s: %s\n", says == STDERR_FILENO ? "spbags" : what, line);
+    while (length > 0) {
+        ssize_t wrote = write(says, left, (size_t)length);
+        if (wrote <= 0 && errno != EINTR)
+            return;
+        if (wrote > 0) {
+            left += wrote;
+            length -= (int)wrote;
+        }
+    }
+}
+
 static void say(const char *what, const char *format, va_list rest) {
     char line[400];
-    int length = vsnprintf(line, sizeof line - 1, format, rest);
-    length = length < (int)sizeof line - 1 ? length : (int)sizeof line - 2;
-    line[length] = '\n';
-    dprintf(says, "%s: %.*s", says == STDERR_FILENO ? "spbags" : what, length + 1, line);
+    vsnprintf(line, sizeof line, format, rest);
+    put_line(what, line);
 }
 
 __attribute__((format(__printf__, 1, 2))) static void tell(const char *format, ...) {

@@ -90,11 +90,24 @@ static void open_outputs(const char *name) {
 }
 
 #ifdef SPBAGS_INSIDE
+/* The program's thread may end before the process, by pthread_exit. Without the detector's thread the process would end
+   with it. So it ends behind the program's own destructors. */
+static pthread_key_t thread_end;
+
+static void end_with_thread(void *session) {
+    static int rounds;
+    if (is_traced() && ++rounds < PTHREAD_DESTRUCTOR_ITERATIONS)
+        pthread_setspecific(thread_end, session);
+    else if (is_traced())
+        exit(0);
+}
+
 /* No signal comes to the detector's thread. What the library allocates for it isn't the program's, whose blocks have
    the same addresses as in a run without the detector. */
 static void start_thread(void) {
-    enum { ROOM = 1 << 20 };
+    enum { ROOM = 1 << 20, STACK = 1 << 20 };
     sigset_t all, before;
+    pthread_attr_t small;
     uintptr_t at = heap_at, end = heap_end;
     heap_at = (uintptr_t)reserve(ROOM);
     heap_end = heap_at + ROOM;
@@ -103,7 +116,10 @@ static void start_thread(void) {
     fill_bundle(0);
     sigfillset(&all);
     sigprocmask(SIG_BLOCK, &all, &before);
-    int error = __real_pthread_create(&detector, NULL, detect, NULL);
+    pthread_attr_init(&small);
+    pthread_attr_setstacksize(&small, STACK);
+    int error = __real_pthread_create(&detector, &small, detect, NULL);
+    pthread_attr_destroy(&small);
     sigprocmask(SIG_SETMASK, &before, NULL);
     if (error != 0)
         fail("the detector has no thread: %s", strerror(error));
@@ -124,6 +140,8 @@ static void start_detector(void) {
     find_heap();
     session = reserve(spbags_room());
     start_thread();
+    pthread_key_create(&thread_end, end_with_thread);
+    pthread_setspecific(thread_end, session);
     detecting = true;
 }
 #endif
@@ -141,6 +159,18 @@ static void tell_fork(void) {
         return;
     tell("the program forks, and the report is of its first process alone");
     told = true;
+}
+
+/* This fork calls no handlers. */
+pid_t __real__Fork(void);
+pid_t __wrap__Fork(void) {
+    if (says != STDERR_FILENO)
+        refuse_fork();
+    tell_fork();
+    pid_t child = __real__Fork();
+    if (child == 0)
+        stop_tracing();
+    return child;
 }
 
 static void open_ways(void) {

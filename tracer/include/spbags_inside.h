@@ -38,7 +38,7 @@ uint8_t spbags_step(void *handle, uint8_t kind, uint64_t location);
 static inline uint64_t spbags_record(enum spbags_kind kind, uint64_t location) { return location << 3 | kind; }
 
 /* Takes so many records in turn, up to the first that it can't take, whose status it answers. Their number is below
-   2^60, and nothing writes them meanwhile. */
+   2^60, their address isn't null, even if there are none, and nothing writes them meanwhile. */
 uint8_t spbags_steps(void *handle, const uint64_t *records, size_t count);
 
 /* Makes the text of the report of all records that were taken. No record is taken after that. */

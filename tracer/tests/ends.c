@@ -1,5 +1,6 @@
 /* Ends in the way that its first word names, after a race. */
 #include <cilk/cilk.h>
+#include <pthread.h>
 #include <signal.h>
 #include <stdlib.h>
 #include <string.h>
@@ -41,6 +42,16 @@ static void end(const char *way) {
         cell = fill(0);
     if (strcmp(way, "terminate") == 0)
         raise(SIGTERM);
+    if (strcmp(way, "usual") == 0) {
+        signal(SIGTERM, SIG_DFL);
+        raise(SIGTERM);
+    }
+    while (strcmp(way, "blocks") == 0)
+        free(malloc(1));
+    if (strcmp(way, "thread") == 0)
+        pthread_exit(NULL);
+    if (strcmp(way, "daemon") == 0)
+        daemon(1, 1);
     if (strcmp(way, "_exit") == 0)
         _exit(3);
     if (strcmp(way, "_Exit") == 0)

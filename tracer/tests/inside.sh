@@ -110,6 +110,10 @@ check_inside_ends() {
     check_inside_end ends abort 134 "the program ends by signal 6 (Aborted)$before"
     check_inside_end ends trap 132 "the program ends by signal 4 (Illegal instruction)$before"
     check_inside_end ends terminate 143 "the program ends by signal 15 (Terminated)$before"
+    check_inside_end ends usual 143 "the program ends by signal 15 (Terminated)$before"
+    check_inside_end ends thread 0 ''
+    check_inside_end ends daemon 0 "the program becomes a daemon$before"
+    check_end_among_blocks SPBAGS_REPORT=blocks.races
     check_inside_end ends _exit 3 ''
     check_inside_end ends _Exit 3 ''
     check_inside_end ends quick_exit 3 ''

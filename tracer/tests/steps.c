@@ -5,19 +5,27 @@
 #include <stdio.h>
 #include <stdlib.h>
 
+static int live_blocks;
+
 static struct rattle_block answer_with(void *block) {
     static max_align_t nothing;
     return block ? (struct rattle_block){true, block} : (struct rattle_block){false, &nothing};
 }
 
-struct rattle_block rattle_alloc(size_t size, size_t alignment) { return answer_with(malloc(size > 0 ? size : alignment)); }
+struct rattle_block rattle_alloc(size_t size, size_t alignment) {
+    live_blocks++;
+    return answer_with(malloc(size > 0 ? size : alignment));
+}
 
 struct rattle_block rattle_realloc(void *block, size_t kept, size_t size, size_t alignment) {
     (void)kept;
     return answer_with(realloc(block, size > 0 ? size : alignment));
 }
 
-void rattle_dealloc(void *block) { free(block); }
+void rattle_dealloc(void *block) {
+    live_blocks--;
+    free(block);
+}
 
 static void expect(const char *what, uint8_t wanted, uint8_t status) {
     if (status != wanted)
@@ -53,6 +61,8 @@ static void print_report(void (*run)(void *session, uint64_t location), uint64_t
     expect("a step after the report", SPBAGS_GIVEN, spbags_step(session, SPBAGS_SYNC, 0));
     spbags_free(session);
     free(session);
+    if (live_blocks != 0)
+        printf("%d blocks aren't given back\n", live_blocks);
 }
 
 int main(void) {
