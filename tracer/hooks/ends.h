@@ -77,7 +77,7 @@ static bool is_on_stack(const void *address) {
     return (uintptr_t)address - (stack_first - below) < stack_size + below;
 }
 
-void (*__real_signal(int number, void (*handler)(int)))(int);
+sighandler_t __real_signal(int number, sighandler_t wanted);
 int __real_sigaction(int number, const struct sigaction *wanted, struct sigaction *before);
 
 static void die_by(int number) {
@@ -175,12 +175,20 @@ int __wrap_sigaction(int number, const struct sigaction *wanted, struct sigactio
     return answer;
 }
 
-void (*__wrap_signal(int number, void (*handler)(int)))(int) {
-    struct sigaction wanted = {.sa_handler = SIG_DFL}, before;
-    if (handler == SIG_DFL)
-        return __wrap_sigaction(number, &wanted, &before) == 0 ? before.sa_handler : SIG_ERR;
-    void (*replaced)(int) = __real_signal(number, handler);
-    return replaced == (void (*)(int))on_signal ? SIG_DFL : replaced;
+static sighandler_t set_handler(sighandler_t set(int, sighandler_t), int number, sighandler_t wanted) {
+    struct sigaction usual = {.sa_handler = SIG_DFL}, before;
+    if (wanted == SIG_DFL)
+        return __wrap_sigaction(number, &usual, &before) == 0 ? before.sa_handler : SIG_ERR;
+    sighandler_t replaced = set(number, wanted);
+    return replaced == (sighandler_t)on_signal ? SIG_DFL : replaced;
+}
+
+sighandler_t __wrap_signal(int number, sighandler_t wanted) { return set_handler(__real_signal, number, wanted); }
+
+/* That of a program compiled as strict ISO C. */
+sighandler_t __real___sysv_signal(int number, sighandler_t wanted);
+sighandler_t __wrap___sysv_signal(int number, sighandler_t wanted) {
+    return set_handler(__real___sysv_signal, number, wanted);
 }
 
 /* ---- Ends without handlers ---- */
