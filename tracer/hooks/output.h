@@ -52,7 +52,7 @@ static void put_line(const char *what, const char *line) {
     int length = snprintf(whole, sizeof whole, "%s: %s\n", says == STDERR_FILENO ? "spbags" : what, line);
     while (length > 0) {
         ssize_t wrote = write(says, left, (size_t)length);
-        if (wrote <= 0 && errno != EINTR)
+        if (wrote == 0 || (wrote < 0 && errno != EINTR))
             return;
         if (wrote > 0) {
             left += wrote;
