@@ -1,10 +1,8 @@
 -- Active procedures by their stretches: what a spawn, a call, a sync, a return and a look-up do to them.
-use Rattle.std.proofs.Common.{◌≡◌, ℕ, suc, ◌+◌, ◌-◌, ◌<◌, ◌≤◌, Bool, true, false, not, ◌||◌, List, [], ◌∷◌, ◌++◌, reverse, length, take, drop, get_or, Option, Some, refl, sym, ap, subst, ◌∙◌, arith}
+use Rattle.std.proofs.Common.{◌≡◌, ℕ, suc, ◌+◌, ◌-◌, ◌<◌, ◌≤◌, Bool, true, false, not, ◌||◌, List, [], ◌∷◌, ◌++◌, reverse, length, take, drop, get_or, inl, inr, ◌⊎◌, refl, sym, ap, subst, ◌∙◌, arith}
 use Rattle.std.proofs.lemmas.List.{take-append-drop, length-take-le, length-drop, length-append, length-reverse, reverse-append, get_or-reverse, get_or-append-add, append_assoc}
 use Rattle.std.proofs.Math.Seq.{take-append_seam, drop-append_seam, take-append-add, get_or-append_seam}
 use Rattle.std.proofs.Math.ListN.{get_or-append}
-use Rattle.std.specs.Bool.{beq}
-use Rattle.std.specs.Option.{option_to_list}
 use Rattle.bags.specs.Nested.{Nested}
 use Rattle.bags.specs.Procedures.{Procedures, at_start, opened, entered, adopts, after_sync, after_return, in_p, event, current}
 use Rattle.dag.specs.declared.records.Record.TheVariants.{Sync, Return}
@@ -247,18 +245,12 @@ moved_held count ss nested ys g d x held is more other first kind =
     not_both true false e = absurd (cc)
     not_both false true e = absurd (cc)
 
--- of two kinds that a test distinguishes, each is the other turned round
-pub kinds_same : (a b : Bool) → not (beq a b) ≡ false → a ≡ b
-kinds_same true true e = refl
-kinds_same false false e = refl
-kinds_same true false e = absurd (cc)
-kinds_same false true e = absurd (cc)
-
-pub kinds_differ : (a b : Bool) → not (beq a b) ≡ true → a ≡ not b
-kinds_differ true true e = absurd (cc)
-kinds_differ false false e = absurd (cc)
-kinds_differ true false e = refl
-kinds_differ false true e = refl
+-- of two kinds, each is the other or the other turned round
+pub same_or_other : (a b : Bool) → (a ≡ b) ⊎ ((a ≡ b → ⊥) × (a ≡ not b))
+same_or_other true true = inl refl
+same_or_other false false = inl refl
+same_or_other true false = inr (λ e. absurd (cc), refl)
+same_or_other false true = inr (λ e. absurd (cc), refl)
 
 pub more_than_root : (count : ℕ) (ss : List Stretch) (nested : List Nested) (p : Procedures) → procedures_of count ss nested ≡ p → 1 < length p.active → 1 < length nested
 more_than_root count ss nested p is more =
@@ -273,11 +265,11 @@ parent_before count ss nested g x held more = before x.last.others x.last.is x.p
     before [] e p = let one : length (reverse nested) ≡ 1 = ap length e in absurd (omega (arith, length-reverse nested))
     before (f ∷ fs) e p = omega (arith, p.cut.0, p.from)
 
--- what popping the executing procedure leaves
-pub popped : (xs ys : List Nested) (o : Option Nested) (g : Nested) (n : ℕ) → n ≡ length xs → g ≡ get_or xs (n - 1) g → o ≡ Some (get_or xs (length xs - 1) g) → xs ≡ ys ++ option_to_list o
-    → xs ≡ ys ++ g ∷ []
-popped xs ys o g n e at gives is =
-    is ∙ ap (λ (p : Option Nested). ys ++ option_to_list p) (gives ∙ ap (λ (h : Nested). Some h) (ap (λ k. get_or xs (k - 1) g) (sym e) ∙ sym at))
+-- the executing procedure, as the last of those that were active before it was closed
+pub closed : (count : ℕ) (ss : List Stretch) (nested ys : List Nested) (g : Nested) → AreHeld count ss nested → nested ≡ ys ++ g ∷ [] → Executing count ss nested g
+closed count ss nested ys g held is =
+    let last : IsLast nested g = record { others = reverse ys; is = ap reverse is ∙ reverse-last ys g } in
+    record { last = last; parts = parts count ss g last.others (subst (AreCut count ss) last.is held.cut) }
 
 -- a look-up
 

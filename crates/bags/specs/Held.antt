@@ -4,7 +4,6 @@ use Rattle.std.specs.List.{range_with_len}
 use Rattle.std.specs.FinSet as set
 use Rattle.bags.specs.Nested.{Nested}
 use Rattle.bags.specs.Procedures.{Bag, Active, Procedures}
-use Rattle.bags.specs.Search.{Start, IsStart}
 use Rattle.bags.specs.Stretch.{Stretch}
 use Rattle.dag.specs.Bounds.{most_records}
 
@@ -60,8 +59,3 @@ pub record AreHeld (count : ℕ) (ss : List Stretch) (nested : List Nested) : Ty
   pub some : 1 ≤ count
   pub most : count ≤ most_records + 1
   pub cut : AreCut count ss (reverse nested)
-
--- and where a search among the stretches begins
-pub record AreKept (count : ℕ) (start : Start) (ss : List Stretch) (nested : List Nested) : Type 0 where
-  pub held : AreHeld count ss nested
-  pub start_is : IsStart (length ss) start

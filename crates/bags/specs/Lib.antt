@@ -2,7 +2,6 @@ pub mod Procedures
 pub mod Paths
 pub mod Stretches
 pub mod Words
-pub mod First
 pub mod Stretch
 pub mod Nested
 pub mod Numbers

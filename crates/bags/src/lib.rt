@@ -10,19 +10,20 @@ ghost use Rattle.bags.specs.Stretches.{stretches};
 ghost use Rattle.bags.specs.Numbers.{digits};
 
 use dag::NoMemory;
-use look_up::look_up;
 use nested::Nested;
-use search::Start;
+use nesting::Nesting;
 use std::alloc::Global;
 use std::marker::Model;
 use stretch::Stretch;
+use stretches::Stretches;
 
-mod first;
 pub mod laws;
 mod look_up;
 mod nested;
+mod nesting;
 mod search;
 mod stretch;
+mod stretches;
 
 /// The bags of the active procedures of a serial run, which begins in its root.
 ///
@@ -39,13 +40,10 @@ mod stretch;
 /// ```
 #[derive(Drop)]
 pub struct Bags {
-    /// The active procedures; the last one executes.
-    nested: Vec<Nested>,
+    nesting: Nesting,
     /// The stretches of the active procedures, the root's first.
-    stretches: Vec<Stretch>,
+    stretches: Stretches,
     count: u64,
-    /// Where a look-up among the stretches begins.
-    start: Start,
 }
 
 impl Model for Bags {
@@ -55,11 +53,11 @@ impl Model for Bags {
 
     ghost coded = { coded_procedures };
 
-    ghost use Rattle.bags.specs.Held.{procedures_of, AreKept};
+    ghost use Rattle.bags.specs.Held.{procedures_of, AreHeld};
 
-    ghost view = { λ b. procedures_of b.count b.stretches.items b.nested.items };
+    ghost view = { λ b. procedures_of b.count b.stretches b.nesting };
 
-    ghost invariant = { λ b. AreKept b.count b.start b.stretches.items b.nested.items };
+    ghost invariant = { λ b. AreHeld b.count b.stretches b.nesting };
 }
 
 impl Bags {
@@ -71,15 +69,10 @@ impl Bags {
     pub fn new(alloc: Global) -> Result<Bags, NoMemory>
         ensures { IfOk result (λ bags. bags ≡ at_start) }
     {
-        let mut nested = Vec::new(alloc);
-        nested.push(Nested::new(0, 0, false))?;
-        let mut stretches = Vec::new(alloc);
-        stretches.push(Stretch::new(0, false))?;
         Ok(Bags {
-            nested,
-            stretches,
+            nesting: Nesting::new(alloc, Nested::new(0, 0, false))?,
+            stretches: Stretches::new(alloc, Stretch::new(0, false))?,
             count: 1,
-            start: Start::of_one(),
         })
     }
 
@@ -101,31 +94,33 @@ impl Bags {
         self.enter(true)
     }
 
-    // Both lists grow before anything changes.
+    // If the second list can't grow, the first one gives back what it took.
     #[inline(always)]
     fn enter(&mut self, is_called: bool) -> Result<(), NoMemory>
         requires { self.old.count ≤ most_records }
         ensures ok { OnOk result (self.new ≡ entered self.old is_called) }
         ensures err { OnErr result (self.new ≡ self.old) }
     {
-        self.nested.reserve(1)?;
-        self.stretches.reserve(1)?;
-        self.nested
-            .push_reserved(Nested::new(self.stretches.len(), self.count, is_called));
-        self.stretches
-            .push_reserved(Stretch::new(self.count, false));
-        self.start = self.start.of_more(self.stretches.len());
-        self.count += 1;
-        Ok(())
+        self.nesting
+            .open(Nested::new(self.stretches.len(), self.count, is_called))?;
+        match self.stretches.push(Stretch::new(self.count, false)) {
+            Ok(()) => {
+                self.count += 1;
+                Ok(())
+            }
+            Err(refused) => {
+                let _ = self.nesting.close();
+                Err(refused)
+            }
+        }
     }
 
     /// The executing procedure syncs.
     pub fn sync(&mut self)
         ensures { self.new ≡ event self.old Sync }
     {
-        let executing = self.nested[self.nested.len() - 1];
-        self.stretches.truncate(executing.begins() + 1);
-        self.start = self.start.of_fewer(executing.begins() + 1);
+        self.stretches
+            .truncate(self.nesting.executing().begins() + 1);
     }
 
     /// The executing procedure returns to its parent, which executes from here on.
@@ -133,20 +128,11 @@ impl Bags {
         requires { 1 < length self.old.active }
         ensures { self.new ≡ event self.old Return }
     {
-        let executing = self.nested[self.nested.len() - 1];
-        let _ = self.nested.pop();
-        let last = self.stretches[executing.begins() - 1];
-        self.stretches.truncate(executing.begins());
-        // What it kept goes to one bag of its parent, and joins the parent's last stretch if that belongs to the same
-        // bag.
+        let executing = self.nesting.close();
+        // What it kept goes to one bag of its parent.
         let is_parallel = !executing.is_called();
-        if last.is_parallel() != is_parallel {
-            self.stretches
-                .push_reserved(Stretch::new(executing.number(), is_parallel));
-            self.start = self.start.of_fewer(executing.begins() + 1);
-        } else {
-            self.start = self.start.of_fewer(executing.begins());
-        }
+        let kept = Stretch::new(executing.number(), is_parallel);
+        self.stretches.join(executing.begins(), kept);
     }
 
     /// The number of the executing procedure, which is in no P-bag.
@@ -155,7 +141,7 @@ impl Bags {
         ensures known { result < self.now.count }
         ensures in_series { in_p self.now.active result ≡ false }
     {
-        self.nested[self.nested.len() - 1].number()
+        self.nesting.executing().number()
     }
 
     /// The number of procedures so far, active and completed.
@@ -171,7 +157,7 @@ impl Bags {
         ensures procedures { result ≡ length self.now.active }
         ensures some { 1 ≤ result }
     {
-        self.nested.len() as u64
+        self.nesting.len() as u64
     }
 
     /// How many numbers the lists hold in all: two for each active procedure, and one for each stretch.
@@ -179,7 +165,7 @@ impl Bags {
         ensures exact { result ≡ 2 * length self.now.active + stretches self.now }
         ensures most { result ≤ 2 * (length self.now.active + stretches self.now) }
     {
-        (2 * self.nested.len() + self.stretches.len()) as u64
+        (2 * self.nesting.len() + self.stretches.len()) as u64
     }
 
     /// Whether a procedure is in a P-bag: whether it is parallel to the next strand.
@@ -203,7 +189,7 @@ impl Bags {
         ensures paths { DecidesPaths self.now procedure result.0 }
         ensures probes { result.1 ≤ digits (stretches self.now) }
     {
-        let (keeper, probes) = look_up(&self.stretches, self.start, procedure);
+        let (keeper, probes) = self.stretches.look_up(procedure);
         (keeper.is_parallel(), probes)
     }
 }

@@ -1,10 +1,9 @@
-//! Active procedures, as `Bags` holds them.
+//! An active procedure.
 #![tactic(auto)]
 
-ghost use Rattle.std.specs.Prelude.{◌≡◌, ◌≤◌};
+ghost use Rattle.std.specs.Prelude.{◌≡◌, ◌*◌, ◌≤◌};
 ghost use Rattle.dag.specs.Bounds.{most_records};
 
-use crate::first::First;
 use std::marker::Model;
 
 /// An active procedure: where its stretches begin, its number, and whether it was called rather than spawned. Its
@@ -12,18 +11,21 @@ use std::marker::Model;
 #[derive(Clone, Copy)]
 pub struct Nested {
     begins: usize,
-    // the flag is set if it was called
-    first: First,
+    // twice the number, plus 1 if it was called
+    word: u64,
 }
 
 impl Model for Nested {
-    ghost use Rattle.bags.specs.Nested.{Nested};
+    ghost use Rattle.bags.specs.Nested.{Nested, nested_of};
+    ghost use Rattle.bags.specs.Words.{word_with, word_back};
 
     ghost Value = { Nested };
 
-    ghost view = { λ n. record { begins = n.begins; number = n.first.number; is_called = n.first.flag } };
+    ghost view = { λ n. nested_of n.begins n.word };
 
-    ghost inverse = { λ n. record { begins = n.begins; first = record { number = n.number; flag = n.is_called } } };
+    ghost inverse = { λ n. record { begins = n.begins; word = word_with n.number n.is_called } };
+
+    ghost inverse_ok = { λ n h i. record { begins = n.begins; word = word_back n.word i } };
 }
 
 impl Nested {
@@ -37,7 +39,7 @@ impl Nested {
     {
         Nested {
             begins,
-            first: First::new(number, is_called),
+            word: 2 * number + is_called as u64,
         }
     }
 
@@ -54,7 +56,7 @@ impl Nested {
     pub fn number(self) -> u64
         ensures { result ≡ self.number }
     {
-        self.first.number()
+        self.word / 2
     }
 
     /// Whether it was called.
@@ -62,6 +64,6 @@ impl Nested {
     pub fn is_called(self) -> bool
         ensures { result ≡ self.is_called }
     {
-        self.first.flag()
+        self.word % 2 == 1
     }
 }

@@ -1,27 +1,30 @@
-//! Stretches, as `Bags` holds them.
+//! A stretch. Only one call compares its first number, and it counts.
 #![tactic(auto)]
 
-ghost use Rattle.std.specs.Prelude.{◌≡◌, ◌+◌, ◌<◌, ◌≤◌, ◌^◌, ◌↔◌, IsTrue};
+ghost use Rattle.std.specs.Prelude.{◌≡◌, ◌+◌, ◌*◌, ◌<◌, ◌≤◌, ◌^◌, ◌↔◌, IsTrue};
 ghost use Rattle.dag.specs.Bounds.{most_records};
 
-use crate::first::First;
 use crate::look_up::Probes;
 use std::marker::Model;
 
-/// A run of procedures in one bag: the first of them, and whether the bag is a P-bag.
+/// A run of procedures in one bag: the first of them, which no one can read, and whether the bag is a P-bag.
 #[derive(Clone, Copy)]
 pub struct Stretch {
-    first: First,
+    // twice the first number, plus 1 if the bag is a P-bag
+    word: u64,
 }
 
 impl Model for Stretch {
-    ghost use Rattle.bags.specs.Stretch.{Stretch};
+    ghost use Rattle.bags.specs.Stretch.{Stretch, stretch_of};
+    ghost use Rattle.bags.specs.Words.{word_with, word_back};
 
     ghost Value = { Stretch };
 
-    ghost view = { λ s. record { first = s.first.number; is_parallel = s.first.flag } };
+    ghost view = { λ s. stretch_of s.word };
 
-    ghost inverse = { λ s. record { first = record { number = s.first; flag = s.is_parallel } } };
+    ghost inverse = { λ s. record { word = word_with s.first s.is_parallel } };
+
+    ghost inverse_ok = { λ s h i. record { word = word_back s.word i } };
 }
 
 impl Stretch {
@@ -33,7 +36,7 @@ impl Stretch {
         ensures bag { result.is_parallel ≡ is_parallel }
     {
         Stretch {
-            first: First::new(first, is_parallel),
+            word: 2 * first + is_parallel as u64,
         }
     }
 
@@ -42,7 +45,7 @@ impl Stretch {
     pub fn is_parallel(self) -> bool
         ensures { result ≡ self.is_parallel }
     {
-        self.first.flag()
+        self.word % 2 == 1
     }
 
     /// Whether it begins with this procedure or an earlier one. This comparison is a probe, and it is counted.
@@ -53,6 +56,7 @@ impl Stretch {
         ensures by { IsTrue result ↔ (self.first ≤ procedure) }
         ensures counted { probes.new ≡ probes.old + 1 }
     {
-        self.first.is_by(procedure, probes)
+        probes.add();
+        self.word <= 2 * procedure + 1
     }
 }

@@ -1,5 +1,5 @@
 //! The races of all shards, by location.
-ghost use Rattle.std.specs.Prelude.{◌≡◌, List, [], ◌∷◌, ◌++◌, map, true, OnOk, OnErr, IfOk, IsErr};
+ghost use Rattle.std.specs.Prelude.{◌≡◌, List, [], ◌∷◌, ◌++◌, map, true, IsTrue, OnOk, OnErr, IfOk, IsErr};
 ghost use Rattle.dag.specs.declared.back.Back.{Back};
 ghost use Rattle.collect.specs.Collected.{AreFirstLeast, KeepsBest, IsCollected, IsFirstOnLocation, IsTakenInPart, fails, has_better};
 
@@ -51,10 +51,25 @@ impl Collector {
         match back {
             Back::Race(race) => self.keep(race),
             Back::NoMemory => {
-                self.refused = true;
+                self.note_refused();
                 Ok(())
             }
         }
+    }
+
+    /// Notes that a growth was refused, to a shard or to the collector: there will be no report.
+    pub fn note_refused(&mut self)
+        ensures races { self.new.races ≡ self.old.races }
+        ensures refused { IsTrue self.new.refused }
+    {
+        self.refused = true;
+    }
+
+    /// Whether a refused growth was noted.
+    pub fn is_refused(&self) -> bool
+        ensures { result ≡ self.now.refused }
+    {
+        self.refused
     }
 
     /// Takes the races of a report, one after another. If the allocator refuses a growth, the collector has the races

@@ -1,9 +1,10 @@
 -- How readings that stand on one another end.
-use Rattle.std.proofs.Common.{◌≡◌, ℕ, List, Result, Ok, Err, subst}
+use Rattle.std.proofs.Common.{◌≡◌, ℕ, List, Result, Ok, Err, ⊎_elim, subst}
 use Rattle.dag.specs.declared.records.Record.{Record}
 use Rattle.trace.specs.declared.faults.Fault.{Fault}
+use Rattle.trace.specs.declared.faults.Fault.TheVariants.{NoThread}
 use Rattle.trace.specs.Devices.{Change}
-use Rattle.trace.specs.Endings.{OfTrace, IsRefused, EndsReading}
+use Rattle.trace.specs.Endings.{OfTrace, IsRefused, EndsReading, IsWantOfMemory}
 use Rattle.trace.proofs.Endings.{refused_also}
 
 module _ {T : Type 0} (IsWant : Fault → Type 0) (records depths : ℕ) (c : Change) (Says : T → List Record → Type 0) (r : Result T Fault) (ends : EndsReading IsWant records depths c Says r) where
@@ -12,6 +13,12 @@ module _ {T : Type 0} (IsWant : Fault → Type 0) (records depths : ℕ) (c : Ch
 
   pub refusal_of : (f : Fault) → r ≡ Err f → IsRefused IsWant records depths c f
   refusal_of f is = let P : Result T Fault → Type 0 = EndsReading IsWant records depths c Says in subst P is ends
+
+-- a reading in one thread never lacks a thread
+pub lacks_no_thread : {T : Type 0} (records depths : ℕ) (c : Change) (Says : T → List Record → Type 0) (r : Result T Fault) → EndsReading IsWantOfMemory records depths c Says r → r ≡ Err NoThread → ⊥
+lacks_no_thread records depths c Says r ends is =
+    let why = refusal_of IsWantOfMemory records depths c Says r ends NoThread is in
+    ⊎_elim (λ e. absurd cc) (λ fault. fault.2) why.first
 
 -- more may be wanting, and other things are said of the same trace
 pub ends_with : {T : Type 0} (A B : Fault → Type 0) (records depths : ℕ) (c : Change) (Says Also : T → List Record → Type 0) (r : Result T Fault) → ((f : Fault) → A f → B f) → ((answer : T) (w : List Record) → Says answer w → Also answer w)

@@ -156,24 +156,27 @@ best_more l lists k r lt h =
     (cases_eq (l % n) k)
     ∙ ap (λ o. kept_after l o r) (sym (best_of_lane l lists home))
 
-pub gathers-race : (lists : List (List (Item Back))) (k : ℕ) (r : RaceAt) (c c' : Collection) → k < length lists → ((g : List Back) → KeepsBest g c → KeepsBest (g ++ Race r ∷ []) c')
-    → Gathers lists false c → Gathers (set lists k (get_or lists k [] ++ One (Race r) ∷ [])) false c'
-gathers-race lists k r c c' lt taken h = record {
-  none_failed = λ e. fails-race lists k r (h.none_failed refl);
+pub gathers-race : (lists : List (List (Item Back))) (k : ℕ) (r : RaceAt) (c c' : Collection) → k < length lists → c.refused ≡ false → ((g : List Back) → KeepsBest g c → KeepsBest (g ++ Race r ∷ []) c')
+    → Gathers lists c → Gathers (set lists k (get_or lists k [] ++ One (Race r) ∷ [])) c'
+gathers-race lists k r c c' lt good taken h = record {
+  none_failed = λ e. fails-race lists k r (h.none_failed good);
   holds = λ e home.
-      let before = h.holds refl (home-set lists k (One (Race r)) home) in
+      let before = h.holds good (home-set lists k (One (Race r)) home) in
       let after = taken (all_given lists) before in
       record {
-        refused = after.refused ∙ fails-push_race (all_given lists) r ∙ h.none_failed refl ∙ sym (fails-race lists k r (h.none_failed refl));
+        refused = after.refused ∙ fails-push_race (all_given lists) r ∙ h.none_failed good ∙ sym (fails-race lists k r (h.none_failed good));
         best_on = λ l. after.best_on l ∙ ap (best l) (races_of-append (all_given lists) (Race r ∷ [])) ∙ best-push l (races_of (all_given lists)) r ∙ sym (best_more l lists k r lt home);
       };
 }
 
-pub gathers-finish : (lists : List (List (Item Back))) (k : ℕ) (refused : Bool) (c : Collection) → Gathers lists refused c → Gathers (set lists k (get_or lists k [] ++ Finish ∷ [])) refused c
-gathers-finish lists k refused c h = record {
+pub gathers-finish : (lists : List (List (Item Back))) (k : ℕ) (c : Collection) → Gathers lists c → Gathers (set lists k (get_or lists k [] ++ Finish ∷ [])) c
+gathers-finish lists k c h = record {
   none_failed = λ e. ap fails (all_given-finish lists k) ∙ h.none_failed e;
   holds = λ e home. let P : List Back → Type 0 = λ g. KeepsBest g c in subst P (sym (all_given-finish lists k)) (h.holds e (home-set lists k Finish home));
 }
 
-pub gathers-refused : (lists : List (List (Item Back))) (c : Collection) → Gathers lists true c
-gathers-refused lists c = record { none_failed = λ e. absurd cc; holds = λ e home. absurd cc }
+-- after a refused growth nothing is said
+pub gathers-refused : (lists : List (List (Item Back))) (c : Collection) → c.refused ≡ true → Gathers lists c
+gathers-refused lists c refused =
+    let no : c.refused ≡ false → ⊥ = λ e. let both = sym refused ∙ e in absurd cc in
+    record { none_failed = λ e. absurd (no e); holds = λ e home. absurd (no e) }

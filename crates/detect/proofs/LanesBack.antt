@@ -1,6 +1,6 @@
 -- One item more of one lane back.
-use Rattle.std.proofs.Common.{◌≡◌, ℕ, zero, suc, ◌+◌, ◌<◌, Bool, true, false, IsFalse, List, [], ◌∷◌, ◌++◌, length, take, set, get_or, slice_index_or, append_assoc, length-set, ⊎_elim, arith, refl, sym, ap, subst, ◌∙◌}
-use Rattle.std.proofs.lemmas.Bool.{cases_eq}
+use Rattle.std.proofs.Common.{◌≡◌, ℕ, zero, suc, ◌+◌, ◌<◌, true, false, IsFalse, List, [], ◌∷◌, ◌++◌, length, take, set, get_or, slice_index_or, append_assoc, length-set, ⊎_elim, arith, refl, sym, ap, subst, ◌∙◌}
+use Rattle.std.proofs.lemmas.Bool.{cases_eq, cases_Bool}
 use Rattle.std.specs.Prelude.{Vec}
 use Rattle.std.specs.Vec.{with_item}
 use Rattle.std.proofs.lemmas.List.{append-nil, map-set, get_or-map, get_or-set_same, set-get_or, set-set, length-map}
@@ -38,14 +38,14 @@ marks_stay (xs ∷ lists) (suc k) zero ys h = h
 marks_stay (xs ∷ lists) (suc k) (suc j) ys h = marks_stay lists k j ys h
 
 -- items were taken, and perhaps given to the collector
-further_some : (old : Gathering) (k : ℕ) (s t : Taker Back) (xs : List (Item Back)) (refused : Bool) (collector : Collection) (waiting : Waiting) → k < length old.backs.items → s ≡ get_or old.backs.items k s → taker_lane t ≡ taker_lane s → taken_of t ≡ taken_of s ++ xs
-    → (IsGathered old → Gathers (with_items (given_by old.backs.items) k xs) refused collector)
-    → IsFurther old (record { backs = with_item old.backs k t; collector = collector; refused = refused; waiting = waiting })
-further_some old k s t xs refused collector waiting lt at lane more gathers =
+further_some : (old : Gathering) (k : ℕ) (s t : Taker Back) (xs : List (Item Back)) (collector : Collection) (waiting : Waiting) → k < length old.backs.items → s ≡ get_or old.backs.items k s → taker_lane t ≡ taker_lane s → taken_of t ≡ taken_of s ++ xs
+    → (IsGathered old → Gathers (with_items (given_by old.backs.items) k xs) collector)
+    → IsFurther old (record { backs = with_item old.backs k t; collector = collector; waiting = waiting })
+further_some old k s t xs collector waiting lt at lane more gathers =
     let lists : List (List (Item Back)) = given_by old.backs.items in
     let given : given_by (set old.backs.items k t) ≡ with_items lists k xs =
     map-set taken_of old.backs.items k t ∙ ap (set lists k) (more ∙ ap (λ (l : List (Item Back)). l ++ xs) (ap taken_of at ∙ sym (get_or-map taken_of old.backs.items k s [] lt))) in
-    let P : List (List (Item Back)) → Type 0 = λ ls. Gathers ls refused collector in
+    let P : List (List (Item Back)) → Type 0 = λ ls. Gathers ls collector in
     record {
       count = refl;
       lanes = map-set_same taker_lane old.backs.items k t s (lane ∙ ap taker_lane at);
@@ -55,43 +55,42 @@ further_some old k s t xs refused collector waiting lt at lane more gathers =
 
 -- nothing was taken of a lane
 pub further_none : (old : Gathering) (k : ℕ) (s t : Taker Back) → k < length old.backs.items → s ≡ get_or old.backs.items k s → taker_lane t ≡ taker_lane s → taken_of t ≡ taken_of s
-    → IsFurther old (record { backs = with_item old.backs k t; collector = old.collector; refused = old.refused; waiting = old.waiting })
+    → IsFurther old (record { backs = with_item old.backs k t; collector = old.collector; waiting = old.waiting })
 further_none old k s t lt at lane same =
     let lists : List (List (Item Back)) = given_by old.backs.items in
     let still : with_items lists k [] ≡ lists = ap (set lists k) (append-nil (get_or lists k [])) ∙ set-get_or lists k [] in
-    let P : List (List (Item Back)) → Type 0 = λ ls. Gathers ls old.refused old.collector in
-    further_some old k s t [] old.refused old.collector old.waiting lt at lane (same ∙ sym (append-nil (taken_of s))) (subst P (sym still))
+    let P : List (List (Item Back)) → Type 0 = λ ls. Gathers ls old.collector in
+    further_some old k s t [] old.collector old.waiting lt at lane (same ∙ sym (append-nil (taken_of s))) (subst P (sym still))
 
 -- a race or the news of a refused growth came
-pub gathers_one : (lists : List (List (Item Back))) (k : ℕ) (back : Back) (refused refused' : Bool) (c c' : Collection) → k < length lists
-    → (IsFalse refused' → IsFalse refused × ((g : List Back) → KeepsBest g c → KeepsBest (g ++ back ∷ []) c')) → (back ≡ NoMemory → refused' ≡ true)
-    → Gathers lists refused c → Gathers (set lists k (get_or lists k [] ++ One back ∷ [])) refused' c'
-gathers_one lists k back refused true c c' lt given none h = gathers-refused (set lists k (get_or lists k [] ++ One back ∷ [])) c'
-gathers_one lists k NoMemory refused false c c' lt given none h = let no : false ≡ true = none refl in absurd cc
-gathers_one lists k (Race r) refused false c c' lt given none h =
-    let now = given refl in
-    let P : Bool → Type 0 = λ b. Gathers lists b c in
-    gathers-race lists k r c c' lt now.1 (subst P now.0 h)
+pub gathers_one : (lists : List (List (Item Back))) (k : ℕ) (back : Back) (c c' : Collection) → k < length lists
+    → (IsFalse c'.refused → IsFalse c.refused × ((g : List Back) → KeepsBest g c → KeepsBest (g ++ back ∷ []) c')) → (back ≡ NoMemory → c'.refused ≡ true)
+    → Gathers lists c → Gathers (set lists k (get_or lists k [] ++ One back ∷ [])) c'
+gathers_one lists k NoMemory c c' lt given none h = gathers-refused (set lists k (get_or lists k [] ++ One NoMemory ∷ [])) c' (none refl)
+gathers_one lists k (Race r) c c' lt given none h = ⊎_elim
+    (λ refused. gathers-refused (set lists k (get_or lists k [] ++ One (Race r) ∷ [])) c' refused)
+    (λ good. let now = given good in gathers-race lists k r c c' lt now.0 now.1 h)
+    (cases_Bool c'.refused)
 
 -- the same, of an item that came
-pub gathers_item : (lists : List (List (Item Back))) (k : ℕ) (x : Item Back) (back : Back) (refused refused' : Bool) (c c' : Collection) → x ≡ One back → k < length lists
-    → (IsFalse refused' → IsFalse refused × ((g : List Back) → KeepsBest g c → KeepsBest (g ++ back ∷ []) c')) → (back ≡ NoMemory → refused' ≡ true)
-    → Gathers lists refused c → Gathers (set lists k (get_or lists k [] ++ x ∷ [])) refused' c'
-gathers_item lists k x back refused refused' c c' is lt given none h =
-    let P : Item Back → Type 0 = λ y. Gathers (set lists k (get_or lists k [] ++ y ∷ [])) refused' c' in
-    subst P (sym is) (gathers_one lists k back refused refused' c c' lt given none h)
+pub gathers_item : (lists : List (List (Item Back))) (k : ℕ) (x : Item Back) (back : Back) (c c' : Collection) → x ≡ One back → k < length lists
+    → (IsFalse c'.refused → IsFalse c.refused × ((g : List Back) → KeepsBest g c → KeepsBest (g ++ back ∷ []) c')) → (back ≡ NoMemory → c'.refused ≡ true)
+    → Gathers lists c → Gathers (set lists k (get_or lists k [] ++ x ∷ [])) c'
+gathers_item lists k x back c c' is lt given none h =
+    let P : Item Back → Type 0 = λ y. Gathers (set lists k (get_or lists k [] ++ y ∷ [])) c' in
+    subst P (sym is) (gathers_one lists k back c c' lt given none h)
 
-pub gathers_mark : (lists : List (List (Item Back))) (k : ℕ) (x : Item Back) (refused : Bool) (c : Collection) → x ≡ Finish → Gathers lists refused c → Gathers (set lists k (get_or lists k [] ++ x ∷ [])) refused c
-gathers_mark lists k x refused c is h =
-    let P : Item Back → Type 0 = λ y. Gathers (set lists k (get_or lists k [] ++ y ∷ [])) refused c in
-    subst P (sym is) (gathers-finish lists k refused c h)
+pub gathers_mark : (lists : List (List (Item Back))) (k : ℕ) (x : Item Back) (c : Collection) → x ≡ Finish → Gathers lists c → Gathers (set lists k (get_or lists k [] ++ x ∷ [])) c
+gathers_mark lists k x c is h =
+    let P : Item Back → Type 0 = λ y. Gathers (set lists k (get_or lists k [] ++ y ∷ [])) c in
+    subst P (sym is) (gathers-finish lists k c h)
 
 -- items were taken of a lane, and the rest followed
 pub further_kept : (old new : Gathering) (k : ℕ) (s t : Taker Back) (xs : List (Item Back)) → new.backs ≡ with_item old.backs k t → k < length old.backs.items → s ≡ get_or old.backs.items k s → taker_lane t ≡ taker_lane s → taken_of t ≡ taken_of s ++ xs
-    → (IsGathered old → Gathers (with_items (given_by old.backs.items) k xs) new.refused new.collector) → IsFurther old new
+    → (IsGathered old → Gathers (with_items (given_by old.backs.items) k xs) new.collector) → IsFurther old new
 further_kept old new k s t xs is lt at lane more gathers =
-    let P : Vec (Taker Back) _ → Type 0 = λ b. IsFurther old (record { backs = b; collector = new.collector; refused = new.refused; waiting = new.waiting }) in
-    subst P (sym is) (further_some old k s t xs new.refused new.collector new.waiting lt at lane more gathers)
+    let P : Vec (Taker Back) _ → Type 0 = λ b. IsFurther old (record { backs = b; collector = new.collector; waiting = new.waiting }) in
+    subst P (sym is) (further_some old k s t xs new.collector new.waiting lt at lane more gathers)
 
 -- items of a lane, and one more
 with_next : (lists : List (List (Item Back))) (k i : ℕ) (items : List (Item Back)) (d : Item Back) → k < length lists → i < length items
@@ -108,14 +107,14 @@ within_items : (lists : List (List (Item Back))) (k : ℕ) (xs : List (Item Back
 within_items lists k xs lt = let e : length (with_items lists k xs) ≡ length lists = length-set lists k (get_or lists k [] ++ xs) in omega (arith, lt, e)
 
 -- the collector was given what the lanes gave before, and these are items more of a lane
-abbrev pub Continues : Bool → Collection → Bool → Collection → List (Item Back) → Type 0
-Continues refused c refused' c' xs = (lists : List (List (Item Back))) (k : ℕ) → k < length lists → Gathers lists refused c → Gathers (with_items lists k xs) refused' c'
+abbrev pub Continues : Collection → Collection → List (Item Back) → Type 0
+Continues c c' xs = (lists : List (List (Item Back))) (k : ℕ) → k < length lists → Gathers lists c → Gathers (with_items lists k xs) c'
 
-pub continues_next : (refused now next : Bool) (c d e : Collection) (items : List (Item Back)) (i : ℕ) (x : Item Back) → x ≡ slice_index_or items i x → i < length items → Continues refused c now d (take i items)
-    → Continues now d next e (x ∷ []) → Continues refused c next e (take (i + 1) items)
-continues_next refused now next c d e items i x is within before step lists k lt h =
-    let P : List (List (Item Back)) → Type 0 = λ ls. Gathers ls next e in
-    let Q : Item Back → Type 0 = λ y. Gathers (with_items (with_items lists k (take i items)) k (y ∷ [])) next e in
+pub continues_next : (c d e : Collection) (items : List (Item Back)) (i : ℕ) (x : Item Back) → x ≡ slice_index_or items i x → i < length items → Continues c d (take i items)
+    → Continues d e (x ∷ []) → Continues c e (take (i + 1) items)
+continues_next c d e items i x is within before step lists k lt h =
+    let P : List (List (Item Back)) → Type 0 = λ ls. Gathers ls e in
+    let Q : Item Back → Type 0 = λ y. Gathers (with_items (with_items lists k (take i items)) k (y ∷ [])) e in
     subst P (with_next lists k i items x lt within) (subst Q is (step (with_items lists k (take i items)) k (within_items lists k (take i items) lt) (before lists k lt h)))
 
 -- one lane more

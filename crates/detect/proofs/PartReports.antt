@@ -45,6 +45,6 @@ part_ends {X = X} state part n m records depths before x x' numbered report same
       read = t.read;
       says = record {
         reported = part_report part t.trace numbered.report report t.read.whole.well_nested t.says.races moved;
-        took = record { lanes = took.lanes; counts = took.counts; shares = took.shares; taken = took.taken };
+        took = record { lanes = took.lanes; counts = took.counts; shares = took.shares; taken = took.taken; settled = took.settled };
       };
     }))

@@ -1,12 +1,15 @@
 -- One lane's receipt compared.
-use Rattle.std.proofs.Common.{◌≡◌, ℕ, zero, suc, ◌<◌, true, List, [], ◌∷◌, ◌++◌, length, length-append, map, set, get_or, sym, ap, ◌∙◌, arith}
-use Rattle.std.proofs.lemmas.List.{length-map, length-set, get_or-map, map-append}
+use Rattle.std.proofs.Common.{◌≡◌, ℕ, zero, suc, ◌+◌, ◌<◌, true, List, [], ◌∷◌, ◌++◌, length, length-append, append-nil, map, set, get_or, sym, ap, ◌∙◌, arith}
+use Rattle.std.proofs.lemmas.List.{length-map, length-set, get_or-map, get_or-set_same, get_or-set_other, map-append, map-set, append_cancel_left}
 use Rattle.std.proofs.Math.Seq.{map-set_same}
+use Rattle.dag.specs.declared.records.Placed.{Placed}
 use Rattle.lane.specs.declared.item.Item.{Item}
+use Rattle.lane.specs.declared.taker.Taker.{Taker}
 use Rattle.lane.specs.Items.{has_mark, IsBeginning}
-use Rattle.lane.specs.Lanes.{taker_lane, taken_of, end_lane, all_put}
+use Rattle.lane.specs.Lanes.{taker_lane, taken_of, waiting_of, end_lane, all_put}
 use Rattle.shard.specs.declared.working.Worked.{Worked}
-use Rattle.detect.specs.Closing.{IsSameWork, IsSettled}
+use Rattle.detect.specs.Closing.{takers_of, IsSameWork, IsSettled, IsEmptied}
+use Rattle.detect.proofs.LanesBack.{ended_to}
 
 -- a list in front of another, which are the same as others, or are mapped
 pub front_same : {X : Type 0} (front whole front' whole' : List X) → front' ≡ front → whole' ≡ whole → IsBeginning front whole → IsBeginning front' whole'
@@ -30,10 +33,18 @@ pub at_map : {X Z : Type 0} (f : X → Z) (xs : List X) (k : ℕ) (x : X) (e : Z
 at_map f xs k x e lt at = get_or-map f xs k x e lt ∙ sym (ap f at)
 
 pub settled_at : {T : Type 0} (taken taken' puts puts' : List (List (Item T))) (k : ℕ) (t t' e e' : List (Item T)) → taken ≡ taken' → puts ≡ puts' → get_or taken k [] ≡ t → get_or puts k [] ≡ e → t' ≡ t → e' ≡ e
-    → (has_mark t' ≡ true → t' ≡ e') → IsSettled taken' puts' k
-settled_at taken taken' puts puts' k t t' e e' same_taken same_puts at_t at_e is_t is_e whole marked =
+    → IsBeginning t' e' → (has_mark t' ≡ true → t' ≡ e') → IsSettled taken' puts' k
+settled_at taken taken' puts puts' k t t' e e' same_taken same_puts at_t at_e is_t is_e prefix whole =
     let now : get_or taken' k [] ≡ t' = ap (λ l. get_or l k []) (sym same_taken) ∙ at_t ∙ sym is_t in
-    now ∙ whole (ap has_mark (sym now) ∙ marked) ∙ is_e ∙ sym at_e ∙ ap (λ l. get_or l k []) same_puts
+    let put : get_or puts' k [] ≡ e' = ap (λ l. get_or l k []) (sym same_puts) ∙ at_e ∙ sym is_e in
+    record {
+      prefix = front_same _ _ _ _ now put prefix;
+      whole = λ marked. now ∙ whole (ap has_mark (sym now) ∙ marked) ∙ sym put;
+    }
+
+-- what waits for a taker that took all, the mark too, is nothing
+pub emptied_by : {T : Type 0} (taken waiting put : List (Item T)) → taken ++ waiting ≡ put → (has_mark taken ≡ true → taken ≡ put) → has_mark taken ≡ true → waiting ≡ []
+emptied_by taken waiting put all whole marked = append_cancel_left taken waiting [] (all ∙ sym (whole marked) ∙ sym (append-nil taken))
 
 module _ {S H : Type 0} where
   -- one worker's ends were compared
@@ -58,3 +69,23 @@ module _ {S H : Type 0} where
     to_shards = k.to_shards ∙ h.to_shards;
     from_shards = k.from_shards ∙ h.from_shards;
   }
+
+  -- and its taker knows what waits for it
+  pub emptied_more : (now : List (Worked S H)) (k : ℕ) (w v : Worked S H) → k < length now → (has_mark (taken_of v.taker) ≡ true → waiting_of v.taker ≡ [])
+      → ((j : ℕ) → j < k → IsEmptied (takers_of now) j) → (j : ℕ) → j < k + 1 → IsEmptied (takers_of (set now k v)) j
+  emptied_more now k w v within this before j lt = ended_to (IsEmptied (takers_of (set now k v))) k at_this at_other j lt
+    where
+      of_set : {X : Type 0} (f : Taker Placed → X) → map f (takers_of (set now k v)) ≡ set (map f (takers_of now)) k (f v.taker)
+      of_set f = ap (map f) (map-set (λ (x : Worked S H). x.taker) now k v) ∙ map-set f (takers_of now) k v.taker
+
+      here : (f : Taker Placed → List (Item Placed)) → get_or (map f (takers_of (set now k v))) k [] ≡ f v.taker
+      here f = ap (λ l. get_or l k []) (of_set f) ∙ get_or-set_same (map f (takers_of now)) k (f v.taker) [] (omega (arith, within, length-map (takers_of now) f, length-map now (λ (x : Worked S H). x.taker)))
+
+      there : (f : Taker Placed → List (Item Placed)) (i : ℕ) → i < k → get_or (map f (takers_of (set now k v))) i [] ≡ get_or (map f (takers_of now)) i []
+      there f i l = ap (λ m. get_or m i []) (of_set f) ∙ get_or-set_other (map f (takers_of now)) k i (f v.taker) [] (λ e. absurd (omega (arith, l, e)))
+
+      at_this : IsEmptied (takers_of (set now k v)) k
+      at_this marked = here waiting_of ∙ this (ap has_mark (sym (here taken_of)) ∙ marked)
+
+      at_other : (i : ℕ) → i < k → IsEmptied (takers_of (set now k v)) i
+      at_other i l marked = there waiting_of i l ∙ before i l (ap has_mark (sym (there taken_of i l)) ∙ marked)

@@ -65,38 +65,35 @@ records-one_each [] = refl
 records-one_each (x ∷ xs) = ap (λ l. x ∷ l) (records-one_each xs)
 
 -- what is known at the end, of n shards of the records u
-pub record IsEnd (n : ℕ) (u : List Placed) (taken puts : List (List (Item Placed))) (given backs : List (List (Item Back))) (counts : List ℕ) : Type 0 where
+pub record IsEnd (n : ℕ) (u : List Placed) (taken : List (List (Item Placed))) (given backs : List (List (Item Back))) (counts : List ℕ) : Type 0 where
   pub works : (k : ℕ) → k < n → IsWork (get_or taken k []) (get_or backs k []) (get_or counts k 0)
-  pub whole : (k : ℕ) → k < n → get_or puts k [] ≡ map One (share k n u) ++ Finish ∷ []
-  pub settled : (k : ℕ) → k < n → IsSettled taken puts k
+  pub share_taken : (k : ℕ) → k < n → get_or taken k [] ≡ map One (share k n u) ++ Finish ∷ []
   pub settled_back : (k : ℕ) → k < n → IsSettled given backs k
   pub ended : (k : ℕ) → k < n → has_mark (get_or given k []) ≡ true
 
-pub took_share : (n : ℕ) (u : List Placed) (taken puts : List (List (Item Placed))) (given backs : List (List (Item Back))) (counts : List ℕ) → IsEnd n u taken puts given backs counts
-    → (k : ℕ) → k < n → get_or taken k [] ≡ map One (share k n u) ++ Finish ∷ []
-took_share n u taken puts given backs counts h k lt =
-    let marked : has_mark (get_or taken k []) ≡ true = ap has_mark (h.works k lt).to_mark ∙ has_mark-last (records (get_or taken k [])) in
-    h.settled k lt marked ∙ h.whole k lt
+-- a worker took up to the mark
+pub marked_work : (taken : List (Item Placed)) (backs : List (Item Back)) (count : ℕ) → IsWork taken backs count → has_mark taken ≡ true
+marked_work taken backs count h = ap has_mark h.to_mark ∙ has_mark-last (records taken)
 
-took_records : (n : ℕ) (u : List Placed) (taken puts : List (List (Item Placed))) (given backs : List (List (Item Back))) (counts : List ℕ) → IsEnd n u taken puts given backs counts
+pub took_records : (n : ℕ) (u : List Placed) (taken : List (List (Item Placed))) (given backs : List (List (Item Back))) (counts : List ℕ) → IsEnd n u taken given backs counts
     → (k : ℕ) → k < n → records (get_or taken k []) ≡ share k n u
-took_records n u taken puts given backs counts h k lt = ap records (took_share n u taken puts given backs counts h k lt) ∙ records-one_each (share k n u)
+took_records n u taken given backs counts h k lt = ap records (h.share_taken k lt) ∙ records-one_each (share k n u)
 
 -- each share is in order
 abbrev pub OrderlyShares : ℕ → List Placed → Type 0
 OrderlyShares n u = (k : ℕ) → AreInOrder (share k n u)
 
-pub counted_share : (n : ℕ) (u : List Placed) (taken puts : List (List (Item Placed))) (given backs : List (List (Item Back))) (counts : List ℕ) → OrderlyShares n u → IsEnd n u taken puts given backs counts
+pub counted_share : (n : ℕ) (u : List Placed) (taken : List (List (Item Placed))) (given backs : List (List (Item Back))) (counts : List ℕ) → OrderlyShares n u → IsEnd n u taken given backs counts
     → (k : ℕ) → k < n → get_or counts k 0 ≡ length (share k n u)
-counted_share n u taken puts given backs counts orders h k lt =
-    let is = took_records n u taken puts given backs counts h k lt in
+counted_share n u taken given backs counts orders h k lt =
+    let is = took_records n u taken given backs counts h k lt in
     ((h.works k lt).of_order (subst AreInOrder (sym is) (orders k))).0 ∙ ap length is
 
-pub given_share : (n : ℕ) (u : List Placed) (taken puts : List (List (Item Placed))) (given backs : List (List (Item Back))) (counts : List ℕ) → OrderlyShares n u → IsEnd n u taken puts given backs counts
+pub given_share : (n : ℕ) (u : List Placed) (taken : List (List (Item Placed))) (given backs : List (List (Item Back))) (counts : List ℕ) → OrderlyShares n u → IsEnd n u taken given backs counts
     → fails (all_given given) ≡ false → (k : ℕ) → k < n → races_of (on_lane given k) ≡ found (share k n u)
-given_share n u taken puts given backs counts orders h none k lt =
-    let is = took_records n u taken puts given backs counts h k lt in
-    let all : get_or given k [] ≡ get_or backs k [] = h.settled_back k lt (h.ended k lt) in
+given_share n u taken given backs counts orders h none k lt =
+    let is = took_records n u taken given backs counts h k lt in
+    let all : get_or given k [] ≡ get_or backs k [] = (h.settled_back k lt).whole (h.ended k lt) in
     let finds = ((h.works k lt).of_order (subst AreInOrder (sym is) (orders k))).1 in
     let good : fails (records (get_or backs k [])) ≡ false = ap (λ (l : List (Item Back)). fails (records l)) (sym all) ∙ fails_on given k none in
     ap (λ (l : List (Item Back)). races_of (records l)) all ∙ answered (records (get_or taken k [])) (get_or backs k []) finds good ∙ ap found is

@@ -1,5 +1,5 @@
 -- What a run has found, from what was compared at its end.
-use Rattle.std.proofs.Common.{◌≡◌, ℕ, ◌<◌, ◌≤◌, Bool, false, List, [], ◌∷◌, ◌++◌, length, map, get_or, refl, sym, ap, subst, ◌∙◌, arith}
+use Rattle.std.proofs.Common.{◌≡◌, ℕ, ◌<◌, ◌≤◌, Bool, true, false, List, [], ◌∷◌, ◌++◌, length, map, get_or, refl, sym, ap, subst, ◌∙◌, append-nil, arith}
 use Rattle.dag.specs.declared.records.Placed.{Placed}
 use Rattle.dag.specs.Shares.{share}
 use Rattle.dag.proofs.Once.{AllAbove, Rises, increasing-from_rises}
@@ -7,10 +7,15 @@ use Rattle.std.proofs.lemmas.List.{length-map}
 use Rattle.shadow.specs.Found.{by_location, found}
 use Rattle.lane.specs.declared.item.Item.{Item}
 use Rattle.lane.specs.declared.item.Item.TheVariants.{One, Finish}
-use Rattle.lane.specs.Lanes.{taken_of}
-use Rattle.route.specs.Routed.{IsRising}
-use Rattle.route.proofs.RouterRuns.{router_took}
-use Rattle.route.specs.Routers.{puts_of}
+use Rattle.lane.specs.declared.taker.Taker.{Taker}
+use Rattle.lane.specs.Items.{has_mark, IsBeginning}
+use Rattle.lane.specs.Lanes.{taken_of, waiting_of}
+use Rattle.route.specs.declared.router.Router.{Router}
+use Rattle.route.specs.Sending.{put_on}
+use Rattle.route.specs.Routed.{IsRising, in_hand}
+use Rattle.route.specs.Routers.{puts_of, lane_count, pending_of, HasSent}
+use Rattle.route.specs.Runs.{Event, IsRun, taken_list}
+use Rattle.route.specs.RouterRuns.{IsTakenFrom}
 use Rattle.dag.specs.declared.back.Back.{Back}
 use Rattle.shard.specs.Working.{RiseFrom}
 use Rattle.shard.specs.declared.working.Worked.{Worked}
@@ -18,11 +23,11 @@ use Rattle.collect.specs.Collected.{KeepsBest, IsCollected}
 use Rattle.detect.specs.declared.closing.Done.{Done}
 use Rattle.detect.specs.declared.sharded.Run.{Run}
 use Rattle.detect.specs.Gathered.{given_by, Gathers}
-use Rattle.detect.specs.Closing.{taken_by, given_back, counts_of, IsSettled}
-use Rattle.detect.specs.Finished.{IsFinished}
+use Rattle.detect.specs.Closing.{taken_by, given_back, counts_of, IsEmptied}
+use Rattle.detect.specs.Finished.{IsFinished, IsCompared}
 use Rattle.detect.specs.RunReports.{TookSharesOf}
 use Rattle.detect.specs.RunFinds.{RunFinds}
-use Rattle.detect.proofs.RunEnds.{IsEnd, OrderlyShares, did_at, took_share, counted_share, given_share}
+use Rattle.detect.proofs.RunEnds.{IsEnd, OrderlyShares, did_at, marked_work, counted_share, given_share}
 use Rattle.detect.proofs.Verdicts.{verdict_of_shares}
 
 abbrev place_of : Placed → ℕ
@@ -40,49 +45,79 @@ rises n (p ∷ u) h = (above p.place p.place u (omega arith) h.2, rises p.place 
 pub rising_from : (n : ℕ) (u : List Placed) → RiseFrom n u → IsRising u
 rising_from n u h = increasing-from_rises place_of u (rises n u h)
 
+-- by the run of the lanes in which the takers took what they took: each has its share whole, since each has its mark
+shares_of : (r : Router) (u : List Placed) (taken : ℕ → List (Item Placed)) → IsTakenFrom r u taken → ((k : ℕ) → k < lane_count r → has_mark (taken k) ≡ true)
+    → ((n k : ℕ) (w : List Placed) (es : List Event) → IsRun n w es → k < n → has_mark (taken_list es k) ≡ true → taken_list es k ≡ map One (share k n w) ++ Finish ∷ [])
+    → (k : ℕ) → k < lane_count r → taken k ≡ map One (share k (lane_count r) u) ++ Finish ∷ []
+shares_of r u taken from marked whole k lt =
+    let is = from.takes k lt in sym is ∙ whole (lane_count r) k u from.events from.run lt (ap has_mark is ∙ marked k lt)
+
 module _ {S H : Type 0} where
-  -- what the comparison of the receipts came to
-  pub record IsCompared (n : ℕ) (done : Done S H) : Type 0 where
-    pub settled : (k : ℕ) → k < n → IsSettled (taken_by done.workers.items) (puts_of done.sending.router) k
-    pub settled_back : (k : ℕ) → k < n → IsSettled (given_by done.sending.gathering.backs.items) (given_back done.workers.items) k
+  -- what was taken of lane k
+  abbrev taken_at : Done S H → ℕ → List (Item Placed)
+  taken_at done k = get_or (taken_by done.workers.items) k []
 
-  ends : (n : ℕ) (done : Done S H) (u : List Placed) → IsRising u → IsFinished n done u → IsCompared n done
-      → IsEnd n u (taken_by done.workers.items) (puts_of done.sending.router) (given_by done.sending.gathering.backs.items) (given_back done.workers.items) (counts_of done.workers.items)
-  ends n done u rising f h =
-      let ws : List (Worked S H) = done.workers.items in
-      let OfCount : ℕ → Type 0 = λ m. (k : ℕ) → k < m → get_or (puts_of done.sending.router) k [] ≡ map One (share k m u) ++ Finish ∷ [] in
-      -- by the router's run: all that its lanes have
-      let sent : OfCount n = subst OfCount f.count (λ k lt. router_took done.sending.router u k _ f.sent f.idle (f.marked ∙ sym f.count) rising lt refl) in
-      record {
-        works = λ k lt. did_at f.lanes ws k f.did (omega (arith, lt, f.workers));
-        whole = sent;
-        settled = h.settled;
-        settled_back = h.settled_back;
-        ended = f.ended;
-      }
+  -- a run of the lanes, by the law of routers, in which the takers took what they took
+  pub run_of_takers : (n : ℕ) (done : Done S H) (u : List Placed) → IsRising u → IsFinished n done u → IsCompared n done
+      → ((r : Router) (w : List Placed) (taken : ℕ → List (Item Placed)) → HasSent w r → IsRising (in_hand w (pending_of r)) → ((k : ℕ) → k < lane_count r → IsBeginning (taken k) (put_on (puts_of r) k)) → IsTakenFrom r (in_hand w (pending_of r)) taken)
+      → IsTakenFrom done.sending.router u (taken_at done)
+  run_of_takers n done u rising f h law =
+      let r = done.sending.router in
+      let at_rest : in_hand u (pending_of r) ≡ u = ap (in_hand u) f.idle ∙ append-nil u in
+      let P : List Placed → Type 0 = λ w. IsTakenFrom r w (taken_at done) in
+      subst P at_rest (law r u (taken_at done) f.sent (subst IsRising (sym at_rest) rising) (λ k lt. (h.to_shards k (omega (arith, lt, f.count))).prefix))
 
-  took : (n : ℕ) (done : Done S H) (u : List Placed) (run : Run) → IsRising u → IsFinished n done u → IsCompared n done
-      → OrderlyShares n u → run.taken.items ≡ counts_of done.workers.items → map taken_of run.lanes.items ≡ taken_by done.workers.items → length run.lanes.items ≡ n → TookSharesOf n u run
-  took n done u run rising f h orders counts lanes count =
-      let e = ends n done u rising f h in
+  -- each worker took its share, by the law of runs
+  pub took_shares : (n : ℕ) (done : Done S H) (u : List Placed) → IsFinished n done u → IsTakenFrom done.sending.router u (taken_at done)
+      → ((n k : ℕ) (w : List Placed) (es : List Event) → IsRun n w es → k < n → has_mark (taken_list es k) ≡ true → taken_list es k ≡ map One (share k n w) ++ Finish ∷ [])
+      → (k : ℕ) → k < n → taken_at done k ≡ map One (share k n u) ++ Finish ∷ []
+  took_shares n done u f from law =
+      let OfCount : ℕ → Type 0 = λ m. (k : ℕ) → k < m → taken_at done k ≡ map One (share k m u) ++ Finish ∷ [] in
+      let marked : (k : ℕ) → k < lane_count done.sending.router → has_mark (taken_at done k) ≡ true = λ k lt. marked_work _ _ _ (did_at f.lanes done.workers.items k f.did (omega (arith, lt, f.count, f.workers))) in
+      subst OfCount f.count (shares_of done.sending.router u (taken_at done) from marked law)
+
+  -- of what the takers of the shards' lanes know, nothing waits
+  pub record IsClosing (n : ℕ) (done : Done S H) (u : List Placed) (run : Run) : Type 0 where
+    pub share_taken : (k : ℕ) → k < n → taken_at done k ≡ map One (share k n u) ++ Finish ∷ []
+    pub compared : IsCompared n done
+    pub takers : List (Taker Placed)
+    pub lanes : run.lanes.items ≡ takers
+    pub same : map taken_of takers ≡ taken_by done.workers.items
+    pub emptied : (k : ℕ) → k < n → IsEmptied takers k
+    pub counts : run.taken.items ≡ counts_of done.workers.items
+    pub lane_count_is : length run.lanes.items ≡ n
+
+  ends : (n : ℕ) (done : Done S H) (u : List Placed) (run : Run) → IsFinished n done u → IsClosing n done u run
+      → IsEnd n u (taken_by done.workers.items) (given_by done.sending.gathering.backs.items) (given_back done.workers.items) (counts_of done.workers.items)
+  ends n done u run f h = record {
+    works = λ k lt. did_at f.lanes done.workers.items k f.did (omega (arith, lt, f.workers));
+    share_taken = h.share_taken;
+    settled_back = h.compared.from_shards;
+    ended = f.ended;
+  }
+
+  took : (n : ℕ) (done : Done S H) (u : List Placed) (run : Run) → IsFinished n done u → OrderlyShares n u → IsClosing n done u run → TookSharesOf n u run
+  took n done u run f orders h =
+      let e = ends n done u run f h in
+      let taken_is : map taken_of run.lanes.items ≡ taken_by done.workers.items = ap (map taken_of) h.lanes ∙ h.same in
       let P : List (List (Item Placed)) → Type 0 = λ ts. (k : ℕ) → k < n → get_or ts k [] ≡ map One (share k n u) ++ Finish ∷ [] in
       let Q : List ℕ → Type 0 = λ cs. (k : ℕ) → k < n → get_or cs k 0 ≡ length (share k n u) in
+      let marked : (k : ℕ) → k < n → has_mark (get_or (map taken_of h.takers) k []) ≡ true = λ k lt.
+      ap (λ l. has_mark (get_or l k [])) h.same ∙ marked_work _ _ _ (e.works k lt) in
       record {
-        lanes = count;
-        counts = ap length counts ∙ length-map done.workers.items (λ w. w.shard.taken) ∙ f.workers;
-        shares = subst P (sym lanes) (λ k lt. took_share n u _ _ _ _ _ e k lt);
-        taken = subst Q (sym counts) (λ k lt. counted_share n u _ _ _ _ _ orders e k lt);
+        lanes = h.lane_count_is;
+        counts = ap length h.counts ∙ length-map done.workers.items (λ w. w.shard.taken) ∙ f.workers;
+        shares = subst P (sym taken_is) h.share_taken;
+        taken = subst Q (sym h.counts) (λ k lt. counted_share n u _ _ _ _ orders e k lt);
+        settled = λ k lt. ap (λ l. get_or (map waiting_of l) k []) h.lanes ∙ h.emptied k lt (marked k lt);
       }
 
   -- what the run has found
-  pub run_finds : (n : ℕ) (done : Done S H) (u : List Placed) (run : Run) → 1 ≤ n → IsRising u → OrderlyShares n u → IsFinished n done u
-      → IsCompared n done → done.sending.gathering.refused ≡ false → ((g : List Back) → KeepsBest g done.sending.gathering.collector → IsCollected g run.report)
-      → run.taken.items ≡ counts_of done.workers.items → map taken_of run.lanes.items ≡ taken_by done.workers.items → length run.lanes.items ≡ n → RunFinds n run u
-  run_finds n done u run some rising orders f h good collected counts lanes count =
-      let e = ends n done u rising f h in
-      let P : Bool → Type 0 = λ b. Gathers (given_by done.sending.gathering.backs.items) b done.sending.gathering.collector in
-      let gathers : Gathers (given_by done.sending.gathering.backs.items) false done.sending.gathering.collector = subst P good f.gathered in
+  pub run_finds : (n : ℕ) (done : Done S H) (u : List Placed) (run : Run) → 1 ≤ n → OrderlyShares n u → IsFinished n done u → IsClosing n done u run
+      → done.sending.gathering.collector.refused ≡ false → ((g : List Back) → KeepsBest g done.sending.gathering.collector → IsCollected g run.report) → RunFinds n run u
+  run_finds n done u run some orders f h good collected =
+      let e = ends n done u run f h in
       let is : run.report ≡ by_location (found u) =
       verdict_of_shares n (given_by done.sending.gathering.backs.items) u done.sending.gathering.collector run.report some f.backs
-      (λ k lt. given_share n u _ _ _ _ _ orders e (gathers.none_failed refl) k lt) gathers collected in
-      record { races = is; took = took n done u run rising f h orders counts lanes count }
+      (λ k lt. given_share n u _ _ _ _ orders e (f.gathered.none_failed good) k lt) f.gathered good collected in
+      record { races = is; took = took n done u run f orders h }

@@ -9,6 +9,8 @@ use Rattle.dag.specs.Parts.{records_of}
 use Rattle.route.specs.declared.router.Router.{Router}
 use Rattle.route.specs.Sending.{sent_whole}
 use Rattle.route.specs.Routers.{HasSent, IsOnLanes}
+use Rattle.detect.specs.declared.gathering.Gathering.{Gathering}
+use Rattle.detect.specs.LanesBack.{IsFurther}
 use Rattle.detect.specs.declared.sending.Sending.{Sending}
 use Rattle.detect.specs.Sent.{GoesOn}
 use Rattle.detect.proofs.LanesBack.{further_refl, further_trans}
@@ -32,6 +34,10 @@ goes_on_trans a b c h k = record {
 -- the router alone did something
 pub goes_on_router : (s : Sending) (r : Router) → IsOnLanes s.router r → GoesOn s (record s { router = r })
 goes_on_router s r on = record { part = refl; lanes = on; further = further_refl s.gathering }
+
+-- the router did something, and more was taken of the lanes back
+pub goes_on_both : (s : Sending) (r : Router) (g : Gathering) → IsOnLanes s.router r → IsFurther s.gathering g → GoesOn s (record s { router = r; gathering = g })
+goes_on_both s r g on further = record { part = refl; lanes = on; further = further }
 
 -- while the record is pending, a step more sends it whole or leaves it pending
 pub sent_step : (p : Placed) (w : List Placed) (first before after : Option Placed) (r : Router) → first ≡ Some p → ((q : Placed) → before ≡ Some q → first ≡ Some q) → (before ≡ None → ⊥)

@@ -32,7 +32,7 @@ none_given : (backs : List (Taker Back)) → AllByRecursion (λ t. taken_of t �
 none_given [] h = refl
 none_given (t ∷ backs) h = ap₂ (λ (l : List (Item Back)) (g : List Back). records l ++ g) h.0 (none_given backs h.1)
 
-pub nothing_gathered : (backs : List (Taker Back)) (c : Collection) → AllByRecursion (λ t. taken_of t ≡ []) backs → KeepsBest [] c → Gathers (given_by backs) false c
+pub nothing_gathered : (backs : List (Taker Back)) (c : Collection) → AllByRecursion (λ t. taken_of t ≡ []) backs → KeepsBest [] c → Gathers (given_by backs) c
 nothing_gathered backs c none holds = record {
   none_failed = λ e. ap fails (none_given backs none);
   holds = λ e home. let P : List Back → Type 0 = λ g. KeepsBest g c in subst P (sym (none_given backs none)) holds;

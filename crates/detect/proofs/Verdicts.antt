@@ -53,12 +53,12 @@ best_filtered l n o (r ∷ rs) = ⊎_elim
 
 -- what the shards handed back, lane by lane, is the verdict by its locations
 pub verdict_of_shares : (n : ℕ) (lists : List (List (Item Back))) (w : List Placed) (c : Collection) (rs : List RaceAt) → 0 < n → length lists ≡ n
-    → ((k : ℕ) → k < n → races_of (on_lane lists k) ≡ found (share k n w)) → Gathers lists false c → ((g : List Back) → KeepsBest g c → IsCollected g rs) → rs ≡ by_location (found w)
-verdict_of_shares n lists w c rs some len each gathers collected =
+    → ((k : ℕ) → k < n → races_of (on_lane lists k) ≡ found (share k n w)) → Gathers lists c → c.refused ≡ false → ((g : List Back) → KeepsBest g c → IsCollected g rs) → rs ≡ by_location (found w)
+verdict_of_shares n lists w c rs some len each gathers good collected =
     let portions : (k : ℕ) → k < n → races_of (on_lane lists k) ≡ filter (of_shard k n) (found w) = λ k lt. each k lt ∙ found-share k n w in
     let P : ℕ → Type 0 = λ m. AreAtHomeFrom m 0 lists in
     let home : AreAtHome lists = subst P (sym len) (home-shares n 0 lists (found w) (λ k lt. let e : k ≡ 0 + k = omega arith in portions k (omega (arith, lt, len)) ∙ ap (λ m. filter (of_shard m n) (found w)) e)) in
-    let holds = gathers.holds refl home in
+    let holds = gathers.holds good home in
     collected_is_sorted put_in by_location (λ r. refl) (λ r s ss. refl) refl (λ r ss. refl) (all_given lists) rs (found w) (collected (all_given lists) holds)
     (apart (found w) (found_from-apart start w))
     (λ l. best_of_lane l lists home ∙ ap (λ m. best l (races_of (on_lane lists (l % m)))) len

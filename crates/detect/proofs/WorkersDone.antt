@@ -5,13 +5,13 @@ use Rattle.std.specs.declared.thread.PromisedHandle.{PromisedHandle}
 use Rattle.dag.specs.declared.records.Placed.{Placed}
 use Rattle.lane.specs.declared.taker.Taker.{Taker}
 use Rattle.lane.specs.Items.{IsBeginning}
-use Rattle.lane.specs.Lanes.{LaneId, taken_of}
+use Rattle.lane.specs.Lanes.{LaneId}
 use Rattle.shard.specs.declared.working.Worked.{Worked}
 use Rattle.shard.specs.Worked.{DidWork}
 use Rattle.detect.specs.declared.workers.Job.{Job}
 use Rattle.detect.specs.declared.workers.WorkOf.{WorkOf}
 use Rattle.detect.specs.Workers.{job_lanes, handle_lanes, DidOn, AllDid}
-use Rattle.detect.specs.Closing.{taken_by, counts_of}
+use Rattle.detect.specs.Closing.{takers_of, counts_of}
 
 -- one element more of a list that is gone through
 pub split_more : {X : Type 0} (done : List X) (x : X) (rest before all : List X) → before ≡ x ∷ rest → done ++ before ≡ all → (done ++ x ∷ []) ++ rest ≡ all
@@ -52,9 +52,9 @@ module _ {S H : Type 0} where
       is ∙ ap₂ (λ ns n. ns ++ n ∷ []) all one ∙ sym (map-append (λ (x : Worked S H). x.shard.taken) done (w ∷ []))
 
   -- the lane of one worker more
-  pub lanes_more : (done : List (Worked S H)) (w : Worked S H) (lanes later : List (Taker Placed)) (lane : Taker Placed) → later ≡ lanes ++ lane ∷ [] → lane ≡ w.taker → map taken_of lanes ≡ taken_by done → map taken_of later ≡ taken_by (done ++ w ∷ [])
+  pub lanes_more : (done : List (Worked S H)) (w : Worked S H) (lanes later : List (Taker Placed)) (lane : Taker Placed) → later ≡ lanes ++ lane ∷ [] → lane ≡ w.taker → lanes ≡ takers_of done → later ≡ takers_of (done ++ w ∷ [])
   lanes_more done w lanes later lane is one all =
-      ap (map taken_of) is ∙ map-append taken_of lanes (lane ∷ []) ∙ ap₂ (λ ls l. ls ++ l ∷ []) all (ap taken_of one) ∙ sym (map-append (λ (x : Worked S H). taken_of x.taker) done (w ∷ []))
+      is ∙ ap₂ (λ ls l. ls ++ l ∷ []) all one ∙ sym (map-append (λ (x : Worked S H). x.taker) done (w ∷ []))
 
   -- workers were started for the first jobs
   pub started_first : (hs : List (PromisedHandle (Worked S H) WorkOf)) (done rest all : List (Job S H)) → done ++ rest ≡ all → map handle_lanes hs ≡ map job_lanes done → IsBeginning (map handle_lanes hs) (map job_lanes all)

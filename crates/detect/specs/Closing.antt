@@ -2,8 +2,9 @@
 use Rattle.std.specs.Prelude.{◌≡◌, ℕ, true, List, [], length, map, slice_index_or}
 use Rattle.dag.specs.declared.records.Placed.{Placed}
 use Rattle.lane.specs.declared.item.Item.{Item}
-use Rattle.lane.specs.Items.{has_mark}
-use Rattle.lane.specs.Lanes.{LaneId, taker_lane, taken_of, end_lane, all_put}
+use Rattle.lane.specs.declared.taker.Taker.{Taker}
+use Rattle.lane.specs.Items.{has_mark, IsBeginning}
+use Rattle.lane.specs.Lanes.{LaneId, taker_lane, taken_of, waiting_of, end_lane, all_put}
 use Rattle.dag.specs.declared.back.Back.{Back}
 use Rattle.shard.specs.declared.working.Worked.{Worked}
 
@@ -20,6 +21,9 @@ module _ {S H : Type 0} where
   abbrev pub counts_of : List (Worked S H) → List ℕ
   counts_of workers = map (λ w. w.shard.taken) workers
 
+  abbrev pub takers_of : List (Worked S H) → List (Taker Placed)
+  takers_of workers = map (λ w. w.taker) workers
+
   abbrev pub taker_lanes : List (Worked S H) → List LaneId
   taker_lanes workers = map (λ w. taker_lane w.taker) workers
 
@@ -35,6 +39,11 @@ module _ {S H : Type 0} where
     pub to_shards : taker_lanes new ≡ taker_lanes old
     pub from_shards : given_lanes new ≡ given_lanes old
 
--- where the mark of the lane was taken, all that was put was taken
-abbrev pub IsSettled : {T : Type 0} → List (List (Item T)) → List (List (Item T)) → ℕ → Type 0
-IsSettled taken put k = has_mark (slice_index_or taken k []) ≡ true → slice_index_or taken k [] ≡ slice_index_or put k []
+-- what was taken of lane k is a prefix of what was put on it, and with the mark all of it
+pub record IsSettled {T : Type 0} (taken put : List (List (Item T))) (k : ℕ) : Type 0 where
+  pub prefix : IsBeginning (slice_index_or taken k []) (slice_index_or put k [])
+  pub whole : has_mark (slice_index_or taken k []) ≡ true → slice_index_or taken k [] ≡ slice_index_or put k []
+
+-- a taker that took the mark of lane k knows that nothing waits there
+abbrev pub IsEmptied : List (Taker Placed) → ℕ → Type 0
+IsEmptied takers k = has_mark (slice_index_or (map taken_of takers) k []) ≡ true → slice_index_or (map waiting_of takers) k [] ≡ []

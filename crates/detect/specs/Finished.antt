@@ -8,12 +8,12 @@ use Rattle.trace.specs.Devices.{Change}
 use Rattle.trace.specs.Endings.{EndsReading, IsWantOfMemoryOrThread}
 use Rattle.lane.specs.Items.{IsBeginning}
 use Rattle.lane.specs.Lanes.{LaneId}
-use Rattle.route.specs.Routers.{lanes_of, lane_count, pending_of, marked_of, HasSent}
+use Rattle.route.specs.Routers.{lanes_of, lane_count, pending_of, marked_of, puts_of, HasSent}
 use Rattle.detect.specs.declared.closing.Done.{Done}
 use Rattle.detect.specs.Gathered.{given_by}
 use Rattle.detect.specs.LanesBack.{back_lanes, HasBackMark, IsGathered}
 use Rattle.detect.specs.Workers.{AllDid}
-use Rattle.detect.specs.Closing.{taker_lanes, given_lanes}
+use Rattle.detect.specs.Closing.{taken_by, given_back, taker_lanes, given_lanes, IsSettled}
 
 module _ {S H : Type 0} where
   -- the records u were sent and the marks after them; n workers have done their work, and all they gave back came
@@ -36,6 +36,12 @@ module _ {S H : Type 0} where
     pub marked : marked_of done.sending.router ≡ lane_count done.sending.router
     pub to_shards : IsBeginning (taker_lanes done.workers.items) (lanes_of done.sending.router)
     pub from_shards : IsBeginning (given_lanes done.workers.items) (back_lanes done.sending.gathering)
+
+  -- the receipts were compared: what each of n workers took with what was put on its lane, and what came of its lane back
+  -- with what it put there
+  pub record IsCompared (n : ℕ) (done : Done S H) : Type 0 where
+    pub to_shards : (k : ℕ) → k < n → IsSettled (taken_by done.workers.items) (puts_of done.sending.router) k
+    pub from_shards : (k : ℕ) → k < n → IsSettled (given_by done.sending.gathering.backs.items) (given_back done.workers.items) k
 
   -- reading ended well, what the part has of the trace was sent, and all n workers ended; or the fault is why it didn't
   abbrev pub IsDone : Part → ℕ → ℕ → ℕ → Change → Done S H → Type 0

@@ -1,5 +1,5 @@
 -- Private: what the shards have handed back, lane by lane, and what a collector holds of it.
-use Rattle.std.specs.Prelude.{◌≡◌, ℕ, ◌+◌, ◌%◌, Bool, false, List, [], ◌∷◌, ◌++◌, length, map, slice_index_or, slice_set, ⊤}
+use Rattle.std.specs.Prelude.{◌≡◌, ℕ, ◌+◌, ◌%◌, false, List, [], ◌∷◌, ◌++◌, length, map, slice_index_or, slice_set, ⊤}
 use Rattle.std.specs.List.{AllByRecursion}
 use Rattle.dag.specs.declared.back.Back.{Back}
 use Rattle.lane.specs.declared.item.Item.{Item}
@@ -30,6 +30,6 @@ abbrev pub AreAtHome : List (List (Item Back)) → Type 0
 AreAtHome lists = AreAtHomeFrom (length lists) 0 lists
 
 -- unless a growth was refused, here or in a shard, the collector was given all that came
-pub record Gathers (lists : List (List (Item Back))) (refused : Bool) (kept : Collection) : Type 0 where
-  pub none_failed : refused ≡ false → fails (all_given lists) ≡ false
-  pub holds : refused ≡ false → AreAtHome lists → KeepsBest (all_given lists) kept
+pub record Gathers (lists : List (List (Item Back))) (kept : Collection) : Type 0 where
+  pub none_failed : kept.refused ≡ false → fails (all_given lists) ≡ false
+  pub holds : kept.refused ≡ false → AreAtHome lists → KeepsBest (all_given lists) kept

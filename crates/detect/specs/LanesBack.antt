@@ -14,7 +14,7 @@ HasBackMark g k = has_mark (slice_index_or (given_by g.backs.items) k []) ≡ tr
 
 -- the collector was given all that came, unless a growth was refused
 abbrev pub IsGathered : Gathering → Type 0
-IsGathered g = Gathers (given_by g.backs.items) g.refused g.collector
+IsGathered g = Gathers (given_by g.backs.items) g.collector
 
 -- more was taken, of the same lanes
 pub record IsFurther (old new : Gathering) : Type 0 where

@@ -1,5 +1,5 @@
 -- Private: what a run begins with.
-use Rattle.std.specs.Prelude.{◌≡◌, ℕ, ◌≤◌, [], length, map, None, vec_len, vec_capacity}
+use Rattle.std.specs.Prelude.{◌≡◌, IsFalse, ℕ, ◌≤◌, [], length, map, None, vec_len, vec_capacity}
 use Rattle.std.specs.List.{All, AllByRecursion}
 use Rattle.dag.specs.declared.records.Placed.{Placed}
 use Rattle.lane.specs.declared.sender.Sender.{Sender}
@@ -40,6 +40,7 @@ module _ {S H : Type 0} where
     pub backs : length made.sending.gathering.backs.items ≡ n
     pub idle : pending_of made.sending.router ≡ None
     pub unmarked : marked_of made.sending.router ≡ 0
+    pub none_refused : IsFalse made.sending.gathering.collector.refused
     pub none_sent : HasSent [] made.sending.router
     pub to_shards_are : to_shards made.jobs.items ≡ lanes_of made.sending.router
     pub from_shards_are : from_shards made.jobs.items ≡ back_lanes made.sending.gathering

@@ -1,15 +1,16 @@
 -- Private: what sends records goes on.
-use Rattle.std.specs.Prelude.{◌≡◌, List, [], ◌∷◌, ◌++◌, Some, None}
+use Rattle.std.specs.Prelude.{◌≡◌, IsFalse, List, [], ◌∷◌, ◌++◌, Some, None}
 use Rattle.dag.specs.declared.records.Placed.{Placed}
 use Rattle.route.specs.declared.router.Router.{Router}
 use Rattle.route.specs.Routers.{pending_of, marked_of, HasSent, IsOnLanes}
 use Rattle.detect.specs.declared.sending.Sending.{Sending}
 use Rattle.detect.specs.LanesBack.{IsFurther}
 
--- a record may be sent: none is pending, and no lane has its mark
+-- a record may be sent: none is pending, no lane has its mark, and no refused growth is known
 pub record MaySend (s : Sending) : Type 0 where
   pub idle : pending_of s.router ≡ None
   pub unmarked : marked_of s.router ≡ 0
+  pub none_refused : IsFalse s.gathering.collector.refused
 
 -- of these records all but the last were sent whole, and that one is pending
 pub record LacksLast (w : List Placed) (r : Router) : Type 0 where

@@ -1,17 +1,15 @@
 //! The end of a run: its receipts are compared, and it is answered.
-ghost use Rattle.std.specs.Prelude.{◌≡◌, ◌<◌, ◌≤◌, ℕ, Err, OnOk, IsTrue, IsFalse, map, vec_len};
+ghost use Rattle.std.specs.Prelude.{◌≡◌, ◌<◌, ◌≤◌, ℕ, OnOk, map, vec_len};
 ghost use Rattle.dag.specs.Bounds.{most_records};
 ghost use Rattle.dag.specs.declared.part.Part.{Part};
-ghost use Rattle.trace.specs.declared.faults.Fault.TheVariants.{NoMemory};
 ghost use Rattle.trace.specs.Devices.{Change};
 ghost use Rattle.trace.specs.Endings.{EndsReading, IsWantOfMemoryOrThread};
 ghost use Rattle.lane.specs.Items.{IsBeginning};
-ghost use Rattle.lane.specs.Lanes.{taken_of, end_lane, taker_lane, all_put};
-ghost use Rattle.route.specs.Routers.{puts_of};
+ghost use Rattle.lane.specs.Lanes.{end_lane, taker_lane, all_put};
 ghost use Rattle.detect.specs.Gathered.{given_by};
-ghost use Rattle.detect.specs.Closing.{taken_by, given_back, counts_of, taker_lanes};
-ghost use Rattle.detect.specs.Closing.{given_lanes, IsSameWork, IsSettled};
-ghost use Rattle.detect.specs.Finished.{IsClosed, IsDone};
+ghost use Rattle.detect.specs.Closing.{taken_by, given_back, counts_of, takers_of, taker_lanes};
+ghost use Rattle.detect.specs.Closing.{given_lanes, IsSameWork, IsSettled, IsEmptied};
+ghost use Rattle.detect.specs.Finished.{IsClosed, IsCompared, IsDone};
 ghost use Rattle.detect.specs.RunFinds.{RunFindsPart};
 ghost use Rattle.detect.specs.Rooms.{HasRoom};
 
@@ -21,6 +19,7 @@ use crate::setup::Lists;
 use crate::sharded::Run;
 use collect::Report;
 use lane::{End, Taker};
+use route::laws::{routers, runs};
 use shard::{Back, Worked};
 use std::hash::BuildHasher;
 use trace::{Fault, Placed};
@@ -45,16 +44,21 @@ struct Settled<S: BuildHasher + Drop> {
 pub(crate) fn close<S: BuildHasher + Drop>(done: Done<S>, lists: Lists) -> Result<Run, Fault>
     requires room { OnOk done.outcome (HasRoom (vec_len done.workers) lists) }
     requires closed { IsClosed done }
-    ensures { (part : Part) (n records depths : ℕ) (change : Change) → 1 ≤ n → records ≤ most_records
+    // where a fault is the answer too
+    ensures compared { IsCompared (vec_len done.workers) done }
+    ensures answers { (part : Part) (n records depths : ℕ) (change : Change) → 1 ≤ n → records ≤ most_records
         → IsDone part n records depths change done
         → EndsReading IsWantOfMemoryOrThread records depths change (RunFindsPart part n) result }
 {
+    // What the takers took is of a run of the lanes, by which it is each shard's share.
+    routers();
+    runs();
     let Settled {
         outcome,
         gathering,
         workers,
     } = settle(done);
-    first_trouble(gathering.refused, outcome)?;
+    gathering.first_trouble(outcome)?;
     let report = gathering.collector.finish()?;
     Ok(run_of(report, workers, lists))
 }
@@ -63,13 +67,10 @@ pub(crate) fn close<S: BuildHasher + Drop>(done: Done<S>, lists: Lists) -> Resul
 // however reading ended.
 fn settle<S: BuildHasher + Drop>(done: Done<S>) -> Settled<S>
     requires closed { IsClosed done }
-    ensures taken { (k : ℕ) → k < vec_len done.workers
-        → IsSettled (taken_by done.workers.items) (puts_of done.sending.router) k }
-    ensures given { (k : ℕ) → k < vec_len done.workers
-        → IsSettled (given_by done.sending.gathering.backs.items) (given_back done.workers.items) k }
+    ensures compared { IsCompared (vec_len done.workers) done }
+    ensures emptied { (k : ℕ) → k < vec_len done.workers → IsEmptied (takers_of result.workers.items) k }
     ensures same { IsSameWork done.workers.items result.workers.items }
     ensures outcome { result.outcome ≡ done.outcome }
-    ensures refused { result.gathering.refused ≡ done.sending.gathering.refused }
     ensures collector { result.gathering.collector ≡ done.sending.gathering.collector }
 {
     let Done {
@@ -99,6 +100,7 @@ fn settle_shards<S: BuildHasher + Drop>(workers: &mut Vec<Worked<S>>, ends: &mut
     ensures same { IsSameWork workers.old.items workers.new.items }
     ensures settled { (k : ℕ) → k < vec_len workers.old
         → IsSettled (taken_by workers.old.items) (map all_put ends.old.items) k }
+    ensures emptied { (k : ℕ) → k < vec_len workers.old → IsEmptied (takers_of workers.new.items) k }
 {
     for shard in 0..workers.len() {
         workers[shard].taker.settle(&mut ends[shard]);
@@ -109,6 +111,7 @@ fn settle_shards<S: BuildHasher + Drop>(workers: &mut Vec<Worked<S>>, ends: &mut
 fn settle_backs<S: BuildHasher + Drop>(workers: &mut Vec<Worked<S>>, backs: &mut Vec<Taker<Back>>)
     requires { IsBeginning (given_lanes workers.old.items) (map taker_lane backs.old.items) }
     ensures same { IsSameWork workers.old.items workers.new.items }
+    ensures takers { takers_of workers.new.items ≡ takers_of workers.old.items }
     ensures settled { (k : ℕ) → k < vec_len workers.old
         → IsSettled (given_by backs.old.items) (given_back workers.old.items) k }
 {
@@ -117,24 +120,12 @@ fn settle_backs<S: BuildHasher + Drop>(workers: &mut Vec<Worked<S>>, backs: &mut
     }
 }
 
-// Want of memory comes before a refused start and before a fault of the trace.
-fn first_trouble(refused: bool, outcome: Result<(), Fault>) -> Result<(), Fault>
-    ensures refused { IsTrue refused → result ≡ Err NoMemory }
-    ensures none_refused { IsFalse refused → result ≡ outcome }
-{
-    if refused {
-        Err(Fault::NoMemory)
-    } else {
-        outcome
-    }
-}
-
 // The report, and what the workers have of each shard.
 fn run_of<S: BuildHasher + Drop>(report: Report, workers: Vec<Worked<S>>, lists: Lists) -> Run
     requires room { HasRoom (vec_len workers) lists }
     ensures report { result.report ≡ report }
     ensures taken { result.taken.items ≡ counts_of workers.items }
-    ensures lanes { map taken_of result.lanes.items ≡ taken_by workers.items }
+    ensures lanes { result.lanes.items ≡ takers_of workers.items }
     ensures lane_count { vec_len result.lanes ≡ vec_len workers }
 {
     let Lists {

@@ -1,8 +1,9 @@
 //! The lanes back from the shards, and the races that came over them.
-ghost use Rattle.std.specs.Prelude.{◌≡◌, ◌<◌, ◌≤◌, ◌++◌, ℕ, ◌∷◌, vec_len, length, List, [], IsTrue, IsFalse};
+ghost use Rattle.std.specs.Prelude.{◌≡◌, ◌<◌, ◌≤◌, ◌++◌, ℕ, ◌∷◌, Err, IfErr, OnOk, vec_len, length, List, [], IsTrue, IsFalse};
 ghost use Rattle.lane.specs.declared.item.Item.{Item};
 ghost use Rattle.dag.specs.declared.back.Back.{Back};
 ghost use Rattle.dag.specs.declared.back.Back.TheVariants.{NoMemory};
+ghost use Rattle.trace.specs.declared.faults.Fault.TheVariants as faults;
 ghost use Rattle.collect.specs.Collected.{KeepsBest};
 ghost use Rattle.detect.specs.Gathered.{Gathers, with_items};
 ghost use Rattle.detect.specs.LanesBack.{IsFurther, HasBackMark};
@@ -13,14 +14,13 @@ use route::Router;
 use shard::Back;
 use std::sync::Wait;
 use std::time::Clock;
+use trace::Fault;
 
 /// The lanes back from the shards, and the races that came over them.
 #[derive(Drop)]
 pub(crate) struct Gathering {
     pub(crate) backs: Vec<Taker<Back>>,
     pub(crate) collector: Collector,
-    /// Whether a growth was refused, in a shard or in the collector.
-    pub(crate) refused: bool,
     /// How the reading thread waits at its lanes.
     pub(crate) waiting: Waiting,
 }
@@ -33,6 +33,16 @@ impl Gathering {
         for shard in 0..self.backs.len() {
             self.take_from(shard);
         }
+    }
+
+    /// Takes from each lane in turn what is there; want of memory if a growth was refused.
+    pub(crate) fn take_backs(&mut self) -> Result<(), Fault>
+        ensures further { IsFurther self.old self.new }
+        ensures none_refused { OnOk result (IsFalse self.new.collector.refused) }
+        ensures refused { IfErr result (λ fault. fault ≡ faults.NoMemory) }
+    {
+        self.take_from_all();
+        self.first_trouble(Ok(()))
     }
 
     /// Waits at a full lane. Its shard may be waiting for room on its lane back.
@@ -110,8 +120,7 @@ impl Gathering {
     fn keep_all(&mut self, items: &[Item<Back>])
         ensures backs { self.new.backs ≡ self.old.backs }
         ensures gathers { (lists : List (List (Item Back))) (k : ℕ) → k < length lists
-            → Gathers lists self.old.refused self.old.collector
-            → Gathers (with_items lists k items.now) self.new.refused self.new.collector }
+            → Gathers lists self.old.collector → Gathers (with_items lists k items.now) self.new.collector }
     {
         for item in items {
             self.keep_item(*item);
@@ -121,8 +130,7 @@ impl Gathering {
     fn keep_item(&mut self, item: Item<Back>)
         ensures backs { self.new.backs ≡ self.old.backs }
         ensures gathers { (lists : List (List (Item Back))) (k : ℕ) → k < length lists
-            → Gathers lists self.old.refused self.old.collector
-            → Gathers (with_items lists k (item ∷ [])) self.new.refused self.new.collector }
+            → Gathers lists self.old.collector → Gathers (with_items lists k (item ∷ [])) self.new.collector }
     {
         match item {
             Item::One(back) => self.keep(back),
@@ -133,14 +141,31 @@ impl Gathering {
     // Gives a race to the collector. After a refused growth, here or in a shard, it is dropped.
     fn keep(&mut self, back: Back)
         ensures backs { self.new.backs ≡ self.old.backs }
-        ensures given { IsFalse self.new.refused → IsFalse self.old.refused
+        ensures given { IsFalse self.new.collector.refused → IsFalse self.old.collector.refused
             × ((g : List Back) → KeepsBest g self.old.collector → KeepsBest (g ++ back ∷ []) self.new.collector) }
-        ensures refused { back ≡ NoMemory → IsTrue self.new.refused }
+        ensures refused { back ≡ NoMemory → IsTrue self.new.collector.refused }
     {
         match back {
-            Back::NoMemory => self.refused = true,
-            Back::Race(_) if self.refused => {}
-            Back::Race(_) => self.refused = self.collector.take(back).is_err(),
+            Back::NoMemory => self.collector.note_refused(),
+            Back::Race(_) if self.collector.is_refused() => {}
+            Back::Race(_) => {
+                if self.collector.take(back).is_err() {
+                    self.collector.note_refused();
+                }
+            }
+        }
+    }
+
+    /// Want of memory, if a growth was refused here or in a shard. It comes before a refused start and before a fault of
+    /// the trace.
+    pub(crate) fn first_trouble(&self, outcome: Result<(), Fault>) -> Result<(), Fault>
+        ensures refused { IsTrue self.now.collector.refused → result ≡ Err faults.NoMemory }
+        ensures none_refused { IsFalse self.now.collector.refused → result ≡ outcome }
+    {
+        if self.collector.is_refused() {
+            Err(Fault::NoMemory)
+        } else {
+            outcome
         }
     }
 }

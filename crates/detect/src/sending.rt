@@ -1,9 +1,10 @@
 //! From the source to the shards: the reading thread sends the records, and at last the marks.
-ghost use Rattle.std.specs.Prelude.{◌≡◌, ◌++◌, ◌∷◌, [], List, IfNone, IfSome};
+ghost use Rattle.std.specs.Prelude.{◌≡◌, ◌++◌, ◌∷◌, [], List, IfNone, IfSome, IfErr, OnOk, IsFalse};
 ghost use Rattle.std.specs.Option.{option_to_list};
 ghost use Rattle.dag.specs.declared.records.Placed.{Placed};
 ghost use Rattle.dag.specs.Traces.{placed};
 ghost use Rattle.dag.specs.Parts.{records_of};
+ghost use Rattle.trace.specs.declared.faults.Fault.TheVariants.{NoMemory};
 ghost use Rattle.trace.specs.Devices.{◌⇝◌};
 ghost use Rattle.trace.specs.Feeding.{GivesNext, HasSameLimits};
 ghost use Rattle.trace.specs.Endings.{EndsReading, IsWantOfMemory};
@@ -25,7 +26,8 @@ pub(crate) struct Sending {
 }
 
 impl Sending {
-    /// Reads the trace to its end, or to its first fault, and sends what the part has of its records.
+    /// Reads the trace to its end, to its first fault, or until a refused growth is known, and sends what the part has
+    /// of its records.
     pub(crate) fn send_all<T: Wait + Clock, R: Source>(
         &mut self,
         rt: &T,
@@ -36,7 +38,7 @@ impl Sending {
         requires none_sent { HasSent [] self.old.router }
         ensures sent { EndsReading IsWantOfMemory limits.records limits.depth (R.state source.old ⇝ R.state source.new)
             (λ _ w. HasSent (records_of self.old.part (placed w)) self.new.router) result }
-        ensures ready { MaySend self.new }
+        ensures idle { pending_of self.new.router ≡ None }
         ensures goes_on { GoesOn self.old self.new }
     {
         let mut intake = Intake::new(limits);
@@ -44,14 +46,15 @@ impl Sending {
             match intake.next_known() {
                 Some(placed) => {
                     if let Some(lane) = self.put(placed) {
-                        self.send_rest(rt, lane);
+                        self.send_rest(rt, lane)?;
                     }
                 }
                 None => {
                     self.router.flush();
+                    self.gathering.take_backs()?;
                     match self.read_on(&mut intake, source)? {
                         None => return Ok(()),
-                        Some(placed) => self.send(rt, placed),
+                        Some(placed) => self.send(rt, placed)?,
                     }
                 }
             }
@@ -65,7 +68,8 @@ impl Sending {
         intake: &mut Intake,
         source: &mut R,
     ) -> Result<Option<Placed>, Fault>
-        requires { ShowsAll self.now.router }
+        requires none_refused { IsFalse self.now.gathering.collector.refused }
+        requires shown { ShowsAll self.now.router }
         ensures fed { GivesNext intake.old intake.new (R.state source.old ⇝ R.state source.new) result }
         ensures limits { HasSameLimits intake.old intake.new }
     {
@@ -73,15 +77,18 @@ impl Sending {
     }
 
     // Sends what the part has of the record.
-    fn send<T: Wait + Clock>(&mut self, rt: &T, placed: Placed)
+    fn send<T: Wait + Clock>(&mut self, rt: &T, placed: Placed) -> Result<(), Fault>
         requires { MaySend self.old }
         ensures sent { (w : List Placed) → HasSent (records_of self.old.part w) self.old.router
             → HasSent (records_of self.old.part (w ++ placed ∷ [])) self.new.router }
-        ensures ready { MaySend self.new }
+        ensures ready { OnOk result (MaySend self.new) }
+        ensures refused { IfErr result (λ fault. fault ≡ NoMemory) }
+        ensures idle { pending_of self.new.router ≡ None }
         ensures goes_on { GoesOn self.old self.new }
     {
-        if let Some(lane) = self.put(placed) {
-            self.send_rest(rt, lane);
+        match self.put(placed) {
+            None => Ok(()),
+            Some(lane) => self.send_rest(rt, lane),
         }
     }
 
@@ -128,11 +135,13 @@ impl Sending {
     // Puts the pending record on the lanes that lack it; this lane was full.
     #[cold]
     #[inline(never)]
-    fn send_rest<T: Wait + Clock>(&mut self, rt: &T, lane: usize)
+    fn send_rest<T: Wait + Clock>(&mut self, rt: &T, lane: usize) -> Result<(), Fault>
         requires unmarked { marked_of self.old.router ≡ 0 }
         requires full { IsStuck self.old.router lane }
         ensures sent { (w : List Placed) → LacksLast w self.old.router → HasSent w self.new.router }
-        ensures ready { MaySend self.new }
+        ensures ready { OnOk result (MaySend self.new) }
+        ensures refused { IfErr result (λ fault. fault ≡ NoMemory) }
+        ensures idle { pending_of self.new.router ≡ None }
         ensures goes_on { GoesOn self.old self.new }
     {
         self.wait(rt);
@@ -140,7 +149,7 @@ impl Sending {
         let mut full = Some(lane);
         for _ in rt.forever() {
             match self.router.step() {
-                Progress::Idle => return,
+                Progress::Idle => return self.gathering.first_trouble(Ok(())),
                 Progress::Moved => {
                     if let Some(lane) = full.take() {
                         self.gathering.learn(&self.router, lane);

@@ -94,7 +94,6 @@ pub(crate) fn make<S: BuildHasher + Drop>(
             gathering: Gathering {
                 backs,
                 collector: Collector::new(alloc),
-                refused: false,
                 waiting: Waiting::new(),
             },
         },

@@ -1,5 +1,6 @@
 //! Detection with a thread for each shard.
-ghost use Rattle.std.specs.Prelude.{◌≡◌, vec_len};
+ghost use Rattle.std.specs.Prelude.{◌≡◌, Err, vec_len};
+ghost use Rattle.trace.specs.declared.faults.Fault.TheVariants.{NoThread};
 ghost use Rattle.trace.specs.Devices.{◌⇝◌};
 ghost use Rattle.trace.specs.Endings.{EndsReading, IsWantOfMemoryOrThread};
 ghost use Rattle.detect.specs.Readiness.{IsReady};
@@ -150,6 +151,7 @@ where
     ensures done { IsDone made.sending.part (vec_len made.jobs) limits.records limits.depth
         (R.state source.old ⇝ R.state source.new) result }
     ensures closed { IsClosed result }
+    ensures unread { result.outcome ≡ Err NoThread → source.new ≡ source.old }
 {
     let Made {
         mut sending,

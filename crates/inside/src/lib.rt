@@ -4,4 +4,6 @@
 
 mod exports;
 mod session;
+#[cfg(test)]
+mod tests;
 mod text;

@@ -1,5 +1,5 @@
 -- Promised: what the ends of a lane say: which lane they are of, what was put, and what was taken.
-use Rattle.std.specs.Prelude.{ℕ, ◌-◌, List, ◌++◌, length}
+use Rattle.std.specs.Prelude.{ℕ, ◌+◌, ◌-◌, ◌%◌, ◌^◌, List, ◌++◌, length}
 use Rattle.std.specs.declared.alloc.Global.{Global}
 use Rattle.rtrb.specs.Shared.{Names}
 use Rattle.rtrb.specs.Ring.{sent, received, producer_capacity, consumer_capacity, known_free, known_items}
@@ -12,6 +12,10 @@ use Rattle.lane.specs.declared.sender.End.{End}
 -- a lane, as a value that distinguishes it from each other lane: the place of its ring, and the ring's names
 abbrev pub LaneId : Type 0
 LaneId = (Ptr × Ptr) × (Names × Global)
+
+-- one more, in a counter of 64 bits
+abbrev pub one_more : ℕ → ℕ
+one_more n = (n + 1) % 2 ^ 64
 
 module _ {T : Type 0} where
   abbrev pub lane_of : Sender T → LaneId
@@ -39,6 +43,10 @@ module _ {T : Type 0} where
   abbrev pub all_put : End T → List (Item T)
   all_put e = put_of e.sender
 
+  -- what the taker is shown in all
+  abbrev pub all_shown : End T → List (Item T)
+  all_shown e = shown_of e.sender
+
   -- what was taken, the mark included
   abbrev pub taken_of : Taker T → List (Item T)
   taken_of t = received t.ring
@@ -46,6 +54,10 @@ module _ {T : Type 0} where
   -- for how many items more the sender knows to have room
   abbrev pub room_of : Sender T → ℕ
   room_of s = known_free s.ring - length (staged_of s)
+
+  -- how often the sender refused a put, a block or the mark, in a counter of 64 bits
+  abbrev pub refusals_of : Sender T → ℕ
+  refusals_of s = s.refusals
 
   -- the items that the taker knows to wait
   abbrev pub waiting_of : Taker T → List (Item T)

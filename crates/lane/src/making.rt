@@ -44,6 +44,7 @@ pub fn lane<T: Copy + Send>(
         staged,
         most: most_staged(capacity),
         limit: 0,
+        refusals: 0,
     };
     let taker = Taker {
         ring: taking,

@@ -1,5 +1,6 @@
 //! The end of a lane that puts, and its receipt.
 ghost use Rattle.std.specs.Prelude.{◌≡◌, ◌+◌, ◌<◌, ◌≤◌, true, false, [], ◌∷◌, ◌++◌, length, map, vec_len, vec_capacity};
+ghost use Rattle.std.specs.Prelude.{is_ok, if◌then◌else◌};
 ghost use Rattle.std.specs.Prelude.{IsTrue, IsFalse, IfErr, IfNone, IfSome, OnOk};
 ghost use Rattle.rtrb.specs.Ring.{sent, known_free, producer_capacity, SameProducer, ProducerLooked};
 ghost use Rattle.lane.specs.declared.sender.TheConstants.{BLOCK};
@@ -26,6 +27,8 @@ pub struct Sender<T> {
     pub(crate) most: usize,
     // how many this time: all that `most` and the known room allow; 0 if a look at the other end has to come first
     pub(crate) limit: usize,
+    // how often a put was refused; it wraps around
+    pub(crate) refusals: u64,
     ghost memory: { BLOCK ≤ vec_capacity staged },
     ghost most_is: { most ≡ most_staged (producer_capacity ring) },
     ghost limit_within: { (limit ≤ most) × (limit ≤ known_free ring) },
@@ -42,7 +45,8 @@ pub struct End<T> {
 }
 
 impl<T: Copy + Send> Sender<T> {
-    ghost use Rattle.lane.specs.Lanes.{lane_of, end_lane, put_of, shown_of, staged_of, all_put, capacity_of, room_of};
+    ghost use Rattle.lane.specs.Lanes.{lane_of, end_lane, put_of, shown_of, staged_of, all_put, all_shown, capacity_of, room_of};
+    ghost use Rattle.lane.specs.Lanes.{refusals_of, one_more};
 
     /// Puts the value behind those put before, or hands it back if the lane is full, when the taker is shown all items
     /// put. It shows values to the taker together: at the latest when `most_staged` of them are staged, or in `flush`.
@@ -58,6 +62,8 @@ impl<T: Copy + Send> Sender<T> {
         ensures room { room_of self.old ≤ room_of self.new + 1 }
         ensures staged { length (staged_of self.new) < most_staged (capacity_of self.new) }
         ensures shown { IfErr result (λ _. staged_of self.new ≡ []) }
+        ensures refusals { refusals_of self.new
+            ≡ (if is_ok result then refusals_of self.old else one_more (refusals_of self.old)) }
         ensures unmarked { has_mark (put_of self.new) ≡ false }
     {
         self.staged.push_reserved(Item::One(value));
@@ -69,7 +75,10 @@ impl<T: Copy + Send> Sender<T> {
                 self.limit = limit;
                 Ok(())
             }
-            None => Err(value),
+            None => {
+                self.refusals = self.refusals.wrapping_add(1);
+                Err(value)
+            }
         }
     }
 
@@ -80,6 +89,7 @@ impl<T: Copy + Send> Sender<T> {
         ensures shown { shown_of self.new ≡ put_of self.old }
         ensures none_staged { staged_of self.new ≡ [] }
         ensures room { room_of self.old ≤ room_of self.new }
+        ensures refusals { refusals_of self.new ≡ refusals_of self.old }
     {
         if !self.staged.is_empty() {
             self.limit = publish(&mut self.ring, &mut self.staged, self.most);
@@ -98,12 +108,17 @@ impl<T: Copy + Send> Sender<T> {
         ensures succeeds { length values.now ≤ room_of self.old → IsTrue result }
         ensures unmarked { has_mark (put_of self.new) ≡ false }
         ensures shown { staged_of self.new ≡ [] }
+        ensures refusals { refusals_of self.new
+            ≡ (if result then refusals_of self.old else one_more (refusals_of self.old)) }
     {
         self.flush();
         wrap(&mut self.staged, values);
         let put = self.ring.push_entire_slice(&self.staged).is_ok();
         self.staged.clear();
         self.limit = 0;
+        if !put {
+            self.refusals = self.refusals.wrapping_add(1);
+        }
         put
     }
 
@@ -118,9 +133,12 @@ impl<T: Copy + Send> Sender<T> {
         ensures no_room { IsFalse result → (room_of self.old ≡ 0) × (room_of self.new ≡ 0) }
         ensures marked { has_mark (put_of self.new) ≡ result }
         ensures shown { staged_of self.new ≡ [] }
+        ensures refusals { refusals_of self.new
+            ≡ (if result then refusals_of self.old else one_more (refusals_of self.old)) }
     {
         self.flush();
         if self.ring.is_full() {
+            self.refusals = self.refusals.wrapping_add(1);
             return false;
         }
         self.ring.push_reserved(Item::Finish);
@@ -155,6 +173,7 @@ impl<T: Copy + Send> Sender<T> {
     pub fn end(mut self) -> End<T>
         ensures lane { end_lane result ≡ lane_of self }
         ensures put { all_put result ≡ put_of self }
+        ensures shown { all_shown result ≡ all_put result }
     {
         self.flush();
         End { sender: self }

@@ -1,11 +1,11 @@
 -- How an answer ends of what names stand for.
 use Rattle.std.proofs.Common.{◌≡◌, ℕ, List, [], Option, None, Result, string_bytes, refl, sym, ap, ◌∙◌, subst, inl, inr}
-use Rattle.std.specs.Prelude.{◌==◌, if◌then◌else◌}
+use Rattle.std.specs.Prelude.{⊤, ◌==◌, if◌then◌else◌}
 use Rattle.std.specs.declared.io.buffered.BufReader.{BufReader}
 use Rattle.std.specs.Io.Buffered.{reader_inner, reader_buffer, reader_capacity, reader_remaining}
 use Rattle.std.proofs.KnownBytes.{prepend_known-nil}
 use Rattle.std.specs.Io.KnownBytes.{prepend_known}
-use Rattle.trace.specs.declared.faults.Fault.TheVariants.{NoMemory}
+use Rattle.trace.specs.declared.faults.Fault.TheVariants.{NoMemory, Read}
 use Rattle.dag.specs.Bounds.{most_records}
 use Rattle.trace.specs.Devices.{Device, Change, ◌⇝◌}
 use Rattle.trace.specs.Writers.{IsUntouched, WasGiven}
@@ -20,9 +20,9 @@ use Rattle.texts.specs.Messages.{message}
 use Rattle.replies.specs.Questions.{Answers, IsWant}
 use Rattle.replies.specs.Answered.{IsAnswered, IsConfirmed}
 use Rattle.replies.specs.declared.input.Input.{Input}
-use Rattle.replies.specs.Inputs.{StandsFor, StandsBeside}
-use Rattle.replies.specs.Files.{untried, HasAnsweredOf, HasConfirmedOf}
-use Rattle.replies.proofs.Endings.{refused}
+use Rattle.replies.specs.Inputs.{StandsFor, CannotOpen, HasNotOpened}
+use Rattle.replies.specs.Files.{untried, HasAnsweredOpened, HasConfirmedOpened}
+use Rattle.replies.proofs.Endings.{refused, untouched}
 
 -- want of memory is a want of every reading
 wants_memory : (q : Question) → IsWant q NoMemory
@@ -31,14 +31,18 @@ wants_memory (question.Pairs p) = refl
 wants_memory (question.Explain e) = refl
 wants_memory (question.Measure m) = refl
 
--- what is said of a trace that wasn't touched
-untouched_too : {U V : Type 0} {records depths : ℕ} {trace report out err : Change} {status : ℕ} → (U → V) → IsConfirmed U records depths trace report out err status → IsConfirmed V records depths trace report out err status
-untouched_too f (inl (unread, none)) = inl (f unread, none)
-untouched_too f (inr both) = inr both
+-- what is said if nothing tells whether the trace was read
+read_or_not : {Unread : Type 0} {records depths : ℕ} {trace report out err : Change} {status : ℕ} → IsConfirmed Unread records depths trace report out err status → IsConfirmed ⊤ records depths trace report out err status
+read_or_not (inl (unread, none)) = inl (tt, none)
+read_or_not (inr both) = inr both
+
+-- a name that can't be opened is answered for by the line for a failed read
+pub not_opened : {F E : Type 0} {Gives : List ℕ → Result F E → Type 0} {name : List ℕ} {err : Change} {status : ℕ} (out : Device) → CannotOpen Gives name → status ≡ 2 → WasGiven (message Read) err → HasNotOpened Gives name (out ⇝ out) err status
+not_opened out cannot two said = record { cannot = cannot; untouched = untouched out; said = said; is_two = two }
 
 module _ {F E : Type 0} (Gives : List ℕ → Result F E → Type 0) (known : Input F → Option (List ℕ)) {out err : Change} where
   -- nothing was read of a trace, for want of memory
-  pub trace_unread : (q : Question) (trace : Input F) → StandsFor Gives (trace_name q) trace → IsUntouched out → WasGiven (message NoMemory) err → HasAnsweredOf Gives known q out err 2
+  pub trace_unread : (q : Question) (trace : Input F) → StandsFor Gives (trace_name q) trace → IsUntouched out → WasGiven (message NoMemory) err → HasAnsweredOpened Gives known q out err 2
   trace_unread q trace stands untouched given = record {
     trace = trace;
     stands = stands;
@@ -47,8 +51,8 @@ module _ {F E : Type 0} (Gives : List ℕ → Result F E → Type 0) (known : In
   }
 
   -- nor of a report
-  pub report_unread : (c : ConfirmWords) (trace report : Input F) → StandsFor Gives (string_bytes c.trace) trace → StandsBeside Gives (string_bytes c.report) trace report
-      → IsUntouched out → WasGiven (message NoMemory) err → HasConfirmedOf Gives known c out err 2
+  pub report_unread : (c : ConfirmWords) (trace report : Input F) → StandsFor Gives (string_bytes c.trace) trace → StandsFor Gives (string_bytes c.report) report
+      → IsUntouched out → WasGiven (message NoMemory) err → HasConfirmedOpened Gives known c out err 2
   report_unread c trace report stands beside untouched given = record {
     trace = trace;
     report = report;
@@ -57,7 +61,7 @@ module _ {F E : Type 0} (Gives : List ℕ → Result F E → Type 0) (known : In
     trace_left = untried (known trace);
     report_left = untried (known report);
     confirmed = inl (
-      refl,
+      tt,
       record {
         refusal = refusals.NoMemory;
         refused = refused_for (untried (known report) ⇝ untried (known report)) refusals.NoMemory tt;
@@ -70,27 +74,26 @@ module _ {F E : Type 0} (Gives : List ℕ → Result F E → Type 0) (known : In
 
   -- a trace alone was answered for
   pub answered_alone : (q : Question) (trace : Input F) (status : ℕ) (before after : Device) → StandsFor Gives (trace_name q) trace → before ≡ untried (known trace)
-      → IsAnswered (IsWant q) most_records (depth_of q) (Answers q) (before ⇝ after) out err status → HasAnsweredOf Gives known q out err status
+      → IsAnswered (IsWant q) most_records (depth_of q) (Answers q) (before ⇝ after) out err status → HasAnsweredOpened Gives known q out err status
   answered_alone q trace status before after stands is answered =
       let P : Device → Type 0 = λ d. IsAnswered (IsWant q) most_records (depth_of q) (Answers q) (d ⇝ after) out err status in
       record { trace = trace; stands = stands; left = after; answered = subst P is answered }
 
   -- a report and a trace were answered for
-  pub answered_both : (c : ConfirmWords) (trace report : Input F) {R : Type 0} (state : R → Device) (status : ℕ) (before after : R) (report_before report_after : Device)
-      → StandsFor Gives (string_bytes c.trace) trace → StandsBeside Gives (string_bytes c.report) trace report → state before ≡ untried (known trace) → report_before ≡ untried (known report)
-      → IsConfirmed (after ≡ before) most_records c.depth (state before ⇝ state after) (report_before ⇝ report_after) out err status → HasConfirmedOf Gives known c out err status
-  answered_both c trace report {R} state status before after report_before report_after stands beside is is' confirmed =
-      let P : Device → Type 0 = λ d. IsConfirmed (state after ≡ untried (known trace)) most_records c.depth (untried (known trace) ⇝ state after) (d ⇝ report_after) out err status in
-      let Q : Device → Type 0 = λ d. IsConfirmed (state after ≡ untried (known trace)) most_records c.depth (d ⇝ state after) (report_before ⇝ report_after) out err status in
-      let untouched : Q (state before) = untouched_too (λ e. ap state e ∙ is) confirmed in
+  pub answered_both : (c : ConfirmWords) (trace report : Input F) {Unread : Type 0} (status : ℕ) (before after report_before report_after : Device)
+      → StandsFor Gives (string_bytes c.trace) trace → StandsFor Gives (string_bytes c.report) report → before ≡ untried (known trace) → report_before ≡ untried (known report)
+      → IsConfirmed Unread most_records c.depth (before ⇝ after) (report_before ⇝ report_after) out err status → HasConfirmedOpened Gives known c out err status
+  answered_both c trace report status before after report_before report_after stands beside is is' confirmed =
+      let P : Device → Type 0 = λ d. IsConfirmed ⊤ most_records c.depth (untried (known trace) ⇝ after) (d ⇝ report_after) out err status in
+      let Q : Device → Type 0 = λ d. IsConfirmed ⊤ most_records c.depth (d ⇝ after) (report_before ⇝ report_after) out err status in
       record {
         trace = trace;
         report = report;
         trace_stands = stands;
         report_stands = beside;
-        trace_left = state after;
+        trace_left = after;
         report_left = report_after;
-        confirmed = subst P is' (subst Q is untouched);
+        confirmed = subst P is' (subst Q is (read_or_not confirmed));
       }
 
 -- a reader that has room to read ahead, and has read nothing ahead, has left what its own reader has

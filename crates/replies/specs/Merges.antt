@@ -7,12 +7,13 @@ use Rattle.trace.specs.Writers.{IsUntouched, WasGiven}
 use Rattle.collect.specs.ReportText.{rtext}
 use Rattle.collect.specs.Merged.{IsMerged}
 use Rattle.collect.specs.declared.bounded.ReportRefusal.{ReportRefusal}
+use Rattle.collect.specs.declared.bounded.ReportRefusal.TheVariants as refusals
 use Rattle.collect.specs.ReportBytes.{GivesReport, IsRefusal}
 use Rattle.texts.specs.Messages.{message, merge_message}
 use Rattle.texts.specs.Sinks.{EndsAnswer}
 use Rattle.words.specs.declared.asking.MergeWords.{MergeWords}
 use Rattle.replies.specs.declared.input.Input.{Input}
-use Rattle.replies.specs.Inputs.{StandsFor, untried}
+use Rattle.replies.specs.Inputs.{StandsFor, CannotOpen, untried}
 
 -- the status of a report: 1 if it has a race, 0 if it has none
 abbrev pub report_status : List RaceAt → ℕ
@@ -34,11 +35,15 @@ module _ {F E : Type 0} (Gives : List ℕ → Result F E → Type 0) (known : In
     pub given : GivesReport (untried (known report) ⇝ left) entries
 
   -- why the report that the name stands for wasn't taken
-  pub record IsRefusedReport (name : List ℕ) (refusal : ReportRefusal) : Type 0 where
+  pub record IsRefusedOpened (name : List ℕ) (refusal : ReportRefusal) : Type 0 where
     pub report : Input F
     pub stands : StandsFor Gives name report
     pub left : Device
     pub refused : IsRefusal (untried (known report) ⇝ left) refusal
+
+  -- why there is no report of the name; one that can't be opened counts as a failed read
+  abbrev pub IsRefusedReport : List ℕ → ReportRefusal → Type 0
+  IsRefusedReport name refusal = (CannotOpen Gives name × (refusal ≡ refusals.Read)) ⊎ IsRefusedOpened name refusal
 
   -- these are the entries of the reports that the names stand for, in the order of the names
   abbrev pub HaveReadReports : {A : Type 0} → List (String A) → List (List RaceAt) → Type 0

@@ -1,12 +1,12 @@
 //! Where the program reads a trace and a report from.
-ghost use Rattle.std.specs.Prelude.{OnOk};
+ghost use Rattle.std.specs.Prelude.{IfSome, IfNone};
 ghost use Rattle.std.specs.Fn.{FnReturnsAt};
 ghost use Rattle.std.specs.Io.{ReadsAtMost};
 ghost use Rattle.std.specs.Io.KnownBytes.{ReadConsumes};
-ghost use Rattle.replies.specs.Inputs.{IsMissing, StandsFor, StandsBeside, known_bytes};
+ghost use Rattle.replies.specs.Inputs.{CannotOpen, StandsFor, known_bytes};
 
 use std::io;
-use std::io::{ErrorKind, Read, Stdin};
+use std::io::{Read, Stdin};
 
 /// What a name on the command line stands for.
 #[derive(Drop)]
@@ -15,23 +15,26 @@ pub enum Input<F> {
     File(F),
     /// Standard input.
     Standard(Stdin),
-    /// A file that can't be opened. A read of it fails.
-    Missing,
 }
 
 impl<F> Input<F> {
     /// Opens what the name stands for: standard input if it is `-`, otherwise what `opener` gives for this name. It
     /// reads nothing yet.
-    pub fn open<O: Fn(&str) -> io::Result<F>>(rt: &HostRuntime, name: &str, opener: &O) -> Input<F>
+    pub fn open<O: Fn(&str) -> io::Result<F>>(
+        rt: &HostRuntime,
+        name: &str,
+        opener: &O,
+    ) -> Option<Input<F>>
         requires { O.IsAlwaysCallable opener.now }
-        ensures { StandsFor (FnReturnsAt O.Fn opener.now) name.now result }
+        ensures opened { IfSome result (StandsFor (FnReturnsAt O.Fn opener.now) name.now) }
+        ensures cannot { IfNone result (CannotOpen (FnReturnsAt O.Fn opener.now) name.now) }
     {
         if name == "-" {
-            return Input::Standard(rt.stdin());
+            return Some(Input::Standard(rt.stdin()));
         }
         match opener(name) {
-            Ok(file) => Input::File(file),
-            Err(_) => Input::Missing,
+            Ok(file) => Some(Input::File(file)),
+            Err(_) => None,
         }
     }
 }
@@ -43,28 +46,10 @@ impl<F: Read> Read for Input<F> {
         ensures bound { ReadsAtMost result buffer.new }
         ensures bytes { ReadConsumes (known_bytes F.remaining self.old) (known_bytes F.remaining self.new)
             result buffer.new }
-        ensures missing { IsMissing self.old → OnOk result ⊥ }
     {
         match self {
             Input::File(file) => file.read(buffer),
             Input::Standard(stdin) => stdin.read(buffer),
-            Input::Missing => Err(io::Error::from(ErrorKind::NotFound)),
         }
-    }
-}
-
-/// Opens the report to confirm. If the trace can't be opened, it doesn't open the report either.
-pub fn open_report<F, O: Fn(&str) -> io::Result<F>>(
-    rt: &HostRuntime,
-    trace: &Input<F>,
-    name: &str,
-    opener: &O,
-) -> Input<F>
-    requires { O.IsAlwaysCallable opener.now }
-    ensures { StandsBeside (FnReturnsAt O.Fn opener.now) name.now trace.now result }
-{
-    match trace {
-        Input::File(_) | Input::Standard(_) => Input::open(rt, name, opener),
-        Input::Missing => Input::Missing,
     }
 }

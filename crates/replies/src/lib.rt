@@ -2,7 +2,11 @@
 #![tactic(auto)]
 
 ghost use Rattle.std.specs.Fn.{FnReturnsAt};
+ghost use Rattle.std.specs.Prelude.{◌≡◌};
 ghost use Rattle.trace.specs.Devices.{◌⇝◌};
+ghost use Rattle.trace.specs.Writers.{WasGiven};
+ghost use Rattle.trace.specs.declared.faults.Fault.TheVariants.{Read};
+ghost use Rattle.texts.specs.Messages.{message};
 ghost use Rattle.replies.specs.Files.{HasAnsweredOf, HasConfirmedOf, IsAnsweredOf, IsAnsweredOfFiles};
 ghost use Rattle.replies.specs.Inputs.{known_bytes};
 
@@ -14,7 +18,7 @@ mod questions;
 
 pub use checks::{MOST_RECORDS, answer, limits_of, refuse};
 pub use confirms::answer_confirm;
-pub use input::{Input, open_report};
+pub use input::Input;
 use merges::merge_from_files;
 use std::fs::File;
 use std::io;
@@ -22,7 +26,8 @@ use std::io::{BufReader, Read};
 use std::sync::Wait;
 use std::thread::Threads;
 use std::time::Clock;
-use trace::{Counted, Sink};
+use texts::say_fault;
+use trace::{Counted, Fault, Sink};
 use words::{Asked, ConfirmWords, Question, WordsFault};
 
 /// Answers the words from the files of the system, and gives the exit status.
@@ -86,7 +91,9 @@ where
         (W.state out.old ⇝ W.state out.new) (E.state err.old ⇝ E.state err.new) result }
 {
     let alloc = rt.alloc();
-    let trace = Input::open(rt, question.trace(), opener);
+    let Some(trace) = Input::open(rt, question.trace(), opener) else {
+        return cannot_open(err);
+    };
     let Ok(ahead) = BufReader::with_capacity(alloc, AHEAD, trace) else {
         return refuse(&WordsFault::NoMemory, out, err);
     };
@@ -110,12 +117,25 @@ where
         (W.state out.old ⇝ W.state out.new) (E.state err.old ⇝ E.state err.new) result }
 {
     let alloc = rt.alloc();
-    let trace = Input::open(rt, confirm.trace.as_str(), opener);
-    let report = open_report(rt, &trace, confirm.report.as_str(), opener);
+    let Some(trace) = Input::open(rt, confirm.trace.as_str(), opener) else {
+        return cannot_open(err);
+    };
+    let Some(report) = Input::open(rt, confirm.report.as_str(), opener) else {
+        return cannot_open(err);
+    };
     let Ok(ahead) = BufReader::with_capacity(alloc, AHEAD, trace) else {
         return refuse(&WordsFault::NoMemory, out, err);
     };
     let mut trace = Counted::new(ahead);
     let mut report = Counted::new(report);
     answer_confirm(alloc, confirm, &mut trace, &mut report, out, err)
+}
+
+// Says of a name that can't be opened what is said of a failed read, and gives the exit status.
+fn cannot_open<E: Sink>(err: &mut E) -> u8
+    ensures two { result ≡ 2 }
+    ensures said { WasGiven (message Read) (E.state err.old ⇝ E.state err.new) }
+{
+    say_fault(&Fault::Read, err);
+    2
 }

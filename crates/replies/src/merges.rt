@@ -94,7 +94,10 @@ where
         collector.old collector.new)
         (IsRefusedReport (FnReturnsAt O.Fn opener.now) (known_bytes F.remaining) name.now) }
 {
-    let mut source = Counted::new(Input::open(rt, name, opener));
+    let Some(input) = Input::open(rt, name, opener) else {
+        return Err(ReportRefusal::Read);
+    };
+    let mut source = Counted::new(input);
     let report = report_from(rt.alloc(), &mut source)?;
     match collector.take_report(&report) {
         Ok(()) => Ok(()),

@@ -9,3 +9,4 @@ pub mod SentSoFar
 pub mod Headline
 pub mod RunLists
 pub mod RouterRuns
+pub mod RunTakes

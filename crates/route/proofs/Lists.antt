@@ -6,9 +6,9 @@ use Rattle.std.proofs.lemmas.List.{map-set, get_or-map, get_or-set_same, get_or-
 use Rattle.std.proofs.Math.Seq.{map-set_same}
 use Rattle.lane.specs.declared.item.Item.{Item}
 use Rattle.lane.specs.declared.sender.Sender.{Sender}
-use Rattle.lane.specs.Lanes.{put_of, shown_of, room_of}
+use Rattle.lane.specs.Lanes.{put_of, shown_of, room_of, refusals_of, one_more}
 use Rattle.dag.specs.declared.records.Placed.{Placed}
-use Rattle.route.specs.Senders.{puts, shown, rooms}
+use Rattle.route.specs.Senders.{puts, shown, rooms, refusals, with_refusal}
 use Rattle.route.specs.Sending.{put_on, with_put}
 
 -- a put list for each
@@ -58,3 +58,11 @@ shown_here ss k t h all =
 
 pub shown_others : (ss : List (Sender Placed)) (i k : ℕ) (t : Sender Placed) → (k ≡ i → ⊥) → slice_index_or (shown (set ss i t)) k [] ≡ slice_index_or (shown ss) k []
 shown_others ss i k t apart = ap (λ (l : List (List (Item Placed))). slice_index_or l k []) (map-set shown_of ss i t) ∙ get_or-set_other (shown ss) i k (shown_of t) [] apart
+
+-- after a put or a refusal
+pub refusals_after : (ss : List (Sender Placed)) (k : ℕ) (s t : Sender Placed) (b : Bool) → k < length ss → s ≡ get_or ss k s → refusals_of t ≡ cond b (refusals_of s) (one_more (refusals_of s))
+    → refusals (set ss k t) ≡ cond b (refusals ss) (with_refusal (refusals ss) k)
+refusals_after ss k s t true h at counts = map-set_like refusals_of ss k s t at counts
+refusals_after ss k s t false h at counts =
+    map-set refusals_of ss k t
+    ∙ ap (λ (n : ℕ). set (refusals ss) k n) (counts ∙ ap one_more (ap refusals_of at ∙ sym (get_or-map refusals_of ss k s 0 h)))

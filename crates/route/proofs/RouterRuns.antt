@@ -49,13 +49,3 @@ run_took n k w es taken run l front marked =
     let whole : w ≡ in_hand f.v f.pending = f.whole ∙ ap (λ (r : List Placed). in_hand f.v f.pending ++ r) (f.ended (omega arith)) ∙ append-nil (in_hand f.v f.pending) in
     let all : o.list ≡ w = ⊎_elim (λ (h : o.list ≡ f.v). h ∙ sym (whole ∙ ap (in_hand f.v) none ∙ append-nil f.v)) (λ (h : o.list ≡ in_hand f.v f.pending). h ∙ sym whole) o.either in
     (takes_share n (put_list es) o.list k taken l o.routes front).whole marked ∙ ap (λ (u : List Placed). map One (share k n u) ++ Finish ∷ []) all
-
--- what was put by a router that has sent w whole and all marks
-pub router_took : (r : Router) (w : List Placed) (k : ℕ) (taken : List (Item Placed)) → HasSent w r → pending_of r ≡ None → marked_of r ≡ lane_count r → IsRising w → k < lane_count r → taken ≡ put_on (puts_of r) k
-    → taken ≡ map One (share k (lane_count r) w) ++ Finish ∷ []
-router_took r w k taken sent none marks rising l same =
-    let at_rest : in_hand w (pending_of r) ≡ w = ap (in_hand w) none ∙ append-nil w in
-    let run = router_run r w (subst IsRising (sym at_rest) rising) in
-    let put : put_list (run_of w r) k ≡ taken = router_puts r w sent k l ∙ sym same in
-    let marked : has_mark taken ≡ true = ap has_mark same ∙ has_mark-sent (lane_count r) (put_on (puts_of r)) w (next_of r) (pending_of r) (marked_of r) sent k l ∙ lt-ltb k (marked_of r) (omega arith) in
-    run_took (lane_count r) k (in_hand w (pending_of r)) (run_of w r) taken run l ([], put ∙ sym (append-nil taken)) marked ∙ ap (λ (u : List Placed). map One (share k (lane_count r) u) ++ Finish ∷ []) at_rest

@@ -15,12 +15,12 @@ use Rattle.route.proofs.Rising.{rising_front}
 use Rattle.route.proofs.RunFronts.{Sends, of_lane-append, Front, front}
 use Rattle.route.proofs.MarksLast.{Unmarked, never_marked, unmarked_sending}
 
-puts_in-append : (es fs : List Event) → puts_in (es ++ fs) ≡ puts_in es ++ puts_in fs
+pub puts_in-append : (es fs : List Event) → puts_in (es ++ fs) ≡ puts_in es ++ puts_in fs
 puts_in-append [] fs = refl
 puts_in-append (put k x ∷ es) fs = ap (λ (l : List (ℕ × Item Placed)). (k, x) ∷ l) (puts_in-append es fs)
 puts_in-append (take k x ∷ es) fs = puts_in-append es fs
 
-takes_in-append : (es fs : List Event) → takes_in (es ++ fs) ≡ takes_in es ++ takes_in fs
+pub takes_in-append : (es fs : List Event) → takes_in (es ++ fs) ≡ takes_in es ++ takes_in fs
 takes_in-append [] fs = refl
 takes_in-append (put k x ∷ es) fs = takes_in-append es fs
 takes_in-append (take k x ∷ es) fs = ap (λ (l : List (ℕ × Item Placed)). (k, x) ∷ l) (takes_in-append es fs)
@@ -35,7 +35,7 @@ held-push : (es : List Event) (e : Event) (k : ℕ) → held (es ++ e ∷ []) k 
 held-push es e k = fold-append (held_after k) [] es (e ∷ [])
 
 -- what was put is what was taken and what is held
-abbrev Kept : ℕ → List Event → Type 0
+abbrev pub Kept : ℕ → List Event → Type 0
 Kept k es = put_list es k ≡ taken_list es k ++ held es k
 
 after_put : (b : Bool) (p t h : List (Item Placed)) (x : Item Placed) → p ≡ t ++ h → p ++ cond b (x ∷ []) [] ≡ (t ++ []) ++ cond b (h ++ x ∷ []) h
@@ -50,16 +50,16 @@ after_take false p t h rest x oldest e = append-nil p ∙ e ∙ ap (λ (l : List
 kept-push : (k : ℕ) (es : List Event) (e : Event) → IsAllowed es e → Kept k es → Kept k (es ++ e ∷ [])
 kept-push k es (put j x) allowed h =
     put_list-push es (put j x) k ∙ after_put (j == k) (put_list es k) (taken_list es k) (held es k) x h ∙ sym (ap₂ (λ (a b : List (Item Placed)). a ++ b) (taken_list-push es (put j x) k) (held-push es (put j x) k))
-kept-push k es (take j x) (rest, oldest) h =
+kept-push k es (take j x) allowed h =
     put_list-push es (take j x) k
-    ∙ after_take (j == k) (put_list es k) (taken_list es k) (held es k) rest x (λ b. let P : ℕ → Type 0 = λ i. held es i ≡ x ∷ rest in subst P (eqb-true j k b) oldest) h
+    ∙ after_take (j == k) (put_list es k) (taken_list es k) (held es k) allowed.0 x (λ b. let P : ℕ → Type 0 = λ i. held es i ≡ x ∷ allowed.0 in subst P (eqb-true j k b) allowed.1) h
     ∙ sym (ap₂ (λ (a b : List (Item Placed)). a ++ b) (taken_list-push es (take j x) k) (held-push es (take j x) k))
 
 -- each event is allowed after those before it
 abbrev pub AllAllowed : List Event → Type 0
 AllAllowed es = (before after : List Event) (e : Event) → es ≡ before ++ e ∷ after → IsAllowed before e
 
-kept_along : (k : ℕ) (es before after : List Event) → AllAllowed es → es ≡ before ++ after → Kept k before → Kept k es
+pub kept_along : (k : ℕ) (es before after : List Event) → AllAllowed es → es ≡ before ++ after → Kept k before → Kept k es
 kept_along k es before [] allowed split h = subst (Kept k) (sym (split ∙ append-nil before)) h
 kept_along k es before (e ∷ after) allowed split h = kept_along k es (before ++ e ∷ []) after allowed (split ∙ sym (append_assoc before (e ∷ []) after)) (kept-push k before e (allowed before after e split) h)
 
@@ -102,7 +102,7 @@ pub puts_in-events : (s : List (ℕ × Item Placed)) → puts_in (map put_event 
 puts_in-events [] = refl
 puts_in-events (e ∷ s) = ap (λ (l : List (ℕ × Item Placed)). e ∷ l) (puts_in-events s)
 
-takes_in-events : (s : List (ℕ × Item Placed)) → takes_in (map put_event s) ≡ []
+pub takes_in-events : (s : List (ℕ × Item Placed)) → takes_in (map put_event s) ≡ []
 takes_in-events [] = refl
 takes_in-events (e ∷ s) = takes_in-events s
 

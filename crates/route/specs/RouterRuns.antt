@@ -1,12 +1,13 @@
 -- Promised: the run of a router: an event for each item that it has put.
-use Rattle.std.specs.Prelude.{ℕ, nat_lt, List, [], ◌++◌, map, filter, Option, Some, None}
+use Rattle.std.specs.Prelude.{◌≡◌, ℕ, ◌<◌, nat_lt, List, [], ◌++◌, map, filter, Option, Some, None}
 use Rattle.std.specs.List.{range_with_len, flat_map}
 use Rattle.lane.specs.declared.item.Item.{Item}
 use Rattle.lane.specs.declared.item.Item.TheVariants.{Finish}
 use Rattle.dag.specs.declared.records.Placed.{Placed}
 use Rattle.route.specs.declared.router.Router.{Router}
-use Rattle.route.specs.Routers.{lane_count, pending_of, next_of, marked_of}
-use Rattle.route.specs.Runs.{Event, sending_of, put_event}
+use Rattle.route.specs.Sending.{put_on}
+use Rattle.route.specs.Routers.{puts_of, lane_count, pending_of, next_of, marked_of}
+use Rattle.route.specs.Runs.{Event, IsRun, sending_of, put_event, put_list, taken_list}
 
 -- the puts of the pending record on the lanes before the next one
 abbrev pub begun : ℕ → Option Placed → ℕ → List (ℕ × Item Placed)
@@ -24,3 +25,10 @@ sent_so_far n w pending next marked = flat_map (sending_of n) w ++ (begun n pend
 -- the run of a router that has sent the records w whole
 abbrev pub run_of : List Placed → Router → List Event
 run_of w r = map put_event (sent_so_far (lane_count r) w (pending_of r) (next_of r) (marked_of r))
+
+-- a run of the router's lanes by the records w, in which all that it put is put, and `taken k` is taken of lane k
+pub record IsTakenFrom (r : Router) (w : List Placed) (taken : ℕ → List (Item Placed)) : Type 0 where
+  pub events : List Event
+  pub run : IsRun (lane_count r) w events
+  pub puts : (k : ℕ) → k < lane_count r → put_list events k ≡ put_on (puts_of r) k
+  pub takes : (k : ℕ) → k < lane_count r → taken_list events k ≡ taken k

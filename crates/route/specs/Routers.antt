@@ -5,7 +5,7 @@ use Rattle.lane.specs.Lanes.{LaneId}
 use Rattle.dag.specs.declared.records.Placed.{Placed}
 use Rattle.dag.specs.Shares.{goes_placed}
 use Rattle.route.specs.declared.router.Router.{Router}
-use Rattle.route.specs.Senders.{lanes, puts, shown, capacities, rooms}
+use Rattle.route.specs.Senders.{lanes, puts, shown, capacities, rooms, refusals, with_refusal}
 use Rattle.route.specs.Sending.{put_on, AllSent}
 
 abbrev pub lanes_of : Router → List LaneId
@@ -73,9 +73,18 @@ IsFull r k = capacity_on r k ≤ length (put_on (puts_of r) k)
 abbrev pub room_on : Router → ℕ → ℕ
 room_on r k = slice_index_or (rooms r.senders.items) k 0
 
--- a put on lane k was blocked: its sender knew of no room, and knows of none
+-- how often the sender of each lane refused a put, in a counter of 64 bits
+abbrev pub refusals_in : Router → List ℕ
+refusals_in r = refusals r.senders.items
+
+-- the sender of lane k refused a put, and no other sender refused one
+abbrev pub WasRefused : Router → Router → ℕ → Type 0
+WasRefused old new k = refusals_in new ≡ with_refusal (refusals_in old) k
+
+-- A put on lane k was blocked: its sender refused it in this call. It knew of no room, and knows of none.
 pub record HasBlocked (old new : Router) (k : ℕ) : Type 0 where
   pub within : k < lane_count old
+  pub refused : WasRefused old new k
   pub knew_of_none : room_on old k ≡ 0
   pub knows_of_none : room_on new k ≡ 0
   pub full : IsFull old k

@@ -1,15 +1,17 @@
 //! The items on the lanes at every point of every run, and on the lanes of every router.
 
-ghost use Rattle.std.specs.Prelude.{◌≡◌, ℕ, ◌<◌, ◌⊎◌, true, List, ◌++◌, map};
+ghost use Rattle.std.specs.Prelude.{◌≡◌, ℕ, ◌<◌, ◌⊎◌, true, List, [], ◌∷◌, ◌++◌, map};
 ghost use Rattle.lane.specs.declared.item.Item.{Item};
+ghost use Rattle.lane.specs.declared.item.Item.TheVariants.{One, Finish};
 ghost use Rattle.lane.specs.Items.{has_mark, IsBeginning};
 ghost use Rattle.dag.specs.declared.records.Placed.{Placed};
+ghost use Rattle.dag.specs.Shares.{share};
 ghost use Rattle.route.specs.declared.router.Router.{Router};
 ghost use Rattle.route.specs.Sending.{put_on};
 ghost use Rattle.route.specs.Routed.{IsRising, in_hand, IsRouted, HasRouted, HasShare, HasWholeShare, TakesShare};
 ghost use Rattle.route.specs.Routers.{puts_of, lane_count, pending_of, HasSent, IsUnchanged, IsOnLanes};
 ghost use Rattle.route.specs.Runs.{Event, IsRun, put_event, sending, put_list, taken_list};
-ghost use Rattle.route.specs.RouterRuns.{run_of};
+ghost use Rattle.route.specs.RouterRuns.{run_of, IsTakenFrom};
 
 /// For every run of lanes. Each prefix of a run is a run, so this is true at every point. One list was routed; a lane
 /// has its share of it, or lacks only the record that is being sent. A lane with the mark has its whole share. The
@@ -32,6 +34,9 @@ pub fn runs()
         → IsRouted n (put_list es) u → k < n → TakesShare n u k (taken_list es k) (put_list es k) }
     ensures ended { (n k : ℕ) (w : List Placed) (before after : List Event) → IsRun n w (before ++ after) → k < n
         → has_mark (taken_list before k) ≡ true → put_list (before ++ after) k ≡ taken_list before k }
+    // the marks come last, so with the mark the items taken are the lane's share of all records
+    ensures whole { (n k : ℕ) (w : List Placed) (es : List Event) → IsRun n w es → k < n
+        → has_mark (taken_list es k) ≡ true → taken_list es k ≡ map One (share k n w) ++ Finish ∷ [] }
 {}
 
 /// For every router that was offered records whose places ascend: the same; and the routed list is the records sent
@@ -58,6 +63,11 @@ pub fn routers()
         → IsRising (in_hand w (pending_of r)) → IsRouted (lane_count r) (put_on (puts_of r)) u
         → k < lane_count r → has_mark (put_on (puts_of r) k) ≡ true
         → HasWholeShare (lane_count r) (put_on (puts_of r)) u k }
+    // what the takers took, a prefix of what was put on each lane, was taken in a run of these lanes
+    ensures takes { (r : Router) (w : List Placed) (taken : ℕ → List (Item Placed)) → HasSent w r
+        → IsRising (in_hand w (pending_of r))
+        → ((k : ℕ) → k < lane_count r → IsBeginning (taken k) (put_on (puts_of r) k))
+        → IsTakenFrom r (in_hand w (pending_of r)) taken }
     // with the receipt of lane k the items that its taker took are a prefix of the items put
     ensures headline { (r : Router) (k : ℕ) (w u : List Placed) (taken : List (Item Placed)) → HasSent w r
         → IsRising (in_hand w (pending_of r)) → IsRouted (lane_count r) (put_on (puts_of r)) u

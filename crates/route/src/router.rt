@@ -8,7 +8,7 @@ ghost use Rattle.dag.specs.Shares.{goes_placed};
 ghost use Rattle.lane.specs.declared.item.Item.TheVariants.{One, Finish};
 ghost use Rattle.lane.specs.Items.{has_mark};
 ghost use Rattle.lane.specs.Lanes.{end_lane, all_put, put_of};
-ghost use Rattle.route.specs.Senders.{lanes, capacities, puts, shown, rooms};
+ghost use Rattle.route.specs.Senders.{lanes, capacities, puts, shown, rooms, refusals, with_refusal};
 ghost use Rattle.route.specs.Sending.{first_lane, put_on, with_put, sent_whole, HaveMarks};
 ghost use Rattle.route.specs.Progresses.{OnIdle, OnMoved, IfBlocked};
 ghost use Rattle.route.specs.Runs.{put, put_event, sending_of};
@@ -56,7 +56,7 @@ pub struct Router {
 impl Router {
     ghost use Rattle.route.specs.Routers.{lanes_of, puts_of, capacities_of, ShowsAll, lane_count, capacity_on, room_on};
     ghost use Rattle.route.specs.Routers.{pending_of, next_of, marked_of, HasSent, IsOnLanes, IsUnchanged, IsLastLane};
-    ghost use Rattle.route.specs.Routers.{HasBlocked, IsStuck};
+    ghost use Rattle.route.specs.Routers.{HasBlocked, IsStuck, WasRefused, refusals_in};
     ghost use Rattle.route.specs.RouterRuns.{begun, run_of};
 
     /// A router over lanes without items. It takes memory for the receipts now, and none later. A refusal drops the
@@ -209,6 +209,7 @@ impl Router {
 
         ensures pending { IfBlocked result (λ _. pending_of self.new ≡ Some placed) }
         ensures next { IfBlocked result (λ k. (k ≡ next_of self.new) × IsStuck self.new k) }
+        ensures refused { IfBlocked result (WasRefused self.old self.new) }
         ensures first_events { IfBlocked result (λ k. (w : List Placed) → run_of w self.new
             ≡ run_of w self.old ++ map put_event (begun (lane_count self.old) (Some placed) k)) }
     {
@@ -239,6 +240,8 @@ impl Router {
         ensures next { next_of self.new ≡ next_of self.old }
         ensures marked { marked_of self.new ≡ 0 }
         ensures stuck { IsFalse result → IsStuck self.new lane }
+        ensures refusals { refusals_in self.new
+            ≡ (if result then refusals_in self.old else with_refusal (refusals_in self.old) lane) }
     {
         put_on(&mut self.senders, lane, placed)
     }
@@ -304,6 +307,8 @@ fn put_on(senders: &mut Vec<Sender<Placed>>, lane: usize, placed: Placed) -> boo
     ensures puts { puts senders.new.items
         ≡ (if result then with_put (puts senders.old.items) lane (One placed)
         else puts senders.old.items) }
+    ensures refusals { refusals senders.new.items
+        ≡ (if result then refusals senders.old.items else with_refusal (refusals senders.old.items) lane) }
     ensures lanes { lanes senders.new.items ≡ lanes senders.old.items }
     ensures capacities { capacities senders.new.items ≡ capacities senders.old.items }
     ensures len { vec_len senders.new ≡ vec_len senders.old }
@@ -322,6 +327,8 @@ fn mark_on(senders: &mut Vec<Sender<Placed>>, lane: usize) -> bool
     ensures puts { puts senders.new.items
         ≡ (if result then with_put (puts senders.old.items) lane Finish
         else puts senders.old.items) }
+    ensures refusals { refusals senders.new.items
+        ≡ (if result then refusals senders.old.items else with_refusal (refusals senders.old.items) lane) }
     ensures lanes { lanes senders.new.items ≡ lanes senders.old.items }
     ensures capacities { capacities senders.new.items ≡ capacities senders.old.items }
     ensures len { vec_len senders.new ≡ vec_len senders.old }

@@ -6,7 +6,7 @@ use Rattle.lane.specs.declared.item.Item.TheVariants.{One, Finish}
 use Rattle.lane.specs.declared.sender.Sender.{Sender}
 use Rattle.lane.specs.declared.taker.Taker.{Taker}
 use Rattle.lane.specs.Items.{records}
-use Rattle.lane.specs.Lanes.{taker_lane, taken_of, lane_of, end_lane, all_put}
+use Rattle.lane.specs.Lanes.{taker_lane, taken_of, lane_of, end_lane, all_put, all_shown}
 use Rattle.dag.specs.declared.back.Back.{Back}
 use Rattle.shard.specs.declared.working.Worked.{Worked}
 use Rattle.shard.specs.Shards.{capped_count}
@@ -19,6 +19,8 @@ pub record DidWork {S H : Type 0} (taker : Taker Placed) (back : Sender Back) (w
   pub to_mark : taken_of worked.taker ≡ map One (records (taken_of worked.taker)) ++ Finish ∷ []
   pub count : worked.shard.taken ≡ capped_count (length (records (taken_of worked.taker)))
   pub answers : (put : List (Item Back)) × (all_put worked.back ≡ put ++ Finish ∷ []) × HasHandedBack (records (taken_of worked.taker)) put
+  -- all that it put is shown to the taker of its lane
+  pub shown : all_shown worked.back ≡ all_put worked.back
   -- of a share of a well nested trace: the count is their number, and the answers are the races found
   pub of_share : IsOfShare (records (taken_of worked.taker)) → (worked.shard.taken ≡ length (records (taken_of worked.taker)))
       × PutsFound (records (taken_of worked.taker)) (all_put worked.back)

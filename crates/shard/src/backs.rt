@@ -2,7 +2,7 @@
 ghost use Rattle.std.specs.Prelude.{◌≡◌, false, [], ◌∷◌, ◌++◌};
 ghost use Rattle.lane.specs.declared.item.Item.TheVariants.{One, Finish};
 ghost use Rattle.lane.specs.Items.{has_mark};
-ghost use Rattle.lane.specs.Lanes.{lane_of, end_lane, put_of, all_put};
+ghost use Rattle.lane.specs.Lanes.{lane_of, end_lane, put_of, all_put, all_shown};
 
 use crate::Back;
 use lane::{End, Sender, Waiting};
@@ -35,6 +35,7 @@ pub fn mark<R: Wait + Clock>(rt: &R, mut back: Sender<Back>) -> End<Back>
     requires { has_mark (put_of back) ≡ false }
     ensures lane { end_lane result ≡ lane_of back }
     ensures put { all_put result ≡ put_of back ++ Finish ∷ [] }
+    ensures shown { all_shown result ≡ all_put result }
 {
     let mut waiting = Waiting::new();
     for _ in rt.forever() {

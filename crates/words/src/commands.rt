@@ -1,4 +1,9 @@
 //! The program's commands, for `clap`, and the texts of its help.
+ghost use Rattle.std.specs.Prelude.{◌≡◌, [], true, IfOk, map};
+ghost use Rattle.clap.specs.Simple.{app_of, new_shape};
+ghost use Rattle.words.specs.CommandLine as line;
+ghost use Rattle.words.specs.Building.{IsArgument, IsCommand, rule_for};
+
 use clap::{Arg, ArgAction, Command};
 use std::alloc::{AllocError, Global};
 
@@ -146,17 +151,6 @@ Exit status:
   1  a race; the report is on standard output
   2  no answer; standard error says why";
 
-// What the program can do.
-#[derive(Clone, Copy)]
-enum Subcommand {
-    Check,
-    Explain,
-    Pairs,
-    Measure,
-    Confirm,
-    Merge,
-}
-
 // What a command can take.
 #[derive(Clone, Copy)]
 enum Argument {
@@ -175,23 +169,22 @@ enum Argument {
 }
 
 /// The program with its commands, in the order of its help.
-pub fn program<'a>(alloc: Global) -> Result<Command<'a>, AllocError> {
-    let mut program = bare_program(alloc)?;
-    for subcommand in [
-        Subcommand::Check,
-        Subcommand::Explain,
-        Subcommand::Pairs,
-        Subcommand::Measure,
-        Subcommand::Confirm,
-        Subcommand::Merge,
-    ] {
-        program = program.subcommand(command_of(alloc, subcommand)?)?;
-    }
-    Ok(program)
+pub fn program<'a>(alloc: Global) -> Result<Command<'a>, AllocError>
+    ensures { IfOk result (λ c. app_of c ≡ line.program) }
+{
+    bare_program(alloc)?
+        .subcommand(check(alloc)?)?
+        .subcommand(explain(alloc)?)?
+        .subcommand(pairs(alloc)?)?
+        .subcommand(measure(alloc)?)?
+        .subcommand(confirm(alloc)?)?
+        .subcommand(merge(alloc)?)
 }
 
 // The program without its commands.
-fn bare_program<'a>(alloc: Global) -> Result<Command<'a>, AllocError> {
+fn bare_program<'a>(alloc: Global) -> Result<Command<'a>, AllocError>
+    ensures { IfOk result (λ c. app_of c ≡ record { top = record line.program.top { is_leaf = true }; subs = [] }) }
+{
     described(alloc, "spbags", ABOUT, NOTES)
         .no_binary_name(true)
         .version(VERSION)
@@ -200,57 +193,82 @@ fn bare_program<'a>(alloc: Global) -> Result<Command<'a>, AllocError> {
         .bin_name("spbags")
 }
 
-fn command_of<'a>(alloc: Global, subcommand: Subcommand) -> Result<Command<'a>, AllocError> {
-    match subcommand {
-        Subcommand::Check => taking(
-            alloc,
-            "check",
-            CHECK_ABOUT,
-            CHECK_NOTES,
-            &[
-                Argument::Shards,
-                Argument::Capacity,
-                Argument::Depth,
-                Argument::Part,
-                Argument::File,
-            ],
-        ),
-        Subcommand::Explain => taking(
-            alloc,
-            "explain",
-            EXPLAIN_ABOUT,
-            EXPLAIN_NOTES,
-            &[Argument::Depth, Argument::File, Argument::Location],
-        ),
-        Subcommand::Pairs => taking(
-            alloc,
-            "pairs",
-            PAIRS_ABOUT,
-            PAIRS_NOTES,
-            &[Argument::Depth, Argument::File, Argument::Location],
-        ),
-        Subcommand::Measure => taking(
-            alloc,
-            "measure",
-            MEASURE_ABOUT,
-            MEASURE_NOTES,
-            &[Argument::Depth, Argument::File],
-        ),
-        Subcommand::Confirm => taking(
-            alloc,
-            "confirm",
-            CONFIRM_ABOUT,
-            CONFIRM_NOTES,
-            &[Argument::Depth, Argument::Trace, Argument::Report],
-        ),
-        Subcommand::Merge => taking(
-            alloc,
-            "merge",
-            MERGE_ABOUT,
-            MERGE_NOTES,
-            &[Argument::Reports],
-        ),
-    }
+fn check<'a>(alloc: Global) -> Result<Command<'a>, AllocError>
+    ensures { IfOk result (IsCommand line.check) }
+{
+    taking(
+        alloc,
+        "check",
+        CHECK_ABOUT,
+        CHECK_NOTES,
+        &[
+            Argument::Shards,
+            Argument::Capacity,
+            Argument::Depth,
+            Argument::Part,
+            Argument::File,
+        ],
+    )
+}
+
+fn explain<'a>(alloc: Global) -> Result<Command<'a>, AllocError>
+    ensures { IfOk result (IsCommand line.explain) }
+{
+    taking(
+        alloc,
+        "explain",
+        EXPLAIN_ABOUT,
+        EXPLAIN_NOTES,
+        &[Argument::Depth, Argument::File, Argument::Location],
+    )
+}
+
+fn pairs<'a>(alloc: Global) -> Result<Command<'a>, AllocError>
+    ensures { IfOk result (IsCommand line.pairs) }
+{
+    taking(
+        alloc,
+        "pairs",
+        PAIRS_ABOUT,
+        PAIRS_NOTES,
+        &[Argument::Depth, Argument::File, Argument::Location],
+    )
+}
+
+fn measure<'a>(alloc: Global) -> Result<Command<'a>, AllocError>
+    ensures { IfOk result (IsCommand line.measure) }
+{
+    taking(
+        alloc,
+        "measure",
+        MEASURE_ABOUT,
+        MEASURE_NOTES,
+        &[Argument::Depth, Argument::File],
+    )
+}
+
+fn confirm<'a>(alloc: Global) -> Result<Command<'a>, AllocError>
+    ensures { IfOk result (IsCommand line.confirm) }
+{
+    taking(
+        alloc,
+        "confirm",
+        CONFIRM_ABOUT,
+        CONFIRM_NOTES,
+        &[Argument::Depth, Argument::Trace, Argument::Report],
+    )
+}
+
+fn merge<'a>(alloc: Global) -> Result<Command<'a>, AllocError>
+    ensures { IfOk result (IsCommand line.merge) }
+{
+    taking(
+        alloc,
+        "merge",
+        MERGE_ABOUT,
+        MERGE_NOTES,
+        &[Argument::Reports],
+    )
 }
 
 // A command that takes these arguments, in this order; its help shows them in the same order.
@@ -260,7 +278,9 @@ fn taking<'a>(
     about: &'a str,
     notes: &'a str,
     arguments: &[Argument],
-) -> Result<Command<'a>, AllocError> {
+) -> Result<Command<'a>, AllocError>
+    ensures { IfOk result (IsCommand (line.taking name.entry.now (map rule_for arguments.now))) }
+{
     let mut command = described(alloc, name, about, notes);
     for argument in arguments {
         command = command.arg(argument_of(alloc, *argument))?;
@@ -269,11 +289,15 @@ fn taking<'a>(
 }
 
 // A command with the texts of its help, and without arguments.
-fn described<'a>(alloc: Global, name: &'a str, about: &'a str, notes: &'a str) -> Command<'a> {
+fn described<'a>(alloc: Global, name: &'a str, about: &'a str, notes: &'a str) -> Command<'a>
+    ensures { IsCommand (new_shape name.entry.now) result }
+{
     Command::new(alloc, name).about(about).after_help(notes)
 }
 
-fn argument_of<'a>(alloc: Global, argument: Argument) -> Arg<'a> {
+fn argument_of<'a>(alloc: Global, argument: Argument) -> Arg<'a>
+    ensures { IsArgument (rule_for argument) result }
+{
     match argument {
         Argument::Shards => number(
             alloc,
@@ -307,12 +331,16 @@ fn argument_of<'a>(alloc: Global, argument: Argument) -> Arg<'a> {
 }
 
 // An option that takes a number.
-fn number<'a>(alloc: Global, name: &'a str, help: &'a str) -> Arg<'a> {
+fn number<'a>(alloc: Global, name: &'a str, help: &'a str) -> Arg<'a>
+    ensures { IsArgument (line.option name.entry.now) result }
+{
     option(alloc, name, "N", help)
 }
 
 // An option, and what help calls its value.
-fn option<'a>(alloc: Global, name: &'a str, value: &'a str, help: &'a str) -> Arg<'a> {
+fn option<'a>(alloc: Global, name: &'a str, value: &'a str, help: &'a str) -> Arg<'a>
+    ensures { IsArgument (line.option name.entry.now) result }
+{
     Arg::new(alloc, name)
         .long(name)
         .value_name(value)
@@ -321,7 +349,9 @@ fn option<'a>(alloc: Global, name: &'a str, value: &'a str, help: &'a str) -> Ar
 }
 
 // A word that has to be there.
-fn needed<'a>(alloc: Global, name: &'a str, help: &'a str) -> Arg<'a> {
+fn needed<'a>(alloc: Global, name: &'a str, help: &'a str) -> Arg<'a>
+    ensures { IsArgument (line.needed name.entry.now) result }
+{
     Arg::new(alloc, name)
         .required(true)
         .action(ArgAction::Set)

@@ -1,9 +1,13 @@
 //! The command line: what its words ask for.
-ghost use Rattle.std.specs.Prelude.{◌≡◌, ◌<◌, ◌≤◌, codes, string_len, IfOk, IfSome};
+ghost use Rattle.std.specs.Prelude.{◌≡◌, ◌<◌, ◌≤◌, codes, decimal, map, option_map, string_bytes, IfOk, IfSome};
 ghost use Rattle.dag.specs.Bounds.{IsShardCount, IsCapacity, IsDepth};
 ghost use Rattle.words.specs.Asked.{IsInRange};
+ghost use Rattle.words.specs.Meaning.{IsDepthAsked, IsLocationAsked, IsNamedBy, IsNumberAsked, Means, MeansOf};
+ghost use Rattle.words.specs.Meaning.{MeansCheck, MeansPairs, MeansExplain, MeansMeasure, MeansConfirm, MeansMerge};
 ghost use Rattle.words.specs.Names.{IsName, IsPartAsked, part_text};
-ghost use Rattle.clap.specs.Words.{first_value, found_of};
+ghost use Rattle.words.specs.Matched.{rows_in};
+ghost use Rattle.clap.specs.Walk.{first_of, all_of};
+ghost use Rattle.clap.specs.Simple.{subcommand_rows_of};
 
 use crate::asking::{
     Asked, CheckWords, ConfirmWords, ExplainWords, MeasureWords, MergeWords, PairsWords, Question,
@@ -57,9 +61,9 @@ pub const USUAL_DEPTH: u32 = 65_536;
 pub const MOST_PARTS: u64 = 65_536;
 
 /// Reads the words of a command line, without the program's name.
-#[tactic(auto, using(crate::proofs::Ranges::in_range))]
 pub fn read_words(alloc: Global, words: &[String]) -> Result<Asked, WordsFault>
-    ensures { IfOk result IsInRange }
+    ensures asked { IfOk result (Means (map string_bytes words.now)) }
+    ensures within { IfOk result IsInRange }
 {
     let program = program(alloc)?;
     let matches = match program.try_get_matches_from(words) {
@@ -70,26 +74,35 @@ pub fn read_words(alloc: Global, words: &[String]) -> Result<Asked, WordsFault>
 }
 
 // What is asked by the command that was found.
-fn asked_of(alloc: Global, matches: &ArgMatches<'_>) -> Result<Asked, WordsFault> {
-    if let Some(found) = matches.subcommand_matches("check") {
+fn asked_of(alloc: Global, matches: &ArgMatches<'_>) -> Result<Asked, WordsFault>
+    ensures { IfOk result (MeansOf (subcommand_rows_of matches.now)) }
+{
+    if let Some(found) = entered(matches, "check") {
         return Ok(Asked::Question(Question::Check(check_of(alloc, found)?)));
     }
-    if let Some(found) = matches.subcommand_matches("pairs") {
+    if let Some(found) = entered(matches, "pairs") {
         return Ok(Asked::Question(Question::Pairs(pairs_of(alloc, found)?)));
     }
-    if let Some(found) = matches.subcommand_matches("explain") {
+    if let Some(found) = entered(matches, "explain") {
         return Ok(Asked::Question(Question::Explain(explain_of(alloc, found)?)));
     }
-    if let Some(found) = matches.subcommand_matches("measure") {
+    if let Some(found) = entered(matches, "measure") {
         return Ok(Asked::Question(Question::Measure(measure_of(alloc, found)?)));
     }
-    if let Some(found) = matches.subcommand_matches("merge") {
+    if let Some(found) = entered(matches, "merge") {
         return Ok(Asked::Merge(merge_of(alloc, found)?));
     }
-    match matches.subcommand_matches("confirm") {
+    match entered(matches, "confirm") {
         Some(found) => Ok(Asked::Confirm(confirm_of(alloc, found)?)),
         None => Err(WordsFault::Bad),
     }
+}
+
+// What was found of the command, if that one was entered.
+fn entered<'m, 'a>(matches: &'m ArgMatches<'a>, command: &str) -> Option<&'m ArgMatches<'a>>
+    ensures { IfSome result (λ found. subcommand_rows_of matches.now ≡ Some (command.now, rows_in found.now)) }
+{
+    matches.subcommand_matches(command)
 }
 
 // What a parse that gave nothing says: a text that was asked for, or that the words are bad.
@@ -106,7 +119,7 @@ fn fault_of(alloc: Global, error: &Error) -> WordsFault {
 
 // What `check` is asked.
 fn check_of(alloc: Global, found: &ArgMatches<'_>) -> Result<CheckWords, WordsFault>
-    ensures { IfOk result (λ check. IsPartAsked (first_value (found_of found.now) (codes "part")) check.part) }
+    ensures { IfOk result (λ check. MeansCheck check (rows_in found.now)) }
 {
     let shards = shards_of(found)?;
     let capacity = capacity_of(found)?;
@@ -122,7 +135,9 @@ fn check_of(alloc: Global, found: &ArgMatches<'_>) -> Result<CheckWords, WordsFa
     })
 }
 
-fn pairs_of(alloc: Global, found: &ArgMatches<'_>) -> Result<PairsWords, WordsFault> {
+fn pairs_of(alloc: Global, found: &ArgMatches<'_>) -> Result<PairsWords, WordsFault>
+    ensures { IfOk result (λ pairs. MeansPairs pairs (rows_in found.now)) }
+{
     let depth = depth_of(found)?;
     let trace = name_of(alloc, found, "FILE")?;
     let location = location_of(found)?;
@@ -133,7 +148,9 @@ fn pairs_of(alloc: Global, found: &ArgMatches<'_>) -> Result<PairsWords, WordsFa
     })
 }
 
-fn explain_of(alloc: Global, found: &ArgMatches<'_>) -> Result<ExplainWords, WordsFault> {
+fn explain_of(alloc: Global, found: &ArgMatches<'_>) -> Result<ExplainWords, WordsFault>
+    ensures { IfOk result (λ explain. MeansExplain explain (rows_in found.now)) }
+{
     let depth = depth_of(found)?;
     let trace = name_of(alloc, found, "FILE")?;
     let location = location_of(found)?;
@@ -144,14 +161,18 @@ fn explain_of(alloc: Global, found: &ArgMatches<'_>) -> Result<ExplainWords, Wor
     })
 }
 
-fn measure_of(alloc: Global, found: &ArgMatches<'_>) -> Result<MeasureWords, WordsFault> {
+fn measure_of(alloc: Global, found: &ArgMatches<'_>) -> Result<MeasureWords, WordsFault>
+    ensures { IfOk result (λ measure. MeansMeasure measure (rows_in found.now)) }
+{
     let depth = depth_of(found)?;
     let trace = name_of(alloc, found, "FILE")?;
     Ok(MeasureWords { depth, trace })
 }
 
 // What `confirm` is asked. Standard input can't be both of its files.
-fn confirm_of(alloc: Global, found: &ArgMatches<'_>) -> Result<ConfirmWords, WordsFault> {
+fn confirm_of(alloc: Global, found: &ArgMatches<'_>) -> Result<ConfirmWords, WordsFault>
+    ensures { IfOk result (λ confirm. MeansConfirm confirm (rows_in found.now)) }
+{
     let depth = depth_of(found)?;
     let trace = name_of(alloc, found, "TRACE")?;
     let report = name_of(alloc, found, "REPORT")?;
@@ -166,8 +187,10 @@ fn confirm_of(alloc: Global, found: &ArgMatches<'_>) -> Result<ConfirmWords, Wor
 }
 
 // What `merge` is asked. Standard input can be one of its files, and not two.
-fn merge_of(alloc: Global, found: &ArgMatches<'_>) -> Result<MergeWords, WordsFault> {
-    let names = found.get_strs("REPORT").ok_or(WordsFault::Bad)?;
+fn merge_of(alloc: Global, found: &ArgMatches<'_>) -> Result<MergeWords, WordsFault>
+    ensures { IfOk result (λ merge. MeansMerge merge (rows_in found.now)) }
+{
+    let names = values_of(found, "REPORT").ok_or(WordsFault::Bad)?;
     let mut reports = Vec::new(alloc);
     let mut has_standard = false;
     for name in names {
@@ -188,15 +211,17 @@ fn merge_of(alloc: Global, found: &ArgMatches<'_>) -> Result<MergeWords, WordsFa
 
 // The name of a file.
 fn name_of(alloc: Global, found: &ArgMatches<'_>, argument: &str) -> Result<String, WordsFault>
-    ensures { IfOk result IsName }
+    ensures name { IfOk result IsName }
+    ensures given { IfOk result (IsNamedBy argument.now (rows_in found.now)) }
 {
-    let name = found.get_str(argument).ok_or(WordsFault::Bad)?;
+    let name = value_of(found, argument).ok_or(WordsFault::Bad)?;
     named(alloc, name)
 }
 
 // The name of a file that a word gives. An empty name is no name.
 fn named(alloc: Global, word: &str) -> Result<String, WordsFault>
-    ensures { IfOk result IsName }
+    ensures name { IfOk result IsName }
+    ensures word { IfOk result (λ name. string_bytes name ≡ word.now) }
 {
     if word.is_empty() {
         return Err(WordsFault::Bad);
@@ -207,9 +232,9 @@ fn named(alloc: Global, word: &str) -> Result<String, WordsFault>
 
 // The part of the locations that the report covers.
 fn part_of(found: &ArgMatches<'_>) -> Result<Part, WordsFault>
-    ensures { IfOk result (IsPartAsked (first_value (found_of found.now) (codes "part"))) }
+    ensures { IfOk result (IsPartAsked (first_of (codes "part") (rows_in found.now))) }
 {
-    match found.get_str("part") {
+    match value_of(found, "part") {
         None => Ok(Part::whole()),
         Some(word) => part_from(word).ok_or(WordsFault::Bad),
     }
@@ -233,14 +258,17 @@ fn part_from(word: &str) -> Option<Part>
 }
 
 // A location, spelled as a trace spells it.
-fn location_of(found: &ArgMatches<'_>) -> Result<u64, WordsFault> {
-    let digits = found.get_str("L").ok_or(WordsFault::Bad)?;
+fn location_of(found: &ArgMatches<'_>) -> Result<u64, WordsFault>
+    ensures { IfOk result (IsLocationAsked (rows_in found.now)) }
+{
+    let digits = value_of(found, "L").ok_or(WordsFault::Bad)?;
     decimal_of(digits.as_bytes()).ok_or(WordsFault::Bad)
 }
 
 // How many threads the locations are divided among.
 fn shards_of(found: &ArgMatches<'_>) -> Result<u32, WordsFault>
-    ensures { IfOk result IsShardCount }
+    ensures within { IfOk result IsShardCount }
+    ensures asked { IfOk result (IsNumberAsked 4 (first_of (codes "shards") (rows_in found.now))) }
 {
     match number_of(found, "shards")? {
         None => Ok(USUAL_SHARDS),
@@ -251,7 +279,8 @@ fn shards_of(found: &ArgMatches<'_>) -> Result<u32, WordsFault>
 
 // How many records may wait for a thread.
 fn capacity_of(found: &ArgMatches<'_>) -> Result<u32, WordsFault>
-    ensures { IfOk result IsCapacity }
+    ensures within { IfOk result IsCapacity }
+    ensures asked { IfOk result (IsNumberAsked 1024 (first_of (codes "capacity") (rows_in found.now))) }
 {
     match number_of(found, "capacity")? {
         None => Ok(USUAL_CAPACITY),
@@ -262,7 +291,8 @@ fn capacity_of(found: &ArgMatches<'_>) -> Result<u32, WordsFault>
 
 // How deep procedures may nest.
 fn depth_of(found: &ArgMatches<'_>) -> Result<u32, WordsFault>
-    ensures { IfOk result IsDepth }
+    ensures within { IfOk result IsDepth }
+    ensures asked { IfOk result (IsDepthAsked (rows_in found.now)) }
 {
     match number_of(found, "depth")? {
         None => Ok(USUAL_DEPTH),
@@ -272,10 +302,28 @@ fn depth_of(found: &ArgMatches<'_>) -> Result<u32, WordsFault>
 }
 
 // The number that an option gives, spelled as a trace spells its numbers; `None` without the option.
-fn number_of(found: &ArgMatches<'_>, option: &str) -> Result<Option<u64>, WordsFault> {
-    let Some(digits) = found.get_str(option) else {
+fn number_of(found: &ArgMatches<'_>, option: &str) -> Result<Option<u64>, WordsFault>
+    ensures { IfOk result (λ number. first_of option.now (rows_in found.now) ≡ option_map decimal number) }
+{
+    let Some(digits) = value_of(found, option) else {
         return Ok(None);
     };
     let number = decimal_of(digits.as_bytes()).ok_or(WordsFault::Bad)?;
     Ok(Some(number))
+}
+
+// The word that an argument got.
+#[tactic(auto, using(crate::proofs::Matches::value_matched))]
+fn value_of<'a>(found: &ArgMatches<'a>, argument: &str) -> Option<&'a str>
+    ensures { option_map (λ word. word.now) result ≡ first_of argument.now (rows_in found.now) }
+{
+    found.get_str(argument)
+}
+
+// All words that an argument got, in their order.
+#[tactic(auto, using(crate::proofs::Matches::values_matched))]
+fn values_of<'m, 'a>(found: &'m ArgMatches<'a>, argument: &str) -> Option<&'m [&'a str]>
+    ensures { option_map (λ words. map (λ word. word.now) words.now) result ≡ all_of argument.now (rows_in found.now) }
+{
+    found.get_strs(argument)
 }

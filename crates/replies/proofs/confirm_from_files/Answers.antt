@@ -1,28 +1,29 @@
-use Rattle.std.proofs.Common.{◌≡◌, ℕ, sym, ap, ◌∙◌, subst}
+use Rattle.std.proofs.Common.{ℕ, sym, ap, ◌∙◌, subst, inl, inr}
 use Rattle.std.specs.Io.Buffered.{reader_remaining}
 use Rattle.std.specs.Fn.{FnReturnsAt}
-use Rattle.trace.specs.Devices.{Device, ◌⇝◌}
-use Rattle.std.specs.declared.io.buffered.BufReader.{BufReader}
-use Rattle.trace.specs.declared.devices.Counted.{Counted}
-use Rattle.replies.specs.declared.input.Input.{Input}
-use Rattle.replies.specs.Files.{HasConfirmedOf}
+use Rattle.trace.specs.Devices.{◌⇝◌}
+use Rattle.replies.specs.Files.{HasConfirmedOpened}
 use Rattle.replies.specs.Inputs.{known_bytes}
-use Rattle.replies.proofs.Named.{report_unread, answered_both, nothing_ahead, is_untried}
+use Rattle.replies.proofs.Named.{not_opened, report_unread, answered_both, nothing_ahead, is_untried}
 use Rattle.replies.proofs.confirm_from_files.Goals as goal
 
 pub returns-in_default : goal.returns-in_default
-returns-in_default g c =
+returns-in_default g c = inl (not_opened _ (rw c.as_str.ensures.value at c.in_default.ensures.cannot) c.cannot_open.ensures.two c.cannot_open.ensures.said)
+
+pub returns-in_default-open : goal.returns-in_default-open
+returns-in_default-open g c = inr (inl (not_opened _ (rw c.as_str-2.ensures.value at c.in_default-open.ensures.cannot) c.cannot_open-in_default-open.ensures.two c.cannot_open-in_default-open.ensures.said))
+
+pub returns-in_default-with_capacity : goal.returns-in_default-with_capacity
+returns-in_default-with_capacity g c =
     let known = known_bytes g.F.Read.remaining in
-    let P : ℕ → Type 0 = λ status. HasConfirmedOf (FnReturnsAt g.O.Fn c.args.opener.now) known c.args.confirm.now (g.W.Sink.state c.args.out.now ⇝ g.W.Sink.state c.refuse.new.out) (g.E.Sink.state c.args.err.now ⇝ g.E.Sink.state c.refuse.new.err) status in
+    let P : ℕ → Type 0 = λ status. HasConfirmedOpened (FnReturnsAt g.O.Fn c.args.opener.now) known c.args.confirm.now (g.W.Sink.state c.args.out.now ⇝ g.W.Sink.state c.refuse.new.out) (g.E.Sink.state c.args.err.now ⇝ g.E.Sink.state c.refuse.new.err) status in
     let given = c.refuse.ensures.refused in
-    subst P (sym given.0) (report_unread (FnReturnsAt g.O.Fn c.args.opener.now) known c.args.confirm.now c.open-trace.result c.open_report-report.result (rw c.as_str.ensures.value at c.open-trace.ensures) (rw c.as_str-2.ensures.value at c.open_report-report.ensures) given.1 given.2)
+    inr (inr (subst P (sym given.0) (report_unread (FnReturnsAt g.O.Fn c.args.opener.now) known c.args.confirm.now c.in-Some.trace c.in-Some-open.report (rw c.as_str.ensures.value at c.in-Some.ensures.opened) (rw c.as_str-2.ensures.value at c.in-Some-open.ensures.opened) given.1 given.2)))
 
 pub returns : goal.returns
 returns g c =
     let known = known_bytes g.F.Read.remaining in
-    let state : Counted (BufReader (Input g.row.F.Denot) _) → Device = λ s. record { bytes = reader_remaining known s.device; failures = s.failed } in
-    let trace : state c.new-trace.result ≡ _ =
-    is_untried (ap (reader_remaining known) c.new-trace.ensures.device ∙ nothing_ahead known c.in-Ok.ahead c.open-trace.result c.in-Ok.ensures.inner c.in-Ok.ensures.empty c.in-Ok.ensures.capacity) c.new-trace.ensures.none in
+    let trace = is_untried (ap (reader_remaining known) c.new-trace.ensures.device ∙ nothing_ahead known c.in-Ok.ahead c.in-Some.trace c.in-Ok.ensures.inner c.in-Ok.ensures.empty c.in-Ok.ensures.capacity) c.new-trace.ensures.none in
     let report = is_untried (ap known c.new-report.ensures.device) c.new-report.ensures.none in
-    answered_both (FnReturnsAt g.O.Fn c.args.opener.now) known c.args.confirm.now c.open-trace.result c.open_report-report.result state c.answer_confirm.result c.new-trace.result c.answer_confirm.new.trace _ _
-    (rw c.as_str.ensures.value at c.open-trace.ensures) (rw c.as_str-2.ensures.value at c.open_report-report.ensures) trace report c.answer_confirm.ensures
+    inr (inr (answered_both (FnReturnsAt g.O.Fn c.args.opener.now) known c.args.confirm.now c.in-Some.trace c.in-Some-open.report c.answer_confirm.result _ _ _ _
+    (rw c.as_str.ensures.value at c.in-Some.ensures.opened) (rw c.as_str-2.ensures.value at c.in-Some-open.ensures.opened) trace report c.answer_confirm.ensures))

@@ -6,6 +6,5 @@ use Rattle.bags.proofs.Bags.active.Goals as goal
 pub returns-clause-procedures : goal.returns-clause-procedures
 returns-clause-procedures c =
     c.len.ensures
-    ∙ c.self.inside.nested.ok.0
-    ∙ length-procedures_of c.self.inside.count c.self.inside.stretches.items c.self.inside.nested.items
+    ∙ length-procedures_of c.self.inside.count c.self.inside.stretches c.self.inside.nesting
     ∙ ap (λ (p : Procedures). length p.active) c.self.view_is

@@ -5,10 +5,15 @@ use Rattle.bags.proofs.Cuts.{length-procedures_of}
 use Rattle.bags.proofs.Counting.{length-stretches, are_few}
 use Rattle.bags.proofs.Bags.held.Goals as goal
 
+pub overflow_mul-result : goal.overflow_mul-result
+overflow_mul-result c =
+    let few = are_few c.self.inside.count c.self.inside.stretches c.self.inside.nesting c.self.invariant in
+    omega (arith, c.len.ensures, few.of_all, few.of_active)
+
 pub overflow_add-result : goal.overflow_add-result
 overflow_add-result c =
-    let few = are_few c.self.inside.count c.self.inside.stretches.items c.self.inside.nested.items c.self.invariant.held in
-    omega (arith, c.len.ensures, c.self.inside.nested.ok.0, c.len-2.ensures, c.self.inside.stretches.ok.0, few.of_all, few.of_active)
+    let few = are_few c.self.inside.count c.self.inside.stretches c.self.inside.nesting c.self.invariant in
+    omega (arith, c.len.ensures, c.len-2.ensures, few.of_all, few.of_active)
 
 -- the lengths of both lists
 record Lengths (c : goal.After-len-2) : Type 0 where
@@ -18,12 +23,10 @@ record Lengths (c : goal.After-len-2) : Type 0 where
 lengths : (c : goal.After-len-2) → Lengths c
 lengths c = record {
   active = c.len.ensures
-      ∙ c.self.inside.nested.ok.0
-      ∙ length-procedures_of c.self.inside.count c.self.inside.stretches.items c.self.inside.nested.items
+      ∙ length-procedures_of c.self.inside.count c.self.inside.stretches c.self.inside.nesting
       ∙ ap (λ (p : Procedures). length p.active) c.self.view_is;
   all = c.len-2.ensures
-      ∙ c.self.inside.stretches.ok.0
-      ∙ length-stretches c.self.inside.count c.self.inside.stretches.items c.self.inside.nested.items c.self.invariant.held
+      ∙ length-stretches c.self.inside.count c.self.inside.stretches c.self.inside.nesting c.self.invariant
       ∙ ap stretches c.self.view_is;
 }
 

@@ -1,8 +1,8 @@
-use Rattle.std.proofs.Common.{◌≡◌, ◌∙◌, ◌<◌, ◌≤◌, ℕ, List, length, reverse, ap, subst, sym, arith}
+use Rattle.std.proofs.Common.{◌≡◌, ◌∙◌, ◌<◌, ◌≤◌, ℕ, List, length, reverse, ap, subst, arith}
 use Rattle.bags.specs.Nested.{Nested}
 use Rattle.bags.specs.Numbers.{digits}
 use Rattle.bags.specs.Procedures.{Procedures, in_p}
-use Rattle.bags.specs.Search.{first_at, IsAscending, IsKeeper, IsStart}
+use Rattle.bags.specs.Search.{IsKeeper}
 use Rattle.bags.specs.Stretch.{Stretch}
 use Rattle.bags.specs.Stretches.{stretches}
 use Rattle.bags.specs.Held.{procedures_of, AreHeld}
@@ -21,30 +21,24 @@ decided count ss nested now p s held view known k =
     ∙ in_p-keeper count ss nested k.index p s held k.within (omega arith) k.not_above k.next_above
     ∙ ap (λ (q : Procedures). in_p q.active p) view
 
-pub look_up-keeper-requires-clause-start : goal.look_up-keeper-requires-clause-start
-look_up-keeper-requires-clause-start c = subst (λ (ss : List Stretch). IsStart (length ss) c.self.inside.start) (sym c.deref.ensures.value) c.self.invariant.start_is
-
 pub look_up-keeper-requires-clause-ascending : goal.look_up-keeper-requires-clause-ascending
 look_up-keeper-requires-clause-ascending c =
-    let count : ℕ = c.self.inside.count in
-    let ss : List Stretch = c.self.inside.stretches.items in
-    subst IsAscending (sym c.deref.ensures.value) (ascending count ss (all_ascend count ss (reverse c.self.inside.nested.items) c.self.invariant.held.cut))
+    ascending c.self.inside.count c.self.inside.stretches (all_ascend c.self.inside.count c.self.inside.stretches (reverse c.self.inside.nesting) c.self.invariant.cut)
 
 pub look_up-keeper-requires-clause-first : goal.look_up-keeper-requires-clause-first
-look_up-keeper-requires-clause-first c =
-    omega (arith, ap (λ (ss : List Stretch). first_at ss 0) c.deref.ensures.value, first_at_root c.self.inside.count c.self.inside.stretches.items c.self.inside.nested.items c.self.invariant.held)
+look_up-keeper-requires-clause-first c = omega (arith, first_at_root c.self.inside.count c.self.inside.stretches c.self.inside.nesting c.self.invariant)
 
 pub returns-clause-bags : goal.returns-clause-bags
 returns-clause-bags c =
     c.is_parallel.ensures
-    ∙ decided c.self.inside.count c.self.inside.stretches.items c.self.inside.nested.items c.args.self.now c.args.procedure c.look_up-keeper.result.0 c.self.invariant.held c.self.view_is c.requires
-    (subst (λ (ss : List Stretch). IsKeeper ss c.args.procedure c.look_up-keeper.result.0) c.deref.ensures.value c.look_up-keeper.ensures.keeper)
+    ∙ decided c.self.inside.count c.self.inside.stretches c.self.inside.nesting c.args.self.now c.args.procedure c.look_up-keeper.result.0 c.self.invariant c.self.view_is c.requires
+    c.look_up-keeper.ensures.keeper
 
 pub returns-clause-paths : goal.returns-clause-paths
 returns-clause-paths c = in_p-decides c.args.self.now c.args.procedure _ (returns-clause-bags c)
 
 pub returns-clause-probes : goal.returns-clause-probes
 returns-clause-probes c =
-    let all : length c.deref.result.now ≡ stretches c.args.self.now
-    = ap length c.deref.ensures.value ∙ length-stretches c.self.inside.count c.self.inside.stretches.items c.self.inside.nested.items c.self.invariant.held ∙ ap stretches c.self.view_is in
+    let all : length c.self.inside.stretches ≡ stretches c.args.self.now
+    = length-stretches c.self.inside.count c.self.inside.stretches c.self.inside.nesting c.self.invariant ∙ ap stretches c.self.view_is in
     subst (λ (n : ℕ). c.look_up-keeper.result.1 ≤ digits n) all c.look_up-keeper.ensures.probes

@@ -1,6 +1,6 @@
 use Rattle.std.proofs.Common.{length, length-append, [], ◌∷◌, sym, ap, ◌∙◌, arith}
 use Rattle.std.proofs.lemmas.List.{nil_from_length}
-use Rattle.detect.specs.Closing.{taken_by, counts_of}
+use Rattle.detect.specs.Closing.{takers_of, counts_of}
 use Rattle.detect.proofs.WorkersDone.{split_more, gone_through, counts_more, lanes_more}
 use Rattle.detect.proofs.closing.run_of.Goals as goal
 
@@ -23,7 +23,7 @@ returns-clause-taken g c =
 
 pub returns-clause-lanes : goal.returns-clause-lanes
 returns-clause-lanes g c =
-    c.loop-worked.invariant.lanes ∙ ap taken_by (gone_through c.loop-worked.yielded _ _ (nil_from_length _ (sym c.loop-worked.worked-iterator.rest.ok.0 ∙ c.in-None.ensures.steps.0)) c.loop-worked.invariant.split)
+    c.loop-worked.invariant.lanes ∙ ap takers_of (gone_through c.loop-worked.yielded _ _ (nil_from_length _ (sym c.loop-worked.worked-iterator.rest.ok.0 ∙ c.in-None.ensures.steps.0)) c.loop-worked.invariant.split)
 
 pub returns-clause-lane_count : goal.returns-clause-lane_count
 returns-clause-lane_count g c =

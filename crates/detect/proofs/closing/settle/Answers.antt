@@ -1,8 +1,8 @@
-use Rattle.std.proofs.Common.{ℕ, ◌<◌, vec_len, List, refl, subst, arith}
+use Rattle.std.proofs.Common.{ℕ, ◌<◌, vec_len, List, refl, sym, subst, arith}
 use Rattle.dag.specs.declared.records.Placed.{Placed}
 use Rattle.dag.specs.declared.back.Back.{Back}
 use Rattle.lane.specs.declared.item.Item.{Item}
-use Rattle.detect.specs.Closing.{taken_by, IsSettled}
+use Rattle.detect.specs.Closing.{taken_by, IsSettled, IsEmptied}
 use Rattle.detect.specs.Gathered.{given_by}
 use Rattle.detect.proofs.Receipts.{front_same, same_work_trans}
 use Rattle.detect.proofs.closing.settle.Goals as goal
@@ -23,10 +23,12 @@ returns g c =
     let P : List (List (Item Placed)) → Type 0 = λ puts. (k : ℕ) → k < vec_len done.workers → IsSettled (taken_by done.workers.items) puts k in
     let Q : List (List (Item Back)) → Type 0 = λ backs. (k : ℕ) → k < vec_len done.workers → IsSettled (given_by done.sending.gathering.backs.items) backs k in
     record {
-      taken = subst P c.into_ends-ends.ensures.puts c.settle_shards.ensures.settled;
-      given = subst Q same.backs (λ k lt. c.settle_backs.ensures.settled k (omega (arith, lt, done.workers.ok.0, same.count, c.settle_shards.new.workers.ok.0)));
+      compared = record {
+        to_shards = subst P c.into_ends-ends.ensures.puts c.settle_shards.ensures.settled;
+        from_shards = subst Q same.backs (λ k lt. c.settle_backs.ensures.settled k (omega (arith, lt, done.workers.ok.0, same.count, c.settle_shards.new.workers.ok.0)));
+      };
+      emptied = λ k lt. subst (λ takers. IsEmptied takers k) (sym c.settle_backs.ensures.takers) (c.settle_shards.ensures.emptied k lt);
       same = same_work_trans _ _ _ same c.settle_backs.ensures.same;
       outcome = refl;
-      refused = refl;
       collector = refl;
     }

@@ -20,6 +20,7 @@ loop-shard-preserved g c =
     let w = c.index_mut-in-loop-shard.result.now in
     record {
       same = same_set c.args.workers.now.items c.loop-shard.workers.items c.loop-shard.shard w _ c.index_mut-in-loop-shard.ensures.value refl refl c.settle.ensures.put c.settle.ensures.lane.1 refl i.same;
+      takers = map-set_same (λ (x : Worked g.row.S.Denot g.row.S-Hasher.Denot). x.taker) c.loop-shard.workers.items c.loop-shard.shard _ w (ap (λ (x : Worked g.row.S.Denot g.row.S-Hasher.Denot). x.taker) c.index_mut-in-loop-shard.ensures.value) ∙ i.takers;
       taken = map-set_same taken_of c.loop-shard.backs.items c.loop-shard.shard c.settle.new.self t (c.settle.ensures.taken ∙ ap taken_of c.index_mut.ensures.value) ∙ i.taken;
       lanes = map-set_same taker_lane c.loop-shard.backs.items c.loop-shard.shard c.settle.new.self t (c.settle.ensures.lane.0 ∙ ap taker_lane c.index_mut.ensures.value) ∙ i.lanes;
       settled = λ k lt. ended_to (IsSettled (given_by c.args.backs.now.items) (given_back c.args.workers.now.items)) c.loop-shard.shard
@@ -28,6 +29,6 @@ loop-shard-preserved g c =
           (at_map taken_of c.loop-shard.backs.items c.loop-shard.shard t _
           (within_front (λ (x : Worked g.row.S.Denot g.row.S-Hasher.Denot). end_lane x.back) taker_lane c.loop-shard.workers.items c.loop-shard.backs.items c.loop-shard.shard (front_same _ _ _ _ c.loop-shard.invariant.same.from_shards c.loop-shard.invariant.lanes c.requires) (search rules)) c.index_mut.ensures.value)
           (at_map (λ (x : Worked g.row.S.Denot g.row.S-Hasher.Denot). all_put x.back) c.loop-shard.workers.items c.loop-shard.shard w _ (search rules) c.index_mut-in-loop-shard.ensures.value)
-          c.settle.ensures.taken c.settle.ensures.put c.settle.ensures.whole)
+          c.settle.ensures.taken c.settle.ensures.put c.settle.ensures.prefix c.settle.ensures.whole)
           i.settled k lt;
     }

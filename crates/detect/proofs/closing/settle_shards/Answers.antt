@@ -4,7 +4,7 @@ use Rattle.lane.specs.Lanes.{end_lane, taker_lane, taken_of, all_put}
 use Rattle.shard.specs.declared.working.Worked.{Worked}
 use Rattle.detect.specs.Closing.{taken_by, IsSettled}
 use Rattle.detect.proofs.LanesBack.{ended_to}
-use Rattle.detect.proofs.Receipts.{front_same, at_front, within_front, at_map, settled_at, same_set}
+use Rattle.detect.proofs.Receipts.{front_same, at_front, within_front, at_map, settled_at, same_set, emptied_by, emptied_more}
 use Rattle.detect.proofs.closing.settle_shards.Goals as goal
 
 pub settle-requires-after_bounds : goal.settle-requires-after_bounds
@@ -26,6 +26,7 @@ loop-shard-preserved g c =
           (at_map (λ (x : Worked g.row.S.Denot g.row.S-Hasher.Denot). taken_of x.taker) c.loop-shard.workers.items c.loop-shard.shard w _ (search rules) c.index_mut.ensures.value)
           (at_map all_put c.loop-shard.ends.items c.loop-shard.shard e _
           (within_front (λ (x : Worked g.row.S.Denot g.row.S-Hasher.Denot). taker_lane x.taker) end_lane c.loop-shard.workers.items c.loop-shard.ends.items c.loop-shard.shard (front_same _ _ _ _ c.loop-shard.invariant.same.to_shards c.loop-shard.invariant.lanes c.requires) (search rules)) c.index_mut-in-loop-shard.ensures.value)
-          c.settle.ensures.taken c.settle.ensures.put c.settle.ensures.whole)
+          c.settle.ensures.taken c.settle.ensures.put c.settle.ensures.prefix c.settle.ensures.whole)
           i.settled k lt;
+      emptied = λ k lt. emptied_more c.loop-shard.workers.items c.loop-shard.shard w _ (search rules) (emptied_by _ _ _ c.settle.ensures.waiting c.settle.ensures.whole) i.emptied k lt;
     }

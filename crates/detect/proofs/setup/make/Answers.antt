@@ -12,6 +12,7 @@ returns-clause-ready g c =
       backs = tied.backs;
       idle = router.idle;
       unmarked = router.unmarked;
+      none_refused = c.new-2.ensures.refused;
       none_sent = router.sent;
       to_shards_are = tied.to_shards_are ∙ sym router.lanes;
       from_shards_are = tied.from_shards_are;

@@ -2,6 +2,7 @@ use Rattle.std.proofs.Common.{vec_len, ap, subst, sym, ◌∙◌, arith}
 use Rattle.route.specs.Routers.{pending_of}
 use Rattle.detect.specs.declared.sending.Sending.{Sending}
 use Rattle.detect.specs.Sent.{GoesOn}
+use Rattle.detect.proofs.Endings.{lacks_no_thread}
 use Rattle.detect.proofs.LanesBack.{further_trans}
 use Rattle.detect.proofs.Sendings.{goes_on_refl, goes_on_trans}
 use Rattle.detect.proofs.RunDone.{closed, done_refused, done_started}
@@ -10,7 +11,7 @@ use Rattle.detect.proofs.sharded.run_workers.Goals as goal
 
 pub mark_all-requires : goal.mark_all-requires
 mark_all-requires g c = elim c.match-start_all.branch [
-  | in-Ok w ↦ ap (λ (s : Sending). pending_of s.router) w.sending-is ∙ w.send_all-outcome.ensures.ready.idle
+  | in-Ok w ↦ ap (λ (s : Sending). pending_of s.router) w.sending-is ∙ w.send_all-outcome.ensures.idle
   | in-Err w ↦ ap (λ (s : Sending). pending_of s.router) w.sending-is ∙ c.requires.idle
 ]
 
@@ -37,3 +38,9 @@ returns-clause-closed g c =
       | in-Err w ↦ subst P (sym w.sending-is) (goes_on_refl c.args.made.sending)
     ]) c.mark_all.ensures.goes_on in
     closed _ c.args.made _ c.start_all.new.handles.items c.requires c.start_all.ensures.first_ones c.mark_all.ensures.marked on.lanes (further_trans _ _ _ on.further c.finish_lanes.ensures.further) c.join_all.ensures
+
+pub returns-clause-unread : goal.returns-clause-unread
+returns-clause-unread g c no_thread = elim c.match-start_all.branch [
+  | in-Ok w ↦ absurd (lacks_no_thread _ _ _ _ _ w.send_all-outcome.ensures.sent (sym w.outcome-is ∙ no_thread))
+  | in-Err w ↦ w.source-is
+]

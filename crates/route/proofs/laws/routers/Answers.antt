@@ -8,6 +8,7 @@ use Rattle.route.specs.Routers.{puts_of, lane_count, pending_of, next_of, marked
 use Rattle.route.proofs.Headline.{takes_share}
 use Rattle.route.proofs.LaneShares.{IsUnderWay, Outcome, outcome, routes_of, has_routed, list_of}
 use Rattle.route.proofs.RouterRuns.{counted, router_run, router_puts, router_still}
+use Rattle.route.proofs.RunTakes.{router_takes}
 use Rattle.route.proofs.laws.routers.Goals as goal
 
 under_way : (r : Router) (w : List Placed) → HasSent w r → IsRising (in_hand w (pending_of r)) → IsUnderWay (lane_count r) (put_on (puts_of r)) w (next_of r) (pending_of r) (marked_of r)
@@ -52,3 +53,6 @@ returns-clause-puts c = router_puts
 
 pub returns-clause-still : goal.returns-clause-still
 returns-clause-still c = router_still
+
+pub returns-clause-takes : goal.returns-clause-takes
+returns-clause-takes c = router_takes

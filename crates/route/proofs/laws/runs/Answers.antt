@@ -2,6 +2,7 @@ use Rattle.std.proofs.Common.{◌++◌}
 use Rattle.route.proofs.Headline.{takes_share}
 use Rattle.route.proofs.LaneShares.{routes_of, has_routed}
 use Rattle.route.proofs.RunLists.{taken_front, taken_before, earlier, front_of, outcome_of, whole_run}
+use Rattle.route.proofs.RouterRuns.{run_took}
 use Rattle.route.specs.Runs.{put_list, taken_list}
 use Rattle.route.proofs.laws.runs.Goals as goal
 
@@ -35,3 +36,6 @@ returns-clause-ended c = λ n k w before after run l h.
 
 pub returns-clause-taken : goal.returns-clause-taken
 returns-clause-taken c = λ n k w es run. taken_front k es run.allowed
+
+pub returns-clause-whole : goal.returns-clause-whole
+returns-clause-whole c = λ n k w es run l marked. run_took n k w es (taken_list es k) run l (taken_front k es run.allowed) marked

@@ -47,5 +47,6 @@ returns-then-ended g c =
       to_mark = all_to_mark taken c.take_block-count.ensures.last (search rules);
       count = worked.taken;
       answers = (put, c.mark.ensures.put, answers _ _ put _ worked);
+      shown = c.mark.ensures.shown;
       of_share = subst Q (sym c.mark.ensures.put) (puts_share _ _ put _ worked);
     }

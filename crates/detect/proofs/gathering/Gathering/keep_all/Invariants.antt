@@ -5,5 +5,5 @@ use Rattle.detect.proofs.gathering.Gathering.keep_all.Given as goal
 abbrev pub invariant-loop-item : goal.invariant-loop-item
 invariant-loop-item l = record {
   backs : l.self.backs ≡ l.fn.self.backs;
-  gathers : Continues l.fn.self.refused l.fn.self.collector l.self.refused l.self.collector (take l.item-index l.items);
+  gathers : Continues l.fn.self.collector l.self.collector (take l.item-index l.items);
 }

@@ -7,7 +7,7 @@ use Rattle.trace.specs.Feeding.{Feeding, HasFed, IsWhole}
 use Rattle.trace.proofs.Feedings.{consumes_none, consumes_more, fed_none, at_limits}
 use Rattle.trace.proofs.Endings.{ends_refused, refused_by_fault, given_next, given_end}
 use Rattle.detect.specs.declared.sending.Sending.{Sending}
-use Rattle.detect.proofs.Sendings.{goes_on_refl, goes_on_trans, goes_on_router, sent_more}
+use Rattle.detect.proofs.Sendings.{goes_on_refl, goes_on_trans, goes_on_both, sent_more}
 use Rattle.detect.proofs.sending.Sending.send_all.Goals as goal
 
 pub records-init : goal.records-init
@@ -49,14 +49,14 @@ records-preserved-in_default g c =
       depths = c.next_known.ensures.limits.depths ∙ i.depths;
     }
 
-pub records-smaller-in-Some-put : goal.records-smaller-in-Some-put
-records-smaller-in-Some-put g c =
+pub records-smaller-in-Continue-1 : goal.records-smaller-in-Continue-1
+records-smaller-in-Continue-1 g c =
     let i = c.records.invariant in
     let next = c.in-Some.ensures.fed i.trace i.came i.fed in
     omega (arith, next.1.has_used.has_read.count_is, next.1.has_used.has_read.within, i.fed.has_used.has_read.count_is, c.next_known.ensures.limits.records, i.records, length-append i.trace (c.in-Some.placed.what ∷ []))
 
-pub records-preserved-in-Some-put : goal.records-preserved-in-Some-put
-records-preserved-in-Some-put g c =
+pub records-preserved-in-Continue-1 : goal.records-preserved-in-Continue-1
+records-preserved-in-Continue-1 g c =
     let i = c.records.invariant in
     let next = c.in-Some.ensures.fed i.trace i.came i.fed in
     record {
@@ -65,7 +65,7 @@ records-preserved-in-Some-put g c =
       gave = i.gave;
       fed = next.1;
       sent = sent_more c.args.self.now c.records.self c.send_rest.new.self i.trace c.in-Some.placed next.0 i.goes_on (λ h. c.send_rest.ensures.sent _ (c.in-Some-put.ensures.left (placed i.trace) h)) i.sent;
-      ready = c.send_rest.ensures.ready;
+      ready = c.in_ok-send_rest-in-Some.ensures.ready;
       goes_on = goes_on_trans _ _ _ i.goes_on (goes_on_trans _ _ _ c.put.ensures.goes_on c.send_rest.ensures.goes_on);
       steady = i.steady;
       records = c.next_known.ensures.limits.records ∙ i.records;
@@ -78,7 +78,7 @@ returns-in_err-read_on-in-None-clause-sent g c =
     let same : c.next_known.new.self ≡ c.records.intake = search rules in
     let kept : HasFed i.trace i.came c.next_known.new.self = subst (HasFed i.trace i.came) (sym same) i.fed in
     let fed = c.in_err-read_on-in-None.ensures.fed i.trace i.came kept in
-    ends_refused _ _ _ _ _ _ _ c.from_residual.ensures.1
+    ends_refused _ _ _ _ _ _ _ c.from_residual-in_err-read_on-in-None.ensures.1
     (refused_by_fault IsWantOfMemory _ _ _ _ (g.R.Source.state c.args.source.now) (g.R.Source.state c.records.source) (g.R.Source.state c.read_on.new.source) i.came fed.0 _
     (c.next_known.ensures.limits.records ∙ i.records) (c.next_known.ensures.limits.depths ∙ i.depths) i.steady i.gave fed.1 fed.2.0)
 
@@ -118,16 +118,16 @@ records-preserved g c =
     let fed = c.in_ok-read_on-in-None.ensures.fed i.trace i.came kept in
     let change : Change = g.R.Source.state c.records.source ⇝ g.R.Source.state c.read_on.new.source in
     let next = given_next _ _ _ _ change _ _ _ c.in-Some-2.is fed.2 in
-    let flushed : Sending = record c.records.self { router = c.flush.new.self } in
-    let goes_on = goes_on_trans _ _ _ i.goes_on (goes_on_router c.records.self c.flush.new.self c.flush.ensures.lanes) in
+    let taken : Sending = record c.records.self { router = c.flush.new.self; gathering = c.take_backs.new.self } in
+    let goes_on = goes_on_trans _ _ _ i.goes_on (goes_on_both c.records.self c.flush.new.self c.take_backs.new.self c.flush.ensures.lanes c.take_backs.ensures.further) in
     let before = c.flush.ensures.sent (records_of c.args.self.now.part (placed i.trace)) i.sent in
     record {
       trace = i.trace ++ c.in-Some-2.placed.what ∷ [];
       came = i.came ++ fed.0;
       gave = consumes_more _ _ _ i.came fed.0 i.gave fed.1;
       fed = next.1;
-      sent = sent_more c.args.self.now flushed c.send.new.self i.trace c.in-Some-2.placed next.0 goes_on (c.send.ensures.sent (placed i.trace)) before;
-      ready = c.send.ensures.ready;
+      sent = sent_more c.args.self.now taken c.send.new.self i.trace c.in-Some-2.placed next.0 goes_on (c.send.ensures.sent (placed i.trace)) before;
+      ready = c.in_ok-send-in-Some-2.ensures.ready;
       goes_on = goes_on_trans _ _ _ goes_on c.send.ensures.goes_on;
       steady = next.2 ∙ i.steady;
       records = c.read_on.ensures.limits.records ∙ c.next_known.ensures.limits.records ∙ i.records;
@@ -135,7 +135,7 @@ records-preserved g c =
     }
 
 pub returns-in_err-read_on-in-None-clause-goes_on : goal.returns-in_err-read_on-in-None-clause-goes_on
-returns-in_err-read_on-in-None-clause-goes_on g c = goes_on_trans _ _ _ c.records.invariant.goes_on (goes_on_router c.records.self c.flush.new.self c.flush.ensures.lanes)
+returns-in_err-read_on-in-None-clause-goes_on g c = goes_on_trans _ _ _ c.records.invariant.goes_on (goes_on_both c.records.self c.flush.new.self c.take_backs.new.self c.flush.ensures.lanes c.take_backs.ensures.further)
 
 pub returns-in-None-2-clause-goes_on : goal.returns-in-None-2-clause-goes_on
-returns-in-None-2-clause-goes_on g c = goes_on_trans _ _ _ c.records.invariant.goes_on (goes_on_router c.records.self c.flush.new.self c.flush.ensures.lanes)
+returns-in-None-2-clause-goes_on g c = goes_on_trans _ _ _ c.records.invariant.goes_on (goes_on_both c.records.self c.flush.new.self c.take_backs.new.self c.flush.ensures.lanes c.take_backs.ensures.further)

@@ -1,8 +1,9 @@
-use Rattle.std.proofs.Common.{List, Option, Some, refl, sym, subst, ◌∙◌}
+use Rattle.std.proofs.Common.{rules, List, Option, Some, refl, sym, subst, ◌∙◌}
 use Rattle.dag.specs.declared.records.Placed.{Placed}
 use Rattle.route.specs.Sending.{sent_whole}
 use Rattle.route.specs.Routers.{HasSent}
 use Rattle.detect.proofs.Sendings.{goes_on_router, goes_on_trans, sent_step, sent_idle}
+use Rattle.detect.proofs.Troubles.{if_good, only_memory}
 use Rattle.detect.proofs.sending.Sending.send_rest.Goals as goal
 
 pub loop-init : goal.loop-init
@@ -19,6 +20,12 @@ pub returns-in-Idle-clause-sent : goal.returns-in-Idle-clause-sent
 returns-in-Idle-clause-sent g c w h =
     let P : List Placed → Type 0 = λ u. HasSent u c.step.new.self in
     subst P h.all (sent_idle h.last h.before _ _ c.step.new.self (c.in-Idle.ensures.idle.0 refl) (c.step.ensures.sent _ (c.loop.invariant.sent h.before h.last h.pending h.sent)))
+
+pub returns-in-Idle-clause-ready : goal.returns-in-Idle-clause-ready
+returns-in-Idle-clause-ready g c = if_good _ _ _ _ c.first_trouble.ensures.refused c.first_trouble.ensures.none_refused (λ good. record { idle = search rules; unmarked = search rules; none_refused = good })
+
+pub returns-in-Idle-clause-refused : goal.returns-in-Idle-clause-refused
+returns-in-Idle-clause-refused g c = only_memory _ _ _ c.first_trouble.ensures.refused c.first_trouble.ensures.none_refused
 
 pub loop-preserved-in_default : goal.loop-preserved-in_default
 loop-preserved-in_default g c =

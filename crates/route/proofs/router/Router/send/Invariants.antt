@@ -2,7 +2,7 @@ use Rattle.std.proofs.Common.{◌≡◌, ◌-◌, ◌<◌, List, Some, None, tru
 use Rattle.dag.specs.declared.records.Placed.{Placed}
 use Rattle.dag.specs.Shares.{goes_placed}
 use Rattle.route.specs.Sending.{put_on, AllSent}
-use Rattle.route.specs.Routers.{puts_of, lane_count, pending_of, marked_of, HasSent, IsOnLanes}
+use Rattle.route.specs.Routers.{puts_of, lane_count, pending_of, marked_of, HasSent, IsOnLanes, refusals_in}
 use Rattle.route.proofs.router.Router.send.Given as goal
 
 abbrev pub invariant-lanes : goal.invariant-lanes
@@ -13,6 +13,7 @@ invariant-lanes l = record {
   sent : (w : List Placed) → HasSent w l.fn.self → AllSent (lane_count l.self) w l.lane (Some l.fn.placed) 0 (put_on (puts_of l.self));
   idle : pending_of l.self ≡ None;
   unmarked : marked_of l.self ≡ 0;
+  none_refused : refusals_in l.self ≡ refusals_in l.fn.self;
   on : IsOnLanes l.fn.self l.self;
 }
 
