@@ -1,6 +1,10 @@
 """Answers of `spbags`, and the code addresses of a trace's places."""
+import mmap
+import os
 import re
 import struct
+from collections import namedtuple
+from itertools import accumulate
 
 from source import Failure
 
@@ -20,40 +24,88 @@ def races_of(lines):
     return races
 
 
+# Where a unit is divided into its bytes, their locations begin here, in turn by unit. Bytes of the stack that another
+# variable has now are in units of their own, from that location on.
+FIRST_BYTE, BYTES, FIRST_FRESH = 1 << 60, 8, 1 << 56
+
+
+def unit_of(location):
+    """The location of the unit that a location of a byte is in."""
+    return (location - FIRST_BYTE) // BYTES if location >= FIRST_BYTE else location
+
+
+def address_of(location, unit):
+    """That of a location that isn't of the stack."""
+    byte = (location - FIRST_BYTE) % BYTES if location >= FIRST_BYTE else 0
+    return unit_of(location) // 2 * unit + byte
+
+
 def race_of(line, number):
     race = RACE.fullmatch(line)
     if not race:
         raise Failure(f"report line {number}: bad")
     location, kind, place, other_kind, other_place = race.groups()
-    return location, (kind, int(place)), (other_kind, int(other_place))
+    return location and int(location), (kind, int(place)), (other_kind, int(other_place))
 
 
-# Behind the places may stand lines that belong to the report, how many bytes they are, and this.
-NOTES_MARK = b"spbnotes"
+# What a record's place says: the code address, whether the access there doesn't fill its unit, and what was held, as
+# pairs of a number and a name, or None where that isn't known.
+Site = namedtuple("Site", "code is_narrow guards")
+NO_SITE = 0xffff
+# The first part of a site's word, and the list that isn't known.
+CODE, NO_LIST = (1 << 48) - 1, 0x7fff
 
 
-def notes_of(places):
-    """The lines that a run's report has to have."""
-    with open(places, "rb") as file:
-        file.seek(0, 2)
-        if file.tell() < 16:
-            return []
-        file.seek(-16, 2)
-        length = struct.unpack("<Q", file.read(8))[0]
-        if file.read(8) != NOTES_MARK:
-            return []
-        file.seek(-16 - length, 2)
-        return file.read(length).decode(errors="replace").splitlines()
+def guard_of(text):
+    number, _, name = text.partition(" ")
+    return int(number, 16), name
+
+
+class Places:
+    """A run's file of places: the number of each record's site, 2 bytes, then the sites, the lists of guards, the lines
+    of the report, how many those are, and a mark."""
+    END = struct.Struct("<QQQQ8s")
+    MARK = b"spbplace"
+
+    def __init__(self, file, name):
+        self.name = name
+        size = os.fstat(file.fileno()).st_size
+        self.bytes = mmap.mmap(file.fileno(), 0, access=mmap.ACCESS_READ) if size > 0 else b""
+        if size < self.END.size or self.bytes[-8:] != self.MARK:
+            raise Failure(f"{name} has no end: did the run end before?")
+        self.count, sites, lists, notes, _ = self.END.unpack_from(self.bytes, size - self.END.size)
+        starts = list(accumulate((2 * self.count, 8 * sites, lists, notes)))
+        if starts[-1] != size - self.END.size:
+            raise Failure(f"{name}: this isn't a file of places")
+        words = struct.unpack_from(f"<{sites}Q", self.bytes, starts[0])
+        lists = [(), *(tuple(map(guard_of, line.split("\t"))) for line in self.text(*starts[1:3]))]
+        self.sites = [Site(word & CODE, word >> 63 == 1, self.held(lists, word >> 48 & NO_LIST)) for word in words]
+        self.notes = self.text(*starts[2:4])
+
+    def text(self, start, end):
+        return self.bytes[start:end].decode(errors="replace").splitlines()
+
+    @staticmethod
+    def held(lists, number):
+        return lists[number] if number != NO_LIST else None
+
+    def site(self, place):
+        """None where it isn't known."""
+        if not 0 < place <= self.count:
+            return None
+        number = struct.unpack_from("<H", self.bytes, 2 * (place - 1))[0]
+        return self.sites[number] if number != NO_SITE else None
+
+
+def places_of(name):
+    with open(name, "rb") as file:
+        return Places(file, name)
 
 
 def codes_of(places, wanted):
-    """The code address of each of these places."""
-    codes = {}
-    with open(places, "rb") as file:
-        for place in sorted(wanted):
-            file.seek(8 * max(place - 1, 0))
-            found = file.read(8)
-            if place < 1 or len(found) < 8:
-                raise Failure(f"{places} has no place {place}: is the report of another trace?")
-            codes[place] = struct.unpack("<Q", found)[0]
-    return codes
+    """The code address of each of these places, or 0 where it isn't known."""
+    for place in wanted:
+        if not 0 < place <= places.count:
+            raise Failure(f"{places.name} has no place {place}: is the report of another trace?")
+    sites = {place: places.site(place) for place in wanted}
+    return {place: site.code if site else 0 for place, site in sites.items()}

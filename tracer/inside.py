@@ -5,9 +5,9 @@ import os
 import shutil
 import subprocess
 
-CRATES = os.path.realpath(os.path.join(os.path.dirname(os.path.realpath(__file__)), "..", "crates"))
+from installed import ARCHIVE, CRATES, IS_INSTALLED
+
 CRATE = os.path.join(CRATES, "inside")
-ARCHIVE = os.path.join(CRATE, "out", "libinside.a")
 LOG = os.path.join(CRATE, "out", "build.log")
 
 
@@ -37,7 +37,7 @@ def build(say, fail):
 
 def archive(say, fail):
     """The library's name. Of several that want it at once, one builds it."""
-    if not is_current():
+    if not IS_INSTALLED and not is_current():
         os.makedirs(os.path.dirname(ARCHIVE), exist_ok=True)
         with open(LOG + ".lock", "w", encoding="utf-8") as lock:
             fcntl.flock(lock, fcntl.LOCK_EX)

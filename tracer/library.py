@@ -9,11 +9,20 @@ import textwrap
 HERE = os.path.dirname(os.path.realpath(__file__))
 PROTOTYPE = re.compile(r"(?P<result>.*?)(?P<name>\w+)\((?P<parameters>.*)\)")
 
+LOCK = "lock of "
+
+# These are names of structs too, so their macros want a bracket behind them.
+TAGS = {"stat", "stat64", "statfs", "statfs64", "statvfs", "statvfs64", "statx", "sysinfo"}
+
+# The endings of the names of one function for each floating type.
+FLOATING = ("", "f", "l", "f32", "f64", "f128", "f32x", "f64x")
+
 PAGE = """\
 # Library calls that the tracer sees
 
 `library.py` makes this page from `library.table`. `at, n` are n bytes from the address `at` on; `result` is what the
-function returns. The other words are numbers of bytes, or addresses:
+function returns. `at, n, m, d` are m pieces of n bytes, each d bytes behind the one before. The other words are numbers
+of bytes, or addresses:
 
 - `all(s)` is a string with its zero, `some(s, n)` at most n bytes of it, and `end(s)` the address of the zero.
 - `until(s, b, n)` ends with the first byte b, or after n bytes. `alike(a, b, n)` ends with the first byte in which a
@@ -21,11 +30,20 @@ function returns. The other words are numbers of bytes, or addresses:
 - `found(s, p, m, n)` ends m bytes after p, or after n bytes if p is null. `after(s, p)` is p, or s if p is null.
   `least(a, b)` is the lesser number.
 - `integer` and `decimal` are a number and the byte behind it. `token` and `piece` end with a byte of the set; `cut` is
-  the address of this byte, unless the string ends there.
-- `strings of format` are the strings that `%s` prints.
+  the address of this byte, unless the string ends there. `trimmed` is where the slashes at a path's end begin.
+- Words with `_wide` are the same for wide strings, in bytes. `character` is one multibyte character, `characters` are
+  at most so many, and `wide_characters` those whose multibyte characters fill at most so many bytes. `written(r, n)` is
+  r and the end, where that has room.
+- `strings of format` are what the conversions of printf read and, with `%n`, write. `fields of format` are what those
+  of scanf store. `pieces at n, m` are m bytes, which the n pieces at this place hold together.
+- `bits` are those of a set of files, `all_options` an array of long options, `net_address` an address of that family,
+  and `linked` the neighbour of a list's entry.
+- `state(f)` is what functions such as f keep inside: a variable of the tracer stands for it. `lock of f` is held then.
 
 The [tracer](README.md) sees the reads of a comparison function of `qsort` or `bsearch` when they happen. It doesn't
-record the memory of a stream, a function's own state, or constants, which nothing writes.
+record what a stream keeps, unless the function takes no lock: the order of two children's output is no race. Nor does
+it record constants, which nothing writes. Every other function of a library that a program calls is one that nothing is
+known of: `spbags-run` counts its calls.
 """
 
 
@@ -39,11 +57,13 @@ class Function:
         self.parameters = found["parameters"]
         self.reads, self.writes = items_of(reads), items_of(writes)
         self.names = [self.name, *others.split()]
+        # What the function holds inside while it touches these.
+        self.lock = next((item[0].removeprefix(LOCK) for item in self.reads if item[0].startswith(LOCK)), None)
 
     def arguments(self):
         """The parameters' names; a pointer to a function has its own in brackets."""
         names = []
-        for parameter in split_at(",", self.parameters):
+        for parameter in split_at(",", self.parameters) if self.parameters != "void" else ():
             pointer = re.search(r"\(\*(\w+)\)", parameter)
             names.append(pointer[1] if pointer else re.findall(r"\w+|\.\.\.", parameter)[-1])
         return names
@@ -54,26 +74,56 @@ class Function:
 
     def notes(self, name, after):
         """The block of the hooks' calls before the function, or after it."""
-        kinds = (("READ", self.reads), ("WRITE", self.writes))
-        notes = [f"LIBRARY_{kind}({item[0]}, {item[1]}, __wrap_{name});" for kind, items in kinds for item in items
-                 if len(item) == 2 and ("result" in item[0] + item[1]) == after]
-        if not after:
-            notes += [f"LIBRARY_STRINGS(format, list, __wrap_{name});" for item in self.reads if len(item) == 1]
-        return ["    if (tracing) {", *("        " + note for note in notes), "    }"] if notes else []
+        made = [note_of(kind, item, "__wrap_" + name) for kind, items in (("READ", self.reads), ("WRITE", self.writes))
+                for item in items if not item[0].startswith(LOCK) and is_after(item) == after]
+        if made and self.lock:
+            made = [f'enter_guard((uintptr_t)state({self.lock}), "the lock of {self.lock}");', *made,
+                    f"leave_guard((uintptr_t)state({self.lock}));"]
+        return ["    if (tracing) {", *("        " + note for note in made), "    }"] if made else []
+
+    def takes_list(self):
+        return any(item[0].startswith(("strings of ", "fields of ")) for item in self.reads + self.writes)
 
     def wrapper(self, name):
         """The function that is called instead of the one of that name."""
         arguments, real, begin, end = self.arguments(), name, [], []
-        if arguments[-1] == "...":
-            real = re.sub("^(__)?", r"\1v", name)
+        if arguments[-1:] == ["..."]:
+            real = re.sub("^(__isoc[0-9]+_|__)?", lambda prefix: prefix[0] + "v", name, count=1)
             begin = ["    va_list list;", f"    va_start(list, {arguments[-2]});"]
             end = ["    va_end(list);"]
             arguments[-1] = "list"
+        if self.takes_list():
+            begin += ["    va_list copy;", "    va_copy(copy, list);"]
+            end += ["    va_end(copy);"]
         call, answer = f"__real_{real}({', '.join(arguments)});", []
         if self.result != "void":
             call, answer = f"{self.result} result = {call}", ["    return result;"]
-        return "\n".join([self.declared("__wrap_" + name) + " {", *begin, *self.notes(name, False), "    " + call, *end,
-                          *self.notes(name, True), *answer, "}", ""])
+        return "\n".join([self.declared("__wrap_" + name) + " {", *begin, *self.notes(name, False), "    " + call,
+                          *self.notes(name, True), *end, *answer, "}", ""])
+
+
+def is_after(item):
+    """Whether what is touched is known after the call alone."""
+    return item[0].startswith("fields of ") or bool(re.search(r"\bresult\b", " ".join(item)))
+
+
+def note_of(kind, item, self_name):
+    """The hooks' call for one item of a row."""
+    words = item[0].split()
+    if words[0] == "strings":
+        return f"LIBRARY_STRINGS({narrow(words)}, copy, {self_name});"
+    if words[0] == "fields":
+        return f"LIBRARY_FIELDS({narrow(words)}, copy, result, {self_name});"
+    if words[0] == "pieces":
+        return f"LIBRARY_PIECES({kind}, {words[1]}, {words[2]}, {item[1]}, {self_name});"
+    if len(item) == 4:
+        return f"LIBRARY_EVERY({kind}, {', '.join(item)}, {self_name});"
+    return f"LIBRARY_{kind}({item[0]}, {item[1]}, {self_name});"
+
+
+def narrow(words):
+    """The format in bytes."""
+    return f"NARROW({words[-1]})" if words[2:3] == ["wide"] else words[-1]
 
 
 def split_at(mark, text):
@@ -88,48 +138,72 @@ def split_at(mark, text):
     return [part.strip() for part in parts]
 
 
+def with_endings(word):
+    """The names that a word with @ stands for."""
+    return [word.replace("@", ending) for ending in FLOATING] if "@" in word else [word]
+
+
 def items_of(field):
     return [split_at(",", item) for item in split_at(";", field) if item]
 
 
+class Section:
+    """What stands below a heading of the table: rows, or words behind a sign."""
+
+    def __init__(self, title):
+        self.title, self.functions, self.words = title, [], {"=": [], "+": []}
+
+    def add(self, line):
+        if line[:2] in ("= ", "+ "):
+            self.words[line[0]] += line[2:].split()
+        else:
+            self.functions.append(Function(line))
+
+    def page(self):
+        lines = [f"## {self.title}", ""]
+        if self.functions:
+            lines += ["| Function | Reads | Writes |", "|---|---|---|", *map(row, self.functions), ""]
+        words = ", ".join(f"`{word}`" for sign in "=+" for word in sorted(self.words[sign]))
+        return "\n".join([*lines, *textwrap.wrap(words, 120)]).rstrip() + "\n"
+
+
 class Table:
     def __init__(self):
-        self.sections, self.unseen = [], []
+        self.sections = []
         with open(os.path.join(HERE, "library.table"), encoding="utf-8") as file:
             for line in file.read().splitlines():
                 if line.startswith("## "):
-                    self.sections.append((line[3:], []))
-                elif line.startswith("- "):
-                    self.unseen += line[2:].split()
+                    self.sections.append(Section(line[3:]))
                 elif line and not line.startswith("#"):
-                    self.sections[-1][1].append(Function(line))
+                    self.sections[-1].add(line)
+        # Those that the hooks have by hand, and those that touch no memory that the program shares.
+        self.by_hand = self.words("=")
+        self.silent = {name for word in self.words("+") for name in with_endings(word)}
+
+    def words(self, sign):
+        return [word for section in self.sections for word in section.words[sign]]
 
     def functions(self):
-        return [function for _, functions in self.sections for function in functions]
+        return [function for section in self.sections for function in section.functions]
 
     def names(self):
-        return [name for function in self.functions() for name in function.names]
+        return [name for function in self.functions() for name in function.names] + self.by_hand
 
     def declarations(self):
         """The real functions, which the hooks' own calls go to as well. A library may lack some."""
         lines = []
         for function in self.functions():
             for name in function.names:
+                brackets = "(...)" if name in TAGS else ""
                 lines += ["__attribute__((weak)) " + function.declared("__real_" + name) + ";", f"#undef {name}",
-                          f"#define {name} __real_{name}"]
+                          f"#define {name}{brackets} __real_{name}{brackets.replace('...', '__VA_ARGS__')}"]
         return "\n".join(lines) + "\n"
 
     def wrappers(self):
         return "\n".join(function.wrapper(name) for function in self.functions() for name in function.names)
 
     def page(self):
-        lines = [PAGE]
-        for title, functions in self.sections:
-            lines.append(f"## {title}\n")
-            if functions:
-                lines += ["| Function | Reads | Writes |", "|---|---|---|", *map(row, functions), ""]
-        unseen = ", ".join(f"`{name}`" for name in sorted(self.unseen))
-        return "\n".join([*lines, *textwrap.wrap(unseen, 120)]) + "\n"
+        return "\n".join([PAGE, *(section.page() for section in self.sections)])
 
 
 def row(function):

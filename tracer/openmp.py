@@ -7,6 +7,7 @@ PRAGMA = re.compile(r"[ \t]*#[ \t]*pragma[ \t]+omp\b(.*)")
 ATTRIBUTE = re.compile(r"\[\[\s*(?:using\s+)?omp\b")
 WORD = re.compile(r"[A-Za-z_]\w*")
 PIECE = re.compile(r"\"(?:\\.|[^\"\\\n])*\"|'(?:\\.|[^'\\\n])*'|[(){}\[\];]|[A-Za-z_]\w*|.", re.DOTALL)
+STATIC = re.compile(r"schedule\s*\((?:[\w\s,]*:)?\s*static\b")
 CLOSING = {"(": ")", "[": "]", "{": "}"}
 
 # The words that a directive begins with; those that have more here can't be traced, and are called so.
@@ -16,6 +17,9 @@ DIRECTIVES = {
     "target": "target", "teams": "teams", "distribute": "distribute", "loop": "loop (write `for')", "cancel": "cancel",
     "cancellation": "cancel", "allocate": "allocate", "allocators": "allocate", "depobj": "depend", "scan": "scan",
     "metadirective": "metadirective", "dispatch": "dispatch", "interop": "interop"}
+# The number of a body's kind in the hooks, by the last word of its directive.
+BODIES = {"parallel": 0, "single": 1, "master": 2, "masked": 2}
+SIMD_BODY = 3
 REFUSED_CLAUSES = {"depend": "depend", "doacross": "depend", "detach": "detach", "allocate": "allocate"}
 
 
@@ -67,13 +71,28 @@ def refusal(text):
     return None
 
 
-def rescheduled(text):
-    """A loop's directive with the schedule that the hooks need."""
+def without(text, clause):
+    """A directive without a clause, and that clause."""
     for name, start, end in clauses_of(text):
-        if name == "schedule":
-            text = text[:start] + text[end:].lstrip(" ,")
-            break
-    return text.rstrip(" ,") + " schedule(dynamic,1)"
+        if name == clause:
+            return text[:start] + text[end:].lstrip(" ,"), text[start:end]
+    return text, ""
+
+
+def rescheduled(text):
+    """A loop's directive with the schedule that the hooks need: 2 says that it was static."""
+    text, schedule = without(text, "schedule")
+    return text.rstrip(" ,") + f" schedule(dynamic,{2 if STATIC.match(schedule) else 1})"
+
+
+def body(kind, file, line, next_line):
+    """What stands before a body, and says to the hooks where it begins and ends."""
+    return f'# {line} "{file}"\nfor (__spbags_body({kind}); __spbags_goes_on();)\n# {next_line} "{file}"\n'
+
+
+def with_body(text, kind, file, line):
+    """A directive whose body says to the hooks where it begins and ends."""
+    return f"#pragma omp{text}\n" + body(kind, file, line, line + 1)
 
 
 class Source:
@@ -90,7 +109,22 @@ class Source:
         why = refusal(text)
         if why:
             self.refuse(f"OpenMP's {why} can't be traced: #pragma omp{text}")
-        return f"#pragma omp{rescheduled(text) if 'for' in leading(clauses_of(text)) else text}\n"
+        clauses = clauses_of(text)
+        names = leading(clauses)
+        if "for" in names:
+            return f"#pragma omp{rescheduled(text)}\n"
+        if "masked" in names:
+            # The thread with another number would do it, and the run has only one.
+            text, _ = without(text, "filter")
+        if names[:1] in (["master"], ["masked"]) and names[1:2] == ["taskloop"]:
+            rest = clauses[1][1]
+            master = with_body(f" {names[0]}", BODIES[names[0]], self.file, self.line)
+            return f'{master}# {self.line} "{self.file}"\n#pragma omp {text[rest:]}\n'
+        if names == ["simd"]:
+            return body(SIMD_BODY, self.file, self.line, self.line) + f"#pragma omp{text}\n"
+        if names and names[-1] in BODIES:
+            return with_body(text, BODIES[names[-1]], self.file, self.line)
+        return f"#pragma omp{text}\n"
 
     def rewritten(self, line):
         marker, pragma = MARKER.match(line), PRAGMA.match(line)
@@ -125,13 +159,11 @@ UNKNOWN = (
 UNDEFINED = re.compile("^(?:\\S*ld: )?(.*?):? undefined reference to [`'](\\w+)'", re.MULTILINE)
 
 
-def unknown(messages, has_openmp):
+def unknown(messages):
     """A line for each call of OpenMP that a linker's messages say is missing."""
     lines = []
     for where, name in UNDEFINED.findall(messages):
         what = next((what for pattern, what in UNKNOWN if re.match(pattern, name)), None)
-        if what and not has_openmp and not name.startswith("__kmpc_"):
-            lines.append(f"{where}: {name}: link with -fopenmp")
-        elif what:
+        if what:
             lines.append(f"{where}: {name} can't be traced: it is {what}")
     return list(dict.fromkeys(lines))

@@ -1,15 +1,19 @@
 """Races by their pairs of source positions, from the notes of a run that looked or from a trace's places."""
+import math
 import re
 from collections import namedtuple
 from dataclasses import dataclass, field
 
 import answers
 import source
+import variables
 from source import UNKNOWN, Failure
 
-# A position on the stack, and how it leads on: `write` or `read`, `spawn`, or `call`. The depth is how many functions
+# The number of the guard that all atomic accesses hold; and the name of the one that isn't known.
+ATOMIC, UNKNOWN_GUARD = 1, "unknown"
+# A position on the stack, and what stands there: `write` or `read`, `spawn`, or `call`. The depth is how many functions
 # stand on the stack up to here.
-Frame = namedtuple("Frame", "how position depth")
+Frame = namedtuple("Frame", "role position depth")
 
 
 @dataclass
@@ -34,11 +38,35 @@ class Noted:
     location: int
     address: int
     meeting: int
-    owner: int
+    is_narrow: bool
     sides: list
+    # Of each side the child that holds it, of those of the function where both meet; None for a child of Cilk.
+    children: list
+    # Where the region is made that both are of, if its threads do the same.
+    threads: int = None
+    # What races, but in blocks of the heap.
+    places: list = field(default_factory=list)
     waits: tuple = None
     guard: tuple = None
     block: tuple = None
+
+
+# So many units from an address on. Of the stack there is the code of the function whose frame it is in, and how far
+# from the frame's end; and of the function that OpenMP hands data there, and how far in them. The stacks may be
+# borrowed from a race of another variable.
+Place = namedtuple("Place", "location units address code offset data_code data_offset borrowed")
+# A task, or a share of a loop or of sections: where it is made, and the counter in its first and its last iteration.
+Child = namedtuple("Child", "of code first last")
+
+
+def identity_of(variable):
+    """What tells a variable from others: blocks of the heap that come from one line count as one."""
+    kind = variable["kind"]
+    if kind == "global":
+        return kind, variable["address"] - variable["offset"]
+    if kind == "heap":
+        return kind, source.leading([frame.position for frame in variable["stack"]])
+    return kind, variable.get("function", ""), variable.get("name", "")
 
 
 @dataclass
@@ -48,15 +76,43 @@ class Pair:
     location: int
     sides: list
     variable: dict
-    parting: dict
+    missing_sync: dict
     guard: str
+    # Of OpenMP: what both are of, if they are in children of one construct; and what may be missing between them.
+    siblings: dict = None
+    suggested: tuple = ()
+    # Whether it may be of neighbours: an access doesn't fill its unit, and nothing tells the bytes apart.
+    neighbours: bool = False
+    # Whether the stacks may be those of a race of another variable.
+    borrowed: bool = False
     kinds: tuple = field(default_factory=lambda: (set(), set()))
 
     def key(self):
-        return (*sorted(side.lead() for side in self.sides), self.guard or "")
+        return (*sorted(side.lead() for side in self.sides), self.guard or "", self.identity())
+
+    def identity(self):
+        return identity_of(self.variable)
+
+    def variable_names(self):
+        """What a suppression may call the variable: a local also by its function, as gdb does."""
+        names = {self.variable[name] for name in ("name", "expression") if self.variable.get(name)}
+        return names | {f"{self.variable['function']}::{name}" for name in names if "function" in self.variable}
+
+    def suppression(self):
+        """The line that leaves this pair out, and others as little as may be; None where nothing has a name."""
+        variable = self.variable
+        if "name" in variable:
+            return f"variable:^{variable['function'] + '::' if 'function' in variable else ''}{variable['name']}$"
+        known = (side.lead().function for side in self.sides if not side.lead().function.startswith("?"))
+        return next((f"race:^{function}$" for function in known), None)
+
+    def is_guarded(self):
+        """Whether it is known that it is no data race."""
+        return self.guard not in (None, UNKNOWN_GUARD)
 
     def add(self, other):
         self.races += other.races
+        self.neighbours |= other.neighbours
         swapped = self.sides[0].lead() != other.sides[0].lead()
         for kinds, side in zip(self.kinds, reversed(other.sides) if swapped else other.sides):
             kinds.add(side.kind)
@@ -66,21 +122,38 @@ class Notes:
     """What a run noted that looked at the places of a report."""
 
     def __init__(self, lines):
-        self.pairs, self.astray, self.left, self.has_narrow = [], None, 0, False
+        self.pairs, self.astray, self.left, self.thread = [], None, 0, 0
         for line in lines[:-1]:
             name, *words = line.split(" ")
             getattr(self, "take_" + name)(*words)
         if not lines or lines[-1] != "end":
             raise Failure("the second run ended before it had written its notes")
 
-    def take_pair(self, races, location, address, meeting, owner, narrow):
-        self.has_narrow |= narrow == "1"
-        self.pairs.append(Noted(int(races), int(location), int(address, 16), int(meeting), int(owner), []))
+    def take_thread(self, address):
+        self.thread = int(address, 16)
+
+    def take_pair(self, races, location, address, meeting, narrow):
+        self.pairs.append(Noted(int(races), int(location), int(address, 16), int(meeting), narrow == "1", [], []))
 
     def take_first(self, kind, atomic, *stack):
         self.pairs[-1].sides.append((kind, atomic == "1", stack))
+        self.pairs[-1].children.append(None)
 
     take_second = take_first
+
+    def take_child(self, of, code, first, last):
+        self.pairs[-1].children[-1] = Child(of, int(code, 16), int(first), int(last))
+
+    def take_threads(self, code):
+        self.pairs[-1].threads = int(code, 16)
+
+    def take_at(self, pair, location, units, address, *owners, borrowed=False):
+        code, offset, data_code, data_offset = owners
+        self.pairs[int(pair) - 1].places.append(Place(int(location), int(units), int(address, 16), int(code, 16),
+                                                      int(offset), int(data_code, 16), int(data_offset), borrowed))
+
+    def take_other(self, *words):
+        self.take_at(*words, borrowed=True)
 
     def take_waits(self, code):
         self.pairs[-1].waits = (int(code, 16), False)
@@ -100,22 +173,50 @@ class Notes:
     def take_left(self, races):
         self.left = int(races)
 
+    def end(self):
+        """All races whose accesses come before this place were noted."""
+        return self.astray[0] if self.astray else math.inf
+
     def codes(self):
         for noted in self.pairs:
             for stack in (*(stack for *_, stack in noted.sides), *(noted.block or ())[2:]):
                 yield from (int(word, 16) for word in stack if word != "spawn")
             yield from (noted.waits or ())[:1]
+            yield from (child.code for child in noted.children if child)
+            yield from filter(None, [noted.threads])
+            yield from (code for place in noted.places for code in (place.code, place.data_code) if code)
+
+
+class Pieces:
+    """Races by their variables: the units of a row one by one, and those of bytes once."""
+
+    def __init__(self):
+        self.pieces = {}
+
+    def add(self, location, units, variable):
+        """Of so many units from this location on."""
+        _, rows, single, _ = self.pieces.setdefault(identity_of(variable), (location, [], set(), variable))
+        if units == 1:
+            single.add(location)
+        else:
+            rows.append(units)
+
+    def found(self):
+        """Of each variable the location of the first race, and the number of races."""
+        return [(location, sum(rows) + len(single), variable) for location, rows, single, variable in
+                self.pieces.values()]
 
 
 class Program:
     """The source of a program: of its code by these addresses."""
 
-    def __init__(self, name, codes, unit):
+    def __init__(self, name, codes, unit, thread=0):
         self.positions = source.positions_of(name, codes)
         self.positions[0] = [UNKNOWN]
-        self.variables, self.unit = source.Variables(name), unit
+        # Where the memory begins that a thread has of its own.
+        self.variables, self.names, self.unit, self.thread = source.Variables(name), variables.Names(name), unit, thread
 
-    def stack(self, how, words):
+    def stack(self, role, words):
         """The frames of these words, from the innermost on; `spawn` stands behind a position that spawned."""
         frames, depth = [], sum(word != "spawn" for word in words)
         for word, behind in zip(words, [*words[1:], ""]):
@@ -123,63 +224,142 @@ class Program:
                 continue
             code = int(word, 16)
             if frames:
-                how = "spawn" if behind == "spawn" else "call"
+                role = "spawn" if behind == "spawn" else "call"
             for position in self.positions[code]:
-                frames.append(Frame(how, position, depth))
-                how = "call"
+                frames.append(Frame(role, position, depth))
+                role = "call"
             if len(frames) == len(self.positions[code]) and behind == "spawn":
                 # The child has no function of its own: it stores a result, or is a function of the library.
                 frames.append(Frame("spawn", self.positions[code][0], depth))
             depth -= 1
         return frames
 
-    def variable(self, location, address):
-        """What a location is, where neither a block nor a function holds it."""
-        found = self.variables.at(address)
-        if found:
-            return {"is": "global", "name": found.name, "offset": found.offset, "size": found.size}
-        return {"is": "memory", "address": address}
-
-    def pair(self, noted):
+    def pairs(self, noted):
+        """One pair for each variable, with the stacks of the first race."""
         sides = [Side(kind, atomic, self.stack(kind, stack)) for kind, atomic, stack in noted.sides]
-        owner = sides[1].at(noted.owner) if noted.owner else None
-        if noted.block:
-            address, size, stack = noted.block
-            variable = {"is": "heap", "offset": noted.address - address, "size": size,
-                        "stack": self.stack("allocation", stack)}
-        elif owner:
-            variable = {"is": "local", "function": owner.position.function}
-        else:
-            variable = self.variable(noted.location, noted.address)
-        return Pair(noted.races, noted.location, sides, variable, self.parting(noted, sides), self.guard(noted))
+        siblings = self.siblings(noted)
+        for location, races, variable, borrowed in self.pieces(noted):
+            yield Pair(races, location, sides, variable, self.missing_sync(noted, sides), self.guard(noted.guard),
+                       siblings, self.suggested(noted, siblings, variable), noted.is_narrow, borrowed)
 
-    def guard(self, noted):
+    def pieces(self, noted):
+        """Of each variable the location of the first race, the number of races, and whether the stacks are borrowed."""
+        if noted.block:
+            return [(noted.location, noted.races, self.block(noted, *noted.block), False)]
+        own, others = Pieces(), Pieces()
+        for place in sorted(noted.places, key=lambda place: answers.unit_of(place.location) != noted.location):
+            for location, units, variable in self.split(place):
+                (others if place.borrowed else own).add(location, units, variable)
+        return [(*piece, pieces is others) for pieces in (own, others) for piece in pieces.found()]
+
+    def split(self, place):
+        """The variables that stand there one after the other, each with its first location and its number of units."""
+        done = 0
+        while done < place.units:
+            variable = self.variable(place, done * self.unit)
+            units = 1
+            if "offset" in variable:
+                units = min(-(-(variable["size"] - variable["offset"]) // self.unit), place.units - done)
+            yield answers.unit_of(place.location) + 2 * done, units, variable
+            done += units
+
+    def variable(self, place, behind):
+        """What stands so many bytes behind the first address."""
+        for code, offset, find in ((place.data_code, place.data_offset, self.names.in_data),
+                                   (place.code, place.offset, self.names.in_frame)):
+            found = code and find(code - 1, offset + behind, place.address + behind)
+            if found:
+                return {"kind": "local", "function": self.positions[code][-1].function, **found._asdict()}
+        if place.code:
+            return {"kind": "local", "function": self.positions[place.code][-1].function}
+        return self.named(place.address + behind)
+
+    def block(self, noted, address, size, stack):
+        widths = {self.names.width(int(stack[0], 16)) for _, _, stack in noted.sides}
+        offset, width = noted.address - address, widths.pop()
+        element = width if not widths and width and size % width == offset % width == 0 else None
+        return {"kind": "heap", "offset": offset, "size": size, "element": element,
+                "stack": self.stack("allocation", stack)}
+
+    def named(self, address):
+        """What neither a block nor a function holds."""
+        in_thread = address - self.thread if address >= self.thread > 0 else None
+        for place, is_thread in ((address, False), (in_thread, True)):
+            found = place is not None and self.variables.at(place)
+            if found:
+                return {"kind": "global", **found._asdict(), "address": address, "thread_local": is_thread}
+        return {"kind": "memory", "address": address}
+
+    def complete(self, pair):
+        """With the part of a global that the location is."""
+        variable = pair.variable
+        if variable["kind"] == "global":
+            start = variable["address"] - variable["offset"] - (self.thread if variable["thread_local"] else 0)
+            part = self.names.at(start, variable["offset"], variable["thread_local"])
+            variable["expression"] = part and variable["name"] + part.expression[len(part.name):]
+            variable["rest"] = part and part.rest
+        return pair
+
+    def guard(self, guard):
         """The name of what both accesses hold; a lock is named by its variable."""
-        if noted.guard is None:
+        if guard is None:
             return None
-        number, name = noted.guard
+        number, name = guard
         if not name.endswith(" "):
             return name
         found = self.variables.at(number)
         return name + (found.name if found else f"at {number:#x}")
 
-    def parting(self, noted, sides):
+    def missing_sync(self, noted, sides):
         """The function in which both accesses meet: where it spawns the first, where it goes on to the second without a
         sync, and where it waits then."""
-        spawn, goes_on = (side.at(noted.meeting) for side in sides)
-        if not spawn or not goes_on or spawn.how != "spawn":
+        spawn, continues_at = (side.at(noted.meeting) for side in sides)
+        if not spawn or not continues_at or spawn.role != "spawn":
             return None
         function = spawn.position.function
+        # A function of OpenMP doesn't wait at its end.
+        ends = bool(noted.waits and noted.waits[1])
         waits = source.leading(self.positions[noted.waits[0]]) if noted.waits else None
-        if waits and waits.function != function:
+        if waits and (waits.function != function or (ends and noted.children[0])):
             waits = None
-        return {"function": function, "spawn": spawn.position, "goes_on": goes_on.position, "waits": waits,
-                "ends": bool(noted.waits and noted.waits[1])}
+        return {"function": function, "construct": noted.children[0].of if noted.children[0] else "spawn",
+                "spawn": spawn.position, "continues_at": continues_at.position, "next_sync": waits,
+                "syncs_at_return": ends and noted.children[0] is None}
+
+    def siblings(self, noted):
+        """Threads of one region, two tasks from one place, or two shares of one loop or of the same sections, with
+        their first and their last iterations or sections."""
+        if noted.threads:
+            return {"construct": "region", "position": source.leading(self.positions[noted.threads]), "first": None,
+                    "second": None}
+        first, second = noted.children
+        if not first or not second or first.of != second.of:
+            return None
+        position = source.leading(self.positions[first.code])
+        if first.of == "task":
+            is_same = position == source.leading(self.positions[second.code])
+            return {"construct": "task", "position": position, "first": None, "second": None} if is_same else None
+        return {"construct": first.of, "position": position, "first": list(first[2:]),
+                "second": list(second[2:])} if first.code == second.code else None
+
+    @staticmethod
+    def suggested(noted, siblings, variable):
+        """What OpenMP has for such a pair: between two children of one construct, or behind a child."""
+        first = noted.children[0]
+        if first and first.of == "cilk_for":
+            return ()
+        if not siblings:
+            tasks = ("taskwait", "depend") if first and first.of in ("task", "taskloop") else ("barrier",)
+            return tasks if first else ()
+        clauses = {"sections": (), "task": ("reduction",)}.get(siblings["construct"], ("private", "reduction"))
+        return (clauses if "name" in variable else ()) + (() if noted.guard else ("atomic", "critical")) + (
+            ("single",) if siblings["construct"] == "region" else ())
 
 
 def merged(pairs):
-    """One pair for each pair of source positions and what guards it, the most frequent first and the guarded last."""
-    found = {}
+    """One pair for each pair of source positions, what guards it and the variable. Those of one variable stand
+    together. The most frequent come first, and the guarded last."""
+    found, variables_races = {}, {}
     for pair in pairs:
         known = found.setdefault(pair.key(), pair)
         if known is not pair:
@@ -187,38 +367,87 @@ def merged(pairs):
         else:
             for kinds, side in zip(pair.kinds, pair.sides):
                 kinds.add(side.kind)
-    return sorted(found.values(), key=lambda pair: (pair.guard is not None, -pair.races, pair.key()))
+    for pair in found.values():
+        races = variables_races.setdefault(pair.identity(), [0, True])
+        races[0] -= pair.races
+        races[1] &= pair.is_guarded()
+
+    def order(pair):
+        races, is_guarded = variables_races[pair.identity()]
+        return is_guarded, races, pair.identity(), pair.is_guarded(), -pair.races, pair.key()
+    return sorted(found.values(), key=order)
 
 
-def pairs_of_notes(name, notes, unit):
-    program = Program(name, notes.codes(), unit)
-    return merged(map(program.pair, notes.pairs))
+@dataclass
+class Sites:
+    """Races whose accesses are of the same two sites, by their locations."""
+    kinds: tuple
+    codes: tuple
+    guard: tuple
+    is_narrow: bool
+    locations: list = field(default_factory=list)
+
+    def pairs(self, program):
+        """One pair for each variable, without stacks."""
+        sides = [Side(kind, is_atomic, program.stack(kind, (f"{code:x}",))) for kind, (code, is_atomic) in
+                 zip(self.kinds, self.codes)]
+        pieces = Pieces()
+        for location in self.locations:
+            unit = answers.unit_of(location)
+            address = answers.address_of(location, program.unit)
+            pieces.add(unit, 1, {"kind": "stack"} if unit % 2 == 1 else program.named(address))
+        for location, races, variable in pieces.found():
+            yield Pair(races, location, sides, variable, None, program.guard(self.guard), neighbours=self.is_narrow)
 
 
-def pairs_of_places(name, report, places, unit):
-    """The pairs of a run whose places were kept: without stacks."""
-    races = answers.races_of(report)
-    codes = answers.codes_of(places, {place for _, *accesses in races for _, place in accesses})
-    program = Program(name, codes.values(), unit)
-    return merged(pair_of_race(program, race, codes) for race in races)
+def common_guard(sites):
+    """What both hold, or None; and where that isn't known, the unknown guard."""
+    held = [site.guards if site else None for site in sites]
+    if () in held:
+        return None
+    if None in held:
+        return 0, UNKNOWN_GUARD
+    return next((guard for guard in held[0] if guard[0] in dict(held[1])), None)
 
 
-def pair_of_race(program, race, codes):
-    location, *accesses = race
-    sides = [Side(kind, False, program.stack(kind, (f"{codes[place]:x}",))) for kind, place in accesses]
-    location = int(location)
-    variable = {"is": "stack"} if location % 2 == 1 else program.variable(location, location // 2 * program.unit)
-    return Pair(1, location, sides, variable, None, None)
+def by_sites(races, places):
+    """The groups of races whose accesses are of the same two sites."""
+    found = {}
+    for location, *accesses in races:
+        sites = [places.site(place) if places else None for _, place in accesses]
+        key = (tuple(kind for kind, _ in accesses), *sites)
+        if key not in found:
+            codes = tuple((site.code, ATOMIC in dict(site.guards or ())) if site else (0, False) for site in sites)
+            is_narrow = any(site is None or site.is_narrow for site in sites)
+            found[key] = Sites(key[0], codes, common_guard(sites), is_narrow)
+        found[key].locations.append(location)
+    return list(found.values())
+
+
+def pairs_of(name, unit, notes, races, places):
+    """The pairs of what a run noted, and without stacks those of these races by their places."""
+    groups = by_sites(races, places)
+    codes = [code for group in groups for code, _ in group.codes]
+    program = Program(name, [*(notes.codes() if notes else ()), *codes], unit, notes.thread if notes else 0)
+    whole = (pair for noted in (notes.pairs if notes else ()) for pair in program.pairs(noted))
+    bare = (pair for group in groups for pair in group.pairs(program))
+    # Those of a variable whose stacks are its own come first.
+    found = sorted([*whole, *bare], key=lambda pair: pair.borrowed)
+    return list(map(program.complete, merged(found)))
+
+
+# A line of a file with suppressions, and what it leaves out.
+Used = namedtuple("Used", "line pairs races")
 
 
 class Suppressions:
     """The lines `race:PATTERN` of a file, as ThreadSanitizer has them: what matches a part of a function's name or of a
-    file's name on either stack is left out. `*` matches anything, `^` and `$` the name's beginning and end. Its other
-    kinds of lines are passed over."""
+    file's name on either stack is left out. `variable:PATTERN` is for a part of the variable's name. `*` matches
+    anything, `^` and `$` the name's beginning and end. ThreadSanitizer's other kinds of lines are passed over."""
     OTHERS = {"thread", "mutex", "signal", "deadlock", "called_from_lib", "race_top"}
 
     def __init__(self, name):
-        self.patterns = []
+        self.patterns, self.used = [], {}
         with open(name, encoding="utf-8", errors="surrogateescape") as file:
             for number, line in enumerate(file.read().splitlines(), 1):
                 self.take(line.strip(), f"{name}:{number}")
@@ -227,14 +456,21 @@ class Suppressions:
         kind, colon, pattern = line.partition(":")
         if not line or line.startswith("#") or (colon and kind in self.OTHERS):
             return
-        if kind != "race" or not pattern:
-            raise Failure(f"{where}: wanted race:FUNCTION or race:FILE")
+        if kind not in ("race", "variable") or not pattern:
+            raise Failure(f"{where}: wanted race:FUNCTION, race:FILE or variable:NAME")
         inner = pattern[pattern.startswith("^"):len(pattern) - pattern.endswith("$")]
-        self.patterns.append(re.compile(("^" if pattern.startswith("^") else "") +
-                                        ".*".join(map(re.escape, inner.split("*"))) +
-                                        ("$" if pattern.endswith("$") else "")))
+        expression = re.compile(("^" if pattern.startswith("^") else "") + source.pattern(inner) +
+                                ("$" if pattern.endswith("$") else ""))
+        self.patterns.append((line, kind, expression))
+        self.used[line] = Used(line, 0, 0)
 
     def match(self, pair):
-        names = {name for side in pair.sides for frame in side.stack
-                 for name in (frame.position.function, frame.position.file)}
-        return any(pattern.search(name) for pattern in self.patterns for name in names)
+        """Whether a line leaves this out; each that does counts it."""
+        names = {"variable": pair.variable_names(),
+                 "race": {name for side in pair.sides for frame in side.stack
+                          for name in (frame.position.function, frame.position.file)}}
+        lines = {line for line, kind, expression in self.patterns if any(map(expression.search, names[kind]))}
+        for line in lines:
+            used = self.used[line]
+            self.used[line] = Used(line, used.pairs + 1, used.races + pair.races)
+        return bool(lines)

@@ -1,4 +1,5 @@
 """Runs of a traced program: with its trace into `spbags check`, and with a look at the races' places."""
+import contextlib
 import ctypes
 import os
 import re
@@ -9,21 +10,27 @@ import stat
 import subprocess
 import tempfile
 import threading
+import time
+from collections import namedtuple
 
+import installed
+import source
 from source import Failure
 
-HERE = os.path.dirname(os.path.realpath(__file__))
 # What the hooks of a program have in them that can take a look, and those with the detector inside.
-MARK, INSIDE = b"SPBAGS_LOOK", b"SPBAGS_INSIDE"
+MARK, INSIDE = b"SPBAGS_DIVIDE", b"SPBAGS_INSIDE"
 PERSONALITY, ADDR_NO_RANDOMIZE = ctypes.CDLL(None).personality, 0x0040000
 MOST_DEPTH = "1000000"
+# What the environment of each run has.
+OURS = [f"SPBAGS_{name}" for name in ("PLACES", "TRACE", "REPORT", "EXITCODE", "LOOK", "DIVIDE", "LAST",
+                                     "ROOM")]
 
 
 def checker():
-    """The program `spbags`, which SPBAGS names, or else the one that is built here."""
-    named = os.environ.get("SPBAGS") or os.path.join(HERE, "..", "crates", "spbags", "out", "spbags")
+    """The program `spbags`, which SPBAGS names, or else the one that is built or installed here."""
+    named = os.environ.get("SPBAGS") or installed.PROGRAM
     if not os.access(named, os.X_OK) or not os.path.isfile(named):
-        raise Failure("spbags isn't built: run ./build of its repository, or let SPBAGS name it")
+        raise Failure("spbags isn't built: run ./build of its repository, which takes some ten minutes, or let SPBAGS name it")
     return os.path.realpath(named)
 
 
@@ -126,32 +133,95 @@ def length_of(environment):
     return sum(len(os.fsencode(name)) + len(os.fsencode(value)) + 2 for name, value in environment.items())
 
 
-def prepare_program():
-    """In the program's process: Ctrl-C ends it, and addresses are alike in all runs, as far as the system lets us."""
+class Said(threading.Thread):
+    """The hooks' lines. They are read as they come, and those that can't wait for the report are told at once."""
+    END = "\nend\n"
+
+    def __init__(self, tell):
+        super().__init__(daemon=True)
+        self.tell, self.lines = tell, []
+        self.out, self.into = os.pipe()
+
+    def run(self):
+        with open(self.out, encoding="utf-8", errors="replace") as file:
+            for line in map(str.rstrip, file):
+                if line == self.END.strip():
+                    break
+                kind, _, text = line.partition(": ")
+                if kind == "stuck":
+                    with contextlib.suppress(Exception):
+                        self.tell(text)
+                else:
+                    self.lines.append(line)
+
+    def end(self):
+        """All lines of the program, which has ended. A process that it made may still have the pipe."""
+        os.write(self.into, self.END.encode())
+        self.join()
+        os.close(self.into)
+        return self.lines
+
+
+# What may come while a process runs. It is pending until it is asked for. A terminal's signals are the program's too.
+AWAITED = {signal.SIGCHLD, signal.SIGINT, signal.SIGTERM}
+
+
+def wait_for(process, seconds=None, hears=lambda came: came.si_code <= 0):
+    """Waits until the process has ended, which gives None; until such a signal has come, which gives its number; or, as
+    0, until the time is over."""
+    end = time.monotonic() + (threading.TIMEOUT_MAX if seconds is None else seconds)
+    while process.poll() is None:
+        left = end - time.monotonic()
+        if left <= 0:
+            return 0
+        came = signal.sigtimedwait(AWAITED, left)
+        if came and came.si_signo != signal.SIGCHLD and hears(came):
+            return came.si_signo
+    return None
+
+
+def prepare_program(mask):
+    """In the program's process: signals end it, and addresses are alike in all runs, as far as the system lets us."""
     signal.signal(signal.SIGINT, signal.SIG_DFL)
+    signal.pthread_sigmask(signal.SIG_SETMASK, mask)
     PERSONALITY(ctypes.c_ulong(PERSONALITY(ctypes.c_ulong(0xffffffff)) | ADDR_NO_RANDOMIZE))
 
 
-def prepare_checker():
-    signal.signal(signal.SIGINT, signal.SIG_IGN)
+# A function that nothing is known of, the library or the file that has it, and how often it was called.
+Unseen = namedtuple("Unseen", "function library calls")
+
+
+def texts_of(lines, kind):
+    """The hooks' lines of this kind."""
+    return [line[len(kind) + 2:] for line in lines if line.startswith(kind + ": ")]
+
+
+def unseen_of(text):
+    name, rest = text.split(" ", 1)
+    library, calls = rest.rsplit(" ", 1)
+    return Unseen(source.demangled(name), library, int(calls))
 
 
 class Run:
     """What came of a run: the program's status, the hooks' lines, and the file with the answer."""
 
-    def __init__(self, status, lines, answer):
-        self.status, self.answer = status, answer
-        self.faults = [line[len("fault: "):] for line in lines if line.startswith("fault: ")]
-        self.notes = [line[len("note: "):] for line in lines if line.startswith("note: ")]
-        # What the report has to say beside the races; and where that is to be a fault, what it is.
-        self.reported = [line[len("report: "):] for line in lines if line.startswith("report: ")]
-        self.strict = [line[len("strict: "):] for line in lines if line.startswith("strict: ")]
+    def __init__(self, status, cut, lines, answer):
+        # Why spbags-run ended it, where it did.
+        self.status, self.cut, self.answer = status, cut, answer
+        self.faults, self.notes = texts_of(lines, "fault"), texts_of(lines, "note")
+        # What the report has to say beside the races; and what wasn't seen or modelled, in sentences and functions.
+        self.reported, self.incomplete = texts_of(lines, "report"), texts_of(lines, "incomplete")
+        self.unseen = [unseen_of(text) for text in texts_of(lines, "unseen")]
+        # Where loops ask for their thread's number; and of which races some may be none.
+        self.asks, self.seeming = texts_of(lines, "asks"), texts_of(lines, "seeming")
+        # How many records there were, and a digest of them.
+        self.course = next((text.split(" ") for text in texts_of(lines, "course")), None)
 
     def is_ended_early(self):
         return any("has what came before" in line for line in self.lines())
 
     def is_whole(self):
-        return self.status >= 0 and not self.is_ended_early()
+        return self.status >= 0 and not self.is_ended_early() and not self.cut
 
     def lines(self):
         return self.faults + self.notes
@@ -163,6 +233,8 @@ class Run:
 
     def ending(self):
         """Why a run isn't whole."""
+        if self.cut:
+            return self.cut
         if self.status < 0:
             return f"the program ended by signal {-self.status} ({signal.strsignal(-self.status)})"
         return next(line for line in self.lines() if "has what came before" in line)
@@ -171,49 +243,76 @@ class Run:
 class Runner:
     """Runs one program, again and again with the same words and the same input."""
     ROOM = 1 << 14
+    # What ends a program that others don't end: the hooks' own signal, and the system's; and how many seconds it has.
+    OTHER_ENDS = ((63, 60), (signal.SIGKILL, None))
+    PATIENCE = 5
 
-    def __init__(self, words, checking, settings, output):
+    def __init__(self, words, checking, settings, output, seconds, tell):
+        """The program may run for so many seconds, or for ever; its lines that can't wait go to the function `tell`."""
         program, self.is_inside = traceable(words[0])
         self.words, self.settings, self.output = [program, *words[1:]], settings, output
-        self.checking = checking
+        self.checking, self.tell = checking, tell
+        self.limit = seconds
+        self.mask = signal.pthread_sigmask(signal.SIG_BLOCK, AWAITED)
         self.input = Input()
-        self.program = None
+        self.program, self.has_run = None, False
 
-    def execute(self, said, keep, silent, **settings):
-        """Starts the program, whose lines about the run go into a pipe."""
-        wanted = {**os.environ, "SPBAGS_PLACES": "", "SPBAGS_TRACE": "", "SPBAGS_REPORT": "", **self.settings,
-                  **settings, "SPBAGS_SAYS": f"fd:{said.into}", "SPBAGS_ROOM": ""}
-        # All runs have as long an environment: the program's words lie before it.
+    def execute(self, said, files, silent, **settings):
+        """Starts the program, whose lines about the run go into a pipe. It gets descriptors of these files, by the
+        variables that name them."""
+        wanted = {"SPBAGS_MOST": "", **os.environ, **dict.fromkeys(OURS, ""), **self.settings, **settings,
+                  "SPBAGS_SAYS": f"fd:{said.into}", **{variable: f"fd:{file}" for variable, file in files.items()}}
+        # All runs have as long an environment, of as many variables: the program's words lie before it, and setenv
+        # makes a copy.
         wanted["SPBAGS_ROOM"] = "." * (self.ROOM + length_of(os.environ) - length_of(wanted))
         given = self.input.begin()
         try:
             self.program = subprocess.Popen(
                 self.words, stdin=given, stdout=subprocess.DEVNULL if silent else self.output,
-                stderr=subprocess.DEVNULL if silent else None, pass_fds=(said.into, *keep), env=wanted,
-                preexec_fn=prepare_program)
+                stderr=subprocess.DEVNULL if silent else None, pass_fds=(said.into, *files.values()), env=wanted,
+                preexec_fn=lambda: prepare_program(self.mask))
         except OSError as error:
             raise Failure(f"{self.words[0]}: {error.strerror}") from error
         finally:
             os.close(given)
-            said.close("into")
+        said.start()
 
     def wait(self, said):
-        """The program's status, and the hooks' lines."""
-        status = self.program.wait()
+        """The program's status, why it was ended, and the hooks' lines."""
+        began = time.monotonic()
+        number = wait_for(self.program, self.limit)
+        cut = self.cut(number)
+        # Other runs may take longer than the first one, but not for ever, which they may on another course.
+        if not self.has_run:
+            taken = time.monotonic() - began
+            self.limit, self.has_run = 4 * taken + 10 if cut else 20 * taken + 60, True
+        for end, patience in ((number or signal.SIGTERM, self.PATIENCE), *self.OTHER_ENDS):
+            if self.program.returncode is None:
+                self.program.send_signal(end)
+                wait_for(self.program, patience, lambda came: False)
         self.input.end()
-        with open(said.out, encoding="utf-8", errors="replace") as file:
-            return status, file.read().splitlines()
+        return self.program.returncode, cut, said.end()
 
-    def found(self, keep, silent, **settings):
-        """A run and its report: by the detector inside, or where there is none or the trace is kept, by `spbags check`."""
-        if self.is_inside and not keep:
-            return self.reported(silent, **settings)
-        return self.checked(keep, silent, **settings)
+    def cut(self, number):
+        """Why the program is ended, by what `wait_for` gives."""
+        if number is None:
+            return None
+        if number == 0:
+            why = "which is much longer than the first run" if self.has_run else "as --timeout says"
+            return f"the program was ended after {self.limit:.4g} seconds, {why}"
+        return f"the program was ended by signal {number} ({signal.strsignal(number)}), which came to spbags-run"
 
-    def reported(self, silent, **settings):
+    def found(self, keep, silent, files, **settings):
+        """A run and its report: by the detector inside, or where there is none or the trace is kept, by `spbags check`.
+        Where the trace isn't kept, these files go to the program."""
+        if keep:
+            return self.kept(keep, silent, **settings)
+        return self.reported(silent, files, **settings) if self.is_inside else self.checked(silent, files, **settings)
+
+    def reported(self, silent, files, **settings):
         """A run whose detector is inside, and its report."""
-        said, answer = Pipe(), tempfile.TemporaryFile()
-        self.execute(said, (answer.fileno(),), silent, SPBAGS_REPORT=f"fd:{answer.fileno()}", **settings)
+        said, answer = Said(self.tell), tempfile.TemporaryFile()
+        self.execute(said, {"SPBAGS_REPORT": answer.fileno(), **files}, silent, **settings)
         run = Run(*self.wait(said), answer)
         self.refuse_broken(run)
         if os.fstat(answer.fileno()).st_size == 0:
@@ -221,28 +320,52 @@ class Runner:
             raise Failure(f"{how}, and there is no report")
         return run
 
-    def checked(self, keep, silent, **settings):
-        """A traced run and the report; where the trace is kept it goes into that file, and into a pipe else."""
-        command = [checker(), "check", "--depth", MOST_DEPTH, *self.checking]
-        said, answer = Pipe(), tempfile.TemporaryFile()
-        output = {"stdout": answer, "stderr": subprocess.PIPE, "text": True, "preexec_fn": prepare_checker}
-        if keep:
-            self.execute(said, (), silent, **{**settings, "SPBAGS_TRACE": keep, "SPBAGS_PLACES": keep + ".places"})
-            status, lines = self.wait(said)
-            self.refuse_broken(Run(status, lines, answer))
-            check = subprocess.Popen([*command, keep], **output)
-        else:
-            trace = Pipe()
-            check = subprocess.Popen([*command, "-"], stdin=trace.out, **output)
-            trace.close("out")
-            self.execute(said, (trace.into,), silent, SPBAGS_TRACE=f"fd:{trace.into}", **settings)
-            trace.close("into")
-            status, lines = self.wait(said)
-        fault = check.communicate()[1].strip()
-        run = Run(status, lines, answer)
+    def check(self, trace, source):
+        """`spbags check` of a trace, and the files of its report and of its faults."""
+        command = [checker(), "check", "--depth", MOST_DEPTH, *self.checking, trace]
+        answer, faults = tempfile.TemporaryFile(), tempfile.TemporaryFile()
+        return subprocess.Popen(command, stdin=source, stdout=answer, stderr=faults), answer, faults
+
+    def kept(self, trace, silent, **settings):
+        """A run whose trace and places are kept, and the report."""
+        said = Said(self.tell)
+        checker()
+        self.execute(said, {}, silent, **{**settings, "SPBAGS_TRACE": trace, "SPBAGS_PLACES": trace + ".places"})
+        run = Run(*self.wait(said), None)
+        self.refuse_broken(run)
+        return self.answered(run, *self.check(trace, None))
+
+    def checked(self, silent, files, **settings):
+        """A run whose trace goes through a pipe, and the report."""
+        said, trace = Said(self.tell), Pipe()
+        check = self.check("-", trace.out)
+        trace.close("out")
+        self.execute(said, {"SPBAGS_TRACE": trace.into, **files}, silent, **settings)
+        trace.close("into")
+        return self.answered(Run(*self.wait(said), None), *check)
+
+    def answered(self, run, check, answer, faults):
+        """The run with its report, when its checker has ended."""
+        run.answer = answer
+        number = self.wait_for_checker(check)
+        if number:
+            raise Failure(f"{signal.strsignal(number)}: spbags was ended before it had an answer")
+        faults.seek(0)
+        fault = faults.read().decode(errors="replace").strip()
         if check.returncode not in (0, 1):
             self.explain_fault(run, fault or f"spbags ended with status {check.returncode}")
         return run
+
+    @staticmethod
+    def wait_for_checker(check):
+        """A signal that comes meanwhile ends it, and gives its number."""
+        while signal.sigtimedwait(AWAITED, 0):
+            pass
+        number = wait_for(check, None, lambda came: True)
+        if number:
+            check.kill()
+            check.wait()
+        return number
 
     @staticmethod
     def refuse_broken(run):
@@ -259,13 +382,9 @@ class Runner:
             raise Failure(said[0])
         raise Failure(f"{run.ending()}, and its trace isn't whole" if run.status < 0 and not run.faults else fault)
 
-    def looked(self, report, ends_at_last, **settings):
+    def looked(self, report, files, **settings):
         """A run that looks at the places of a report, and its notes."""
-        said, notes = Pipe(), tempfile.TemporaryFile()
-        files = (report.fileno(), notes.fileno())
-        if ends_at_last:
-            settings["SPBAGS_LAST"] = "1"
-        self.execute(said, files, True, SPBAGS_TRACE=f"fd:{files[1]}", SPBAGS_LOOK=f"fd:{files[0]}", SPBAGS_MOST="",
-                     **settings)
-        status, lines = self.wait(said)
-        return Run(status, lines, notes)
+        said, notes = Said(self.tell), tempfile.TemporaryFile()
+        self.execute(said, {"SPBAGS_TRACE": notes.fileno(), "SPBAGS_LOOK": report.fileno(), **files}, True,
+                     SPBAGS_MOST="", **settings)
+        return Run(*self.wait(said), notes)

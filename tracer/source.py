@@ -13,6 +13,8 @@ Variable = namedtuple("Variable", "name offset size")
 UNKNOWN = Position("?", 0, "?")
 # What a compiler puts behind the name of a function when it makes others of its parts.
 OUTLINED = re.compile(r"(?:\._omp_(?:cpy)?fn\.[0-9]+| \[clone [^]]*\])+$")
+# What clang makes of a loop's body.
+CAPTURED = re.compile(r"__captured_stmt(?:\.[0-9]+)?")
 SYSTEM = ("/usr/include/", "/usr/local/include/", "/usr/lib")
 
 
@@ -29,6 +31,15 @@ def asked(*command, given=""):
     if answer.returncode != 0:
         raise Failure(answer.stderr.strip() or f"{command[0]} gave no answer")
     return answer.stdout
+
+
+def demangled(name):
+    return asked("c++filt", given=name).strip() if name.startswith("_Z") else name
+
+
+def pattern(text):
+    """An expression for this text, in which `*` is anything."""
+    return ".*".join(map(re.escape, text.split("*")))
 
 
 def shown(file):
@@ -63,7 +74,7 @@ def positions_of(program, codes):
 
 def position_of(function, where):
     file, _, line = where.split(" (")[0].rpartition(":")
-    function = OUTLINED.sub("", function)
+    function = CAPTURED.sub("cilk_for", OUTLINED.sub("", function))
     return Position(shown(file), int(line) if line.isdigit() else 0, function)
 
 

@@ -1,24 +1,17 @@
 """Rewrites the spawns and syncs of a preprocessed C source into calls of the hooks, and stores that no hook would see.
 
-A spawn is a statement `f(..)` or `x = f(..)` with the keyword before the call. What the parent evaluates comes first,
+A spawn is a statement `f(..)`, `x = f(..)` or `x += f(..)` with the keyword before the call. What the parent evaluates comes first,
 into temporaries: the function, its arguments, the address of the result. Then the child is opened, and the call and the
 store of the result are the child's. Nothing else can be divided between a parent and its child by a text alone, so
 every other spawn is refused.
 """
 import re
 
-TOKEN = re.compile(
-    r"(?P<marker>^\#[^\n]*\n)"
-    r"|(?P<space>[ \t\f\v\r]+|\n)"
-    r"|(?P<string>\"(?:\\.|[^\"\\\n])*\")"
-    r"|(?P<character>'(?:\\.|[^'\\\n])*')"
-    r"|(?P<number>\.?[0-9](?:[eEpP][+-]|[0-9A-Za-z_.])*)"
-    r"|(?P<word>[A-Za-z_$\x80-\uffff][A-Za-z0-9_$\x80-\uffff]*)"
-    r"|(?P<mark>\.\.\.|<<=|>>=|->|\+\+|--|<<|>>|[-+*/%&|^=!<>]=|&&|\|\||.)",
-    re.MULTILINE)
-LINE_MARKER = re.compile(r'#(?:line)? *([0-9]+) *("(?:\\.|[^"\\])*")?([ 0-9]*)')
-PARTNERS = {")": "(", "]": "[", "}": "{"}
-CONTROLS = {"if", "for", "while", "switch"}
+import loops
+from tokens import (CONTROLS, Refused, after_postfixes, arguments_of, call_after, is_in_block, is_lvalue, statement_start,
+                    tokens_of)
+
+ASSIGNMENTS = {"=", "+=", "-=", "*=", "/=", "%=", "&=", "|=", "^=", "<<=", ">>="}
 LITERALS = {"string", "character", "number"}
 
 # A function that spawns and is put into its caller would have no end to sync at.
@@ -27,155 +20,21 @@ INLINED = {"always_inline", "__always_inline__"}
 # A source without any of these stays as it is.
 TOUCHED = re.compile("_Cilk_|_Hyperobject|always_inline|cilk_(?:spawn|sync|for|scope)")
 
-SHAPES = "write `cilk_spawn f(..);' or `x = cilk_spawn f(..);' as a statement of its own"
+# The program's pragmas of OpenMP, which its compiler would ignore.
+IGNORED = re.compile(r"^[ \t]*#[ \t]*pragma[ \t]+omp\b.*", re.MULTILINE)
+
+SHAPES = "write `cilk_spawn f(..);', `x = cilk_spawn f(..);' or `x += cilk_spawn f(..);' as a statement of its own"
 REFUSED = {
-    "_Cilk_for": "cilk_for can't be traced: write a loop that spawns a function, and a sync after it",
-    "_Cilk_scope": "cilk_scope can't be traced: write a function, which syncs at its end",
     "_Hyperobject": "reducers can't be traced",
     **{word: f"{word} is no keyword here: write `#include <cilk/cilk.h>' above"
        for word in ("cilk_spawn", "cilk_sync", "cilk_for", "cilk_scope")},
 }
 
 
-class Refused(Exception):
-    """What can't be rewritten, and why."""
-
-    def __init__(self, token, why):
-        super().__init__(why)
-        self.token = token
-
-
-class Token:
-    def __init__(self, kind, text, start, file, line, system):
-        self.kind, self.text, self.start, self.file, self.line = kind, text, start, file, line
-        self.system = system  # whether it stands in a header of the system
-        self.end = start + len(text)
-        self.partner = None   # of a bracket: the index of the other one
-        self.around = None    # the index of the innermost bracket around it
-
-    def marker(self, flags=""):
-        """Puts what follows on this token's line of the program."""
-        return f"\n# {self.line} {self.file}{flags}\n"
-
-    def place(self):
-        return f"{self.file[1:-1]}:{self.line}"
-
-
-def tokens_of(text):
-    """The tokens of C, each with its line of the program."""
-    tokens, file, line, system = [], '"?"', 1, False
-    for match in TOKEN.finditer(text):
-        kind, found = match.lastgroup, match.group()
-        if kind == "marker":
-            numbered = LINE_MARKER.match(found)
-            line = int(numbered[1]) if numbered else line + 1
-            if numbered and numbered[2]:
-                file, system = numbered[2], "3" in numbered[3].split()
-        elif kind == "space":
-            line += found == "\n"
-        else:
-            tokens.append(Token(kind, found, match.start(), file, line, system))
-    match_brackets(tokens)
-    return tokens
-
-
-def match_brackets(tokens):
-    opened = []
-    for at, token in enumerate(tokens):
-        if token.kind == "mark" and token.text in PARTNERS:
-            if opened and tokens[opened[-1]].text == PARTNERS[token.text]:
-                token.partner = opened.pop()
-                tokens[token.partner].partner = at
-        token.around = opened[-1] if opened else None
-        if token.kind == "mark" and token.text in PARTNERS.values():
-            opened.append(at)
-
-
-def ends_label(tokens, colon):
-    """Whether this colon ends a label, and isn't the second half of `? :`."""
-    before = colon - 1
-    if tokens[before].text == "default":
-        return True
-    if tokens[before].kind == "word" and tokens[before - 1].text in ("{", "}", ";", ":", ")", "else", "do"):
-        return True
-    while before >= 0 and tokens[before].text not in ("{", "}", ";", "?"):
-        if tokens[before].text == "case":
-            return True
-        before -= 1
-    return False
-
-
-def is_in_block(tokens, at):
-    around = tokens[at].around
-    return around is not None and tokens[around].text == "{"
-
-
-def statement_start(tokens, spawn):
-    """The index of the first token of the statement in which this spawn stands."""
-    first = spawn
-    while first > 0:
-        before = tokens[first - 1]
-        if before.text in ("{", "}", ";", "else", "do"):
-            break
-        if before.text == ":" and ends_label(tokens, first - 1):
-            break
-        if before.text in (")", "]") and before.partner is not None:
-            if tokens[before.partner - 1].text in CONTROLS:
-                break
-            first = before.partner
-        else:
-            first -= 1
-    return first
-
-
-def after_postfixes(tokens, at):
-    """The end of the operators `(..)`, `[..]`, `.x` and `->x` from here on, and the last of them."""
-    last = None
-    while at < len(tokens):
-        text = tokens[at].text
-        if text not in ("(", "[", ".", "->") or (text in ("(", "[") and tokens[at].partner is None):
-            break
-        last = at
-        at = tokens[at].partner + 1 if text in ("(", "[") else at + 2
-    return at, last
-
-
-def call_after(tokens, before):
-    """The parenthesis that opens the arguments of the call after this token, where a semicolon ends it; or None."""
-    first = tokens[before + 1]
-    if first.text == "(" and first.partner is not None:
-        at = first.partner + 1
-    elif first.kind == "word":
-        at = before + 2
-    else:
-        return None
-    end, last = after_postfixes(tokens, at)
-    return last if last is not None and tokens[last].text == "(" and tokens[end].text == ";" else None
-
-
-def arguments_of(tokens, opening):
-    """The first and last index of each argument."""
-    arguments, first = [], opening + 1
-    for at in range(opening + 1, tokens[opening].partner + 1):
-        ends = at == tokens[opening].partner
-        if (ends or (tokens[at].text == "," and tokens[at].around == opening)) and first < at:
-            arguments.append((first, at - 1))
-            first = at + 1
-    return arguments
-
-
-def is_lvalue(tokens, first, end):
-    """Whether these tokens name memory, as `*a[i].x` does; otherwise they declare a variable."""
-    if tokens[first].text in ("*", "("):
-        return True
-    stop, last = after_postfixes(tokens, first + 1)
-    return stop == end and (last is None or tokens[last].text != "(")
-
-
 def is_one_target(tokens, first, sign):
     """Whether one thing stands before this sign, which is an assignment's."""
-    direct = [token.text for token in tokens[first:sign] if token.around == tokens[sign].around]
-    return tokens[sign].text == "=" and first < sign and not {"=", ",", "?", "return"} & set(direct)
+    direct = {token.text for token in tokens[first:sign] if token.around == tokens[sign].around}
+    return tokens[sign].text in ASSIGNMENTS and first < sign and not (ASSIGNMENTS | {",", "?", "return"}) & direct
 
 
 def check_target(tokens, first, spawn):
@@ -186,7 +45,7 @@ def check_target(tokens, first, spawn):
         raise Refused(tokens[spawn], f"a spawn inside a larger expression can't be traced: {SHAPES}")
     if is_lvalue(tokens, first, sign):
         return False
-    if target[-1].kind != "word" or any(token.text in ("static", "extern", "typedef") for token in target):
+    if target[-1].kind != "word" or tokens[sign].text != "=" or any(token.text in ("static", "extern", "typedef") for token in target):
         raise Refused(tokens[spawn], "a spawn can't be traced in this declaration: declare the variable before it")
     return True
 
@@ -225,7 +84,7 @@ class Spawn:
 
     def target(self):
         """The declaration that goes before all, and the one of the result's address."""
-        if self.first == self.spawn:
+        if [token.text for token in self.tokens[self.first:self.spawn]] in ([], ["(", "void", ")"]):
             return "", []
         declared, named = "", (self.first, self.spawn - 2)
         if check_target(self.tokens, self.first, self.spawn):
@@ -241,7 +100,9 @@ class Spawn:
         result, stored = f"__builtin_choose_expr(sizeof({call}) > 16, {call}, ((void){call}, 0))", []
         if address:
             result = call
-            stored = ["*__spbags_at = __spbags_result;", "__spbags_stored(__spbags_at, sizeof *__spbags_at);"]
+            # Whatever races with a read of it races with this write too.
+            sign = self.tokens[self.spawn - 1].text
+            stored = [f"*__spbags_at {sign} __spbags_result;", "__spbags_stored(__spbags_at, sizeof *__spbags_at);"]
         made = [
             f"{{ __auto_type __spbags_f = ({self.piece(self.spawn + 1, self.opening - 1)});", *before, *address,
             "__auto_type __spbags_g = (__typeof__(__spbags_f))__spbags_spawn((__spbags_function)__spbags_f);",
@@ -287,40 +148,67 @@ def rewritten_store(text, tokens, sign):
     return first, last, f"{{ __auto_type __spbags_t = ({call});{target}{store}"
 
 
-def instead_of(text, tokens, at, stores):
-    """The indexes of the first and the last token of what has to be rewritten here, and its new text; or None."""
+def edits_of(text, tokens, at, stores, language):
+    """What has to be rewritten here: the indexes of the first and the last token, and their new text; and perhaps the
+    index of a later token, and what comes behind it. Or None."""
     token = tokens[at]
     if token.text in REFUSED:
         raise Refused(token, REFUSED[token.text])
     if token.text == "_Cilk_spawn":
+        if language == "c++":
+            raise Refused(token, "spawns can't be traced in C++, only in C")
         found = Spawn(text, tokens, at)
-        return found.first, found.last, found.rewritten()
+        return (found.first, found.last, found.rewritten()), None
+    if token.text == "_Cilk_for":
+        return loops.Loop(text, tokens, at, language).edits()
+    if token.text == "_Cilk_scope":
+        return loops.scope_edits(tokens, at)
     if token.text == "_Cilk_sync":
-        return at, at, "__spbags_sync()"
+        return (at, at, "__spbags_sync()"), None
     if token.text in INLINED and not token.system:
-        return at, at, "__unused__"
-    if stores and token.text == "=" and not token.system:
-        return rewritten_store(text, tokens, at)
-    return None
+        return (at, at, "__unused__"), None
+    found = rewritten_store(text, tokens, at) if stores and token.text == "=" and not token.system else None
+    return (found, None) if found else None
 
 
-def rewritten(text, stores):
-    """The source with its spawns and syncs rewritten, and a line for each that can't be; and with the stores of what
-    calls give, where that is wanted."""
-    if not stores and not TOUCHED.search(text):
-        return text, []
-    tokens = tokens_of(text)
-    made, faults, done = [], [], 0
-    for at, token in enumerate(tokens):
-        if token.start < done:
-            continue
+class Rewriting:
+    """A source that is rewritten from its first token to its last."""
+
+    def __init__(self, text, language):
+        self.text, self.language, self.stores = text, language, language == "gcc"
+        self.tokens = tokens_of(text)
+        self.made, self.done, self.faults, self.behind = [], 0, [], {}
+
+    def rewrite(self, at):
         try:
-            found = instead_of(text, tokens, at, stores)
+            edits = edits_of(self.text, self.tokens, at, self.stores, self.language)
         except Refused as refused:
-            faults.append(f"{refused.token.place()}: error: {refused}")
-            continue
-        if found:
-            first, last, instead = found
-            made += [text[done:tokens[first].start], instead]
-            done = tokens[last].end
-    return "".join(made) + text[done:], faults
+            self.faults.append(f"{refused.token.place()}: error: {refused}")
+            return
+        if edits:
+            (first, last, instead), later = edits
+            self.made += [self.text[self.done:self.tokens[first].start], instead]
+            self.done = self.tokens[last].end
+            if later:
+                self.behind.setdefault(later[0], []).insert(0, later[1])
+
+    def rewritten(self):
+        for at, token in enumerate(self.tokens):
+            if token.start >= self.done:
+                self.rewrite(at)
+            for instead in self.behind.pop(at, ()):
+                self.made += [self.text[self.done:token.end], instead]
+                self.done = max(self.done, token.end)
+        return "".join(self.made) + self.text[self.done:], self.faults
+
+
+def rewritten(text, language):
+    """The source with its spawns, loops, scopes and syncs rewritten, and a line for each that can't be; and with gcc
+    with the stores of what calls give."""
+    if language != "gcc" and not TOUCHED.search(text):
+        return text, []
+    has_tasks = language == "gcc" and "_Cilk_for" in text
+    if has_tasks:
+        text = IGNORED.sub("", text)
+    text, faults = Rewriting(text, language).rewritten()
+    return (text + loops.INSTEAD_OF_TASK if has_tasks else text), faults

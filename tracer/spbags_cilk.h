@@ -20,8 +20,46 @@ void __spbags_return(const volatile void *result, unsigned long size);
 
 void __spbags_sync(void);
 
+/* A scope begins at this place of the source. Its end is called with the address of what this gives; it waits for its
+   own children. */
+const char *__spbags_enter(const char *place);
+void __spbags_leave(const char *const *place);
+
+/* An iteration of a loop begins, with this value of the loop's variable, and this number to show. It returns as a child
+   does. Its body asks for the value, since it has a variable of its own. */
+void __spbags_iteration(long value, long shown);
+long __spbags_counter(void);
+
+/* A statement of the assembler is about to access so much memory here, perhaps as one atomic instruction; or memory that
+   isn't known, at this place of the source. */
+void __spbags_asm(const volatile void *at, unsigned long size, int writes, int locked);
+void __spbags_asm_unseen(const char *place);
+
+/* An instruction of the compiler's is about to access memory by a pointer: so many bytes; those elements whose bits the
+   mask has, at their places or one behind the other; those at the places of an index, whose numbers have so many bytes;
+   or memory that isn't known. The mask's bits are its value's, or the first ones of a vector's elements. */
+void __spbags_vector(const volatile void *at, unsigned long size, int writes);
+unsigned long __spbags_bits(const void *mask, unsigned long size, unsigned long element);
+void __spbags_masked(const volatile void *at, unsigned long element, unsigned long count, unsigned long bits, int writes);
+void __spbags_packed(const volatile void *at, unsigned long element, unsigned long count, unsigned long bits, int writes);
+void __spbags_indexed(const volatile void *at, unsigned long element, unsigned long count, const void *index,
+                      unsigned long size, unsigned long each, int scale, unsigned long bits, int writes);
+void __spbags_vector_unseen(const char *function, const char *file, int line);
+
+/* What stands before the body of a parallel, single or master region of OpenMP, and before a loop with simd: `for (__spbags_body(KIND);
+   __spbags_goes_on();)`. */
+void __spbags_body(int kind);
+int __spbags_goes_on(void);
+
 #ifdef __cplusplus
 }
+
+/* The number to show of an iteration: the value of its loop's variable, or which one it is where that is no integer. */
+template <class T> static inline long __spbags_shown(const T &, long number) { return number; }
+#define __SPBAGS_SHOWN(TYPE) static inline long __spbags_shown(const TYPE &value, long) { return (long)value; }
+__SPBAGS_SHOWN(int) __SPBAGS_SHOWN(unsigned) __SPBAGS_SHOWN(long) __SPBAGS_SHOWN(unsigned long)
+__SPBAGS_SHOWN(long long) __SPBAGS_SHOWN(unsigned long long) __SPBAGS_SHOWN(short) __SPBAGS_SHOWN(unsigned short)
+#undef __SPBAGS_SHOWN
 #endif
 
 #endif

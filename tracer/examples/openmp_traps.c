@@ -1,6 +1,7 @@
 /* What is easily taken for a race in OpenMP and is none, and beside each one that is. RACY: each function has one. */
 #include <omp.h>
 #include <stdio.h>
+#include <stdlib.h>
 
 static int result, row[8], line[8], filled[8], squares[5], sum, old, young, left, right, copies[4];
 static int mine;
@@ -189,6 +190,32 @@ static void thread_memory(void) {
     }
 }
 
+/* Each thread does what stands outside of loops and such; one of them may be late. */
+static void each_thread(void) {
+    static int all, one;
+#pragma omp parallel
+    {
+        int own = 0, *block = malloc(sizeof *block);
+        *block = own;
+#pragma omp barrier
+#ifndef RACY
+#pragma omp single
+#endif
+        all++; /* [all] */
+#ifdef RACY
+#pragma omp single nowait
+#else
+#pragma omp single
+#endif
+        one = 1; /* [one] */
+        own = one + *block; /* [beside_one] */
+        free(block);
+#pragma omp for reduction(+ : result)
+        for (int i = 0; i < 2; i++)
+            result += own;
+    }
+}
+
 #ifdef RACY
 /* Which turn is whose depends on the schedule. */
 static void turns(omp_lock_t *lock) {
@@ -223,6 +250,7 @@ int main(void) {
     order();
     sections();
     thread_memory();
+    each_thread();
 #ifdef RACY
     omp_lock_t lock;
     omp_init_lock(&lock);

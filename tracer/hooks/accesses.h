@@ -23,7 +23,7 @@ __attribute__((noinline)) static void other_access(bool writes, uintptr_t at, si
     if (!tracing || initialising > 0)
         return;
     leave_jumped(stack_pointer, code);
-    if (!is_on_the_way(self) && !is_old(writes, at, size))
+    if (!is_on_the_way(self) && (watching || !is_old(writes, at, size)))
         touch(writes, at, size, code);
 }
 
@@ -92,13 +92,19 @@ __attribute__((noinline)) static void library_read(uintptr_t at, size_t size, __
         any_access(false, at, size, self, stack_pointer, code);
 }
 
+/* Not in each wrapper, since there are many. */
+__attribute__((noinline)) static void library_write(uintptr_t at, size_t size, __spbags_function self,
+                                                    uintptr_t stack_pointer, uintptr_t code) {
+    any_access(true, at, size, self, stack_pointer, code);
+}
+
 #define OFTEN(WRITES, AT, SIZE) usual_access(WRITES, (uintptr_t)(AT), SIZE, STACK_POINTER, CODE)
 #define READ(AT, SIZE) any_access(false, (uintptr_t)(AT), SIZE, NULL, STACK_POINTER, CODE)
 #define WRITE(AT, SIZE) any_access(true, (uintptr_t)(AT), SIZE, NULL, STACK_POINTER, CODE)
 #define LIBRARY_READ(AT, SIZE, SELF) \
     library_read((uintptr_t)(AT), SIZE, (__spbags_function)SELF, STACK_POINTER, CODE)
 #define LIBRARY_WRITE(AT, SIZE, SELF) \
-    any_access(true, (uintptr_t)(AT), SIZE, (__spbags_function)SELF, STACK_POINTER, CODE)
+    library_write((uintptr_t)(AT), SIZE, (__spbags_function)SELF, STACK_POINTER, CODE)
 
 /* With clang those of coverage stand beside the accesses instead of the sanitizer's. */
 #define ACCESSES(SIZE) \

@@ -22,8 +22,10 @@ static pthread_t detector;
 static struct bundle *filling;
 static uint64_t *next_record, *bundle_end;
 
+int __real_sem_wait(sem_t *semaphore);
+
 static void wait_for(sem_t *bundle) {
-    while (sem_wait(bundle) != 0)
+    while (__real_sem_wait(bundle) != 0)
         continue;
 }
 
@@ -74,6 +76,19 @@ static inline void step(enum spbags_kind kind, uint64_t location) {
         next_bundle();
 }
 
+/* Whether the newest bundle has a record, since this was asked last, that isn't an access of the stack's memory, whose
+   locations are odd. */
+static bool has_new_step(void) {
+    static const uint64_t *seen;
+    const uint64_t *at = seen;
+    seen = next_record;
+    if (at < filling->records || at > seen)
+        at = filling->records;
+    while (at < seen && (*at & 7) >= SPBAGS_READ && (*at >> 3) % 2 == 1)
+        at++;
+    return at < seen;
+}
+
 /* What follows is done in the detector's thread. */
 __attribute__((noinline, cold, noreturn)) static void refuse_step(unsigned status) {
     if (status == SPBAGS_NO_MEMORY)
@@ -87,16 +102,20 @@ static void take_bundle(const struct bundle *bundle) {
         refuse_step(status);
 }
 
+/* Whether the report, once it is made, is more than the line `races 0`. */
+static bool has_races;
+
 /* The program's thread waits meanwhile. */
 static void put_report(void) {
     uint8_t status = spbags_report(session);
     if (status != SPBAGS_TAKEN)
         refuse_step(status);
-    unsigned byte;
-    while ((byte = spbags_next(session)) < SPBAGS_AT_END) {
+    size_t size = 0;
+    for (unsigned byte; (byte = spbags_next(session)) < SPBAGS_AT_END; size++) {
         *room(&trace) = (char)byte;
         trace.used++;
     }
+    has_races = size > strlen("races 0\n");
 }
 
 static void *detect(void *nothing) {
@@ -119,10 +138,11 @@ static void end_detector(void) {
     pthread_join(detector, NULL);
 }
 #else
-enum { HAS_DETECTOR = false, detecting = false, stepping = false };
+enum { HAS_DETECTOR = false, detecting = false, stepping = false, has_races = false };
 static void start_detector(void) {}
 static inline void begin_step(void) {}
 static inline void end_step(void) {}
+static inline bool has_new_step(void) { return false; }
 static inline void step(enum spbags_kind kind, uint64_t location) { (void)kind, (void)location; }
 static void end_detector(void) {}
 #endif

@@ -20,8 +20,9 @@ static void tell_notes(void) {
         tell("procedures nest %u deep, so spbags needs --depth %u or more", most_procedures - 1, most_procedures - 1);
 #ifdef SPBAGS_OPENMP
     tell_openmp_notes();
-    end_notes();
 #endif
+    tell_unknown_functions();
+    end_places();
 }
 
 static void end_trace(void) {
@@ -29,7 +30,8 @@ static void end_trace(void) {
     sigfillset(&all);
     sigprocmask(SIG_BLOCK, &all, &before);
     stop_tracing();
-    trace.most = next_place = UINT64_MAX;
+    tell_course();
+    trace.most = next_place = last_record = UINT64_MAX;
     while (procedures > 0)
         close_procedure(0);
     if (looking)
@@ -42,14 +44,35 @@ static void end_trace(void) {
     sigprocmask(SIG_SETMASK, &before, NULL);
 }
 
+__attribute__((noinline, cold)) static void end_here(void) {
+    end_trace();
+    __real__exit(0);
+}
+
+/* SPBAGS_EXITCODE is the status of a run whose report has races, and makes that of one with none say where something
+   wasn't seen or modelled, unless SPBAGS_INCOMPLETE_OK accepts that. Without it the status is the program's. */
+enum { PROGRAMS_OWN = -1, NOT_ALL_SEEN = 3 };
+static int racy_status = PROGRAMS_OWN;
+static bool is_incomplete_ok;
+
+/* That with which the program would end by itself, as far as it is known. */
+static int own_status = PROGRAMS_OWN;
+
 /* The status with which the program is to end, which would end with this one. */
 static int end_trace_of(int status) {
     end_trace();
-#ifdef SPBAGS_OPENMP
-    if (is_strict && outlived > 0)
-        return 2;
-#endif
-    return status;
+    if (racy_status == PROGRAMS_OWN)
+        return status;
+    if (has_races)
+        return racy_status;
+    return status == 0 && incomplete_lines > 0 && !is_incomplete_ok ? NOT_ALL_SEEN : status;
+}
+
+/* Where the program doesn't end by itself it has no status of its own. */
+static void end_racy(void) {
+    int status = end_trace_of(PROGRAMS_OWN);
+    if (status != PROGRAMS_OWN)
+        __real__exit(status);
 }
 
 static void stop_at_limit(void) {
@@ -98,7 +121,7 @@ static const char *name_of(int number) {
 static void end_by_signal(int number) {
     waiting_signal = 0;
     tell("the program ends by signal %d (%s), and the %s has what came before", number, name_of(number), made());
-    end_trace();
+    end_racy();
     die_by(number);
 }
 
@@ -127,6 +150,10 @@ static void die_inside(int number) {
 static void on_signal(int number, siginfo_t *about, void *context) {
     enum { ENOUGH = 4 };
     static int came;
+    if (is_watch(number, about)) {
+        on_watch();
+        return;
+    }
     bool fault = is_fault(number, about);
     came++;
     if (!is_traced() || came == ENOUGH)
@@ -153,7 +180,7 @@ static bool is_harmless(int number) {
 }
 
 static int catch_signal(int number, struct sigaction *before) {
-    struct sigaction caught = {.sa_sigaction = on_signal, .sa_flags = SA_SIGINFO | SA_ONSTACK};
+    struct sigaction caught = {.sa_sigaction = on_signal, .sa_flags = SA_SIGINFO | SA_ONSTACK | SA_RESTART};
     sigfillset(&caught.sa_mask);
     return __real_sigaction(number, &caught, before);
 }
@@ -169,6 +196,8 @@ static void catch_signals(void) {
 /* For the program the handler above is the system's own end by a signal, and where it wants that, it gets the handler. */
 int __wrap_sigaction(int number, const struct sigaction *wanted, struct sigaction *before) {
     bool ends = wanted && wanted->sa_handler == SIG_DFL && is_traced() && !is_harmless(number);
+    if (wanted && !ends)
+        leave_signal(number);
     int answer = ends ? catch_signal(number, before) : __real_sigaction(number, wanted, before);
     if (answer == 0 && before && before->sa_sigaction == on_signal)
         *before = (struct sigaction){.sa_handler = SIG_DFL};
@@ -179,6 +208,7 @@ static sighandler_t set_handler(sighandler_t set(int, sighandler_t), int number,
     struct sigaction usual = {.sa_handler = SIG_DFL}, before;
     if (wanted == SIG_DFL)
         return __wrap_sigaction(number, &usual, &before) == 0 ? before.sa_handler : SIG_ERR;
+    leave_signal(number);
     sighandler_t replaced = set(number, wanted);
     return replaced == (sighandler_t)on_signal ? SIG_DFL : replaced;
 }
@@ -197,17 +227,32 @@ void __wrap__exit(int status) { __real__exit(is_traced() ? end_trace_of(status) 
 
 void __wrap__Exit(int status) { __wrap__exit(status); }
 
+/* Handlers of exit and quick_exit aren't told the status. */
+static int end_trace_of_own(void) { return is_traced() ? end_trace_of(own_status) : own_status; }
+
 static void quick_end(void) {
-    if (is_traced() && end_trace_of(0) != 0)
-        __real__exit(2);
+    int status = end_trace_of_own();
+    if (status != own_status)
+        __real__exit(status);
+}
+
+static void keep_status(int status, void *nothing) {
+    (void)nothing;
+    own_status = status & 0xff;
+}
+
+__attribute__((noreturn)) void __real_quick_exit(int status);
+void __wrap_quick_exit(int status) {
+    keep_status(status, NULL);
+    __real_quick_exit(status);
 }
 
 /* Another program takes this one's place, unless that fails. */
 static bool end_before_exec(void) {
     bool traced = is_traced();
     if (traced) {
-        end_trace();
         tell("the program becomes another one by exec, and the %s has what came before", made());
+        end_racy();
     }
     return traced;
 }
@@ -263,8 +308,8 @@ EXEC_LIST(execle, execve, SETTINGS)
 int __real_daemon(int stays, int keeps);
 int __wrap_daemon(int stays, int keeps) {
     if (is_traced()) {
-        end_trace();
         tell("the program becomes a daemon, and the %s has what came before", made());
+        end_racy();
     }
     return __real_daemon(stays, keeps);
 }

@@ -3,10 +3,11 @@
    file instead of the sanitizer's own runtime. This file is compiled without that flag. The program runs on one thread,
    in the serial order: a spawned child runs at once, as an ordinary call.
 
-   Each part stands on those before it: what goes out; the detector and its heap, where SPBAGS_INSIDE is defined; what a
-   strand has done; records; what is held; locations; procedures; a look at the races' places; the hooks of accesses, of
-   library functions and of locks; the heap; those of C++ and, where SPBAGS_OPENMP is defined, of OpenMP; the ends of
-   the run, and its beginning. */
+   Each part stands on those before it: what goes out; the detector and its heap, where SPBAGS_INSIDE is defined; what is
+   held; places; what a strand has done; records; locations, and bytes; procedures; a look at the races' places; scopes
+   and loops of Cilk; the hooks of accesses, of library functions and of jumps; a watch for waits without end; the hooks
+   of locks; the heap; those of C++ and, where SPBAGS_OPENMP is defined, of OpenMP; functions that nothing is known of,
+   and what of the code has no hook of the compiler's; the ends of the run, and its beginning. */
 #define _GNU_SOURCE
 #include <ctype.h>
 #include <dlfcn.h>
@@ -15,8 +16,10 @@
 #include <inttypes.h>
 #include <limits.h>
 #include <link.h>
+#include <linux/futex.h>
 #include <pthread.h>
 #include <semaphore.h>
+#include <setjmp.h>
 #include <signal.h>
 #include <stdarg.h>
 #include <stdbool.h>
@@ -30,6 +33,7 @@
 #include <sys/socket.h>
 #include <sys/stat.h>
 #include <sys/statvfs.h>
+#include <sys/syscall.h>
 #include <sys/wait.h>
 #include <threads.h>
 #include <time.h>
@@ -40,6 +44,7 @@
 
 #include "../include/spbags_inside.h"
 #include "../spbags_cilk.h"
+#include "library_types.h"
 /* The real functions of library.table: what is called here by its own name is called in truth. */
 #include "library_names.h"
 
@@ -61,6 +66,8 @@ enum { MOST_DEPTH = 1000000, DEFAULT_DEPTH = 65536 };
 #define FRAME_END (*(uintptr_t *)__builtin_frame_address(0) + 16)
 
 void __real__exit(int status) __attribute__((noreturn));
+long __real_syscall(long number, ...);
+int __real_execvp(const char *name, char *const words[]);
 int __real_pthread_create(pthread_t *, const pthread_attr_t *, void *(*)(void *), void *);
 int __real_thrd_create(thrd_t *, thrd_start_t, void *);
 
@@ -75,25 +82,39 @@ static bool looking;
 #include "output.h"
 #include "detector.h"
 #include "detector_heap.h"
+#include "guards.h"
+#include "places.h"
 #include "marks.h"
 #include "records.h"
-#include "guards.h"
 #include "locations.h"
+#include "divided.h"
 #include "procedures.h"
 #include "look.h"
+#include "cilk.h"
 #include "accesses.h"
 #include "library.h"
+#include "jumps.h"
+#include "watch.h"
 #include "locks.h"
 #include "heap.h"
 #include "cplusplus.h"
+#include "containers.h"
 #ifdef SPBAGS_OPENMP
+/* Libraries with OpenMP of their own have threads of their own. */
+#pragma GCC visibility push(hidden)
+#include "openmp_replicated.h"
 #include "openmp.h"
 #include "openmp_calls.h"
 #include "openmp_loops.h"
 #include "openmp_reductions.h"
 #include "openmp_taskloops.h"
 #include "openmp_notes.h"
+#pragma GCC visibility pop
 #endif
+#include "unknown.h"
+#include "system_calls.h"
+#include "assembly.h"
+#include "vectors.h"
 #include "ends.h"
 #include "run.h"
 #ifdef SPBAGS_OPENMP

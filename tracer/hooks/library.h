@@ -60,81 +60,174 @@ static size_t decimal(const char *from) {
     return (size_t)(rest - from) + 1;
 }
 
-/* ---- The strings that a format prints ---- */
-
-/* The number here, or the argument that a star stands for; -1 where there is neither. */
-static int number_at(const char **at, va_list *list) {
-    int number = -1;
-    if (**at == '*') {
-        (*at)++;
-        return va_arg(*list, int);
-    }
-    for (; **at >= '0' && **at <= '9'; (*at)++)
-        number = (number < 0 ? 0 : number) * 10 + (**at - '0');
-    return number;
+/* The same of wide characters, in bytes. */
+static size_t all_wide(const wchar_t *from) { return from ? (wcslen(from) + 1) * sizeof *from : 0; }
+static size_t some_wide(const wchar_t *from, size_t most) {
+    size_t length = wcsnlen(from, most);
+    return (length + (length < most)) * sizeof *from;
 }
+static wchar_t *end_wide(const wchar_t *from) { return (wchar_t *)from + wcslen(from); }
 
-/* Passes over an argument that is no string. */
-static void pass_argument(char kind, int longs, va_list *list) {
-    if (strchr("aAeEfFgG", kind) && longs == 2)
-        (void)va_arg(*list, long double);
-    else if (strchr("aAeEfFgG", kind))
-        (void)va_arg(*list, double);
-    else if (strchr("pSC", kind) || longs > 0)
-        (void)va_arg(*list, long);
-    else if (kind != 'm' && kind != '%')
-        (void)va_arg(*list, int);
-}
-
-/* From behind a percent sign on: gives the string that is printed, if one is, and its most bytes. */
-static const char *conversion(const char **at, va_list *list, size_t *most) {
-    *at += strspn(*at, "-+ #0'I");
-    number_at(at, list);
-    int digits = -1, longs = 0;
-    if (**at == '.') {
-        (*at)++;
-        digits = number_at(at, list);
-        digits = digits < 0 ? 0 : digits;
-    }
-    for (; **at != '\0' && strchr("hlLqjzt", **at); (*at)++)
-        longs += **at == 'L' || **at == 'q' ? 2 : **at != 'h';
-    char kind = **at;
-    *at += kind != '\0';
-    *most = digits < 0 ? SIZE_MAX : (size_t)digits;
-    if (kind == 's' && longs == 0)
-        return va_arg(*list, const char *);
-    if (kind == 's' || kind == 'n')
-        kind = 'p';
-    if (kind != '\0')
-        pass_argument(kind, longs, list);
-    return NULL;
-}
-
-/* Arguments that are named by their numbers, as in %2$s, come in any order: those strings aren't seen. */
-static void read_strings(const char *format, va_list *list, __spbags_function self, uintptr_t stack_pointer,
-                         uintptr_t code) {
-    if (strchr(format, '$'))
-        return;
-    for (const char *at = strchr(format, '%'); at; at = strchr(at, '%')) {
-        size_t most;
+static size_t alike_wide(const wchar_t *a, const wchar_t *b, size_t most) {
+    size_t at = 0;
+    while (at < most && a[at] == b[at] && a[at] != L'\0')
         at++;
-        const char *string = conversion(&at, list, &most);
-        if (string)
-            library_read((uintptr_t)string, some(string, most), self, stack_pointer, code);
+    return (at + (at < most)) * sizeof *a;
+}
+
+static size_t alike_by_wide_letters(const wchar_t *a, const wchar_t *b, size_t most) {
+    size_t at = 0;
+    while (at < most && towlower((wint_t)a[at]) == towlower((wint_t)b[at]) && a[at] != L'\0')
+        at++;
+    return (at + (at < most)) * sizeof *a;
+}
+
+static size_t piece_wide(const wchar_t *from, const wchar_t *set) {
+    return from ? (wcscspn(from, set) + 1) * sizeof *from : 0;
+}
+
+static size_t token_wide(const wchar_t *from, const wchar_t *set) {
+    size_t before = from ? wcsspn(from, set) : 0;
+    return from ? before * sizeof *from + piece_wide(from + before, set) : 0;
+}
+
+static wchar_t *cut_wide(const wchar_t *from, size_t bytes) {
+    const wchar_t *last = from + bytes / sizeof *from - 1;
+    return from && *last != L'\0' ? (wchar_t *)last : NULL;
+}
+
+static size_t integer_wide(const wchar_t *from, int base) {
+    int error = errno;
+    wchar_t *rest = (wchar_t *)from;
+    wcstoll(from, &rest, base);
+    errno = error;
+    return (size_t)(rest - from + 1) * sizeof *from;
+}
+
+static size_t decimal_wide(const wchar_t *from) {
+    int error = errno;
+    wchar_t *rest = (wchar_t *)from;
+    wcstod(from, &rest);
+    errno = error;
+    return (size_t)(rest - from + 1) * sizeof *from;
+}
+
+/* A multibyte character that was read with this result: where it isn't whole, or none, as many bytes as there are. */
+static size_t character(const char *from, size_t most, size_t result) {
+    if (!from || most == 0)
+        return 0;
+    if (result == (size_t)-1 || result == UINT32_MAX)
+        return 1;
+    return result == (size_t)-2 ? most : result == (size_t)-3 ? 0 : result == 0 ? 1 : result;
+}
+
+/* So many characters at most, with the zero. */
+static size_t characters(const char *from, size_t most) {
+    int error = errno;
+    mbstate_t state = {0};
+    size_t bytes = 0;
+    for (size_t count = 0, taken = 1; count < most && taken > 0; count++) {
+        taken = mbrlen(from + bytes, MB_CUR_MAX, &state);
+        bytes += character(from, MB_CUR_MAX, taken);
+        if (taken > MB_CUR_MAX)
+            break;
+    }
+    errno = error;
+    return bytes;
+}
+
+/* Wide characters whose multibyte ones fill so many bytes at most. */
+static size_t wide_characters(const wchar_t *from, size_t most) {
+    int error = errno;
+    mbstate_t state = {0};
+    char room[MB_LEN_MAX];
+    size_t count = 0;
+    for (size_t bytes = 0; bytes < most; count++) {
+        size_t more = wcrtomb(room, from[count], &state);
+        bytes += more;
+        if (more > MB_LEN_MAX || bytes > most || from[count] == L'\0') {
+            count++;
+            break;
+        }
+    }
+    errno = error;
+    return count * sizeof *from;
+}
+
+/* What a conversion to at most so many wrote: the zero too, if it had room. */
+static size_t written(size_t result, size_t most) {
+    return result == (size_t)-1 ? 0 : result + (result < most);
+}
+
+/* Where the slashes at the path's end are cut off, or none. */
+static char *trimmed(char *path) {
+    size_t length = path ? strlen(path) : 0;
+    if (length < 2 || path[length - 1] != '/')
+        return NULL;
+    while (length > 1 && path[length - 1] == '/')
+        length--;
+    return path + length;
+}
+
+static size_t bits(const fd_set *set, int count) { return set ? ((size_t)count + 63) / 64 * 8 : 0; }
+
+static size_t net_address(int family) { return family == AF_INET6 ? 16 : 4; }
+
+static size_t all_options(const struct option *from) {
+    size_t count = 0;
+    while (from && from[count].name)
+        count++;
+    return from ? (count + 1) * sizeof *from : 0;
+}
+
+/* Of a list's entry that begins with the next one and the one before. */
+static void *linked(const void *entry) { return entry ? *(void **)entry : NULL; }
+static void *linked_before(const void *entry) {
+    void *before = ((void **)entry)[1];
+    return before;
+}
+
+/* ---- The inner state of functions, which stands for what they read and write inside ---- */
+
+#define state(NAME) (&state_of_##NAME)
+static int state_of_rand, state_of_drand48, state_of_mblen, state_of_mbtowc, state_of_wctomb, state_of_environment,
+    state_of_locale, state_of_textdomain, state_of_getpwent, state_of_getgrent, state_of_hsearch;
+
+/* ---- Accesses of several pieces ---- */
+
+/* A row of so many, each `stride` bytes behind the one before. A piece that lies nowhere isn't touched. */
+static void note_every(bool writes, uintptr_t at, size_t size, size_t count, size_t stride, __spbags_function self,
+                       uintptr_t stack_pointer, uintptr_t code) {
+    for (; count > 0; count--, at += stride)
+        any_access(writes, at, size, self, stack_pointer, code);
+}
+
+/* So many bytes, which these pieces hold one after the other. */
+static void note_pieces(bool writes, const struct iovec *piece, size_t count, ssize_t bytes, __spbags_function self,
+                        uintptr_t stack_pointer, uintptr_t code) {
+    for (; count > 0 && bytes > 0; piece++, count--) {
+        size_t size = least(piece->iov_len, (size_t)bytes);
+        any_access(writes, (uintptr_t)piece->iov_base, size, self, stack_pointer, code);
+        bytes -= (ssize_t)size;
     }
 }
 
-#define LIBRARY_STRINGS(FORMAT, LIST, SELF) \
-    do { \
-        va_list copy; \
-        va_copy(copy, LIST); \
-        read_strings(FORMAT, &copy, (__spbags_function)SELF, STACK_POINTER, CODE); \
-        va_end(copy); \
-    } while (false)
+enum { KIND_READ = false, KIND_WRITE = true };
+#define LIBRARY_EVERY(KIND, AT, SIZE, COUNT, STRIDE, SELF) \
+    note_every(KIND_##KIND, (uintptr_t)(AT), SIZE, COUNT, STRIDE, (__spbags_function)SELF, STACK_POINTER, CODE)
+#define LIBRARY_PIECES(KIND, AT, COUNT, BYTES, SELF) \
+    note_pieces(KIND_##KIND, AT, (size_t)(COUNT), BYTES, (__spbags_function)SELF, STACK_POINTER, CODE)
+
+#include "library_formats.h"
 
 /* ---- The functions ---- */
 
+#pragma GCC push_options
+#pragma GCC optimize("O1")
 #include "library_wrappers.h"
+#pragma GCC pop_options
+
+#include "library_by_hand.h"
 
 /* What clang from 15 on calls where it copies or fills memory itself. */
 void *__tsan_memcpy(void *to, const void *from, size_t size) {

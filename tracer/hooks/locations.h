@@ -7,8 +7,6 @@ static uint64_t *numbers, last_number;
 
 static uint64_t narrow_accesses;
 static uintptr_t narrow_bits;
-/* Whether the access at hand doesn't fill its units. */
-static bool is_narrow;
 
 /* Of the unit that begins at this address, which has this mark. */
 static inline uint64_t location_of(uintptr_t address, uint32_t mark, unsigned shift) {
@@ -41,9 +39,13 @@ static inline void clear_below(uintptr_t address) {
     lowest = address & ~unit_mask;
 }
 
+static void clear_bytes(uintptr_t address, uintptr_t end);
+
 /* Nor has this memory. A unit that is partly another variable's keeps its number. */
 static void clear(uintptr_t address, size_t size) {
     uintptr_t first = (address + unit_mask) & ~unit_mask, end = (address + size) & ~unit_mask;
+    if (((address | size) & unit_mask) != 0 && divides)
+        clear_bytes(address, address + size);
     if (end - stack_first <= stack_size)
         for (; first < end; first += unit_mask + 1)
             *stack_mark(first) = UNTOUCHED;
@@ -56,6 +58,17 @@ static inline void note_unit(bool writes, uintptr_t address, uint32_t *mark, uns
     access_record(writes, location, address, code);
 }
 
+#ifdef SPBAGS_OPENMP
+/* Whether accesses are looked at beside, as those of replicated code. They come here all. */
+static bool watching;
+static void watch_access(bool writes, uintptr_t address, size_t size, uintptr_t code);
+#else
+enum { watching = false };
+static inline void watch_access(bool writes, uintptr_t address, size_t size, uintptr_t code) {
+    (void)writes, (void)address, (void)size, (void)code;
+}
+#endif
+
 /* One record for each unit that the access touches, but for repeats. No memory of the program reaches further than its
    addresses do. */
 __attribute__((noinline)) static void touch(bool writes, uintptr_t address, size_t size, uintptr_t code) {
@@ -65,8 +78,11 @@ __attribute__((noinline)) static void touch(bool writes, uintptr_t address, size
     if (((address | size) & unit_mask) != 0) {
         narrow_accesses++;
         narrow_bits |= address | size;
-        is_narrow = true;
+        narrow.first = address;
+        narrow.end = address + size;
     }
+    if (__builtin_expect(watching, 0))
+        watch_access(writes, address, size, code);
     uintptr_t unit = address & ~unit_mask;
     uint32_t *mark = mark_of(unit, unit_shift);
     for (; unit < address + size; unit += unit_mask + 1, mark++) {
@@ -75,5 +91,5 @@ __attribute__((noinline)) static void touch(bool writes, uintptr_t address, size
         if (!is_repeat(writes, *mark))
             note_unit(writes, unit, mark, unit_shift, code);
     }
-    is_narrow = false;
+    narrow.end = 0;
 }

@@ -9,12 +9,25 @@ struct look {
     uint64_t place;
     uintptr_t code;
     uint32_t node, guards;
-    bool writes, is_narrow;
+    /* Of a copy: a thread of the team does what another one is recorded for. */
+    bool writes, is_narrow, is_copy;
+};
+
+/* Of memory of the stack: the code of the function that has it, on the way to the access, and how far from the
+   function's place it is. */
+struct owner {
+    uintptr_t code;
+    intptr_t offset;
 };
 
 struct race {
     uint64_t location;
     struct look first, second;
+    /* The pair that it was added to; its address; and the function whose frame holds that, or the one that is handed
+       data there. */
+    uint32_t pair;
+    uintptr_t address;
+    struct owner frame, data;
 };
 
 static struct race *races;
@@ -27,12 +40,22 @@ struct stop {
 };
 static struct stop *stops;
 static size_t stops_count, stops_met;
-/* The run ends at the last of them. */
-static bool ends_at_last;
 /* What stood at a place instead, in the run that took another course. */
 static char astray[80];
 
 /* ---- The stack ---- */
+
+static const char region_name[] = "region";
+
+/* What the function of a part of OpenMP has: the address of its data; whether it is a region, or of a child, what it is
+   one of, such as `loop`; and the counter's values in its first and its last iteration. By the number of the part's
+   frame. */
+struct part {
+    uintptr_t data;
+    const char *of;
+    uint64_t first, last;
+};
+static struct part *parts;
 
 /* An active function or child, as of the frame with this node. Node 0 is the root's. */
 struct node {
@@ -44,6 +67,7 @@ struct node {
     bool is_shown, is_child;
     /* The newest pair whose accesses meet in this function, and haven't been waited for. */
     uint32_t pair;
+    struct part part;
 };
 enum { MOST_NODES = 1 << 26 };
 static struct node *nodes;
@@ -62,6 +86,12 @@ static bool is_program(uintptr_t code) {
 }
 
 static size_t top_at(void) { return (size_t)(top - frames); }
+
+/* Of the part that the newest frame is. */
+static inline void note_part(struct part part) {
+    if (__builtin_expect(looking, 0))
+        parts[top_at()] = part;
+}
 
 struct unwinding {
     uintptr_t end, code;
@@ -93,14 +123,17 @@ static void add_node(size_t at) {
         fail("too many functions hold a race");
     enum kind around = frames[at - 1].kind;
     bool is_part = frame->kind >= CALLED, is_shown = is_part || frame->kind == FUNCTION;
+    bool has_part = is_part || (frame->kind == CHILD && frame->code != 0);
     /* A part stands for the function that the hooks call in it. */
     if (around == CALLED || around == TASK_PART)
         is_shown = false;
     uint32_t parent = frames[at - 1].node;
-    uintptr_t code = is_part ? frame->code : is_shown ? code_in(at - 1, *(uintptr_t *)(frame->end - 8)) : 0;
+    uintptr_t code = has_part ? frame->code : is_shown ? code_in(at - 1, *(uintptr_t *)(frame->end - 8)) : 0;
     nodes[++last_node] = (struct node){.parent = parent, .functions = nodes[parent].functions + is_shown, .code = code,
                                        .is_shown = is_shown && parent != 0,
-                                       .is_child = frame->kind != FUNCTION && frame->kind != CALLED};
+                                       .is_child = !is_of_function(frame) && frame->kind != CALLED};
+    if (has_part)
+        nodes[last_node].part = parts[at];
     frame->node = last_node;
 }
 
@@ -124,52 +157,38 @@ static uint32_t meeting(uint32_t one, uint32_t other) {
     return one;
 }
 
-/* How many functions stand on the stack up to the one whose memory this is, or 0. */
-static uint32_t owner_of(uintptr_t address) {
+/* Where the function of this node goes on to an access, or 0. */
+static uintptr_t way_to(const struct look *look, uint32_t function) {
+    uintptr_t code = look->code;
+    uint32_t node = look->node;
+    for (; node > function; node = nodes[node].parent)
+        if (nodes[node].is_shown)
+            code = nodes[node].code;
+    return node == function ? code : 0;
+}
+
+/* The function whose frame holds this, from the frame's end on. */
+static struct owner frame_owner(uintptr_t address, const struct look *look) {
     if (address - stack_first >= stack_size)
-        return 0;
+        return (struct owner){0};
     size_t frame = top_at();
     while (frame > 0 && (frames[frame].kind != FUNCTION || frames[frame].end <= address))
         frame--;
-    return nodes[node_of(frame)].functions;
+    return (struct owner){way_to(look, node_of(frame)), (intptr_t)(address - frames[frame].end)};
 }
 
-/* ---- What is held ---- */
-
-/* Each list of guards stands once behind its length, as the id of a guard without name. */
-static struct guard *lists;
-static uint32_t lists_end = 1, last_list;
-
-static bool is_last_list(void) {
-    return lists[last_list].id == guards_held &&
-           memcmp(lists + last_list + 1, guards, guards_held * sizeof *guards) == 0;
-}
-
-/* The list of what is held now; the list 0 is empty. */
-static uint32_t guards_now(void) {
-    if (guards_held == 0)
-        return 0;
-    if (!is_last_list()) {
-        last_list = lists_end;
-        lists[last_list] = (struct guard){.id = guards_held};
-        memcpy(lists + last_list + 1, guards, guards_held * sizeof *guards);
-        lists_end += guards_held + 1;
-    }
-    return last_list;
-}
-
-static const struct guard *guard_in(uint32_t list, uintptr_t id) {
-    const struct guard *guard = lists + list + 1, *last = guard + lists[list].id;
-    while (guard < last && guard->id != id)
-        guard++;
-    return guard < last ? guard : NULL;
-}
-
-static const struct guard *common_guard(uint32_t list, uint32_t other) {
-    const struct guard *guard = lists + list + 1, *last = guard + lists[list].id;
-    while (guard < last && !guard_in(other, guard->id))
-        guard++;
-    return guard < last ? guard : NULL;
+/* The function of a part whose data begin nearest below this. */
+static struct owner data_owner(uintptr_t address, const struct look *look) {
+    enum { MOST_DATA = 1 << 16 };
+    size_t nearest = 0;
+    if (address - stack_first < stack_size)
+        for (size_t frame = top_at(); frame > 0; frame--)
+            if (frames[frame].kind >= CALLED && parts[frame].data != 0 && address - parts[frame].data < MOST_DATA &&
+                (nearest == 0 || parts[frame].data > parts[nearest].data))
+                nearest = frame;
+    if (nearest == 0)
+        return (struct owner){0};
+    return (struct owner){way_to(look, node_of(nearest)), (intptr_t)(address - parts[nearest].data)};
 }
 
 /* ---- Blocks of the heap ---- */
@@ -179,12 +198,15 @@ struct block {
     size_t size;
     uintptr_t code;
     uint32_t node;
+    /* Alike where the same calls led to the allocation. */
+    uint64_t site;
 };
+/* By their addresses. */
 static struct block *blocks;
 static size_t blocks_count;
 
-static bool has_race(uintptr_t address, size_t size) {
-    uint64_t location = 2 * (uint64_t)(address >> unit_shift);
+/* The first of these races, which are in order, with no lesser location. */
+static size_t race_from(uint64_t location) {
     size_t first = 0, end = races_count;
     while (first < end) {
         size_t middle = first + (end - first) / 2;
@@ -193,69 +215,116 @@ static bool has_race(uintptr_t address, size_t size) {
         else
             end = middle;
     }
-    while (first < races_count && races[first].location % 2 == 1)
-        first++;
-    return first < races_count && races[first].location <= 2 * (uint64_t)((address + size - 1) >> unit_shift);
+    return first;
+}
+
+/* Whether a location from this one up to that one has a race, and isn't of the stack. */
+static bool is_racy(uint64_t first, uint64_t last) {
+    size_t at = race_from(first);
+    while (at < races_count && unit_of(races[at].location) % 2 == 1)
+        at++;
+    return at < races_count && races[at].location <= last;
+}
+
+static bool has_race(uintptr_t address, size_t size) {
+    uint64_t first = 2 * (uint64_t)(address >> unit_shift), last = 2 * (uint64_t)((address + size - 1) >> unit_shift);
+    return is_racy(first, last) ||
+           is_racy(first_byte + MOST_BYTES * first, first_byte + MOST_BYTES * last + MOST_BYTES - 1);
+}
+
+static uint64_t site_of(uintptr_t code, uint32_t node) {
+    enum { MOST_CALLS = 16 };
+    uint64_t site = code;
+    for (unsigned calls = 0; node != 0 && calls < MOST_CALLS; node = nodes[node].parent, calls++)
+        site = (site ^ nodes[node].code) * 0x9e3779b97f4a7c15u;
+    return site | 1;
 }
 
 /* A block with a race is noted, and who allocates it. A function that longjmp left is no caller. */
 static void look_at_block(uintptr_t address, size_t size, uintptr_t stack_pointer, uintptr_t code) {
     if (size == 0 || !has_race(address, size))
         return;
-    size_t frame = top_at();
+    size_t frame = top_at(), at = blocks_count++;
     while (frames[frame].end <= stack_pointer)
         frame--;
-    blocks[blocks_count++] = (struct block){address, size, code_in(frame, code), node_of(frame)};
+    for (; at > 0 && blocks[at - 1].address > address; at--)
+        blocks[at] = blocks[at - 1];
+    struct block block = {.address = address, .size = size, .code = code_in(frame, code), .node = node_of(frame)};
+    block.site = site_of(block.code, block.node);
+    blocks[at] = block;
 }
 
 static const struct block *block_of(uintptr_t address) {
-    size_t at = 0;
-    while (at < blocks_count && address - blocks[at].address >= blocks[at].size)
-        at++;
-    return at < blocks_count ? &blocks[at] : NULL;
+    size_t first = 0, end = blocks_count;
+    while (first < end) {
+        size_t middle = first + (end - first) / 2;
+        if (blocks[middle].address <= address)
+            first = middle + 1;
+        else
+            end = middle;
+    }
+    return first > 0 && address - blocks[first - 1].address < blocks[first - 1].size ? &blocks[first - 1] : NULL;
 }
 
 /* ---- Pairs ---- */
 
 struct pair {
     const struct race *race;
+    /* How many units race. */
     uint64_t count;
     const struct guard *guard;
-    uintptr_t address;
+    /* Of a block of the heap, where that was allocated, or 0. */
+    uint64_t site;
     /* The function in which both meet, and where it waits next: the code address, and whether it ends there. */
-    uint32_t meeting, owner;
+    uint32_t meeting;
     uintptr_t waits;
     bool ends;
     /* The next pair that waits for the same function. */
     uint32_t next;
+    /* The newest of the others with other stacks that went out for it, and how many these are. */
+    uint32_t newest;
+    uint32_t more;
     /* An access of one of its races doesn't fill its unit, so maybe it is of neighbours. */
     bool is_narrow;
 };
 enum { MOST_PAIRS = 1 << 16, PAIR_SLOTS = 4 * MOST_PAIRS };
 static struct pair *pairs;
-static uint32_t last_pair, *slots;
+static uint32_t last_pair, *slots, pairs_put;
 /* The races of further pairs. */
 static uint64_t left_out;
 
-static bool is_pair(const struct pair *pair, const struct race *race, const struct guard *guard) {
+static bool is_pair(const struct pair *pair, const struct race *race, const struct guard *guard, uint64_t site) {
     const struct race *other = pair->race;
-    return race->first.code == other->first.code && race->second.code == other->second.code &&
+    return pair->site == site && race->first.code == other->first.code && race->second.code == other->second.code &&
            race->first.writes == other->first.writes && race->second.writes == other->second.writes &&
            (guard ? guard->id : 0) == (pair->guard ? pair->guard->id : 0);
 }
 
-static uint32_t *slot_of(const struct race *race, const struct guard *guard) {
-    uint64_t mixed = (race->first.code * 31 + race->second.code) * 0x9e3779b97f4a7c15u;
+static uint32_t *slot_of(const struct race *race, const struct guard *guard, uint64_t site) {
+    uint64_t mixed = (race->first.code * 31 + race->second.code + site) * 0x9e3779b97f4a7c15u;
     size_t at = mixed >> 46;
-    while (slots[at] != 0 && !is_pair(&pairs[slots[at]], race, guard))
+    while (slots[at] != 0 && !is_pair(&pairs[slots[at]], race, guard, site))
         at = (at + 1) % PAIR_SLOTS;
     return &slots[at];
 }
 
+/* Whether another byte of the race's unit was added to this pair. Those of one unit stand together. */
+static bool is_counted(const struct race *race, uint32_t pair) {
+    const struct race *at = race;
+    while (at > races && unit_of(at[-1].location) == unit_of(race->location))
+        at--;
+    for (; at < races + races_count && unit_of(at->location) == unit_of(race->location); at++)
+        if (at->pair == pair)
+            return true;
+    return false;
+}
+
 /* Both accesses of a race are noted: the stack is that of the second. */
-static void add_race(const struct race *race, uintptr_t address) {
+static void add_race(struct race *race, uintptr_t address) {
     const struct guard *guard = common_guard(race->first.guards, race->second.guards);
-    uint32_t *slot = slot_of(race, guard);
+    const struct block *block = block_of(address);
+    uint64_t site = block ? block->site : 0;
+    uint32_t *slot = slot_of(race, guard, site);
     if (*slot == 0 && last_pair + 1 == MOST_PAIRS) {
         left_out++;
         return;
@@ -263,12 +332,16 @@ static void add_race(const struct race *race, uintptr_t address) {
     if (*slot == 0) {
         *slot = ++last_pair;
         uint32_t meets = meeting(race->first.node, race->second.node);
-        pairs[last_pair] = (struct pair){.race = race, .guard = guard, .address = address, .meeting = meets,
-                                         .owner = owner_of(address), .next = nodes[meets].pair};
+        pairs[last_pair] = (struct pair){.race = race, .guard = guard, .site = site, .meeting = meets,
+                                         .next = nodes[meets].pair};
         nodes[meets].pair = last_pair;
     }
-    pairs[*slot].count++;
+    pairs[*slot].count += !is_counted(race, *slot);
     pairs[*slot].is_narrow |= race->first.is_narrow || race->second.is_narrow;
+    race->pair = *slot;
+    race->address = address;
+    race->frame = frame_owner(address, &race->second);
+    race->data = data_owner(address, &race->second);
 }
 
 /* This function waits for its children, and maybe ends with that. */
@@ -282,8 +355,6 @@ __attribute__((noinline, cold)) static void look_at_wait(const struct frame *fra
 
 /* ---- Places ---- */
 
-static void end_trace(void);
-
 __attribute__((format(__printf__, 1, 2))) static void go_astray(const char *format, ...) {
     va_list rest;
     va_start(rest, format);
@@ -295,15 +366,20 @@ __attribute__((format(__printf__, 1, 2))) static void go_astray(const char *form
 static void next_stop(void) {
     if (astray[0] == '\0')
         next_place = ++stops_met < stops_count ? stops[stops_met].place : UINT64_MAX;
-    if (next_place == UINT64_MAX && ends_at_last) {
-        end_trace();
-        __real__exit(0);
-    }
+    if (next_place == UINT64_MAX && last_record != UINT64_MAX)
+        end_here();
 }
 
 static void look_at_structure(void) {
     go_astray("neither a read nor a write");
     next_stop();
+}
+
+/* Where an access stands at which this code is. */
+static struct standing standing_now(uintptr_t code) {
+    if (!looking)
+        return (struct standing){.code = code, .guards = guards_now()};
+    return (struct standing){code_in(top_at(), code), node_of(top_at()), guards_now()};
 }
 
 static void look_at_access(bool writes, uint64_t location, uintptr_t address, uintptr_t code) {
@@ -312,15 +388,20 @@ static void look_at_access(bool writes, uint64_t location, uintptr_t address, ui
     if (look->writes != writes || race->location != location) {
         go_astray("a %s of location %" PRIu64, writes ? "write" : "read", location);
     } else {
-        look->node = node_of(top_at());
-        look->code = code_in(top_at(), code);
-        look->guards = guards_now();
-        look->is_narrow = is_narrow;
+        struct standing now = stands ? *stands : standing_now(code);
+        look->node = now.node;
+        look->code = now.code;
+        look->guards = now.guards;
+        look->is_narrow = bytes_left_out(address) != 0;
+        look->is_copy = stands != NULL;
         if (look == &race->second)
             add_race(race, address);
     }
     next_stop();
 }
+
+/* The program's own variables that are local to a thread. */
+static struct own_memory thread_memory;
 
 /* ---- What was noted, as text ---- */
 
@@ -349,22 +430,77 @@ static void put_stack(const char *name, uintptr_t code, uint32_t node) {
     put("\n");
 }
 
-static void put_side(const char *name, const struct look *look) {
+/* The child that holds this access, of those of the function where both meet. */
+static void put_child(uint32_t node, uint32_t meets) {
+    while (node > meets && nodes[node].parent != meets)
+        node = nodes[node].parent;
+    const struct part *part = &nodes[node].part;
+    if (node <= meets || !nodes[node].is_child || !part->of)
+        return;
+    put("child %s", part->of);
+    put(" %lx", nodes[node].code);
+    put(" %" PRId64, (int64_t)part->first);
+    put(" %" PRId64 "\n", (int64_t)part->last);
+}
+
+static void put_side(const char *name, const struct look *look, uint32_t meets) {
     put("%s %s", name, look->writes ? "write" : "read");
     put(" %d", guard_in(look->guards, ATOMIC) != NULL);
     put_stack("", look->code, look->node);
+    put_child(look->node, meets);
 }
 
-static void put_pair(const struct pair *pair) {
-    const struct block *block = block_of(pair->address);
+/* Both are copies: the region whose threads make them. */
+static void put_threads(const struct race *race) {
+    uint32_t node = race->second.node;
+    while (node != 0 && nodes[node].part.of != region_name)
+        node = nodes[node].parent;
+    if (race->first.is_copy && race->second.is_copy && node != 0)
+        put("threads %lx\n", nodes[node].code);
+}
+
+static void put_owner(struct owner owner) {
+    put(" %lx", owner.code);
+    put(" %" PRIdPTR, owner.offset);
+}
+
+static bool owner_goes_on(struct owner before, struct owner owner) {
+    return owner.code == before.code && (owner.code == 0 || owner.offset == before.offset + (intptr_t)unit_mask + 1);
+}
+
+/* Whether the calls down to both of these are the same: a loop may make one again and again. */
+static bool is_same_stack(uint32_t one, uint32_t other) {
+    while (one != other && nodes[one].code == nodes[other].code && one != 0 && other != 0) {
+        one = nodes[one].parent;
+        other = nodes[other].parent;
+    }
+    return one == other;
+}
+
+static bool has_stacks_of(const struct race *race, const struct race *other) {
+    return is_same_stack(race->first.node, other->first.node) && is_same_stack(race->second.node, other->second.node);
+}
+
+/* Whether this race is of the unit behind that of the one before, in one pair. */
+static bool goes_on(const struct race *before, const struct race *race) {
+    return !is_of_byte(race->location) && race->pair == before->pair && race != pairs[race->pair].race &&
+           race->address == before->address + unit_mask + 1 && owner_goes_on(before->frame, race->frame) &&
+           owner_goes_on(before->data, race->data) && has_stacks_of(before, race);
+}
+
+/* A pair with the stacks of one of its races. */
+static void put_pair(const struct pair *pair, const struct race *race) {
+    const struct block *block = block_of(race->address);
+    uint32_t meets = meeting(race->first.node, race->second.node);
     put("pair %" PRIu64, pair->count);
-    put(" %" PRIu64, pair->race->location);
-    put(" %lx", pair->address);
-    put(" %u %u", nodes[pair->meeting].functions, pair->owner);
+    put(" %" PRIu64, unit_of(race->location));
+    put(" %lx", race->address);
+    put(" %u", nodes[meets].functions);
     put(" %d\n", pair->is_narrow);
-    put_side("first", &pair->race->first);
-    put_side("second", &pair->race->second);
-    if (pair->waits != 0)
+    put_side("first", &race->first, meets);
+    put_side("second", &race->second, meets);
+    put_threads(race);
+    if (pair->waits != 0 && meets == pair->meeting)
         put("%s %lx\n", pair->ends ? "ends" : "waits", pair->waits);
     if (pair->guard) {
         put("guard %lx ", pair->guard->id);
@@ -378,14 +514,76 @@ static void put_pair(const struct pair *pair) {
     }
 }
 
+/* A row of races with stacks of its own, of so many units. */
+struct more {
+    const struct race *race;
+    size_t units;
+    uint32_t pair;
+    uint32_t before;
+};
+enum { MOST_MORE = 64 };
+static struct more *more;
+static uint32_t last_more;
+
+static bool is_same_owner(struct owner one, struct owner other) {
+    return one.code == other.code && one.offset == other.offset;
+}
+
+/* Whether these are the same locals, of maybe another call of their function. */
+static bool are_same_locals(const struct race *race, size_t units, const struct more *other) {
+    return (race->frame.code != 0 || race->data.code != 0) && units == other->units &&
+           is_same_owner(race->frame, other->race->frame) && is_same_owner(race->data, other->race->data);
+}
+
+/* The number of the pair for a row of races. If they have other stacks than the pair's first race, as races of another
+   variable may, that is one of their own. A pair has few such: then it is 0. */
+static uint32_t pair_for(const struct race *race, size_t units) {
+    struct pair *pair = &pairs[race->pair];
+    if (has_stacks_of(race, pair->race))
+        return race->pair;
+    for (uint32_t at = pair->newest; at != 0; at = more[at].before)
+        if (are_same_locals(race, units, &more[at]))
+            return more[at].pair;
+    if (pair->more == MOST_MORE || last_more + 1 == MOST_PAIRS)
+        return 0;
+    pair->more++;
+    put_pair(pair, race);
+    more[++last_more] = (struct more){race, units, ++pairs_put, pair->newest};
+    pair->newest = last_more;
+    return pairs_put;
+}
+
+/* What races in each pair, but for blocks of the heap: a row of units, or a byte. */
+static void put_addresses(void) {
+    for (size_t at = 0, end; at < races_count; at = end) {
+        const struct race *race = &races[at];
+        for (end = at + 1; end < races_count && goes_on(&races[end - 1], &races[end]);)
+            end++;
+        if (race->pair == 0 || pairs[race->pair].site != 0)
+            continue;
+        uint32_t pair = pair_for(race, end - at);
+        put(pair != 0 ? "at %u" : "other %u", pair != 0 ? pair : race->pair);
+        put(" %" PRIu64, race->location);
+        put(" %zu", end - at);
+        put(" %lx", race->address);
+        put_owner(race->frame);
+        put_owner(race->data);
+        put("\n");
+    }
+}
+
 static void put_notes(void) {
     if (stops_met < stops_count) {
         put("astray %" PRIu64 " ", stops[stops_met].place);
         put_text(astray[0] != '\0' ? astray : "nothing, since the run had ended");
         put("\n");
     }
-    for (uint32_t pair = 1; pair <= last_pair; pair++)
-        put_pair(&pairs[pair]);
+    put("thread %lx\n", thread_memory.first);
+    for (pairs_put = 0; pairs_put < last_pair;) {
+        const struct pair *pair = &pairs[++pairs_put];
+        put_pair(pair, pair->race);
+    }
+    put_addresses();
     put("left %" PRIu64 "\nend\n", left_out);
 }
 
@@ -452,7 +650,6 @@ static void read_report(const char *at, const char *end) {
     races = reserve((count + 1) * sizeof *races);
     stops = reserve((2 * count + 1) * sizeof *stops);
     blocks = reserve((count + 1) * sizeof *blocks);
-    lists = reserve((2 * count + 1) * (MOST_GUARDS + 1) * sizeof *lists);
     while (races_count < count)
         read_race(&at, end);
     struct stop *spare = reserve((2 * count + 1) * sizeof *spare);
@@ -468,8 +665,11 @@ static void start_look(int file) {
     if (text == MAP_FAILED)
         fail("out of memory: %s", strerror(errno));
     nodes = reserve(MOST_NODES * sizeof *nodes);
+    dl_iterate_phdr(find_thread_memory, &thread_memory);
     pairs = reserve(MOST_PAIRS * sizeof *pairs);
+    more = reserve(MOST_PAIRS * sizeof *more);
     slots = reserve(PAIR_SLOTS * sizeof *slots);
+    note_guards();
     read_report(text, text + about.st_size);
     looking = true;
 }

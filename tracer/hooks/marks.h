@@ -86,11 +86,23 @@ static struct own_memory {
     uintptr_t first, end;
 } own[2];
 
+/* Whatever is thread_local, or threadprivate, in the program itself. */
+static int find_thread_memory(struct dl_phdr_info *about, size_t size, void *found) {
+    (void)size;
+    for (int at = 0; at < about->dlpi_phnum; at++)
+        if (about->dlpi_phdr[at].p_type == PT_TLS)
+            *(struct own_memory *)found = (struct own_memory){
+                (uintptr_t)about->dlpi_tls_data, (uintptr_t)about->dlpi_tls_data + about->dlpi_phdr[at].p_memsz};
+    return 1; /* The program comes first, and its libraries aren't asked. */
+}
+
 static void mark_own(uintptr_t first, uintptr_t end) {
     uintptr_t unit = (uintptr_t)1 << unit_shift;
     for (uintptr_t at = first & ~(unit - 1); at < end; at += unit)
         *mark_of(at, unit_shift) = own_mark;
 }
+
+static void forget_divided(void);
 
 /* All numbers are taken: they begin again, and no mark may have an old one. What was touched stays touched, since that
    says on the stack that a unit has its number. */
@@ -103,6 +115,7 @@ __attribute__((noinline, cold)) static void forget_strands(void) {
             fail("out of memory: %s", strerror(errno));
     for (size_t at = THREAD; at <= COPIES; at++)
         mark_own(own[at].first, own[at].end);
+    forget_divided();
     has_read = 0;
 }
 

@@ -11,9 +11,11 @@ enum scope_kind { TEAM, TASK, GROUP, SHARE };
    many as the threads. */
 struct loop {
     uint64_t start, step, end, count, begun, shares, most;
-    bool ordered;
-    /* Where it begins. */
-    uintptr_t code;
+    bool ordered, is_sections;
+    /* Where it begins; and where the loop before begins, if no barrier parts them and each thread has the same
+       iterations in both. */
+    uintptr_t code, alike;
+    bool is_static;
 };
 
 struct scope {
@@ -25,17 +27,23 @@ struct scope {
     bool alone, final;
     /* What omp_set_num_threads said last in this task, or around it. */
     int threads_wanted;
-    /* Of what this scope made and no sync has joined: the children, and what a taskwait doesn't wait for. */
-    uint64_t children, others;
+    /* Of what this scope made and no sync has joined: the children, what a taskwait doesn't wait for, and what the
+       compiler put behind loops. */
+    uint64_t children, others, following;
     /* Where the first of the others came from. */
     uintptr_t others_code;
     /* The reductions that its tasks take part in. */
     uintptr_t *reductions;
-    /* Of a share: the number of its thread. */
+    /* What is done here is done by each thread of the team around, or stands after an ordered region. */
+    enum watch watch;
+    /* Of a share: the number of its thread. Whether it is what follows a loop, up to its end. */
     int thread;
-    /* Of a team: the stack memory below is its thread's own; and its loop. */
+    bool follows_loop;
+    /* Of a team: the stack memory below is its thread's own; its loop; whether it has replicated code; and whether its
+       master has done something that nothing has waited for. */
     uintptr_t stack_end;
     struct loop loop;
+    bool has_replicated, has_master;
     /* No other scope has this number. */
     uint64_t number;
 };
@@ -58,12 +66,31 @@ static void note_outlived(uint64_t count, uintptr_t wait, uintptr_t code) {
     outlived += count;
 }
 
+/* Accesses are looked at as the newest scope says. */
+static void follow_scope(void) {
+    enum watch wanted = tracing ? scopes[newest_scope].watch : UNWATCHED;
+    if (wanted == watch)
+        return;
+    watch = wanted;
+    watching = watch != UNWATCHED;
+    find_short_way();
+}
+
 static struct scope *push_scope(enum scope_kind kind, bool owns) {
     if (++newest_scope == MOST_SCOPES)
         fail("tasks nest deeper than %d", MOST_SCOPES);
+    const struct scope *around = &scopes[newest_scope - 1];
     scopes[newest_scope] = (struct scope){.kind = kind, .owns = owns, .number = ++scopes_begun,
-                                          .threads_wanted = scopes[newest_scope - 1].threads_wanted};
+                                          .threads_wanted = around->threads_wanted,
+                                          .watch = kind == SHARE ? UNWATCHED : around->watch};
+    follow_scope();
     return &scopes[newest_scope];
+}
+
+static struct scope *pop_scope(void) {
+    struct scope *popped = &scopes[newest_scope--];
+    follow_scope();
+    return popped;
 }
 
 /* The program's beginning is a team too. */
@@ -82,7 +109,9 @@ static struct scope *current_task(void) {
     return &scopes[at];
 }
 
-static uint64_t unsynced(const struct scope *scope) { return scope->children + scope->others; }
+static uint64_t unsynced(const struct scope *scope) {
+    return scope->children + scope->others + scope->following;
+}
 
 /* Whether something older than the newest scope is unsynced in its procedure. */
 static bool has_older(void) {
@@ -99,6 +128,7 @@ static void open_part(enum kind kind, uintptr_t stack_pointer, uintptr_t code) {
     leave_jumped(stack_pointer, code);
     push_frame(kind, kind == LOOP_PART ? top->end - 1 : stack_pointer);
     top->code = code;
+    note_part((struct part){0});
 }
 
 static void close_part(uintptr_t code) {
@@ -153,11 +183,12 @@ static void leave_others(uint64_t count, uintptr_t code) {
 
 /* A taskwait waits for tasks alone, and not for the shares of a loop without a barrier. */
 static void close_child(uintptr_t code) {
-    struct scope *child = &scopes[newest_scope--];
-    bool is_task = child->kind == TASK;
+    const struct scope *child = pop_scope();
+    bool is_task = child->kind == TASK, is_other = !is_task && !child->follows_loop;
     write_return(code);
     scopes[newest_scope].children += is_task;
-    leave_others(unsynced(child) + !is_task, code);
+    scopes[newest_scope].following += child->follows_loop;
+    leave_others(unsynced(child) + is_other, code);
 }
 
 /* Joins all that these scopes made, from the first one to the newest. Where a `call` was opened it returns. */
@@ -167,7 +198,8 @@ static void join_from(size_t first, uintptr_t code) {
     for (size_t at = newest_scope + 1; at-- > first;) {
         struct scope *scope = &scopes[at];
         left += unsynced(scope);
-        scope->children = scope->others = 0;
+        scope->children = scope->others = scope->following = 0;
+        scope->has_master = scope->loop.is_static = false;
         if (at > first && scope->owns) {
             write_return(code);
             scope->owns = false;
@@ -178,6 +210,26 @@ static void join_from(size_t first, uintptr_t code) {
         write_sync(code);
 }
 
+/* The threads of the team wait for one another: what replicated code did since the last wait, others have done too. */
+static void end_phase(uintptr_t code) {
+    if (replicas_count == 0 || scopes[newest_scope].kind != TEAM || scopes[newest_scope].alone)
+        return;
+    if (replicas_write) {
+        racy_region = racy_region ? racy_region : region_code;
+        open_child(SHARE, code);
+        record_replicas();
+        close_child(code);
+    }
+    if (unsynced(&scopes[newest_scope]) > 0)
+        record_replicas();
+    forget_replicas();
+}
+
+static void join_team(uintptr_t code) {
+    end_phase(code);
+    join_from(team_at(), code);
+}
+
 /* Ends a scope that waits for all that was made in it. */
 static void close_waiting(uintptr_t code) {
     struct scope *scope = &scopes[newest_scope];
@@ -186,7 +238,7 @@ static void close_waiting(uintptr_t code) {
         write_return(code);
     else if (unsynced(scope) > 0)
         write_sync(code);
-    newest_scope--;
+    pop_scope();
 }
 
 /* ---- Tasks ---- */
@@ -211,7 +263,7 @@ struct task {
 
 /* A task that isn't deferred, or stands in a final one, runs as a part of the task that makes it. */
 static void end_included(uintptr_t code) {
-    struct scope *scope = &scopes[newest_scope--];
+    const struct scope *scope = pop_scope();
     if (!scope->owns)
         leave_others(unsynced(scope), code);
     else {
@@ -232,9 +284,14 @@ static void copy_data(const struct task *task, void *to, uintptr_t stack_pointer
     close_part(code);
 }
 
+/* The iterations of a task: the counter's first value, its end, and its last value. */
+struct bounds {
+    uint64_t first, end, last;
+};
+
 /* Copies the data of a task, and runs it. What its caller has below the stack pointer is dead before and after. With
    BOUNDS the first two words of the data are those. */
-static void run_task(const struct task *task, const uint64_t *bounds, uintptr_t stack_pointer, uintptr_t code) {
+static void run_task(const struct task *task, const struct bounds *bounds, uintptr_t stack_pointer, uintptr_t code) {
     if (tracing)
         clear_below(stack_pointer);
     bool is_final = current_task()->final;
@@ -242,11 +299,13 @@ static void run_task(const struct task *task, const uint64_t *bounds, uintptr_t 
     char *data = room + task->alignment - (uintptr_t)room % task->alignment;
     copy_data(task, data, stack_pointer, code);
     if (bounds)
-        memcpy(data, bounds, 2 * sizeof *bounds);
+        memcpy(data, bounds, offsetof(struct bounds, last));
     bool deferred = task->deferred && !is_final;
     struct scope *scope = deferred ? open_child(TASK, code) : push_scope(TASK, false);
     scope->final = is_final || task->final;
     open_part(deferred ? TASK_PART : CALLED, stack_pointer, code);
+    note_part((struct part){(uintptr_t)data, bounds ? "taskloop" : "task", bounds ? bounds->first : 0,
+                            bounds ? bounds->last : 0});
     task->run(data);
     close_part(code);
     if (deferred)
@@ -298,7 +357,16 @@ static int active_levels, most_active_levels = 1;
 /* A team in another one has one thread, unless the program asks for more levels. */
 __attribute__((noreturn)) static void refuse_nested(uintptr_t code);
 
-static void begin_team(unsigned threads, uintptr_t stack_pointer, uintptr_t code) {
+/* What its threads do alike begins where the program's own code does. */
+static void begin_region(uintptr_t stack_pointer) {
+    scopes[newest_scope].watch = UNWATCHED;
+    follow_scope();
+    region_stack_end = stack_pointer;
+    region_asks = false;
+    forget_replicas();
+}
+
+static void begin_team(unsigned threads, void *data, uintptr_t stack_pointer, uintptr_t code) {
     bool wants_one = threads == 1 || (threads == 0 && current_task()->threads_wanted == 1);
     bool alone = wants_one || active_levels == most_active_levels;
     if (!alone && active_levels > 0)
@@ -309,12 +377,16 @@ static void begin_team(unsigned threads, uintptr_t stack_pointer, uintptr_t code
     team->alone = alone;
     team->stack_end = stack_pointer;
     active_levels += !alone;
+    if (!alone)
+        begin_region(stack_pointer);
     open_part(CALLED, stack_pointer, code);
+    note_part((struct part){.data = (uintptr_t)data, .of = region_name});
 }
 
 static void end_team(uintptr_t stack_pointer, uintptr_t code) {
     active_levels -= !scopes[newest_scope].alone;
     close_part(code);
+    end_phase(code);
     close_waiting(code);
     if (tracing)
         clear_below(stack_pointer);
@@ -322,7 +394,7 @@ static void end_team(uintptr_t stack_pointer, uintptr_t code) {
 
 void GOMP_parallel(void (*run)(void *), void *data, unsigned threads, unsigned flags) {
     (void)flags;
-    begin_team(threads, STACK_POINTER, CODE);
+    begin_team(threads, data, STACK_POINTER, CODE);
     run(data);
     end_team(STACK_POINTER, CODE);
 }
@@ -334,7 +406,7 @@ void GOMP_barrier(void) {
     if (in_share)
         close_child(CODE);
     if (in_share || newest->kind != SHARE)
-        join_from(team_at(), CODE);
+        join_team(CODE);
     if (in_share)
         open_child(SHARE, CODE);
 }
@@ -342,6 +414,90 @@ void GOMP_barrier(void) {
 bool GOMP_single_start(void) { return true; }
 void *GOMP_single_copy_start(void) { return NULL; }
 void GOMP_single_copy_end(void *data) { (void)data; }
+
+/* ---- Bodies. spbags-cc puts `for (__spbags_body(KIND); __spbags_goes_on();)` before each of these: of a parallel
+   region, of a single one, and of a master's, and a loop with simd alone ---- */
+
+enum body_kind { PARALLEL_BODY, SINGLE_BODY, MASTER_BODY, SIMD_BODY };
+
+/* Whether it has begun, and is a child. */
+struct body {
+    enum body_kind kind;
+    bool begun, is_child;
+};
+static struct body *bodies;
+static size_t newest_body;
+
+/* Where a master region waits for what the team has made before, as one thread does all of them. */
+static uintptr_t second_master;
+/* The first loop with simd alone. */
+static uintptr_t simd_loop;
+
+void __spbags_body(int kind) {
+    if (++newest_body == MOST_SCOPES)
+        fail("parallel regions nest deeper than %d", MOST_SCOPES);
+    bodies[newest_body] = (struct body){.kind = (enum body_kind)kind};
+}
+
+/* The compiler may give the call of the runtime another line than the body has. */
+static void begin_parallel_body(uintptr_t code) {
+    struct scope *team = &scopes[newest_scope];
+    if (tracing && top[-1].kind == CALLED)
+        top[-1].code = code;
+    if (team->alone)
+        return;
+    region_code = code;
+    team->watch = REPLICATED;
+    team->has_replicated = true;
+    follow_scope();
+}
+
+static void end_parallel_body(void) {
+    if (!scopes[newest_scope].alone)
+        scopes[newest_scope].watch = UNWATCHED;
+    follow_scope();
+}
+
+/* One thread of the team does this, beside what the others do. */
+static void begin_child_body(struct body *body, uintptr_t stack_pointer, uintptr_t code) {
+    struct scope *team = &scopes[newest_scope];
+    body->is_child = team->kind == TEAM && !team->alone;
+    if (!body->is_child)
+        return;
+    if (body->kind == MASTER_BODY && team->has_master) {
+        second_master = second_master ? second_master : code;
+        join_from(newest_scope, code);
+    }
+    team->has_master |= body->kind == MASTER_BODY;
+    open_child(SHARE, code);
+    open_part(LOOP_PART, stack_pointer, code);
+    note_part((struct part){.of = body->kind == MASTER_BODY ? "master" : "single"});
+}
+
+static void end_child_body(uintptr_t code) {
+    close_part(code);
+    close_child(code);
+    if (tracing)
+        clear_below(scopes[newest_scope].stack_end);
+}
+
+int __spbags_goes_on(void) {
+    struct body *body = &bodies[newest_body];
+    bool begins = !body->begun;
+    body->begun = true;
+    if (body->kind == PARALLEL_BODY && begins)
+        begin_parallel_body(CODE);
+    else if (body->kind == PARALLEL_BODY)
+        end_parallel_body();
+    else if (body->kind == SIMD_BODY)
+        simd_loop = simd_loop ? simd_loop : CODE;
+    else if (begins)
+        begin_child_body(body, STACK_POINTER, CODE);
+    else if (body->is_child)
+        end_child_body(CODE);
+    newest_body -= !begins;
+    return begins;
+}
 
 /* ---- Critical regions ---- */
 

@@ -25,15 +25,32 @@ int omp_get_max_threads(void) {
     return team_size > 1 ? (int)team_size : wanted > 0 ? wanted : PROCESSORS;
 }
 
-/* gcc would ask once for a whole loop, so programs have another name for it. */
-int __spbags_thread_num(void) {
+/* The share or the team that this stands in. */
+static size_t thread_at(void) {
     size_t at = newest_scope;
     while (scopes[at].kind != SHARE && scopes[at].kind != TEAM)
         at--;
-    return scopes[at].thread;
+    return at;
 }
 
-int omp_get_thread_num(void) { return __spbags_thread_num(); }
+int omp_get_thread_num(void) { return scopes[thread_at()].thread; }
+
+/* Where a share asks for its thread's number, which is 0 in all of them; and where a task does, whose thread may be
+   any. */
+static uintptr_t share_asks, task_asks;
+
+/* gcc would ask once for a whole loop, and asks for itself in a master region, so programs have another name for it. */
+int __spbags_thread_num(void) {
+    size_t at = thread_at(), task = newest_scope;
+    while (scopes[task].kind == GROUP)
+        task--;
+    uintptr_t *asks = scopes[task].kind == TASK ? &task_asks : &share_asks;
+    if (watch == REPLICATED)
+        note_asking(CODE);
+    else if (*asks == 0 && active_levels > 0 && (scopes[task].kind == TASK || team_size == 1))
+        *asks = CODE;
+    return scopes[at].thread;
+}
 
 /* ---- Levels: the teams around, and of those the ones that could have several threads ---- */
 

@@ -1,42 +1,5 @@
 /* What the report of a run with OpenMP has to say beside the races. */
 
-/* A line that the report has too. Behind the places stand such lines, how many bytes those are, and a mark. */
-static const char notes_mark[8] = "spbnotes";
-static uint64_t notes_length;
-
-static void add_to_places(const char *bytes, size_t size) {
-    for (size_t at = 0; at < size; at++) {
-        *room(&places) = bytes[at];
-        places.used++;
-    }
-}
-
-__attribute__((format(__printf__, 2, 3))) static void note(const char *what, const char *format, ...) {
-    char line[1000];
-    va_list rest;
-    va_start(rest, format);
-    vsnprintf(line, sizeof line, format, rest);
-    va_end(rest);
-    put_line(what, line);
-    size_t length = strlen(line) + 1;
-    line[length - 1] = '\n';
-    notes_length += length;
-    if (places.file >= 0)
-        add_to_places(line, length);
-}
-
-static void end_notes(void) {
-    if (places.file < 0 || notes_length == 0)
-        return;
-    add_to_places((const char *)&notes_length, sizeof notes_length);
-    add_to_places(notes_mark, sizeof notes_mark);
-}
-
-int __real_execvp(const char *name, char *const words[]);
-
-/* SPBAGS_STRICT makes the status 2 where the trace couldn't say what the program does. */
-static bool is_strict;
-
 /* The file and the line of a call that returns to this address, as addr2line has it: "file:line". */
 static const char *source_line(uintptr_t code, char *line, size_t size) {
     char program[40], address[24];
@@ -70,22 +33,107 @@ static void refuse_nested(uintptr_t code) {
          source_line(code, line, sizeof line));
 }
 
-static void tell_openmp_notes(void) {
-    char wait[400], code[400];
+/* A line that makes spbags-run judge the program again, by a team. */
+__attribute__((format(__printf__, 1, 2))) static void tell_asking(const char *format, ...) {
+    va_list rest;
+    va_start(rest, format);
+    note("asks", format, rest);
+    va_end(rest);
+}
+
+/* A line that is of use where there are races: some of them may be none. */
+__attribute__((format(__printf__, 1, 2))) static void tell_seeming(const char *format, ...) {
+    va_list rest;
+    va_start(rest, format);
+    note("seeming", format, rest);
+    va_end(rest);
+}
+
+/* Room for a line of the source. */
+enum { ROOM = 400 };
+
+static void tell_unlike(const struct unlike *unlike) {
+    char region[ROOM], asks[ROOM], writes[ROOM];
+    source_line(unlike->region, region, ROOM);
+    source_line(unlike->asks, asks, ROOM);
+    if (unlike->writes == 0)
+        tell_incomplete("%s: what this parallel region does itself depends on its thread's number, which it asks for "
+                        "at %s, and the run has only what the thread 0 does",
+                        region, asks);
+    else
+        tell_incomplete("%s: what this parallel region does itself depends on its thread's number, which it asks for "
+                        "at %s, and the run has only what the thread 0 does. It writes shared memory then, first at %s",
+                        region, asks, source_line(unlike->writes, writes, ROOM));
+}
+
+static void tell_replicated(void) {
+    char line[ROOM];
+    for (unsigned at = 0; at < unlikes_count; at++)
+        tell_unlike(&unlikes[at]);
+    if (unlikes_left > 0)
+        tell_incomplete("%u more parallel regions ask for their thread's number", unlikes_left);
+    if (replicas_count > 0)
+        tell_incomplete("%s: the run ends inside this parallel region: what its other threads did since their last "
+                        "barrier isn't modelled",
+                        source_line(region_code, line, ROOM));
+    if (full_region != 0)
+        tell_incomplete("%s: this parallel region itself accesses more than %d units of memory between two barriers: "
+                        "races of further ones with what its other threads do aren't seen",
+                        source_line(full_region, line, ROOM), MOST_REPLICAS);
+    if (racy_region != 0)
+        tell_report("%s: each thread does what stands in this parallel region outside of its loops, sections, single "
+                    "and master regions, so shared memory that is written there races with itself",
+                    source_line(racy_region, line, ROOM));
+}
+
+static void tell_waits(void) {
+    char wait[ROOM], code[ROOM];
     if (outlived > 0)
-        note(is_strict ? "strict" : "report",
-             "%s: this wait doesn't wait for %llu tasks or iterations, the first from %s, since a task ended before its "
-             "children did, or a loop has no barrier. In the trace they have ended, so races with what follows aren't "
-             "seen",
-             source_line(outlived_wait, wait, sizeof wait), (unsigned long long)outlived,
-             source_line(outlived_code, code, sizeof code));
+        tell_incomplete("%s: this wait doesn't wait for %llu tasks, iterations or other parts, the first from %s, "
+                        "since a task ended before its children did, or there is a nowait. In the trace they have "
+                        "ended, so races with what follows aren't seen",
+                        source_line(outlived_wait, wait, ROOM), (unsigned long long)outlived,
+                        source_line(outlived_code, code, ROOM));
+    if (second_master != 0)
+        tell_incomplete("%s: no barrier stands between this master region and the one before, and the trace has one: "
+                        "races of what comes before with what comes after aren't seen",
+                        source_line(second_master, wait, ROOM));
+    if (after_ordered != 0)
+        tell_incomplete("%s: this access of shared memory comes after its iteration's ordered region, and in the trace "
+                        "before the next iteration's: races of such accesses aren't seen",
+                        source_line(after_ordered, wait, ROOM));
+}
+
+static void tell_shares(void) {
+    char before[ROOM], after[ROOM];
     if (has_long_shares && team_size > 1)
-        note("report", "SPBAGS_TEAM=%llu gives each loop as many blocks: races inside one block aren't seen",
-             (unsigned long long)team_size);
+        tell_incomplete("SPBAGS_TEAM=%llu gives each loop as many blocks: races inside one block aren't seen",
+                        (unsigned long long)team_size);
     else if (has_long_shares)
-        note("report", "SPBAGS_ITERATIONS=%llu makes so many iterations one child: races between them aren't seen",
-             (unsigned long long)iterations);
+        tell_incomplete("SPBAGS_ITERATIONS=%llu makes so many iterations one child: races between them aren't seen",
+                        (unsigned long long)iterations);
+    if (alike_before != 0)
+        tell_seeming("%s and %s: no barrier stands between these loops, and with schedule(static) one thread has the "
+                     "same iterations of both, which the trace lacks: a race between such iterations is none",
+                     source_line(alike_before, before, ROOM), source_line(alike_after, after, ROOM));
+    if (simd_loop != 0)
+        tell_report("%s: a loop with simd alone is serial here: whether its iterations need one another isn't looked at",
+                    source_line(simd_loop, before, ROOM));
+    if (share_asks != 0)
+        tell_asking("%s: a loop asks for its thread's number, which is 0 in each iteration, so what it keeps by that "
+                    "number seems to race: SPBAGS_TEAM=8 shows whether it does",
+                    source_line(share_asks, before, ROOM));
+    if (task_asks != 0)
+        tell_seeming("%s: a task asks for its thread's number, which is the same in all tasks, so what they keep by "
+                     "that number seems to race",
+                     source_line(task_asks, before, ROOM));
+}
+
+static void tell_openmp_notes(void) {
+    tell_waits();
+    tell_replicated();
+    tell_shares();
     if (own[THREAD].end > own[THREAD].first)
-        note("report", "variables that each thread has of its own, %zu bytes, aren't recorded",
-             (size_t)(own[THREAD].end - own[THREAD].first));
+        tell_report("variables that each thread has of its own, %zu bytes, aren't recorded",
+                    (size_t)(own[THREAD].end - own[THREAD].first));
 }

@@ -67,7 +67,7 @@ void GOMP_task_reduction_remap(size_t count, size_t originals, void **addresses)
 
 unsigned GOMP_parallel_reductions(void (*run)(void *), void *data, unsigned threads, unsigned flags) {
     (void)flags;
-    begin_team(threads, STACK_POINTER, CODE);
+    begin_team(threads, data, STACK_POINTER, CODE);
     register_reductions(*(uintptr_t **)data);
     run(data);
     unsigned copies = (unsigned)threads_now();
@@ -79,7 +79,8 @@ unsigned GOMP_parallel_reductions(void (*run)(void *), void *data, unsigned thre
 
 static void begin_workshare(uintptr_t *reductions, void **memory) {
     if (reductions) {
-        push_scope(GROUP, false);
+        push_scope(GROUP, false)->watch = UNWATCHED;
+        follow_scope();
         register_reductions(reductions);
     }
     if (memory)
@@ -89,7 +90,7 @@ static void begin_workshare(uintptr_t *reductions, void **memory) {
 void GOMP_workshare_task_reduction_unregister(bool cancelled) {
     (void)cancelled;
     close_waiting(CODE);
-    join_from(team_at(), CODE);
+    join_team(CODE);
 }
 
 void GOMP_scope_start(uintptr_t *reductions) { begin_workshare(reductions, NULL); }
@@ -103,18 +104,18 @@ unsigned GOMP_sections2_start(unsigned count, uintptr_t *reductions, void **memo
 #define LOOP_START(NAME, BEGIN) \
     bool NAME(long start, long end, long step, long schedule, long most, long *first, long *first_end, \
               uintptr_t *reductions, void **memory) { \
-        (void)schedule, (void)most; \
+        (void)schedule; \
         begin_workshare(reductions, memory); \
-        BEGIN(signed_loop(start, end, step)); \
+        BEGIN(signed_loop(start, end, step, most)); \
         return next_share((uint64_t *)first, (uint64_t *)first_end, STACK_POINTER, CODE); \
     }
 #define UNSIGNED_LOOP_START(NAME, BEGIN) \
     bool NAME(bool up, unsigned long long start, unsigned long long end, unsigned long long step, long schedule, \
               unsigned long long most, unsigned long long *first, unsigned long long *first_end, \
               uintptr_t *reductions, void **memory) { \
-        (void)schedule, (void)most; \
+        (void)schedule; \
         begin_workshare(reductions, memory); \
-        BEGIN(unsigned_loop(up, start, end, step)); \
+        BEGIN(unsigned_loop(up, start, end, step, (long)most)); \
         return next_share((uint64_t *)first, (uint64_t *)first_end, STACK_POINTER, CODE); \
     }
 LOOP_START(GOMP_loop_start, begin_loop) LOOP_START(GOMP_loop_ordered_start, BEGIN_ORDERED)

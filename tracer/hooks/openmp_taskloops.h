@@ -22,11 +22,12 @@ static void run_taskloop(const struct task *task, struct taskloop loop, uintptr_
         uint64_t size = loop.count / loop.tasks + (number < loop.count % loop.tasks);
         if (loop.strict_size > 0)
             size = least(loop.strict_size, loop.count - begun);
-        uint64_t bounds[2] = {loop.start + begun * loop.step, loop.end};
+        struct bounds bounds = {.first = loop.start + begun * loop.step, .end = loop.end};
         begun += size;
+        bounds.last = loop.start + (begun - 1) * loop.step;
         if (begun < loop.count)
-            bounds[1] = loop.start + begun * loop.step;
-        run_task(task, bounds, stack_pointer, code);
+            bounds.end = bounds.last + loop.step;
+        run_task(task, &bounds, stack_pointer, code);
     }
 }
 
@@ -61,6 +62,6 @@ static void do_taskloop(const struct task *task, struct loop loop, unsigned flag
                             (flags & FINAL) != 0}; \
         do_taskloop(&task, LOOP, flags, wanted, STACK_POINTER, CODE); \
     }
-TASKLOOP(GOMP_taskloop, signed_loop(start, end, step), long start, long end, long step)
-TASKLOOP(GOMP_taskloop_ull, unsigned_loop((flags & COUNTS_UP) != 0, start, end, step), unsigned long long start,
+TASKLOOP(GOMP_taskloop, signed_loop(start, end, step, 0), long start, long end, long step)
+TASKLOOP(GOMP_taskloop_ull, unsigned_loop((flags & COUNTS_UP) != 0, start, end, step, 0), unsigned long long start,
          unsigned long long end, unsigned long long step)

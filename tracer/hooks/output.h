@@ -34,11 +34,13 @@ struct output {
     /* Of the bytes: how many are used, how many of those have gone out, and how many may be used at most. */
     size_t used, gone, room;
     uint64_t written, most;
+    /* The run goes on without it where it can't be written. */
+    bool is_spare;
     char bytes[PIECE];
 };
 
 static struct output trace = {.file = -1, .room = LONGEST, .most = UINT64_MAX};
-/* The code address of each record, 8 bytes a record. */
+/* Where each record comes from. */
 static struct output places = {.file = -1, .room = LONGEST, .most = UINT64_MAX};
 
 /* Where lines about the run go: SPBAGS_SAYS names another file than standard error, where a line begins with what it
@@ -83,32 +85,45 @@ __attribute__((noreturn, format(__printf__, 1, 2))) static void fail(const char 
     __real__exit(2);
 }
 
+/* At addresses of our own where the system has them free: what the program maps lies where it lies in other runs. */
 static void *reserve(size_t size) {
+    static uintptr_t wish = (uintptr_t)1 << 44;
     int flags = MAP_PRIVATE | MAP_ANONYMOUS | MAP_NORESERVE;
-    void *memory = mmap(NULL, size, PROT_READ | PROT_WRITE, flags, -1, 0);
+    void *memory = mmap((void *)wish, size, PROT_READ | PROT_WRITE, flags, -1, 0);
     if (memory == MAP_FAILED)
         fail("out of memory: %s", strerror(errno));
+    wish += (size + 0xfff) & ~(size_t)0xfff;
     return memory;
 }
+
+static void give_up_places(void);
 
 /* A closed pipe and a file past its size limit kill by a signal, unless that is blocked: then the write fails. */
 static void write_out(struct output *output) {
     int error = errno;
+    bool refused = false;
     sigset_t deadly, before;
     begin_change();
     sigemptyset(&deadly);
     sigaddset(&deadly, SIGPIPE);
     sigaddset(&deadly, SIGXFSZ);
     sigprocmask(SIG_BLOCK, &deadly, &before);
-    while (output->gone < output->used) {
+    while (!refused && output->gone < output->used) {
         ssize_t wrote = write(output->file, output->bytes + output->gone, output->used - output->gone);
         if (wrote > 0)
             output->gone += (size_t)wrote;
         else if (wrote == 0 || errno != EINTR)
+            refused = true;
+        if (refused && !output->is_spare)
             fail("cannot write %s: %s", output->name, wrote == 0 ? "nothing was taken" : strerror(errno));
     }
-    output->written += output->used;
+    output->written += output->gone;
     output->used = output->gone = 0;
+    if (refused) {
+        give_up_places();
+        while (sigtimedwait(&deadly, NULL, &(struct timespec){0}) > 0)
+            continue;
+    }
     sigprocmask(SIG_SETMASK, &before, NULL);
     errno = error;
     end_change();
@@ -118,7 +133,7 @@ static void close_output(struct output *output) {
     if (output->file < 0)
         return;
     write_out(output);
-    if (close(output->file) != 0)
+    if (output->file >= 0 && close(output->file) != 0 && !output->is_spare)
         fail("cannot write %s: %s", output->name, strerror(errno));
 }
 
@@ -126,8 +141,11 @@ static void stop_at_limit(void);
 
 __attribute__((noinline)) static void make_room(struct output *output) {
     write_out(output);
-    if (output->written + LONGEST > output->most)
-        stop_at_limit();
+    if (output->written + LONGEST > output->most) {
+        if (!output->is_spare)
+            stop_at_limit();
+        give_up_places();
+    }
     uint64_t left = output->most - output->written;
     output->room = left < sizeof output->bytes ? left : sizeof output->bytes;
 }
@@ -137,4 +155,57 @@ static inline char *room(struct output *output) {
     if (__builtin_expect(output->used + LONGEST > output->room, 0))
         make_room(output);
     return output->bytes + output->used;
+}
+
+/* ---- Lines of the report ---- */
+
+/* What the report has to say beside the races. These lines stand behind the places too. A line that has no room there
+   is where the other lines about the run are. */
+static char notes[1 << 16];
+static uint64_t notes_length;
+/* How many say that something wasn't seen or modelled. */
+static uint64_t incomplete_lines;
+
+static void keep_note(const char *line) {
+    size_t length = strlen(line);
+    if (notes_length + length >= sizeof notes)
+        return;
+    memcpy(notes + notes_length, line, length);
+    notes_length += length;
+    notes[notes_length++] = '\n';
+}
+
+static void note(const char *what, const char *format, va_list rest) {
+    char line[1000];
+    vsnprintf(line, sizeof line, format, rest);
+    put_line(what, line);
+    keep_note(line);
+}
+
+__attribute__((unused, format(__printf__, 1, 2))) static void tell_report(const char *format, ...) {
+    va_list rest;
+    va_start(rest, format);
+    note("report", format, rest);
+    va_end(rest);
+}
+
+/* One sentence for the user: something may have touched memory, or may run in parallel, and wasn't seen or modelled. */
+__attribute__((unused, format(__printf__, 1, 2))) static void tell_incomplete(const char *format, ...) {
+    va_list rest;
+    va_start(rest, format);
+    note("incomplete", format, rest);
+    va_end(rest);
+    incomplete_lines++;
+}
+
+/* A function that nothing is known of was called so often; SHOWN is its name in the source. */
+__attribute__((unused)) static void tell_unseen(const char *name, const char *shown, const char *library,
+                                                uint64_t count) {
+    char line[1000], fields[1000];
+    snprintf(line, sizeof line, "not seen: %.700s (%.200s), called %llu time%s", shown, library,
+             (unsigned long long)count, count == 1 ? "" : "s");
+    snprintf(fields, sizeof fields, "%.700s %.200s %llu", name, library, (unsigned long long)count);
+    put_line("unseen", says == STDERR_FILENO ? line : fields);
+    keep_note(line);
+    incomplete_lines++;
 }

@@ -1,6 +1,6 @@
-/* The last three are parts of OpenMP, whose procedures are no matter of frames: a function that the hooks call, a task,
-   and some iterations of a loop. */
-enum kind { FUNCTION, ROOT, CHILD, CALLED, TASK_PART, LOOP_PART };
+/* A scope is a part of a function that waits for its own children. The last three are parts of OpenMP, whose procedures
+   are no matter of frames: a function that the hooks call, a task, and some iterations of a loop. */
+enum kind { FUNCTION, ROOT, CHILD, SCOPE, CALLED, TASK_PART, LOOP_PART };
 enum { NONE = 0 };
 
 /* An active function, or a child that was spawned: the child's frame stands below the frame of the function that it
@@ -18,7 +18,8 @@ struct frame {
     /* Of a child: its parent's stack pointer at the spawn, and what it calls. */
     uintptr_t stack_pointer;
     __spbags_function callee;
-    /* Of a part: where the program is, which isn't in the part itself. */
+    /* Of a part: where the program is, which isn't in the part itself. Of a child that is an iteration of a loop: where
+       that is; of any other child, 0. */
     uintptr_t code;
 };
 
@@ -31,9 +32,9 @@ static struct frame *top;
 /* How many local statics of C++ are being initialised, while nothing is recorded. */
 static unsigned initialising;
 
-/* An access goes the short way where the stack pointer is below this: accesses are recorded by the usual unit, no child
-   waits for what it calls, and the newest frame hasn't ended. A function's entry and its end go it where its stack
-   memory ends within so many bytes of the stack: none if nothing is recorded. */
+/* An access goes the short way where the stack pointer is below this: accesses are recorded by the usual unit and not
+   watched, no child waits for what it calls, and the newest frame hasn't ended. A function's entry and its end go it
+   where its stack memory ends within so many bytes of the stack: none if nothing is recorded. */
 uintptr_t short_way_end __asm__("__spbags_short_way_end");
 static uintptr_t short_way_stack;
 /* All bits, or none if no access goes the short way. */
@@ -44,7 +45,7 @@ static inline void follow_top(void) { short_way_end = top->kind != CHILD ? top->
 static void find_short_way(void) {
     bool records = tracing && initialising == 0;
     short_way_stack = records ? stack_size : 0;
-    short_way_bits = records && unit_shift == USUAL_SHIFT ? UINTPTR_MAX : 0;
+    short_way_bits = records && !watching && unit_shift == USUAL_SHIFT ? UINTPTR_MAX : 0;
     follow_top();
 }
 
@@ -65,6 +66,7 @@ OTHERWISE void other_structure(enum spbags_kind kind, uintptr_t code) {
     other_structure_record(kind, code);
     count_procedures(kind);
     end_change();
+    end_at_last();
 }
 
 /* With each record of the structure a strand ends and another begins. */
@@ -151,13 +153,15 @@ static inline void push_frame(enum kind kind, uintptr_t end) {
     follow_top();
 }
 
-/* A sync waits for the children of its own function, and a procedure of the trace waits for all its own. So a function
-   that was called has to be a procedure of its own where its caller may have children. Version 2 has a record for
-   that. Version 1 hasn't: there a spawn is put in, whose procedure holds the rest of the function, and of its callers
-   up to the sync of the one that has children now. */
+static inline bool is_of_function(const struct frame *frame) { return frame->kind == FUNCTION || frame->kind == SCOPE; }
+
+/* A sync waits for the children of its own function or scope, and a procedure of the trace waits for all its own. So a
+   function that was called, or a scope, has to be a procedure of its own where what is around it may have children.
+   Version 2 has a record for that. Version 1 hasn't: there a spawn is put in, whose procedure holds the rest of the
+   function, and of its callers up to the sync of the one that has children now. */
 static inline void become_procedure(uintptr_t code) {
     if (version == 2) {
-        if (top->kind == FUNCTION && top[-1].kind == FUNCTION && !top->called) {
+        if (is_of_function(top) && is_of_function(top - 1) && !top->called) {
             open_procedure(SPBAGS_CALL, code);
             top->called = true;
         }
@@ -174,16 +178,19 @@ static inline void back_to_function(uintptr_t stack_pointer, uintptr_t code) {
     leave_children(code);
 }
 
-__spbags_function __spbags_spawn(__spbags_function callee) {
-    if (!tracing)
-        return callee;
-    uintptr_t stack_pointer = STACK_POINTER, code = CODE;
+static inline void begin_child(__spbags_function callee, uintptr_t stack_pointer, uintptr_t code) {
     back_to_function(stack_pointer, code);
     become_procedure(code);
     open_procedure(SPBAGS_SPAWN, code);
     push_frame(CHILD, top->end - 1);
     top->stack_pointer = stack_pointer;
     top->callee = callee;
+    top->code = 0;
+}
+
+__spbags_function __spbags_spawn(__spbags_function callee) {
+    if (tracing)
+        begin_child(callee, STACK_POINTER, CODE);
     return callee;
 }
 

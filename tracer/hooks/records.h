@@ -3,17 +3,38 @@
 #ifdef SPBAGS_INSIDE
 /* Whether a record goes to the detector, and that is all. In a program with the detector few runs do anything else. */
 static bool only_detects;
-#define OTHERWISE __attribute__((noinline, cold)) static
+#define OTHERWISE __attribute__((noinline)) static
 #else
 enum { only_detects = false };
 #define OTHERWISE static inline
 #endif
 
-static inline void write_place(uintptr_t code) {
-    uint64_t place = code;
-    __builtin_memcpy(room(&places), &place, sizeof place);
-    places.used += sizeof place;
+static void end_here(void);
+static inline void end_at_last(void) {
+    if (__builtin_expect(course.records >= last_record, 0))
+        end_here();
 }
+
+/* The bytes of the access at hand, where it doesn't fill all its units; an end of 0 where it does. */
+static struct range {
+    uintptr_t first, end;
+} narrow;
+
+/* A bit for each byte of this unit that the access at hand leaves out. */
+static inline unsigned bytes_left_out(uintptr_t unit) {
+    if (__builtin_expect(narrow.end == 0, 1))
+        return 0;
+    unsigned size = (unsigned)unit_mask + 1, bytes = 0;
+    if (narrow.first > unit)
+        bytes |= (1u << (narrow.first - unit)) - 1;
+    if (narrow.end < unit + size)
+        bytes |= (1u << size) - (1u << (narrow.end - unit));
+    return bytes;
+}
+
+/* Some units may be divided into their bytes: whether this location's is, and then its record has gone out. */
+static bool divides;
+static bool divide_access(bool writes, uint64_t location, uintptr_t address, uintptr_t code);
 
 /* A line of the structure has at most eight bytes. So many are copied, since a copy of a fixed size is quick, and the
    next line goes over those that aren't of this one. */
@@ -52,8 +73,10 @@ OTHERWISE void other_structure_record(enum spbags_kind kind, uintptr_t code) {
         count_structure();
         return;
     }
-    if (places.file >= 0)
+    if (has_places) {
+        follow_course(kind, code);
         write_place(code);
+    }
     if (detecting) {
         begin_step();
         step(kind, 0);
@@ -95,19 +118,40 @@ static inline void step_access(bool writes, uint64_t location) {
     end_step();
 }
 
+static inline uint64_t site_of_access(uintptr_t unit, uintptr_t code) {
+    return site_word(bytes_left_out(unit) != 0, code);
+}
+
+/* The location is the unit's. */
+static inline void follow_access(bool writes, uint64_t location, uintptr_t unit, uint64_t site) {
+    enum { BYTES_SHIFT = 56 };
+    follow_course((uint64_t)bytes_left_out(unit) << BYTES_SHIFT | location << 3 | (writes ? SPBAGS_WRITE : SPBAGS_READ),
+                  site);
+}
+
+static inline void put_access(bool writes, uint64_t location, uint64_t site) {
+    if (has_places)
+        write_place(site);
+    if (detecting)
+        step_access(writes, location);
+    else
+        write_access(writes, location);
+}
+
 OTHERWISE void other_access_record(bool writes, uint64_t location, uintptr_t address, uintptr_t code) {
-    if (__builtin_expect(looking, 0))
+    if (__builtin_expect(divides, 0) && divide_access(writes, location, address, code))
+        ;
+    else if (__builtin_expect(looking, 0))
         count_access(writes, location, address, code);
     else {
-        if (places.file >= 0)
-            write_place(code);
-        if (detecting)
-            step_access(writes, location);
-        else
-            write_access(writes, location);
+        uint64_t site = has_places ? site_of_access(address, code) : 0;
+        if (has_places)
+            follow_access(writes, location, address, site);
+        put_access(writes, location, site);
     }
     if (writes_repeats)
         begin_strand();
+    end_at_last();
 }
 
 static inline void access_record(bool writes, uint64_t location, uintptr_t address, uintptr_t code) {

@@ -64,12 +64,29 @@ static uint64_t number_from(const char *variable, const char *what, uint64_t oth
     return number;
 }
 
+static void set_statuses(void) {
+    const char *name = "SPBAGS_EXITCODE", *value = getenv(name);
+    is_incomplete_ok = choice("SPBAGS_INCOMPLETE_OK", "01", 0) == 1;
+    if (!value || !*value)
+        return;
+    char *rest;
+    long status = strtol(value, &rest, 10);
+    if (*value < '0' || *value > '9' || *rest != '\0' || status > 255)
+        fail("%s=%s: wanted a status from 0 to 255", name, value);
+    racy_status = (int)status;
+}
+
 /* A number of bytes for the trace; where none is said, a quarter of the space that is free where it goes to a file. */
 static void set_limit(bool is_file) {
     struct statvfs space;
     if (is_file && fstatvfs(trace.file, &space) == 0)
         trace.most = space.f_bavail * space.f_frsize / 4;
     trace.most = number_from("SPBAGS_MOST", "bytes", trace.most);
+}
+
+static void open_places(const char *name) {
+    open_output(&places, "SPBAGS_PLACES", name);
+    keep_places(name);
 }
 
 /* A trace that goes to a file has its places beside it, where nothing else was said. */
@@ -86,7 +103,7 @@ static void open_outputs(const char *name) {
         places_name = beside;
     }
     if (places_name && *places_name)
-        open_output(&places, "SPBAGS_PLACES", places_name);
+        open_places(places_name);
 }
 
 #ifdef SPBAGS_INSIDE
@@ -136,7 +153,7 @@ static void start_detector(void) {
     else
         trace.file = move_away("SPBAGS_REPORT", STDERR_FILENO);
     if (places_name && *places_name)
-        open_output(&places, "SPBAGS_PLACES", places_name);
+        open_places(places_name);
     find_heap();
     session = reserve(spbags_room());
     start_thread();
@@ -174,16 +191,19 @@ pid_t __wrap__Fork(void) {
 }
 
 static void open_ways(void) {
-    const char *lines = getenv("SPBAGS_SAYS"), *report = getenv("SPBAGS_LOOK"), *last = getenv("SPBAGS_LAST");
+    const char *lines = getenv("SPBAGS_SAYS"), *report = getenv("SPBAGS_LOOK"), *units = getenv("SPBAGS_DIVIDE");
     if (lines && *lines) {
         says = named_file("SPBAGS_SAYS", lines);
         pthread_atfork(refuse_fork, NULL, NULL);
     }
-    ends_at_last = last && *last;
+    last_record = number_from("SPBAGS_LAST", "records", UINT64_MAX);
+    if (units && *units)
+        divide_units(named_file("SPBAGS_DIVIDE", units));
     if (report && *report)
         start_look(named_file("SPBAGS_LOOK", report));
     unsetenv("SPBAGS_SAYS");
     unsetenv("SPBAGS_LOOK");
+    unsetenv("SPBAGS_DIVIDE");
     unsetenv("SPBAGS_LAST");
 }
 
@@ -192,6 +212,15 @@ static void give_streams_buffers(void) {
     static char input[4096], output[4096];
     setvbuf(stdin, input, _IOFBF, sizeof input);
     setvbuf(stdout, output, isatty(STDOUT_FILENO) ? _IOLBF : _IOFBF, sizeof output);
+}
+
+/* Where the program has one thread libstdc++ counts the owners of a shared_ptr without atomic operations. In a parallel
+   run it has several. */
+extern char __libc_single_threaded __attribute__((weak));
+
+static void claim_threads(void) {
+    if (&__libc_single_threaded)
+        __libc_single_threaded = 0;
 }
 
 /* The stack as it may grow, up to where the environment stands above all frames. */
@@ -210,6 +239,8 @@ static void find_stack(void) {
     size_t most_frames = size / 16 * 2;
     top = frames = reserve(most_frames * sizeof *frames);
     frames_end = frames + most_frames;
+    if (looking)
+        parts = reserve(most_frames * sizeof *parts);
     owners = reserve((MOST_DEPTH + 3) * sizeof *owners);
 }
 
@@ -222,7 +253,10 @@ static void put_header(void) {
 __attribute__((constructor(101))) static void start(void) {
     const char *name = getenv("SPBAGS_TRACE");
     bool writes = name && *name;
+    set_statuses();
     if (!writes && !HAS_DETECTOR) {
+        if (racy_status != PROGRAMS_OWN)
+            fail("SPBAGS_EXITCODE asks for a report, and there is no detector inside: link the program with --inside");
         tell("SPBAGS_TRACE isn't set, so no trace is written");
         return;
     }
@@ -230,8 +264,10 @@ __attribute__((constructor(101))) static void start(void) {
     unit_shift = (unsigned)__builtin_ctz(choice("SPBAGS_UNIT", "1248", DEFAULT_UNIT));
     unit_mask = ((uintptr_t)1 << unit_shift) - 1;
     writes_repeats = choice("SPBAGS_REPEATS", "01", 0) == 1;
+    patience = least(number_from("SPBAGS_PATIENCE", "seconds", 30), SECOND) * SECOND;
     fill_digits();
     give_streams_buffers();
+    claim_threads();
     if (writes)
         open_outputs(name);
     else
@@ -240,26 +276,30 @@ __attribute__((constructor(101))) static void start(void) {
     /* A traced program that this one starts would write over the trace, or over the report. */
     unsetenv("SPBAGS_TRACE");
     unsetenv("SPBAGS_REPORT");
+    unsetenv("SPBAGS_PLACES");
     find_stack();
     *top = (struct frame){.kind = ROOT, .end = UINTPTR_MAX};
     procedures = most_procedures = 1;
     traced_process = getpid();
     pthread_atfork(tell_fork, NULL, stop_tracing);
     at_quick_exit(quick_end);
+    on_exit(keep_status, NULL);
     if (writes && !looking)
         put_header();
 #ifdef SPBAGS_INSIDE
-    only_detects = detecting && !looking && places.file < 0 && !writes_repeats;
+    only_detects = detecting && !looking && !has_places && !divides && !writes_repeats;
 #endif
     tracing = true;
     find_short_way();
     catch_signals();
+    start_watch();
 }
 
 /* After the program's own handlers. */
 __attribute__((destructor(101))) static void finish(void) {
-    if (is_traced() && end_trace_of(0) != 0) {
+    int status = end_trace_of_own();
+    if (status != own_status) {
         fflush(NULL);
-        __real__exit(2);
+        __real__exit(status);
     }
 }

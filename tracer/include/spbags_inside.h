@@ -2,7 +2,7 @@
    report, byte for byte that of `spbags check`. The library is the crate `inside`. Its contracts are proved of callers
    that do what is said here.
 
-   A handle is the address of spbags_room() bytes, which 16 divides. Between spbags_new and spbags_free only these
+   A handle points to spbags_room() bytes aligned to 16. Between spbags_new and spbags_free only these
    functions read or write what lies there. One thread calls them, one call at a time, and no signal handler does. */
 #ifndef SPBAGS_INSIDE_H
 #define SPBAGS_INSIDE_H
@@ -37,22 +37,22 @@ uint8_t spbags_step(void *handle, uint8_t kind, uint64_t location);
    reads and writes have no location. */
 static inline uint64_t spbags_record(enum spbags_kind kind, uint64_t location) { return location << 3 | kind; }
 
-/* Takes so many records in turn, up to the first that it can't take, whose status it answers. Their number is below
-   2^60, their address isn't null, even if there are none, and nothing writes them meanwhile. */
+/* Takes `count` records in order. It stops at the first one that it can't take, and returns its status. `count` is
+   below 2^60; `records` isn't null, even if `count` is 0; and nothing writes the records during the call. */
 uint8_t spbags_steps(void *handle, const uint64_t *records, size_t count);
 
 /* Makes the text of the report of all records that were taken. No record is taken after that. */
 uint8_t spbags_report(void *handle);
 
-/* The next byte of that text, SPBAGS_AT_END behind its last, or SPBAGS_NO_TEXT without a text. */
+/* Returns the next byte of that text, SPBAGS_AT_END after the last one, or SPBAGS_NO_TEXT if there is no text. */
 uint16_t spbags_next(void *handle);
 
-/* Frees the session, in each state. The bytes at the handle are the caller's again. */
+/* Frees the session, in any state. The caller may reuse the bytes at the handle. */
 void spbags_free(void *handle);
 
-/* The heap of the library, which whoever links it defines. A block has `size` bytes, and `alignment`, which divides 16,
-   divides its address. It is the library's alone until it is given back. Where one is refused, `got` is false, and
-   `block` is any address but null. */
+/* The heap of the library: the program that links it defines these functions. A block has `size` bytes and is aligned
+   to `alignment`, which divides 16. Only the library uses it until it frees it. If the allocation fails, `got` is false,
+   and `block` is any address but null. */
 struct rattle_block {
     bool got;
     void *block;
@@ -60,7 +60,7 @@ struct rattle_block {
 
 struct rattle_block rattle_alloc(size_t size, size_t alignment);
 
-/* Another size for this block, which may move; its first `kept` bytes stay. If it is refused, the block is as before. */
+/* Changes the size of a block, which may move; its first `kept` bytes stay. If that fails, the block is unchanged. */
 struct rattle_block rattle_realloc(void *block, size_t kept, size_t size, size_t alignment);
 
 void rattle_dealloc(void *block);

@@ -1,13 +1,18 @@
 /* Ends in the way that its first word names, after a race. */
 #include <cilk/cilk.h>
+#include <linux/futex.h>
 #include <pthread.h>
+#include <semaphore.h>
 #include <signal.h>
 #include <stdlib.h>
 #include <string.h>
+#include <sys/syscall.h>
+#include <time.h>
 #include <unistd.h>
 
 static volatile int cell;
 static volatile char *volatile nowhere;
+static pthread_cond_t condition = PTHREAD_COND_INITIALIZER;
 
 static void set(void) { cell = 1; } /* [first] */
 
@@ -28,6 +33,39 @@ static int nest(int depth) {
 static void nest_often(int count) {
     for (int i = 0; i < count; i++)
         nest(1);
+}
+
+static void doze(void) {
+    struct timespec little = {.tv_nsec = 100000};
+    nanosleep(&little, NULL); /* [dozes] */
+}
+
+/* What could end these comes later in the serial order. */
+static void wait_for_ever(const char *way) {
+    sem_t semaphore;
+    sem_init(&semaphore, 0, 0);
+    if (strcmp(way, "stubborn") == 0)
+        signal(SIGTERM, SIG_IGN);
+    if (strcmp(way, "spin") == 0 || strcmp(way, "stubborn") == 0)
+        while (cell == 2) /* [spins] */
+            continue;
+    while (strcmp(way, "doze") == 0)
+        doze(); /* [calls doze] */
+    if (strcmp(way, "wait") == 0)
+        sem_wait(&semaphore); /* [waits] */
+    pthread_mutex_t mutex = PTHREAD_MUTEX_INITIALIZER;
+    pthread_mutex_lock(&mutex);
+    if (strcmp(way, "lock") == 0)
+        pthread_mutex_lock(&mutex); /* [locks] */
+    if (strcmp(way, "condition") == 0)
+        pthread_cond_wait(&condition, &mutex); /* [wants] */
+    pthread_barrier_t barrier;
+    pthread_barrier_init(&barrier, NULL, 2);
+    if (strcmp(way, "barrier") == 0)
+        pthread_barrier_wait(&barrier); /* [meets] */
+    int word = 1;
+    if (strcmp(way, "futex") == 0)
+        syscall(SYS_futex, &word, FUTEX_WAIT_PRIVATE, 1, NULL); /* [sleeps] */
 }
 
 static void end(const char *way) {
@@ -68,13 +106,16 @@ static void end(const char *way) {
         nest_often(100000);
     while (strcmp(way, "never") == 0)
         nest(1);
+    wait_for_ever(way); /* [for ever] */
+    if (strcmp(way, "input") == 0)
+        cell = (int)read(STDIN_FILENO, &(char){0}, 1);
     if (strcmp(way, "copy") == 0 && vfork() == 0)
         _exit(0);
 }
 
 static void run(const char *way) {
     cilk_spawn set();
-    cilk_spawn end(way);
+    cilk_spawn end(way); /* [spawn end] */
 }
 
 int main(int count, char **words) { run(count > 1 ? words[1] : ""); }

@@ -100,6 +100,27 @@ check_inside_signal() {
     rm late.places
 }
 
+# The race of tests/ends.c gives the status that SPBAGS_EXITCODE says, however the program ends.
+check_inside_statuses() {
+    local way
+    for way in return fault abort trap terminate thread daemon _exit _Exit quick_exit exec no_exec copy; do
+        ends_with 77 '' with_report env SPBAGS_EXITCODE=77 ./ends "$way" 2>/dev/null &&
+            [ "$(head -n 1 run.races)" = "races 1" ]
+        count $? "$CC: inside, $way: SPBAGS_EXITCODE"
+    done
+    ends_with 0 '' with_report env SPBAGS_EXITCODE=0 ./ends _exit
+    count $? "$CC: inside: SPBAGS_EXITCODE=0"
+    printf 'int main(void) { return 7; }\n' >seven.c
+    "$here/spbags-cc" --inside -o seven seven.c && ends_with 7 '' with_report env SPBAGS_EXITCODE=77 ./seven
+    count $? "$CC: inside: SPBAGS_EXITCODE where there is no race"
+    ends_with 2 '' with_report env SPBAGS_EXITCODE=77 ./ways thread
+    count $? "$CC: inside: SPBAGS_EXITCODE where there is no report"
+    for way in -1 256 x; do
+        ends_with 2 "SPBAGS_EXITCODE=$way: wanted a status from 0 to 255" env SPBAGS_EXITCODE=$way ./ends
+        count $? "$CC: inside: SPBAGS_EXITCODE=$way"
+    done
+}
+
 check_inside_ends() {
     local before=', and the report has what came before' after
     [ "$has_inside" ] || return 0
@@ -125,6 +146,7 @@ check_inside_ends() {
     check_inside_end ways fork 0 'the program forks, and the report is of its first process alone'
     check_no_report 'a thread' 2 'the program starts a thread' ./ways thread
     check_inside_stack
+    check_inside_statuses
     for after in 0 0.01 0.02 0.03; do
         check_inside_signal $after TERM 143 "races 1"
     done

@@ -4,32 +4,148 @@
    The one behind it doesn't race, nor does a byte that both read. Each case stands on one line, and the program prints
    the line and how many bytes of it race. */
 #define _GNU_SOURCE
+#include "../hooks/library_types.h"
 #include <cilk/cilk.h>
+#include <ctype.h>
+#include <dlfcn.h>
+#include <errno.h>
+#include <error.h>
 #include <fcntl.h>
+#include <ftw.h>
 #include <inttypes.h>
+#include <linux/futex.h>
+#include <pthread.h>
+#include <semaphore.h>
+#include <setjmp.h>
+#include <signal.h>
 #include <stdarg.h>
 #include <stdbool.h>
 #include <stdio.h>
 #include <stdlib.h>
 #include <string.h>
 #include <strings.h>
+#include <sys/ipc.h>
+#include <sys/mman.h>
+#include <sys/mount.h>
+#include <sys/random.h>
+#include <sys/resource.h>
+#include <sys/sendfile.h>
+#include <sys/inotify.h>
 #include <sys/socket.h>
+#include <sys/stat.h>
+#include <sys/statvfs.h>
+#include <sys/swap.h>
+#include <sys/syscall.h>
+#include <sys/wait.h>
+#include <threads.h>
+#include <time.h>
 #include <unistd.h>
 #include <wchar.h>
 
 /* What the calls work on. Each try has memory of its own. */
 static char *a, *b, *c, *needle, *set, *space, *digits, *decimals, *two, *format;
-static char **rest;
-static size_t *size;
-static wchar_t *wide, *other_wide;
-static FILE *text, *nothing;
+static char *pair, *scanned, *hour, *path, *other_path, *folder_path, *root, *made, *user, *address;
+static char *big, *other, *third, *many, *day, *environment, *random_state, *event, *compiled, *entry, *pieces, *message;
+static char *polled, *hints, *name, *page;
+static char **rest, **out, **words;
+static size_t *size, *room;
+static wchar_t *wide, *other_wide, *wide_a, *wide_b, *wide_c, *wide_space, *wide_pair, *wide_digits, *wide_decimals;
+static wchar_t **wide_rest;
+static FILE *text, *nothing, *wide_nothing;
+static DIR *folder;
 static volatile int sink;
-static int zeros, sockets[2];
+static int zeros, sockets[2], events, waiting, terminal, timer_file;
+static timer_t timer;
+static locale_t locale;
+static iconv_t converter;
+static int *optind_at = &optind, *signgam_at = &signgam;
+static char **optarg_at = &optarg;
 static volatile char seen;
 
-enum { ROOM = 64 };
+enum { ROOM = 64, BIG = 16384 };
+
+static char *zeroed(size_t bytes) { return calloc(1, bytes); }
+static wchar_t *wide_block(const wchar_t *content) {
+    return wmemcpy(calloc(ROOM, sizeof *content), content, wcslen(content));
+}
+static FILE *wide_text(void) {
+    FILE *made_of = tmpfile();
+    pwrite(fileno(made_of), "first line\nsecond\n", 18, 0);
+    return made_of;
+}
+static size_t host_size(void) {
+    char host[ROOM] = "";
+    return gethostname(host, sizeof host) == 0 ? strlen(host) + 1 : 0;
+}
+static size_t domain_size(void) {
+    char domain[ROOM] = "";
+    return getdomainname(domain, sizeof domain) == 0 ? strlen(domain) + 1 : 0;
+}
+static size_t loop_size(void) {
+    char found[IF_NAMESIZE];
+    return if_indextoname(1, found) ? strlen(found) + 1 : 0;
+}
 
 static char *block(const char *content) { return memcpy(calloc(1, ROOM), content, strlen(content)); }
+
+static void prepare_strings(void) {
+    pair = block("42 alph");
+    scanned = block("%d %s");
+    hour = block("%H");
+    path = block("/no/where/at/all");
+    other_path = block("/other");
+    folder_path = block("/abc/");
+    root = block("/");
+    made = block("/no/abcdXXXXXX");
+    user = block("root");
+    address = block("127.0.0.1");
+    wide_a = wide_block(L"alpha");
+    wide_b = wide_block(L"beta gamma");
+    wide_c = wide_block(L"alps");
+    wide_space = wide_block(L" ");
+    wide_pair = wide_block(L"42 alph");
+    wide_digits = wide_block(L"42x");
+    wide_decimals = wide_block(L"1.5x");
+    wide_rest = malloc(sizeof *wide_rest);
+    *wide_rest = wide_b;
+    words = calloc(4, sizeof *words);
+    words[0] = block("program");
+    words[1] = block("-a");
+}
+
+static void prepare_structs(void) {
+    *(struct tm *)(day = zeroed(ROOM)) = (struct tm){.tm_mday = 1, .tm_year = 100, .tm_wday = 6};
+    fegetenv((fenv_t *)(environment = zeroed(ROOM)));
+    static char state[ROOM];
+    initstate_r(5, state, sizeof state, (struct random_data *)(random_state = zeroed(ROOM)));
+    ((struct sigevent *)(event = zeroed(ROOM)))->sigev_notify = SIGEV_NONE;
+    regcomp((regex_t *)(compiled = zeroed(ROOM)), "gam", 0);
+    struct dirent *found = (struct dirent *)zeroed(sizeof *found);
+    strcpy(found->d_name, "x");
+    *(struct dirent **)(entry = zeroed(ROOM)) = found;
+    struct iovec *both = (struct iovec *)(pieces = zeroed(ROOM));
+    both[0] = (struct iovec){b, 4};
+    both[1] = (struct iovec){c, 3};
+    *(struct msghdr *)(message = zeroed(ROOM)) = (struct msghdr){.msg_iov = both, .msg_iovlen = 2};
+    struct pollfd *files = (struct pollfd *)(polled = zeroed(ROOM));
+    files[0].fd = files[1].fd = -1;
+    ((struct addrinfo *)(hints = zeroed(ROOM)))->ai_flags = AI_NUMERICHOST;
+    ((struct sockaddr_in *)(name = zeroed(ROOM)))->sin_family = AF_INET;
+}
+
+static void prepare_more(void) {
+    big = zeroed(BIG);
+    other = zeroed(BIG);
+    third = zeroed(BIG);
+    many = zeroed(BIG);
+    prepare_strings();
+    prepare_structs();
+    out = malloc(sizeof *out);
+    *out = a;
+    room = malloc(sizeof *room);
+    *room = ROOM;
+    rewinddir(folder);
+}
 
 static void prepare(void) {
     a = block("alpha");
@@ -46,9 +162,29 @@ static void prepare(void) {
     *rest = b;
     size = malloc(sizeof *size);
     *size = ROOM;
-    wide = calloc(ROOM, sizeof *wide);
-    other_wide = calloc(ROOM, sizeof *wide);
+    wide = wide_block(L"");
+    other_wide = wide_block(L"");
+    prepare_more();
     text = fmemopen((char *)"first line\nsecond\n", 18, "r");
+}
+
+/* Before the cases, some of which have sizes that depend on these. */
+__attribute__((constructor(101))) static void prepare_files(void) {
+    nothing = fopen("/dev/null", "w");
+    zeros = open("/dev/zero", O_RDONLY);
+    wide_nothing = fopen("/dev/null", "w");
+    folder = opendir("/");
+    events = eventfd(0, 0);
+    waiting = epoll_create1(0);
+    struct epoll_event ready = {.events = EPOLLIN};
+    epoll_ctl(waiting, EPOLL_CTL_ADD, eventfd(1, 0), &ready);
+    terminal = posix_openpt(O_RDWR | O_NOCTTY);
+    timer_file = timerfd_create(CLOCK_MONOTONIC, 0);
+    struct sigevent none = {.sigev_notify = SIGEV_NONE};
+    timer_create(CLOCK_REALTIME, &none, &timer);
+    locale = newlocale(LC_ALL_MASK, "C", NULL);
+    converter = iconv_open("UTF-8", "ASCII");
+    page = mmap(NULL, 8192, PROT_READ | PROT_WRITE, MAP_PRIVATE | MAP_ANONYMOUS, -1, 0);
 }
 
 struct piece {
@@ -56,13 +192,17 @@ struct piece {
     void *base;
     size_t first, count;
 };
-#define R(BASE, FIRST, COUNT) {'R', &BASE, FIRST, COUNT}
-#define W(BASE, FIRST, COUNT) {'W', &BASE, FIRST, COUNT}
+#define R(BASE, ...) {'R', &BASE, __VA_ARGS__}
+#define W(BASE, ...) {'W', &BASE, __VA_ARGS__}
 
-enum { MOST_PIECES = 8, MOST_CASES = 200 };
+/* A variable of the library, written: what stands behind it is another one. */
+#define G(BASE, ...) {'G', &BASE, __VA_ARGS__}
+
+enum { MOST_PIECES = 8, MOST_CASES = 1000 };
 
 struct test {
     void (*call)(void);
+    const char *file;
     int line;
     struct piece pieces[MOST_PIECES];
 };
@@ -73,11 +213,28 @@ static int count;
 #define CASE_OF(NAME, LINE, CALL, ...) \
     static void NAME(void) { CALL; } \
     __attribute__((constructor)) static void add_##NAME(void) { \
-        tests[count++] = (struct test){NAME, LINE, {__VA_ARGS__}}; \
+        tests[count++] = (struct test){NAME, __FILE__, LINE, {__VA_ARGS__}}; \
     }
-#define NAMED(LINE, CALL, ...) CASE_OF(case_##LINE, LINE, CALL, __VA_ARGS__)
-#define AT(LINE, CALL, ...) NAMED(LINE, CALL, __VA_ARGS__)
-#define CASE(CALL, ...) AT(__LINE__, CALL, __VA_ARGS__)
+/* What two calls share inside. */
+static struct shared {
+    void (*call)(void), (*other)(void);
+    const char *file;
+    int line, bytes;
+} shared[100];
+static int shared_count;
+
+#define SHARED_OF(NUMBER, BYTES, CALL, OTHER) \
+    static void shared_##NUMBER(void) { CALL; } \
+    static void other_##NUMBER(void) { OTHER; } \
+    __attribute__((constructor)) static void share_##NUMBER(void) { \
+        shared[shared_count++] = (struct shared){shared_##NUMBER, other_##NUMBER, __FILE__, __LINE__, BYTES}; \
+    }
+#define SHARED_AT(NUMBER, BYTES, CALL, OTHER) SHARED_OF(NUMBER, BYTES, CALL, OTHER)
+#define SHARED(BYTES, CALL, OTHER) SHARED_AT(__COUNTER__, BYTES, CALL, OTHER)
+
+#define NAMED(NUMBER, CALL, ...) CASE_OF(case_##NUMBER, __LINE__, CALL, __VA_ARGS__)
+#define AT(NUMBER, CALL, ...) NAMED(NUMBER, CALL, __VA_ARGS__)
+#define CASE(CALL, ...) AT(__COUNTER__, CALL, __VA_ARGS__)
 
 CASE(memcpy(a, b, 7), R(b, 0, 7), W(a, 0, 7))
 CASE(memmove(a, b, 7), R(b, 0, 7), W(a, 0, 7))
@@ -159,7 +316,7 @@ CASE(sink = (int)strtold(decimals, rest), R(decimals, 0, 4), W(rest, 0, 8))
         CALL; \
         va_end(list); \
     } \
-    CASE_OF(case_##LINE, LINE, listed_##LINE(two, b), R(b, 0, 11), R(two, 0, 4), __VA_ARGS__)
+    CASE_OF(listed_case_##LINE, LINE, listed_##LINE(two, b), R(b, 0, 11), R(two, 0, 4), __VA_ARGS__)
 #define LISTED_AT(LINE, CALL, ...) LISTED_OF(LINE, CALL, __VA_ARGS__)
 #define LISTED(CALL, ...) LISTED_AT(__LINE__, CALL, __VA_ARGS__)
 #define PRINTED R(b, 0, 11), R(two, 0, 4)
@@ -283,6 +440,9 @@ CASE(sink = (int)pread64(zeros, a, 7, 0), W(a, 0, 7))
 CASE(sink = (int)__pread64_chk(zeros, a, 7, 0, ROOM), W(a, 0, 7))
 CASE(sink = (int)pwrite64(fileno(nothing), b, 7, 0), R(b, 0, 7))
 
+#include "library_cases.h"
+#include "language_cases.h"
+
 /* Whether the call touches this byte in one of these ways. */
 static bool is_touched(const struct test *test, const char *at, const char *kinds) {
     for (const struct piece *piece = test->pieces; piece->count > 0; piece++) {
@@ -315,7 +475,8 @@ static int races_of(const struct test *test) {
         bool reads = piece->kind == 'R';
         try(test, piece, 0, reads, "");
         try(test, piece, piece->count - 1, reads, "");
-        try(test, piece, piece->count, true, "RW");
+        if (piece->kind != 'G')
+            try(test, piece, piece->count, true, "RW");
         if (reads)
             try(test, piece, 0, false, "W");
         races += 2;
@@ -323,14 +484,28 @@ static int races_of(const struct test *test) {
     return races;
 }
 
-int main(int words, char **word) {
-    FILE *listing = fopen(words > 1 ? word[1] : "/dev/stdout", "w");
-    nothing = fopen("/dev/null", "w");
-    zeros = open("/dev/zero", O_RDONLY);
+static void share(const struct shared *both) {
+    prepare();
+    folder = opendir("/");
+    cilk_spawn both->call();
+    both->other();
+    cilk_sync;
+}
+
+int main(int words_given, char **word) {
+    FILE *listing = fopen(words_given > 1 ? word[1] : "/dev/stdout", "w");
+    dup2(open("/dev/null", O_RDONLY), STDIN_FILENO);
+    dup2(fileno(nothing), STDERR_FILENO);
     socketpair(AF_UNIX, SOCK_STREAM, 0, sockets);
     char many[ROOM * 1000] = {0};
     send(sockets[1], many, sizeof many, 0);
     for (int at = 0; at < count; at++)
-        fprintf(listing, "%d %s:%d\n", races_of(&tests[at]), __FILE__, tests[at].line);
+        fprintf(listing, "%d %s:%d\n", races_of(&tests[at]), tests[at].file, tests[at].line);
+        fflush(listing);
+    for (int at = 0; at < shared_count; at++) {
+        share(&shared[at]);
+        fprintf(listing, "%d %s:%d %s:%d\n", shared[at].bytes, shared[at].file, shared[at].line, shared[at].file,
+                shared[at].line);
+    }
     fclose(listing);
 }

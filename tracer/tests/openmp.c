@@ -1,6 +1,9 @@
-/* Ways of OpenMP that the report has to say something about, or that end the run. The word names the way. */
+/* Ways of OpenMP that the report has to say something about, or that end the run. The word names the way, and a second
+   one the status. */
 #include <omp.h>
+#include <stdbool.h>
 #include <stdio.h>
+#include <stdlib.h>
 #include <string.h>
 
 static int one, other, after, row[9], counts[8];
@@ -43,10 +46,11 @@ static void grouped(void) {
     other++;
 }
 
-/* What comes after the taskwait runs beside the loop. */
+/* What comes after the taskwait runs beside the loop. The one in the single region waits for no iteration. */
 static void no_barrier(void) {
 #pragma omp parallel
     {
+        int mine_too = 0;
 #pragma omp for nowait
         for (int i = 0; i < 3; i++)
             row[i] = i;
@@ -54,9 +58,13 @@ static void no_barrier(void) {
         {
 #pragma omp task
             one = 1;
-#pragma omp taskwait /* [waits_on] */
+#pragma omp taskwait
             after = one;
         }
+#pragma omp task shared(mine_too)
+        mine_too = 1;
+#pragma omp taskwait /* [waits_on] */
+        (void)mine_too;
     }
 }
 
@@ -71,6 +79,33 @@ static void numbered(void) {
 #pragma omp parallel for
     for (int i = 0; i < 8; i++)
         counts[omp_get_thread_num()]++; /* [numbered] */
+}
+
+/* A team of several threads gives no answer. */
+static void numbered_once(void) {
+#pragma omp parallel for
+    for (int i = 0; i < 8; i++) {
+        counts[omp_get_thread_num()]++; /* [numbered once] */
+        if (omp_get_num_threads() > 1)
+            abort();
+    }
+}
+
+/* Another run finds the file that this one leaves. */
+static void numbered_file(void) {
+    FILE *file = fopen("left", "wx");
+    if (!file)
+        return;
+    fclose(file);
+#pragma omp parallel for
+    for (int i = 0; i < 8; i++)
+        counts[omp_get_thread_num()]++; /* [numbered file] */
+}
+
+static void numbered_blocks(void) {
+#pragma omp parallel for
+    for (int i = 0; i < 16; i++)
+        counts[omp_get_thread_num()]++;
 }
 
 static void thread_memory(void) {
@@ -95,24 +130,255 @@ static void lock(void) {
 #pragma omp taskwait
 }
 
+/* ---- What each thread of a team does, and the run does once ---- */
+
+static void each_thread(void) {
+#pragma omp parallel /* [team] */
+    one++; /* [each] */
+}
+
+static void each_task(void) {
+#pragma omp parallel
+    {
+#pragma omp task
+        other = 1; /* [each task] */
+#pragma omp taskwait
+    }
+}
+
+static void each_inner(void) {
+#pragma omp parallel
+    {
+#pragma omp parallel
+        one = 1; /* [each inner] */
+    }
+}
+
+/* One thread may be late for the single region, and another one already in it. */
+static void late_thread(void) {
+#pragma omp parallel
+    {
+        if (one == 0) /* [late] */
+            printf("late\n");
+#pragma omp single
+        one = 1; /* [single] */
+    }
+}
+
+static void single_nowait(void) {
+#pragma omp parallel
+    {
+#pragma omp single nowait
+        one = 1; /* [nowait] */
+        printf("%d\n", one); /* [beside nowait] */
+    }
+}
+
+static void master(void) {
+#pragma omp parallel
+    {
+#pragma omp master
+        one = 1; /* [master] */
+        printf("%d\n", one); /* [beside master] */
+    }
+}
+
+static void master_loop(void) {
+#pragma omp parallel
+    {
+#pragma omp masked filter(1)
+        row[3] = 1; /* [masked] */
+#pragma omp for
+        for (int i = 0; i < 4; i++)
+            row[i]++; /* [beside masked] */
+    }
+}
+
+static void summed_nowait(void) {
+    int sum = 0;
+#pragma omp parallel
+    {
+#pragma omp for reduction(+ : sum) nowait /* [summed] */
+        for (int i = 0; i < 4; i++)
+            sum += i;
+        printf("%d\n", sum); /* [sum] */
+    }
+}
+
+static void guarded(void) {
+    omp_lock_t lock;
+    omp_init_lock(&lock);
+#pragma omp parallel
+    {
+#pragma omp critical
+        one++; /* [critical] */
+#pragma omp atomic
+        other++; /* [atomic] */
+        omp_set_lock(&lock);
+        after++; /* [locked] */
+        omp_unset_lock(&lock);
+    }
+}
+
+/* The threads part at each barrier, and what they have of their own is no shared memory. */
+static void no_race(void) {
+    int sum = 0, all = 0;
+#pragma omp parallel reduction(+ : sum)
+    {
+        int local[4], *block = malloc(sizeof local);
+        memset(local, 0, sizeof local);
+        memcpy(block, local, sizeof local);
+        sum += block[1];
+        free(block);
+#pragma omp single
+        one = 1;
+        sum += one;
+#pragma omp barrier
+#pragma omp master
+        one = 2;
+#pragma omp barrier
+#pragma omp for
+        for (int i = 0; i < 9; i++)
+            row[i] = one;
+#pragma omp for reduction(+ : all)
+        for (int i = 0; i < 9; i++)
+            all += row[8 - i];
+#pragma omp sections
+        {
+#pragma omp section
+            other = all;
+#pragma omp section
+            after = one;
+        }
+    }
+#pragma omp parallel num_threads(1)
+    one++;
+#pragma omp parallel if (one == 0)
+    one += omp_get_thread_num();
+#pragma omp parallel master
+    one++;
+}
+
+static void by_number(void) {
+#pragma omp parallel /* [unlike] */
+    {
+        int thread = omp_get_thread_num(); /* [asks] */
+        row[thread] = 1; /* [by number] */
+    }
+}
+
+static void by_number_read(void) {
+#pragma omp parallel /* [unlike read] */
+    if (omp_get_thread_num() == 1) /* [asks read] */
+        one++;
+}
+
+static void exits(void) {
+#pragma omp parallel /* [exits] */
+    {
+        one++;
+        exit(0);
+    }
+}
+
+static void two_masters(void) {
+#pragma omp parallel
+    {
+#pragma omp master
+        one = 1;
+#pragma omp master /* [second master] */
+        one++;
+    }
+}
+
+static void after_ordered(void) {
+#pragma omp parallel for ordered
+    for (int i = 0; i < 4; i++) {
+#pragma omp ordered
+        one++;
+        other = i; /* [after ordered] */
+    }
+}
+
+static void ordered_last(void) {
+#pragma omp parallel for ordered
+    for (int i = 0; i < 4; i++) {
+        row[i] = i;
+#pragma omp ordered
+        one++;
+    }
+}
+
+static void alike(void) {
+#pragma omp parallel
+    {
+#pragma omp for schedule(static) nowait
+        for (int i = 0; i < 1; i++) /* [one loop] */
+            row[i] = i; /* [one static] */
+#pragma omp for schedule(static)
+        for (int i = 0; i < 1; i++) /* [other loop] */
+            row[i]++; /* [other static] */
+    }
+}
+
+static void lanes(void) {
+    if (one == 0)
+#pragma omp simd /* [lanes] */
+        for (int i = 1; i < 9; i++)
+            row[i] = row[i - 1];
+}
+
+static void task_number(void) {
+#pragma omp task
+    counts[omp_get_thread_num()] = 1; /* [task asks] */
+}
+
 int main(int count, char **words) {
     static const struct {
         const char *name;
         void (*run)(void);
-    } ways[] = {{"neighbours", neighbours}, {"numbered", numbered}, {"thread_memory", thread_memory},
-                {"no_barrier", no_barrier}, {"nested", nested},     {"outlives", outlives},
-                {"grouped", grouped},       {"lock", lock}};
+        bool is_serial;
+    } ways[] = {{"neighbours", neighbours, true},
+                {"numbered", numbered, true},
+                {"numbered_blocks", numbered_blocks, true},
+                {"numbered_once", numbered_once, true},
+                {"numbered_file", numbered_file, true},
+                {"thread_memory", thread_memory, true},
+                {"no_barrier", no_barrier, true},
+                {"nested", nested, true},
+                {"outlives", outlives, false},
+                {"grouped", grouped, false},
+                {"lock", lock, false},
+                {"each_thread", each_thread, true},
+                {"each_task", each_task, true},
+                {"each_inner", each_inner, true},
+                {"late_thread", late_thread, true},
+                {"single_nowait", single_nowait, true},
+                {"master", master, true},
+                {"master_loop", master_loop, true},
+                {"summed_nowait", summed_nowait, true},
+                {"guarded", guarded, true},
+                {"no_race", no_race, true},
+                {"by_number", by_number, true},
+                {"by_number_read", by_number_read, true},
+                {"exits", exits, true},
+                {"two_masters", two_masters, true},
+                {"after_ordered", after_ordered, true},
+                {"ordered_last", ordered_last, true},
+                {"alike", alike, true},
+                {"lanes", lanes, true},
+                {"task_number", task_number, false}};
     const char *word = count > 1 ? words[1] : "";
     for (size_t way = 0; way < sizeof ways / sizeof *ways; way++)
         if (strcmp(word, ways[way].name) == 0) {
-            if (way < 5)
+            if (ways[way].is_serial)
                 ways[way].run();
             else {
 #pragma omp parallel
 #pragma omp single
                 ways[way].run();
             }
-            return 0;
+            return count > 2 ? atoi(words[2]) : 0;
         }
     return 3;
 }

@@ -74,9 +74,22 @@ check_openmp_ways() {
     count $? "$source: compile"
     wait="openmp.c:$(line_of "$source" '[waits]').* wait for 2 .* from .*openmp.c:$(line_of "$source" '[makes]')"
     check_openmp_way outlives 0 "$wait" ""
-    SPBAGS_STRICT=1 check_openmp_way outlives 2 'this wait doesn.t wait for 2 ' ""
+    SPBAGS_EXITCODE=9 check_openmp_way outlives 3 'this wait doesn.t wait for 2 ' ""
+    ends_with 3 "" "$here/spbags-run" -- ./ways outlives &&
+        tr -s '\n ' ' ' <output | grep -q "$wait"
+    count $? "tests/openmp.c, outlives: spbags-run's status and line"
+    ends_with 0 "" "$here/spbags-run" --incomplete-ok -- ./ways outlives &&
+        tr -s '\n ' ' ' <output | grep -q "$wait"
+    count $? "tests/openmp.c, outlives: --incomplete-ok"
+    ends_with 0 "" env SPBAGS_TRACE=run.trace SPBAGS_EXITCODE=9 SPBAGS_INCOMPLETE_OK=1 ./ways outlives
+    count $? "tests/openmp.c, outlives: SPBAGS_INCOMPLETE_OK"
+    ends_with 5 "" env SPBAGS_TRACE=run.trace SPBAGS_EXITCODE=9 ./ways outlives 5
+    count $? "tests/openmp.c, outlives: a status of the program's own"
+    SPBAGS_TEAM=1 SPBAGS_ITERATIONS=4 ends_with 1 "" "$here/spbags-run" -- ./ways numbered &&
+        tr -s '\n ' ' ' <output | grep -q 'SPBAGS_ITERATIONS=4 makes'
+    count $? "tests/openmp.c, numbered: races, and what wasn't seen"
     check_openmp_way grouped 0 "" ""
-    check_openmp_way no_barrier 0 "openmp.c:$(line_of "$source" '[waits_on]').* wait for 3 " ""
+    check_openmp_way no_barrier 0 "openmp.c:$(line_of "$source" '[waits_on]').* wait for 4 " ""
     check_openmp_way neighbours 0 "" "4 $turn $turn"
     SPBAGS_ITERATIONS=2 check_openmp_way neighbours 0 'SPBAGS_ITERATIONS=2 makes' ""
     turn=$(line_of "$source" '[numbered]')
@@ -94,6 +107,65 @@ check_openmp_ways() {
     count $? "tests/openmp.c: a team that is none"
     ./ways outlives 2>/dev/null
     count $? "tests/openmp.c: no trace"
+}
+
+# Runs tests/openmp.c in one of its ways by spbags-run: the status, the report's pairs of tagged lines, and a line.
+check_openmp_answer() {
+    local way=$1 status=$2 line=$3 one=$4 other=$5 source=tracer/tests/openmp.c wanted=
+    [ "$one" = "" ] || wanted="1 $(line_of "$source" "[$one]") $(line_of "$source" "[$other]")"
+    ends_with "$status" "" "$here/spbags-run" --json -- ./ways "$way"
+    count $? "tests/openmp.c, $way: status $status"
+    same "$wanted" "$("$here/tests/run.py" brief <output | sed "s,$source:,,g")"
+    count $? "tests/openmp.c, $way: the report"
+    if [ "$line" = "" ]; then
+        grep -q '"incomplete": \[\]' output
+    else
+        grep -q "$line" output
+    fi
+    count $? "tests/openmp.c, $way: ${line:-all was modelled}"
+}
+
+# What each thread of a team does, and the run does once.
+check_openmp_replicated() {
+    local source=tracer/tests/openmp.c each="openmp.c:[0-9]*: each thread does what stands in this parallel region"
+    "$here/spbags-cc" -fopenmp -Wall -Werror -o ways "$source"
+    count $? "$source: compile without a warning"
+    check_openmp_answer each_thread 1 "${each/[0-9]\*/$(line_of "$source" '[team]')}" each each
+    check_openmp_answer each_task 1 "$each" "each task" "each task"
+    check_openmp_answer each_inner 1 "$each" "each inner" "each inner"
+    check_openmp_answer late_thread 1 "" late single
+    check_openmp_answer single_nowait 1 "" nowait "beside nowait"
+    check_openmp_answer master 1 "" master "beside master"
+    check_openmp_answer master_loop 1 "" masked "beside masked"
+    check_openmp_answer summed_nowait 1 "" summed sum
+    check_openmp_answer no_race 0 "" "" ""
+    check_openmp_answer by_number 3 "openmp.c:$(line_of "$source" '[unlike]'): .*openmp.c:$(line_of "$source" \
+        '[asks]'), .*thread 0 does. It writes .*openmp.c:$(line_of "$source" '[by number]')" "" ""
+    check_openmp_answer by_number_read 3 "openmp.c:$(line_of "$source" '[unlike read]'): .*thread 0 does\"" "" ""
+    check_openmp_answer exits 3 "openmp.c:$(line_of "$source" '[exits]'): the run ends inside" "" ""
+    check_openmp_answer two_masters 3 "openmp.c:$(line_of "$source" '[second master]'): no barrier" "" ""
+    check_openmp_answer after_ordered 3 "openmp.c:$(line_of "$source" '[after ordered]'): this access" "" ""
+    check_openmp_answer ordered_last 0 "" "" ""
+    check_openmp_answer alike 1 "openmp.c:$(line_of "$source" '[one loop]') and .*openmp.c:$(line_of "$source" \
+        '[other loop]'): no barrier" "one static" "other static"
+    check_openmp_answer lanes 0 "openmp.c:$(line_of "$source" '[lanes]'): a loop with simd alone" "" ""
+    check_openmp_answer task_number 0 "" "" ""
+    check_openmp_answer numbered 0 "the report is that of a team of 8; .* 1 location would" "" ""
+    check_openmp_answer numbered_blocks 3 "SPBAGS_TEAM=8 gives each loop as many blocks" "" ""
+    SPBAGS_TEAM=1 check_openmp_answer numbered 1 "openmp.c:$(line_of "$source" '[numbered]'): a loop asks" \
+        numbered numbered
+    SPBAGS_TEAM=8 check_openmp_answer numbered 0 "" "" ""
+    check_openmp_answer numbered_once 1 "With that there is no answer: the program ended by signal 6" \
+        'numbered once' 'numbered once'
+    ends_with 1 "" "$here/spbags-run" --keep run.trace -- ./ways numbered_once
+    count $? "tests/openmp.c, numbered_once: with its trace kept"
+    check_openmp_answer numbered_file 1 "the program takes another course each time" 'numbered file' 'numbered file'
+    same "atomic,the critical region without a name,the lock " \
+        "$("$here/spbags-run" --json -- ./ways guarded | sed -n 's/^ *"guard": "\([^"]*\)".*/\1/p' |
+            sed 's/at 0x[0-9a-f]*//' | sort | paste -sd,)"
+    count $? "tests/openmp.c, guarded: what is held"
+    ends_with 0 "" "$here/spbags-run" --data-races -- ./ways guarded
+    count $? "tests/openmp.c, guarded: no data race"
 }
 
 # With --data-races what both do under one guard is left out.
@@ -126,9 +198,6 @@ check_openmp_refused() {
             "$here/spbags-cc" -fopenmp -o unknown unknown.c
         count $? "clang's OpenMP"
     fi
-    "$here/spbags-cc" -fopenmp -c openmp_fib.c
-    ends_with 1 'openmp_fib.c:[0-9]*: GOMP_task: link with -fopenmp' "$here/spbags-cc" -o unknown openmp_fib.o
-    count $? "a link without -fopenmp"
     ends_with 1 'fib.c:8: error: Cilk can.t be traced beside OpenMP' "$here/spbags-cc" -fopenmp -c fib.c
     count $? "Cilk beside OpenMP"
     cp fib.c fib_too.cpp
@@ -151,6 +220,39 @@ tagged_races() {
         } }' "$1" | sort
 }
 
+# libstdc++ counts a pointer's owners without atomic operations where a process has one thread.
+check_shared_pointer() {
+    cat >shared.cpp <<'END'
+#include <memory>
+int main() {
+    auto all = std::make_shared<int>(1);
+#pragma omp parallel for
+    for (int i = 0; i < 4; i++) {
+        std::shared_ptr<int> one = all;
+        if (*one != 1)
+            one.reset();
+    }
+}
+END
+    "$here/spbags-c++" "$level" -fopenmp -o shared shared.cpp
+    same '"guard": "atomic",' "$("$here/spbags-run" --json -- ./shared | grep -o '"guard": .*' | sort -u)"
+    count $? "shared_ptr $level: its counter is atomic"
+}
+
+check_cilk_cplusplus() {
+    local source=tracer/tests/loops.cpp
+    "$here/spbags-c++" "$level" -o loops "$source"
+    count $? "$source, $level"
+    same "" "$(found_by_run ./loops clean)"
+    count $? "$source, clean"
+    same "$(for tag in last shared; do line_of "$source" "[$tag]"; done)" \
+        "$(found_by_run ./loops racy | sed "s,.* $source:,," | sort -n)"
+    count $? "$source, racy"
+    "$here/spbags-run" -- ./loops thrown >output 2>&1
+    [ $? = 3 ] && grep -q "$source:$(line_of "$source" 'i < 4'): an exception leaves a child here" output
+    count $? "$source, an exception"
+}
+
 check_cplusplus() {
     local source=tracer/tests/cplusplus.cpp
     "$here/spbags-c++" "$level" -fopenmp -o cplusplus "$source"
@@ -162,6 +264,7 @@ check_cplusplus() {
     count $? "$source $level: no race"
     same "early late: two threw, 24 letters, 4 sides" "$(cat output)"
     count $? "$source $level: what it prints"
+    check_shared_pointer
     printf 'void operator delete(void *block) noexcept { }\nint main() { delete new int; }\n' >own_delete.cpp
     ends_with 1 'leave out the program.s' "$here/spbags-c++" -o own_delete own_delete.cpp
     count $? "a delete of its own"
@@ -169,6 +272,19 @@ check_cplusplus() {
     "$here/spbags-c++" -o thread thread.cpp &&
         ends_with 2 'the program starts a thread' env SPBAGS_TRACE=run.trace ./thread
     count $? "std::thread"
+}
+
+# What the library has of containers is seen, and does what the library's own does.
+check_containers() {
+    local source=tracer/tests/containers.cpp tag
+    "$here/spbags-c++" -fopenmp -o containers "$source" && g++ -o plain "$source"
+    count $? "$source: compile"
+    ends_with 0 "" "$here/spbags-run" -- ./containers && same "$(./plain)" "$(grep -v '^races' output)"
+    count $? "$source: the same output, and nothing that isn't seen"
+    same "$(for tag in list tree; do
+        echo "$source:$(line_of "$source" "[$tag]") $source:$(line_of "$source" "[into $tag]")"
+    done | sort)" "$(found_by_run ./containers racy | cut -d' ' -f2- | sort)"
+    count $? "$source: races"
 }
 
 # Starts the checks, where the compilers have OpenMP.
@@ -184,7 +300,11 @@ start_openmp() {
     done
     unset CC
     for level in -O0 -O1; do
-        run_checks "openmp$level" check_openmp_examples check_cplusplus &
+        run_checks "openmp$level" check_openmp_examples check_cplusplus check_cilk_cplusplus &
     done
-    run_checks openmp check_openmp_outputs check_openmp_ways check_openmp_guards check_openmp_refused &
+    CC=gcc run_checks link check_unknown check_library_with_openmp check_known check_refused_objects check_openmp_link \
+        check_options check_shared_libraries &
+    CC=gcc run_checks link_built check_cmake check_meson &
+    run_checks openmp check_openmp_outputs check_openmp_ways check_openmp_replicated check_openmp_guards \
+        check_openmp_refused check_containers &
 }

@@ -12,7 +12,6 @@ import argparse
 import collections
 import os
 import random
-import struct
 import subprocess
 import sys
 import tempfile
@@ -21,6 +20,9 @@ from concurrent.futures import ThreadPoolExecutor
 
 HERE = os.path.dirname(os.path.realpath(__file__))
 TRACER = os.path.dirname(HERE)
+sys.dont_write_bytecode = True
+sys.path.insert(0, TRACER)
+import answers
 SPBAGS = os.path.realpath(os.environ.get("SPBAGS", os.path.join(TRACER, "..", "spbags")))
 BATCH, GLOBALS, MOST_STEPS = 25, 4, 400
 
@@ -84,9 +86,9 @@ class Function:
         return (name, "*" + name, name) if on_heap else ("&" + name, name, name)
 
     def declare(self):
-        for at in range(self.random.randint(1, 3)):
-            name, on_heap = f"v{at}", self.random.random() < 0.3
-            tag = f"{self.name}.{name}"
+        for _ in range(self.random.randint(1, 3)):
+            name, on_heap = f"v{len(self.locals)}", self.random.random() < 0.3
+            tag = f"{self.name}.{len(self.writer.cilk)}.{name}"
             if on_heap:
                 self.writer.line(f"number *{name} = malloc(sizeof *{name});", "")
                 made = f"*{name} = 0;"
@@ -109,10 +111,11 @@ class Function:
         callee = self.random.randrange(self.at)
         (_, this, judged), (a, _, judged_a), (b, _, judged_b) = (self.variable() for _ in range(3))
         stores = self.random.random() < 0.5
+        sign = self.random.choice(("=", "+=")) if spawns else "="
         call = f"{'cilk_spawn ' if spawns else ''}p{self.writer.number}_f{callee}({a}, {b});"
         told = f"p{self.writer.number}_f{callee}({judged_a}, {judged_b});"
         told += f" touch({judged}, true);" if stores else ""
-        self.writer.line(f"{this} = {call}" if stores else call, f"spawn(); {told} spawned();" if spawns else told)
+        self.writer.line(f"{this} {sign} {call}" if stores else call, f"spawn(); {told} spawned();" if spawns else told)
         self.steps += self.writer.steps[callee]
 
     def statement(self, deep):
@@ -124,26 +127,45 @@ class Function:
             self.call(False)
         elif kind == 6:
             self.writer.line("cilk_sync;", "sync_children();")
-        elif kind == 7 and not deep:
-            self.loop()
+        elif kind == 7 and deep < 2:
+            self.random.choice((self.loop, self.parallel_loop, self.scope))(deep + 1)
         else:
             self.access()
         self.steps += 1
 
-    def loop(self):
+    def statements(self, deep):
+        for _ in range(self.random.randint(1, 3)):
+            self.statement(deep)
+
+    def loop(self, deep):
         before = self.steps
         self.writer.line("for (int i = 0; i < 2; i++) {", "for (int i = 0; i < 2; i++) {")
-        for _ in range(self.random.randint(1, 3)):
-            self.statement(True)
+        self.statements(deep)
         self.writer.line("}", "}")
         self.steps += self.steps - before
+
+    def parallel_loop(self, deep):
+        """Each iteration is a child, with a function's locals and syncs, and the loop is a function that is called."""
+        before, known = self.steps, len(self.locals)
+        self.writer.line("cilk_for (int i = 0; i < 2; i++) {",
+                         "enter(); for (int i = 0; i < 2; i++) { spawn(); enter();")
+        self.declare()
+        self.statements(deep)
+        self.writer.line("}", "leave(); spawned(); } leave();")
+        del self.locals[known:]
+        self.steps += self.steps - before
+
+    def scope(self, deep):
+        self.writer.line("cilk_scope {", "enter(); {")
+        self.statements(deep)
+        self.writer.line("}", "} leave();")
 
     def write(self):
         self.writer.line(f"static int {self.name}(number *q, number *r) {{",
                          f"static void {self.name}(int q, int r) {{ enter();")
         self.declare()
         for _ in range(self.random.randint(2, 8)):
-            self.statement(False)
+            self.statement(0)
         self.writer.line("return 1; }", "leave(); }")
         self.writer.steps.append(self.steps + 1)
 
@@ -197,12 +219,13 @@ class Batch:
             self.differ.add(number)
         racy = {line.split()[1] for line in report.splitlines()[1:]}
         codes = {}
-        with open(trace, encoding="ascii") as records, open(trace + ".places", "rb") as places:
+        places = answers.places_of(trace + ".places")
+        with open(trace, encoding="ascii") as records:
             next(records)
-            for record in records:
-                code, location = places.read(8), record[:-1].rpartition(" ")[2]
+            for place, record in enumerate(records, 1):
+                location = record[:-1].rpartition(" ")[2]
                 if location in racy:
-                    codes.setdefault(location, struct.unpack("<Q", code)[0] - 1)
+                    codes.setdefault(location, places.site(place).code - 1)
         os.remove(trace)
         os.remove(trace + ".places")
         return codes

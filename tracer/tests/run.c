@@ -1,5 +1,6 @@
 /* Races that run.py knows: the first word says which. The tags name lines. */
 #include <cilk/cilk.h>
+#include <fcntl.h>
 #include <pthread.h>
 #include <stdatomic.h>
 #include <stdio.h>
@@ -142,6 +143,112 @@ static void of_one_guard(void) {
     guarded = 2; /* [no turn] */
 }
 
+/* Which run this is here: each makes a file longer. */
+static off_t run_number(void) {
+    int file = open("ran", O_WRONLY | O_CREAT | O_APPEND, 0666);
+    ssize_t wrote = write(file, "+", 1);
+    off_t length = lseek(file, 0, SEEK_END);
+    close(file);
+    return wrote == 1 ? length : 0;
+}
+
+static int is_first(void) { return run_number() == 1; }
+
+static void of_a_file(void) {
+    if (is_first())
+        of_a_global();
+}
+
+static void of_a_file_later(void) {
+    of_a_global();
+    if (is_first())
+        of_a_static();
+}
+
+static void of_a_file_of_guards(void) {
+    if (is_first())
+        of_guards();
+}
+
+/* More records than a small disk has room for. */
+static void of_a_small_disk(void) {
+    if (!is_first())
+        return;
+    of_a_global();
+    for (int i = 0; i < 200; i++)
+        cilk_spawn set_all();
+    cilk_sync;
+    cilk_spawn turn();
+    turn();
+}
+
+struct flags {
+    char first, second, third;
+    int number;
+};
+static volatile struct flags flags;
+
+static void set_flag(volatile char *at) {
+    *at = 1; /* [flag] */
+}
+
+static void of_two_flags(volatile struct flags *two) {
+    cilk_spawn set_flag(&two->first);
+    set_flag(&two->second);
+    cilk_sync;
+}
+
+/* Neighbours of a global, of the heap and of a local, whose children's results are neighbours too. */
+static char letter_of(int at) { return (char)('a' + at); }
+
+static void of_more_neighbours(void) {
+    volatile struct flags local = {0, 0, 0, 0};
+    char results[3];
+    of_two_flags(&flags);
+    of_two_flags(calloc(1, sizeof local));
+    of_two_flags(&local);
+    for (int i = 0; i < 3; i++)
+        results[i] = cilk_spawn letter_of(i);
+    cilk_sync;
+    printf("%c\n", results[1]);
+}
+
+/* A byte that races, beside one that doesn't. */
+static void of_flags(void) {
+    of_more_neighbours();
+    cilk_spawn set_flag(&flags.third); /* [spawn flag] */
+    set_flag(&flags.third); /* [calls flag] */
+    set_flag(&flags.second);
+}
+
+/* Eight doubles, which are no bytes for the neighbours beside them. */
+static volatile double doubles[8];
+
+static void set_doubles(void) {
+    for (int i = 0; i < 8; i++)
+        doubles[i] = 1; /* [set doubles] */
+}
+
+static void of_doubles(void) {
+    of_neighbours();
+    cilk_spawn set_doubles();
+    for (int i = 0; i < 8; i++)
+        doubles[i] = 2; /* [doubles] */
+}
+
+/* In the first run two children write one byte, in later ones neighbours. */
+static void of_a_file_of_letters(void) {
+    int at = is_first() ? 5 : 6;
+    cilk_spawn set_letter(5);
+    set_letter(at);
+}
+
+/* Only the third run takes another course. */
+static void of_a_third_run(void) {
+    if (run_number() < 3)
+        of_a_letter();
+}
+
 static void set_in_header(void);
 
 static void of_a_header(void) {
@@ -156,7 +263,9 @@ static const struct {
     {"global", of_a_global}, {"static", of_a_static}, {"heap", of_the_heap}, {"library", of_a_library},
     {"thousand", of_a_thousand}, {"course", of_another_course}, {"input", of_the_input},
     {"neighbours", of_neighbours}, {"letter", of_a_letter}, {"guards", of_guards}, {"one guard", of_one_guard},
-    {"header", of_a_header},
+    {"header", of_a_header}, {"file", of_a_file}, {"later", of_a_file_later}, {"guards file", of_a_file_of_guards},
+    {"small disk", of_a_small_disk}, {"more neighbours", of_more_neighbours}, {"flags", of_flags},
+    {"doubles", of_doubles}, {"letters file", of_a_file_of_letters}, {"third", of_a_third_run},
 };
 
 /* Runs those that the words name, and ends with their number. */

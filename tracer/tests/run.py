@@ -3,6 +3,7 @@
 with the lines that tags in the source name. SPBAGS names the checker, and CC the compiler. The last line says how many
 passed and failed. With --inside the programs have the detector inside. With the word `brief` it prints the JSON object
 on standard input, a line for each pair of source lines."""
+import contextlib
 import json
 import os
 import pty
@@ -19,17 +20,30 @@ sys.dont_write_bytecode = True
 sys.path.insert(0, TRACER)
 import answers
 import source
+try:
+    import jsonschema
+except ImportError:
+    jsonschema = None
 RUN = os.path.join(TRACER, "spbags-run")
 SOURCE = os.path.join(HERE, "run.c")
 INSIDE = [word for word in sys.argv[1:] if word == "--inside"]
 
 
-def lines_of_tags():
-    with open(SOURCE) as file:
+def schema():
+    """What each JSON object of these tests is held against, if the library for it is here."""
+    with open(os.path.join(TRACER, "report.schema.json"), encoding="utf-8") as file:
+        return jsonschema.Draft202012Validator(json.load(file))
+
+
+SCHEMA = jsonschema and schema()
+
+
+def lines_of_tags(name):
+    with open(name) as file:
         return {tag: number for number, text in enumerate(file, 1) for tag in re.findall(r"/\* (\[.*?\]) \*/", text)}
 
 
-TAGS = lines_of_tags()
+TAGS = lines_of_tags(SOURCE)
 
 
 def run(*words, given=None, env=None, stdin=subprocess.DEVNULL):
@@ -44,7 +58,10 @@ def found_with(*command, options=(), given=None, env=None):
     """The status, and the JSON object of a run of this program."""
     status, said, errors = run(RUN, "--json", *options, "--", *command, given=given, env=env)
     assert said, (status, errors)
-    return status, json.loads(said)
+    report = json.loads(said)
+    if SCHEMA:
+        SCHEMA.validate(report)
+    return status, report
 
 
 def found(*words, **others):
@@ -53,7 +70,7 @@ def found(*words, **others):
 
 
 def stack_of(frames):
-    return [(frame["how"], tag_of(frame)) for frame in frames]
+    return [(frame["role"], tag_of(frame)) for frame in frames]
 
 
 def tag_of(position):
@@ -67,10 +84,14 @@ def sides_of(pair):
     return [stack_of(pair[name]["stack"]) for name in ("first", "second")]
 
 
-def parting_of(pair):
-    parting = pair["parting"]
-    names = [parting[name] and tag_of(parting[name]) for name in ("spawn", "goes_on", "waits")]
-    return (parting["function"], *names, parting["ends"])
+def missing_sync_of(pair):
+    missing_sync = pair["missing_sync"]
+    names = [missing_sync[name] and tag_of(missing_sync[name]) for name in ("spawn", "continues_at", "next_sync")]
+    return (missing_sync["function"], *names, missing_sync["syncs_at_return"])
+
+
+def of_variable(pair, *names):
+    return tuple(pair["variable"][name] for name in names)
 
 
 def same(wanted, found):
@@ -85,7 +106,7 @@ MAIN = ("call", "[run]")
 
 def check_a_global():
     status, report = found("global")
-    same((1, 1, 1, 4, True), (status, report["version"], report["races"], report["unit"], report["stacks"]))
+    same((1, 2, 1, 4, True), (status, report["version"], report["races"], report["unit"], report["stacks"]))
     same({"status": 1, "signal": None, "whole": True}, report["ended"])
     same(["the program ended with status 1"], report["notes"])
     [pair] = report["pairs"]
@@ -94,26 +115,27 @@ def check_a_global():
     same(("write", "write", False, False, None, 1),
          (*(pair[side][name] for name in ("kind", "atomic") for side in ("first", "second")), pair["guard"],
           pair["races"]))
-    same({"is": "global", "name": "table", "offset": 8, "size": 40}, pair["variable"])
-    same(("of_a_global", "[spawn global]", "[global]", "[sync global]", False), parting_of(pair))
+    same(("global", "table", 8, 40, "table[2]", None, False), of_variable(
+        pair, "kind", "name", "offset", "size", "expression", "rest", "thread_local"))
+    same(("of_a_global", "[spawn global]", "[global]", "[sync global]", False), missing_sync_of(pair))
     same(("set", "static void set(int *at) { *at = 1; } /* [set] */"),
-         tuple(pair["first"]["lead"][name] for name in ("function", "text")))
+         tuple(pair["first"]["user_frame"][name] for name in ("function", "text")))
 
 
 def check_a_static():
     [pair] = found("static")[1]["pairs"]
     child = [("write", "[count]"), ("spawn", "[spawn static]"), MAIN]
     same([child, child], sides_of(pair))
-    same({"is": "global", "name": "calls", "offset": 0, "size": 4}, pair["variable"])
-    function, spawn, goes_on, _, ends = parting_of(pair)
-    same(("of_a_static", "[spawn static]", "[spawn static]", True), (function, spawn, goes_on, ends))
+    same(("global", "calls", 0, 4, "calls"), of_variable(pair, "kind", "name", "offset", "size", "expression"))
+    function, spawn, continues_at, _, ends = missing_sync_of(pair)
+    same(("of_a_static", "[spawn static]", "[spawn static]", True), (function, spawn, continues_at, ends))
 
 
 def check_the_heap():
     [pair] = found("heap")[1]["pairs"]
     same([[("write", "[set]"), ("spawn", "[spawn heap]"), MAIN], [("write", "[heap]"), MAIN]], sides_of(pair))
     variable = pair["variable"]
-    same(("heap", 12, 24), tuple(variable[name] for name in ("is", "offset", "size")))
+    same(("heap", 12, 24), tuple(variable[name] for name in ("kind", "offset", "size")))
     same([("allocation", "[make]"), ("call", "[made]"), MAIN], stack_of(variable["stack"]))
 
 
@@ -121,13 +143,14 @@ def check_a_local():
     [pair] = found("local")[1]["pairs"]
     same([[("write", "[set]"), ("spawn", "[spawn local]"), ("call", "[run local]")],
           [("read", "[local]"), ("call", "[run local]")]], sides_of(pair))
-    same({"is": "local", "function": "main"}, pair["variable"])
+    same({"kind": "local", "function": "main", "name": "local", "offset": 0, "size": 4, "expression": "local",
+          "rest": None}, pair["variable"])
 
 
 def check_a_library():
-    """Stacks through a library, and a child that is a function of the library. Texts are of bytes."""
-    order, copy = sorted(found("library")[1]["pairs"], key=lambda pair: pair["variable"]["is"])
-    same((4, 5), (order["races"], copy["races"]))
+    """Stacks through a library, and a child that is a function of the library. A text of five bytes is in two units."""
+    order, copy = sorted(found("library")[1]["pairs"], key=lambda pair: pair["variable"]["kind"])
+    same((1, 2), (order["races"], copy["races"]))
     sorts = [("call", "[sort]"), ("spawn", "[spawn sort]"), MAIN]
     same(sorts, sides_of(order)[0][1:])
     same([("call", "[sort]"), ("call", "[sorts]"), MAIN], sides_of(order)[1][1:])
@@ -143,26 +166,42 @@ def check_a_thousand():
          sides_of(report["pairs"][0]))
 
 
+def check_many_variables():
+    """Each of them that one line writes has its own stacks, up to 65 of 70, or the report says that it may not."""
+    functions = "".join(f"static int x{number};\nstatic void set_x{number}(void) {{ set(&x{number}); }}\n"
+                        for number in range(70))
+    calls = "".join(f"cilk_spawn set_x{number}();\nset_x{number}();\n" for number in range(70))
+    with open("variables.c", "w") as file:
+        file.write("#include <cilk/cilk.h>\nstatic void set(int *at) { *at = 1; }\n"
+                   f"{functions}int main(void) {{\n{calls}}}\n")
+    subprocess.run([os.path.join(TRACER, "spbags-cc"), "-w", *INSIDE, "-o", "variables", "variables.c"], check=True)
+    report = found_with("./variables", options=("--most", "100"))[1]
+    own = [pair for pair in report["pairs"] if not pair["borrowed"]]
+    same((70, 65), (len(report["pairs"]), len(own)))
+    for pair in own:
+        same({"set_" + pair["variable"]["name"]}, {pair[side]["stack"][1]["function"] for side in ("first", "second")})
+
+
 def check_a_header():
     """The user's own code leads, and the whole stack is there."""
     report = found("header")[1]
     [pair] = report["pairs"]
     header = ("write", "/usr/include/own.h")
     same([[header, ("spawn", "[spawn header]"), MAIN], [header, ("call", "[header]"), MAIN]], sides_of(pair))
-    same(["[spawn header]", "[header]"], [tag_of(pair[side]["lead"]) for side in ("first", "second")])
+    same(["[spawn header]", "[header]"], [tag_of(pair[side]["user_frame"]) for side in ("first", "second")])
     text = run(RUN, "--", "./run", "header")[1]
-    same(["write", "inside", "spawned at", "called at"] + ["write", "inside", "called at", "called at"],
-         re.findall("^    (?:  )?(write|inside|spawned at|called at)  ", text, re.MULTILINE))
+    same(["write", "inside", "spawned at", "write", "inside", "called at", "both", "called at"],
+         re.findall("^    (?:  )?(write|inside|spawned at|called at|both)(?:  |$)", text, re.MULTILINE))
 
 
-def check_partings():
+def check_missing_syncs():
     """Where procedures part is what `spbags explain` says of the trace that is kept."""
     for command in (["./run", "global", "static", "heap", "library", "thousand"], ["./traps"]):
         for pair in found_with(*command, options=("--keep", "run.trace"))[1]["pairs"]:
-            parting = pair["parting"]
-            wanted = explained(command[0], pair["location"], parting["function"])
-            same(wanted, [parting[name] and parting[name]["line"] if line else line
-                          for name, line in zip(("spawn", "goes_on", "waits"), wanted)])
+            missing_sync = pair["missing_sync"]
+            wanted = explained(command[0], pair["location"], missing_sync["function"])
+            same(wanted, [missing_sync[name] and missing_sync[name]["line"] if line else line
+                          for name, line in zip(("spawn", "continues_at", "next_sync"), wanted)])
 
 
 def explained(program, location, function):
@@ -171,7 +210,7 @@ def explained(program, location, function):
     said = run(os.environ["SPBAGS"], "explain", "run.trace", str(location))[1].splitlines()
     places = [int(said[number].split()[at]) for number, at in ((2, 2), (3, 2), (4, 1))]
     same("first spawn", said[2].rpartition(" ")[0][:11])
-    codes = answers.codes_of("run.trace.places", places)
+    codes = answers.codes_of(answers.places_of("run.trace.places"), places)
     found = source.positions_of(program, codes.values())
     positions = [source.leading(found[codes[place]]) for place in places]
     return [position.line if position.function == function else None for position in positions]
@@ -182,7 +221,7 @@ def check_most():
     words = ("global", "static", "heap", "thousand")
     report = found(*words, options=("--most", "1"))[1]
     same(([1000], 1003, {"pairs": 3, "races": 3}),
-         ([pair["races"] for pair in report["pairs"]], report["races"], report["further"]))
+         ([pair["races"] for pair in report["pairs"]], report["races"], report["not_shown"]))
     text = run(RUN, "--most", "0", "--", "./run", *words)[1]
     same("races 1003, pairs of lines 4; not shown: 1003 races of 4 pairs", text.splitlines()[-1])
 
@@ -204,6 +243,65 @@ def check_another_course():
     assert any("the second run took another course" in note for note in report["notes"]), report["notes"]
     kept = found("course", options=("--keep", "run.trace"))[1]
     same([[("write", "[set]")], [("write", "[global]")]], sides_of(kept["pairs"][0]))
+
+
+def found_at_first(*words, **others):
+    """What is found where no run has left a file."""
+    if os.path.exists("ran"):
+        os.remove("ran")
+    return found(*words, **others)
+
+
+def check_a_program_that_keeps_a_file():
+    """The first run's races are reported, with its own lines, also if the trace is kept."""
+    for options in ((), ("--keep", "run.trace")):
+        status, report = found_at_first("file", options=options)
+        same((1, 1, 1, False), tuple((status, report["races"], report["without_stacks"], report["stacks"])))
+        [pair] = report["pairs"]
+        same(([[("write", "[set]")], [("write", "[global]")]], 1, "table", 8, None),
+             (sides_of(pair), pair["races"], pair["variable"]["name"], pair["variable"]["offset"], pair["guard"]))
+    os.remove("ran")
+    text = run(RUN, "--", "./run", "file")[1]
+    same("races 1, pairs of lines 1", text.splitlines()[-1])
+    assert re.search("the second run took another course: record [0-9]+, an access of the first run, is .* in the second; "
+                     "lines without stacks: 1 of 1 race", " ".join(text.split())), text
+
+
+def check_a_later_course():
+    """What the second run meets before it goes astray has its stacks."""
+    status, report = found_at_first("later", "global")
+    same((1, 2, True, 1), (status, report["races"], report["stacks"], report["without_stacks"]))
+    whole, bare = sorted(report["pairs"], key=lambda pair: pair["variable"]["name"], reverse=True)
+    same([("write", "[set]"), ("call", "[set below]"), ("spawn", "[spawn global]")], sides_of(whole)[0][:3])
+    same([[("write", "[count]")], [("write", "[count]")]], sides_of(bare))
+    same("calls", bare["variable"]["name"])
+
+
+def check_guards_of_another_course():
+    """What was held in the first run is said, and makes no data race."""
+    status, report = found_at_first("guards file")
+    same((1, ["atomic", "the lock lock"], False), (status, [pair["guard"] for pair in report["pairs"]], report["stacks"]))
+    same([(True, True), (False, False)],
+         [(pair["first"]["atomic"], pair["second"]["atomic"]) for pair in report["pairs"]])
+    same(0, found_at_first("guards file", options=("--data-races",))[0])
+
+
+def check_a_small_disk():
+    """Races whose places have no room have no lines, and it isn't known whether they are data races."""
+    for options in ((), ("--data-races",)):
+        if os.path.exists("ran"):
+            os.remove("ran")
+        command = ["bash", "-c", 'ulimit -f 100; exec "$@"', "bash", RUN, "--json", *options, "--", "./run", "small disk"]
+        status, said, errors = run(*command)
+        assert said, errors
+        report = json.loads(said)
+        same((1, 1002, 1002), (status, report["races"], report["without_stacks"]))
+        pairs = {pair["variable"]["name"]: pair for pair in report["pairs"]}
+        same({"table": (1, None), "cells": (1000, None), "guarded": (1, "unknown")},
+             {name: (pair["races"], pair["guard"]) for name, pair in pairs.items()})
+        same([[("write", "[set]")], [("write", "[global]")]], sides_of(pairs["table"]))
+        same([[("write", "?")], [("write", "?")]], sides_of(pairs["guarded"]))
+        assert any(note.startswith("1 race has no lines") for note in report["notes"]), report["notes"]
 
 
 def check_the_input():
@@ -239,13 +337,45 @@ def check_no_file_is_left():
 
 
 def check_neighbours():
-    status, report = found("neighbours")
-    same((0, 0, 1), (status, report["races"], report["unit"]))
+    """Those of a global, of the heap, of a local and of children's results."""
+    for options in ((), ("--keep", "run.trace"), ("--repeats",)):
+        status, report = found("neighbours", "more neighbours", options=options)
+        same((0, 0, 4), (status, report["races"], report["unit"]))
+        assert "5 locations are left out: only neighbours meet there in a unit of 4 bytes" in report["notes"], report["notes"]
+
+
+def check_a_byte_beside_neighbours():
     status, report = found("letter")
-    same((1, 1, 1), (status, report["races"], report["unit"]))
+    same((1, 1, 4, True), (status, report["races"], report["unit"], report["stacks"]))
     same([[("write", "[letter]"), ("spawn", "[spawn letter]"), MAIN],
           [("write", "[letter]"), ("call", "[calls letter]"), MAIN]], sides_of(report["pairs"][0]))
-    same(("letters", 5), tuple(report["pairs"][0]["variable"][name] for name in ("name", "offset")))
+    same(("letters", 5, False), (*(report["pairs"][0]["variable"][name] for name in ("name", "offset")),
+                                 report["pairs"][0]["neighbours"]))
+    status, report = found("flags", "global")
+    same((1, 2), (status, report["races"]))
+    [pair] = [pair for pair in report["pairs"] if pair["variable"]["name"] == "flags"]
+    same([[("write", "[flag]"), ("spawn", "[spawn flag]"), MAIN], [("write", "[flag]"), ("call", "[calls flag]"), MAIN]],
+         sides_of(pair))
+    same((1, 2), (pair["races"], pair["variable"]["offset"]))
+
+
+def check_units_beside_neighbours():
+    """Each half of a double is one location, beside neighbours too."""
+    for words in (("doubles",), ("doubles", "neighbours")):
+        status, report = found(*words)
+        same((1, 16, [16]), (status, report["races"], [pair["races"] for pair in report["pairs"]]))
+
+
+def check_neighbours_of_another_course():
+    """A race that may be of neighbours stays, if the run that tells them apart isn't like the first."""
+    status, report = found_at_first("letters file")
+    same((1, 1, [(True, 1)]), (status, report["races"], [(pair["neighbours"], pair["races"]) for pair in report["pairs"]]))
+    assert any(note.startswith("maybe only neighbours race at 1 location") for note in report["notes"]), report["notes"]
+    status, report = found_at_first("third")
+    same((1, 1, False, 1), (status, report["races"], report["stacks"], report["without_stacks"]))
+    [pair] = report["pairs"]
+    same([[("write", "[letter]")], [("write", "[letter]")]], sides_of(pair))
+    same(("letters", 5, False), (pair["variable"]["name"], pair["variable"]["offset"], pair["neighbours"]))
 
 
 def check_programs_without_a_race():
@@ -262,15 +392,36 @@ def check_output():
     same("1\n", errors)
 
 
-def check_colours():
-    """Only a terminal gets some."""
+def said_on_terminal(**env):
     control, terminal = pty.openpty()
-    process = subprocess.Popen([RUN, "--", "./run", "global"], stdin=subprocess.DEVNULL, stdout=terminal)
-    process.wait()
+    subprocess.run([RUN, "--", "./run", "global"], stdin=subprocess.DEVNULL, stdout=terminal, env={**os.environ, **env})
     os.close(terminal)
-    assert b"\033[" in os.read(control, 1 << 16)
+    said = os.read(control, 1 << 16)
     os.close(control)
-    assert "\033" not in run(RUN, "--", "./run", "global")[1]
+    return said
+
+
+def check_colours():
+    """A terminal gets some, unless NO_COLOR is set; anything else only where they are asked for."""
+    same((True, False), tuple(b"\033[" in said_on_terminal(**env) for env in ({}, {"NO_COLOR": "1"})))
+    asked = [run(RUN, *words, "--", "./run", "global")[1] for words in ((), ("--color", "always"))]
+    same([False, True], ["\033[" in said for said in asked])
+
+
+def check_sarif():
+    """A result has the line of the second access, and beside it that of the first."""
+    status, said, errors = run(RUN, "--sarif", "--", "./run", "global")
+    [found] = json.loads(said)["runs"]
+    [result] = found["results"]
+    places = [result[name][0]["physicalLocation"] for name in ("locations", "relatedLocations")]
+    wanted = [TAGS["[global]"], TAGS["[set]"]]
+    same((1, "determinacy-race", "error"), (status, result["ruleId"], result["level"]))
+    same(wanted, [place["region"]["startLine"] for place in places])
+    same([os.path.basename(SOURCE)] * 2, [os.path.basename(place["artifactLocation"]["uri"]) for place in places])
+    status, said, errors = run(RUN, "--sarif", "--", "./says", "incomplete: one thing")
+    [invocation] = json.loads(said)["runs"][0]["invocations"]
+    same((3, [("warning", "one thing")]),
+         (status, [(note["level"], note["message"]["text"]) for note in invocation["toolExecutionNotifications"]]))
 
 
 def check_keep():
@@ -326,6 +477,73 @@ def check_options():
         same((0, True), (status, "spbags-cc -o fib fib.c" in said))
 
 
+# ---- What wasn't seen ----
+
+# Stands in for a program that spbags-cc compiled, and says the lines that are its words.
+SAYS = """#!/usr/bin/env python3
+# SPBAGS_DIVIDE
+import os, sys
+os.write(int(os.environ["SPBAGS_TRACE"][3:]), b"trace 2\\nreturn\\n")
+os.write(int(os.environ["SPBAGS_SAYS"][3:]), "".join(line + "\\n" for line in sys.argv[1:]).encode())
+"""
+
+
+def said_with(*lines, options=()):
+    """The status and the lines of the report of a run whose hooks say these lines."""
+    status, report, _ = run(RUN, *options, "--", "./says", *lines)
+    object_status, report_object = found_with("./says", *lines, options=options)
+    same(status, object_status)
+    return status, report.splitlines()[:-1], report_object
+
+
+def check_what_was_not_seen():
+    """No race where something wasn't seen or modelled has a status of its own."""
+    region = "main.c:3: the code of this region runs once"
+    lines = (f"incomplete: {region}", "unseen: cblas_dgemm libblas.so.3 12", "unseen: _ZN3own3runEi a b.so 1")
+    shown = [region, "not seen: cblas_dgemm (libblas.so.3), called 12 times",
+             "not seen: own::run(int) (a b.so), called 1 time"]
+    functions = [{"function": "cblas_dgemm", "library": "libblas.so.3", "calls": 12},
+                 {"function": "own::run(int)", "library": "a b.so", "calls": 1}]
+    status, text, report = said_with(*lines)
+    same((3, shown, [region], functions), (status, text, report["incomplete"], report["unseen"]))
+    same((0, shown), said_with(*lines, options=("--incomplete-ok",))[:2])
+    for names, left in (("cblas_*", [0, 2]), ("own::run", [0, 1]), ("cblas_dgemm,own::*", [0]),
+                        ("dgemm,blas*", [0, 1, 2])):
+        status, text, report = said_with(*lines, options=("--unseen-ok", names))
+        same((3, [shown[at] for at in left]), (status, text))
+        same([functions[at - 1] for at in left[1:]], report["unseen"])
+    same((0, []), said_with(*lines[1:], options=("--unseen-ok", "*"))[:2])
+    same((0, ["a line"]), said_with("report: a line")[:2])
+
+
+def check_statuses():
+    same(77, run(RUN, "--exitcode", "77", "--", "./run", "global")[0])
+    same(0, run(RUN, "--exitcode", "0", "--", "./run", "global")[0])
+    same(0, run(RUN, "--exitcode", "77", "--", "./run")[0])
+    same(3, said_with("incomplete: a line", options=("--exitcode", "77", "--no-answer-status", "125"))[0])
+    for words in (("./none",), ("./ways_out", "thread"), ("./faults",)):
+        same((125, ""), run(RUN, "--exitcode", "77", "--no-answer-status", "125", "--", *words)[:2])
+    for word in ("256", "-1", "x", ""):
+        same(2, run(RUN, f"--exitcode={word}", "--", "./run")[0])
+
+
+def check_an_answer_that_is_none():
+    """What spbags-run doesn't expect is no race."""
+    if not INSIDE:
+        with open("silent", "w") as file:
+            file.write("#!/bin/sh\nexec cat >/dev/null\n")
+        os.chmod("silent", 0o755)
+        status, said, errors = run(RUN, "--no-answer-status", "125", "--", "./run", env={"SPBAGS": "./silent"})
+        same((125, ""), (status, said))
+        assert "the report is empty" in errors, errors
+
+
+def check_the_version():
+    with open(os.path.join(TRACER, "..", "CHANGELOG.md"), encoding="utf-8") as file:
+        released = re.search(r"^## \[([0-9.]+)\]", file.read(), re.MULTILINE)[1]
+    same((0, f"spbags-run {released}\n", ""), run(RUN, "--version"))
+
+
 # ---- What is no news ----
 
 def check_suppressed():
@@ -342,7 +560,7 @@ def check_suppressed():
     same("races 2, pairs of lines 2; suppressed: 1000 races of 1 pair", text.splitlines()[-1])
     with open("suppressed", "w") as file:
         file.write("races:main\n")
-    check_failure("suppressed:1: wanted race:FUNCTION or race:FILE", "--suppress", "suppressed", "--", "./run")
+    check_failure("suppressed:1: wanted race:FUNCTION, race:FILE or variable:NAME", "--suppress", "suppressed", "--", "./run")
 
 
 def check_guards():
@@ -417,6 +635,117 @@ def check_a_signal_from_outside():
     same((1, 2, True, 1), (process.returncode, report["ended"]["signal"], report["stacks"], len(report["pairs"])))
 
 
+# ---- What doesn't end by itself ----
+
+def start(*words, env=None, stdin=subprocess.DEVNULL):
+    env = {**os.environ, "SPBAGS_PATIENCE": "1", **(env or {})}
+    pipes = {"stdin": stdin, "stdout": subprocess.PIPE, "stderr": subprocess.PIPE}
+    return subprocess.Popen([RUN, *words], env=env, text=True, **pipes)
+
+
+def lines_in(name, text):
+    """The tags of this file's lines that stand at the beginning of a text's lines."""
+    tags = lines_of_tags(os.path.join(HERE, name))
+    found = re.findall(rf"^    \S*{re.escape(name)}:([0-9]+)  ", text, re.MULTILINE)
+    return [next((tag for tag, number in tags.items() if str(number) == line), line) for line in found]
+
+
+def check_waits_without_end():
+    """A line says where the program waits. A signal for spbags-run alone ends it, and what came before is reported."""
+    tail = ["[for ever]", "[spawn end]"]
+    for way, number, said, stack in (("spin", signal.SIGINT, "it waits for ever", ["[spins]"]),
+                                     ("wait", signal.SIGTERM, "and so for ever", ["[waits]"]),
+                                     ("lock", signal.SIGTERM, "and so for ever", ["[locks]"]),
+                                     ("condition", signal.SIGTERM, "and so for ever", ["[wants]"]),
+                                     ("barrier", signal.SIGTERM, "and so for ever", ["[meets]"]),
+                                     ("futex", signal.SIGTERM, "and so for ever", ["[sleeps]"]),
+                                     ("doze", signal.SIGTERM, "it waits for ever", ["[dozes]", "[calls doze]"])):
+        process = start("--json", "--", "./ends", way)
+        line, *rows = [process.stderr.readline() for _ in range(1 + len(stack) + len(tail))]
+        process.send_signal(number)
+        report = json.loads(process.communicate(timeout=120)[0])
+        assert said in line, line
+        same([*stack, *tail], lines_in("ends.c", "".join(rows)))
+        same((1, number, True, 1), (process.returncode, report["ended"]["signal"], report["stacks"], report["races"]))
+        assert re.search(rf"signal {number} \(.*\), which came to spbags-run", report["notes"][0]), report["notes"]
+
+
+def check_control_c():
+    """A terminal's signal is the program's too, so it isn't sent on."""
+    process, terminal = pty.fork()
+    if process == 0:
+        os.execl(RUN, RUN, "--json", "--output", "interrupted", "--", "./ends", "wait")
+    said = b""
+    while b"for ever" not in said:
+        said += os.read(terminal, 1 << 12)
+    os.write(terminal, b"\x03")
+    with contextlib.suppress(OSError):
+        while os.read(terminal, 1 << 12):
+            continue
+    status = os.waitstatus_to_exitcode(os.waitpid(process, 0)[1])
+    os.close(terminal)
+    with open("interrupted") as file:
+        report = json.load(file)
+    same((1, 2, 1), (status, report["ended"]["signal"], report["races"]))
+    same("the program ended by signal 2 (Interrupt): this is the run up to there", report["notes"][0])
+
+
+def check_a_program_that_takes_the_signal():
+    """It ends with status 0 then, but that is no answer."""
+    process = start("--", "./takes", stdin=subprocess.DEVNULL)
+    same("taking\n", process.stdout.readline())
+    process.send_signal(signal.SIGTERM)
+    said, errors = process.communicate(timeout=120)
+    same((2, "", "spbags-run: the program was ended by signal 15 (Terminated), which came to spbags-run: there was no race "
+          "up to there\n"), (process.returncode, said, errors))
+
+
+def check_a_wait_for_input():
+    """That isn't said to be without end; nor is any where none is."""
+    out, into = os.pipe()
+    process = start("--", "./ends", "input", stdin=out)
+    time.sleep(3)
+    os.close(into)
+    said, errors = process.communicate(timeout=120)
+    os.close(out)
+    same((1, ""), (process.returncode, errors))
+    same("", run(RUN, "--timeout", "100", "--", "./run", "global", env={"SPBAGS_PATIENCE": "1"})[2])
+
+
+def check_timeouts():
+    check_failure("the program was ended after 0.5 seconds, as --timeout says: there was no race up to there",
+                  "--timeout", "0.5", "--", "./endless")
+    same(125, run(RUN, "--timeout", "0.5", "--no-answer-status", "125", "--", "./endless")[0])
+    status, report = found_with("./ends", "stubborn", options=("--timeout", "1"))
+    same((1, 63, False, 1), (status, report["ended"]["signal"], report["ended"]["whole"], report["races"]))
+    same(["the program was ended after 1 seconds, as --timeout says: this is the run up to there"], report["notes"])
+    for word in ("0", "-1", "x", "nan", "inf"):
+        same(2, run(RUN, "--timeout", word, "--", "./run")[0])
+
+
+def check_a_signal_for_the_checker():
+    """While it reads the rest of a trace there is no program to end."""
+    if not INSIDE:
+        with open("slow", "w") as file:
+            file.write("#!/bin/sh\ncat >/dev/null\ntouch read\nexec sleep 100\n")
+        os.chmod("slow", 0o755)
+        process = start("--", "./run", "global", env={"SPBAGS": "./slow"})
+        while not os.path.exists("read"):
+            time.sleep(0.01)
+        time.sleep(0.5)
+        process.send_signal(signal.SIGTERM)
+        said, errors = process.communicate(timeout=120)
+        same((2, "", "spbags-run: Terminated: spbags was ended before it had an answer\n"),
+             (process.returncode, said, errors))
+
+
+def check_many_lines():
+    """More of them than a pipe takes."""
+    lines = [f"incomplete: {'a' * 900} {number}" for number in range(100)]
+    status, report = found_with("./says", *lines)
+    same((3, [line.partition(": ")[2] for line in lines]), (status, report["incomplete"]))
+
+
 def build():
     compiler = [os.path.join(TRACER, "spbags-cc"), "-w", *INSIDE]
     for name in ("run", "ends", "ways_out", "many", "stores"):
@@ -424,24 +753,34 @@ def build():
     subprocess.run([*compiler, "-DRACY", "-o", "traps", os.path.join(TRACER, "examples", "traps.c")], check=True)
     with open("faults.c", "w") as file:
         file.write("int main(void) { *(volatile int *)8 = 1; }\n")
-    subprocess.run([*compiler, "-o", "faults", "faults.c"], check=True)
+    with open("says", "w") as file:
+        file.write(SAYS)
+    os.chmod("says", 0o755)
+    with open("endless.c", "w") as file:
+        file.write("int main(void) { for (;;) continue; }\n")
+    with open("takes.c", "w") as file:
+        file.write("#include <signal.h>\n#include <stdio.h>\n#include <stdlib.h>\n#include <unistd.h>\n"
+                   "static void take(int number) { _exit(number - number); }\n"
+                   "int main(void) { signal(SIGTERM, take); puts(\"taking\"); fflush(stdout); for (;;) pause(); }\n")
+    for name in ("faults", "endless", "takes"):
+        subprocess.run([*compiler, "-o", name, name + ".c"], check=True)
 
 
 def brief():
     """The pairs of source lines, each with its number of locations."""
     races = {}
     for pair in json.load(sys.stdin)["pairs"]:
-        lines = tuple(sorted((pair[side]["lead"]["file"], pair[side]["lead"]["line"]) for side in ("first", "second")))
+        frames = [pair[side]["user_frame"] for side in ("first", "second")]
+        lines = tuple(sorted((frame["file"], frame["line"]) for frame in frames))
         races[lines] = races.get(lines, 0) + pair["races"]
     for lines, count in sorted(races.items()):
         print(count, *(f"{file}:{line}" for file, line in lines))
 
 
-def main():
-    if sys.argv[1:] == ["brief"]:
-        return brief()
+def run_checks(names, build):
+    """Runs the checks of a module in a folder of their own, and says how many passed and failed."""
     os.environ["SPBAGS"] = os.path.realpath(os.environ["SPBAGS"])
-    checks = [value for name, value in globals().items() if name.startswith("check_") and name != "check_failure"]
+    checks = [value for name, value in names.items() if name.startswith("check_") and name != "check_failure"]
     passed = 0
     with tempfile.TemporaryDirectory() as folder:
         os.chdir(folder)
@@ -458,4 +797,4 @@ def main():
 
 
 if __name__ == "__main__":
-    sys.exit(main())
+    sys.exit(brief() if sys.argv[1:] == ["brief"] else run_checks(globals(), build))

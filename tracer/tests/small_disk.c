@@ -1,4 +1,5 @@
-/* A disk with 400,000 free bytes, whatever the file's own has: compiled by the plain compiler, beside tests/ends.c. */
+/* A disk with 400,000 free bytes, whatever the file's own has: compiled by the plain compiler into a library that is
+   loaded before the C library. */
 #include <string.h>
 #include <sys/statvfs.h>
 

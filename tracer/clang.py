@@ -1,0 +1,49 @@
+"""The hooks of clang's coverage, which would come after its optimizations. These move accesses to other lines, make one
+of two lines' accesses, and read where the program doesn't. So spbags-cc has clang put the hooks into code that isn't
+optimized yet, as LLVM's text, and optimize that: no call of a hook moves past another.
+
+A variable of a function whose address no other code gets will be in a register, and needs no hooks."""
+import re
+
+FUNCTION = re.compile(r"^define .*?^}$", re.MULTILINE | re.DOTALL)
+HOOK = re.compile(r"  call void @__(?:sanitizer_cov_(?:load|store)[0-9]+|tsan_(?:read|write)_range)\(\S+ (%[\w.]+)[,)]")
+DECLARED_HOOK = re.compile(r"^declare .*@__(?:sanitizer_cov_(?:load|store)[0-9]|tsan_atomic[0-9]|tsan_(?:read|write)_range).*$",
+                           re.MULTILINE)
+VALUE = re.compile(r'%(?:[\w.$-]+|"[^"]*")')
+# One variable, and not as many as a number says.
+VARIABLE = re.compile(r"  (%[\w.]+) = alloca (?!.*, i[0-9]+ [%\w.]+, align).*, align [0-9]+")
+# A use that isn't one of its address.
+PLAIN_USE = re.compile(r"  (?:%[\w.]+ = load|store) (?!volatile|atomic).* (%[\w.]+), align [0-9]+")
+DESCRIPTION = re.compile(r" +(?:call void @llvm\.dbg\.declare\(metadata|#dbg_declare\()")
+# The same address as another type, which clang 14 puts before a hook.
+OTHER_TYPE = re.compile(r"  (%[\w.]+) = bitcast .* (%[\w.]+) to ")
+
+
+def hooked(text):
+    """The text without the hooks that it doesn't need. None of the others becomes one with another."""
+    text = FUNCTION.sub(lambda function: "\n".join(needed(function[0].split("\n"))), text)
+    return DECLARED_HOOK.sub(r"\g<0> nomerge", text)
+
+
+def needed(lines):
+    """The lines of a function without the hooks of variables that will be in registers."""
+    named = {found[1]: found[1] for found in map(VARIABLE.match, lines) if found}
+    for found in map(OTHER_TYPE.match, lines):
+        if found and found[2] in named:
+            named[found[1]] = named[found[2]]
+    shared = {named[value] for line in lines for value in addresses(line) if value in named}
+    for line in lines:
+        found = HOOK.match(line)
+        if not found or named.get(found[1]) in {None, *shared}:
+            yield line
+
+
+def addresses(line):
+    """The values that a line of a function does more with than load or store what is there."""
+    if VARIABLE.match(line) or OTHER_TYPE.match(line) or HOOK.match(line) or DESCRIPTION.match(line):
+        return []
+    values = VALUE.findall(line)
+    found = PLAIN_USE.match(line)
+    if found:
+        values.remove(found[1])
+    return values

@@ -1,0 +1,189 @@
+/* Functions whose accesses no row of library.table says. */
+#define BY_HAND(RESULT, NAME, ...) \
+    __attribute__((weak)) RESULT __real_##NAME(__VA_ARGS__); \
+    RESULT __wrap_##NAME(__VA_ARGS__)
+
+/* The library's own state of it can't be told from outside, so this stands for it. */
+static char *state_of_strtok;
+char *__wrap_strtok(char *from, const char *set) {
+    char *at = from ? from : state_of_strtok;
+    if (tracing) {
+        LIBRARY_READ(set, all(set), __wrap_strtok);
+        LIBRARY_READ(state(strtok), from ? 0 : sizeof(char *), __wrap_strtok);
+        LIBRARY_WRITE(state(strtok), sizeof(char *), __wrap_strtok);
+        LIBRARY_READ(at, token(at, set), __wrap_strtok);
+        LIBRARY_WRITE(cut(at, token(at, set)), 1, __wrap_strtok);
+    }
+    return strtok_r(from, set, state(strtok));
+}
+
+/* What its order reads is seen where it reads. */
+BY_HAND(void *, lsearch, const void *key, void *at, size_t *n, size_t size, int (*order)(const void *, const void *)) {
+    size_t before = *n;
+    if (tracing)
+        LIBRARY_READ(n, sizeof *n, __wrap_lsearch);
+    void *result = __real_lsearch(key, at, n, size, order);
+    if (tracing && *n != before) {
+        LIBRARY_READ(key, size, __wrap_lsearch);
+        LIBRARY_WRITE((char *)at + before * size, size, __wrap_lsearch);
+        LIBRARY_WRITE(n, sizeof *n, __wrap_lsearch);
+    }
+    return result;
+}
+
+BY_HAND(ENTRY *, hsearch, ENTRY item, ACTION action) {
+    if (tracing) {
+        LIBRARY_READ(item.key, all(item.key), __wrap_hsearch);
+        LIBRARY_READ(state(hsearch), sizeof(int), __wrap_hsearch);
+        LIBRARY_WRITE(state(hsearch), action == ENTER ? sizeof(int) : 0, __wrap_hsearch);
+    }
+    return __real_hsearch(item, action);
+}
+
+/* One side of a conversion: where it stood, and how much was left. */
+static void note_converted(bool writes, char *at, size_t before, char **now, size_t *left, struct caller by) {
+    if (!now)
+        return;
+    any_access(writes, (uintptr_t)at, before - *left, by.self, by.stack_pointer, by.code);
+    any_access(true, (uintptr_t)now, sizeof *now, by.self, by.stack_pointer, by.code);
+    any_access(true, (uintptr_t)left, sizeof *left, by.self, by.stack_pointer, by.code);
+}
+
+BY_HAND(size_t, iconv, iconv_t with, char **from, size_t *n, char **to, size_t *m) {
+    char *first = from ? *from : NULL, *first_to = to ? *to : NULL;
+    size_t before = from ? *n : 0, before_to = to ? *m : 0;
+    size_t result = __real_iconv(with, from, n, to, m);
+    if (tracing) {
+        note_converted(false, first, before, from, n, BY(__wrap_iconv));
+        note_converted(true, first_to, before_to, to, m, BY(__wrap_iconv));
+    }
+    return result;
+}
+
+/* ---- Those that take more arguments for some flags ---- */
+
+#define LAST(TYPE, BEFORE) \
+    va_list list; \
+    va_start(list, BEFORE); \
+    TYPE last = va_arg(list, TYPE); \
+    va_end(list)
+
+#define OPENS(NAME) \
+    BY_HAND(int, NAME, const char *path, int flags, ...) { \
+        LAST(unsigned, flags); \
+        if (tracing) \
+            LIBRARY_READ(path, all(path), __wrap_##NAME); \
+        return __real_##NAME(path, flags, last); \
+    }
+OPENS(open) OPENS(open64)
+
+#define OPENS_AT(NAME) \
+    BY_HAND(int, NAME, int folder, const char *path, int flags, ...) { \
+        LAST(unsigned, flags); \
+        if (tracing) \
+            LIBRARY_READ(path, all(path), __wrap_##NAME); \
+        return __real_##NAME(folder, path, flags, last); \
+    }
+OPENS_AT(openat) OPENS_AT(openat64)
+
+BY_HAND(mqd_t, mq_open, const char *path, int flags, ...) {
+    va_list list;
+    va_start(list, flags);
+    unsigned mode = va_arg(list, unsigned);
+    const struct mq_attr *with = va_arg(list, const struct mq_attr *);
+    va_end(list);
+    if (tracing) {
+        LIBRARY_READ(path, all(path), __wrap_mq_open);
+        LIBRARY_READ(with, (flags & O_CREAT) && with ? sizeof *with : 0, __wrap_mq_open);
+    }
+    return __real_mq_open(path, flags, mode, with);
+}
+
+BY_HAND(sem_t *, sem_open, const char *path, int flags, ...) {
+    va_list list;
+    va_start(list, flags);
+    unsigned mode = va_arg(list, unsigned), number = va_arg(list, unsigned);
+    va_end(list);
+    if (tracing)
+        LIBRARY_READ(path, all(path), __wrap_sem_open);
+    return __real_sem_open(path, flags, mode, number);
+}
+
+/* The struct that a command of fcntl reads, and the one that it writes. */
+static size_t control_reads(int command) {
+    bool locks = command == F_GETLK || command == F_SETLK || command == F_SETLKW || command == F_OFD_GETLK ||
+                 command == F_OFD_SETLK || command == F_OFD_SETLKW;
+    return locks ? sizeof(struct flock) : command == F_SETOWN_EX ? sizeof(struct f_owner_ex) : 0;
+}
+static size_t control_writes(int command) {
+    bool tells = command == F_GETLK || command == F_OFD_GETLK;
+    return tells ? sizeof(struct flock) : command == F_GETOWN_EX ? sizeof(struct f_owner_ex) : 0;
+}
+
+#define CONTROLS(NAME) \
+    BY_HAND(int, NAME, int file, int command, ...) { \
+        LAST(uintptr_t, command); \
+        if (tracing) \
+            LIBRARY_READ(last, control_reads(command), __wrap_##NAME); \
+        int result = __real_##NAME(file, command, last); \
+        if (tracing && result == 0) \
+            LIBRARY_WRITE(last, control_writes(command), __wrap_##NAME); \
+        return result; \
+    }
+CONTROLS(fcntl) CONTROLS(fcntl64)
+
+/* ---- Buffers of streams ---- */
+
+/* The stream reads and writes it later. */
+static void note_buffer(const char *name, void *buffer, size_t size, struct caller by) {
+    if (!tracing || !buffer)
+        return;
+    any_access(true, (uintptr_t)buffer, size, by.self, by.stack_pointer, by.code);
+    tell_incomplete("%s gives a stream a buffer of the program's, and what the stream does there later isn't seen",
+                    name);
+}
+
+BY_HAND(int, setvbuf, FILE *stream, char *buffer, int mode, size_t size) {
+    note_buffer("setvbuf", mode == _IONBF ? NULL : buffer, size, BY(__wrap_setvbuf));
+    return __real_setvbuf(stream, buffer, mode, size);
+}
+
+BY_HAND(void, setbuffer, FILE *stream, char *buffer, size_t size) {
+    note_buffer("setbuffer", buffer, size, BY(__wrap_setbuffer));
+    __real_setbuffer(stream, buffer, size);
+}
+
+BY_HAND(void, setbuf, FILE *stream, char *buffer) {
+    note_buffer("setbuf", buffer, BUFSIZ, BY(__wrap_setbuf));
+    __real_setbuf(stream, buffer);
+}
+
+/* ---- Others ---- */
+
+void *__wrap_reallocarray(void *block, size_t count, size_t size) {
+    size_t whole;
+    if (__builtin_mul_overflow(count, size, &whole)) {
+        errno = ENOMEM;
+        return NULL;
+    }
+    LIBRARY_WRITE(block, (malloc_usable_size(block) + 7) & ~(size_t)7, __wrap_reallocarray);
+    return realloc(block, whole);
+}
+
+/* The library has no form of it that takes a list. */
+__attribute__((weak)) void __real_error(int status, int number, const char *format, ...);
+void __wrap_error(int status, int number, const char *format, ...) {
+    va_list list, copy;
+    va_start(list, format);
+    va_copy(copy, list);
+    if (tracing) {
+        LIBRARY_READ(format, all(format), __wrap_error);
+        LIBRARY_STRINGS(format, copy, __wrap_error);
+    }
+    char *text = NULL;
+    if (vasprintf(&text, format, list) < 0)
+        text = NULL;
+    va_end(copy);
+    va_end(list);
+    __real_error(status, number, "%s", text ? text : format);
+}

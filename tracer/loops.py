@@ -1,0 +1,270 @@
+"""The loops and scopes of Cilk in a preprocessed source, and what stands for them.
+
+Each iteration of a loop is a child, whose body has to be a function of its own: then its variables are no other
+iteration's, and its syncs wait for its own children. gcc makes such a function of a task of OpenMP, clang of what it
+calls a captured statement, and in C++ it is a lambda. What the parent evaluates, the end and the step, comes first."""
+from tokens import Refused, is_in_block
+
+CYCLES, CHOICES = {"for", "while", "do", "_Cilk_for"}, {"switch"}
+COMPARISONS = {"<": ">", ">": "<", "<=": ">=", ">=": "<=", "!=": "!="}
+# What would end a comparison's side, since it binds less.
+LOOSER = {"&&", "||", "?", ":", ",", "&", "^", "|", "==", "!=", "=", "+=", "-=", "*=", "/=", "%=", "&=", "|=", "^=", "<<=",
+          ">>="}
+OUTLINES = {"gcc": "#pragma omp task default(shared)", "clang": "#pragma clang __debug captured"}
+# gcc calls its runtime for a task, and here the hooks.
+INSTEAD_OF_TASK = '\n__asm__("GOMP_task = __spbags_task");\n'
+
+
+def entered(token):
+    """What begins a scope of the hooks, which ends with the block around this."""
+    return ("__attribute__((cleanup(__spbags_leave), unused)) const char *__spbags_scope = "
+            f'__spbags_enter({token.file[:-1]}:{token.line}");')
+
+
+def statement_end(tokens, at):
+    """The index of the last token of the statement that begins here."""
+    text = tokens[at].text
+    following = tokens[at + 1].text
+    if text == "{":
+        return tokens[at].partner
+    if text == "case":
+        return statement_end(tokens, next_of(tokens, at, ":") + 1)
+    if following == ":" and tokens[at].kind == "word":
+        return statement_end(tokens, at + 2)
+    if text == "do":
+        return next_of(tokens, statement_end(tokens, at + 1) + 1, ";")
+    if text in ("_Cilk_scope", "else", "try"):
+        return after_blocks(tokens, statement_end(tokens, at + 1))
+    if text in ("if", "for", "while", "switch", "_Cilk_for", "catch"):
+        opening = at + 1 if following == "(" else at + 2
+        end = statement_end(tokens, tokens[opening].partner + 1)
+        return statement_end(tokens, end + 1) if text == "if" and tokens[end + 1].text == "else" else end
+    return next_of(tokens, at, ";")
+
+
+def next_of(tokens, first, text):
+    """The next such token that the same bracket holds as this one."""
+    around = tokens[first].around
+    found = (at for at in range(first, len(tokens)) if tokens[at].text == text and tokens[at].around == around)
+    end = next(found, None)
+    if end is None:
+        raise Refused(tokens[first], f"expected '{text}' behind this")
+    return end
+
+
+def after_blocks(tokens, end):
+    while tokens[end + 1].text == "catch":
+        end = statement_end(tokens, end + 1)
+    return end
+
+
+def function_start(tokens, at):
+    """The bracket that opens the function around."""
+    while tokens[at].around is not None:
+        at = tokens[at].around
+    return at
+
+
+def begins_function(tokens, opening):
+    """Whether this brace begins the body of a lambda, or of a member of a local class."""
+    before = opening - 1
+    while tokens[before].kind == "word" and tokens[before].text not in ("else", "do", "try", "_Cilk_scope"):
+        before -= 1
+    if tokens[before].text in ("->", "::", ">", "*", "&"):
+        return True
+    if tokens[before].text == "]":
+        return True
+    return tokens[before].text == ")" and tokens[tokens[before].partner - 1].text not in (
+        "if", "for", "while", "switch", "catch", "_Cilk_for", "constexpr")
+
+
+def is_in_inner(tokens, at, first, found):
+    """Whether one of these ranges, or a function inside of this statement, holds the token."""
+    if any(start < at <= end for start, end in found):
+        return True
+    around = tokens[at].around
+    while around is not None and around > first:
+        if tokens[around].text == "{" and begins_function(tokens, around):
+            return True
+        around = tokens[around].around
+    return False
+
+
+def labels_in(tokens, first, last):
+    return {tokens[at].text for at in range(first, last) if tokens[at].kind == "word" and tokens[at + 1].text == ":" and
+            tokens[at - 1].text in ("{", "}", ";", ":", ")", "else", "do")}
+
+
+def jumps_in(tokens, first, last):
+    return [(at, tokens[at + 1].text) for at in range(first, last) if tokens[at].text == "goto"]
+
+
+def check_entries(tokens, first, last, what):
+    """Nothing may jump into a statement."""
+    labels, start = labels_in(tokens, first, last), function_start(tokens, first)
+    jumps = jumps_in(tokens, start, tokens[start].partner or last)
+    if any(name in labels and not first <= at <= last for at, name in jumps):
+        raise Refused(tokens[first], f"cannot jump into a '{what}'")
+    choices = [(at, statement_end(tokens, at)) for at in range(first, last) if tokens[at].text == "switch"]
+    for at in range(first, last):
+        if tokens[at].text in ("case", "default") and tokens[at - 1].text in ("{", "}", ";", ":") and \
+                not is_in_inner(tokens, at, first, choices):
+            raise Refused(tokens[at], f"cannot jump into a '{what}'")
+
+
+def check_exits(tokens, first, last):
+    """Nothing may leave the body of a loop but at its end."""
+    cycles = [(at, statement_end(tokens, at)) for at in range(first, last) if tokens[at].text in CYCLES | CHOICES]
+    for at in range(first, last):
+        if tokens[at].text == "break" and not is_in_inner(tokens, at, first, cycles):
+            raise Refused(tokens[at], "cannot break from a 'cilk_for' loop")
+        if tokens[at].text == "return" and not is_in_inner(tokens, at, first, ()):
+            raise Refused(tokens[at], "cannot return from within a 'cilk_for' loop")
+    labels = labels_in(tokens, first, last)
+    for at, name in jumps_in(tokens, first, last):
+        if name not in labels:
+            raise Refused(tokens[at], "cannot jump out of a 'cilk_for' loop")
+
+
+class Loop:
+    """A loop: its variable, the end that this is compared with, and the step."""
+
+    def __init__(self, text, tokens, at, language):
+        self.text, self.tokens, self.at, self.language = text, tokens, at, language
+        self.opening = at + 1
+        self.closing = tokens[self.opening].partner
+        if tokens[self.opening].text != "(" or self.closing is None:
+            raise Refused(tokens[at], "expected '(' after 'cilk_for'")
+        if not is_in_block(tokens, at):
+            raise Refused(tokens[at], "a cilk_for can't be traced here: write it into a block")
+        self.here = tokens[at].marker(" 3")
+        declaration, condition, increment = self.parts()
+        self.declare(*declaration)
+        self.compare(*condition)
+        self.move(*increment)
+        self.first, self.last = self.closing + 1, statement_end(tokens, self.closing + 1)
+        check_exits(tokens, self.first, self.last)
+        check_entries(tokens, self.first, self.last, "cilk_for")
+
+    def refuse(self, why):
+        raise Refused(self.tokens[self.at], f"{why} in 'cilk_for'")
+
+    def direct(self, first, end):
+        """The indexes of those of these tokens that no bracket holds."""
+        return [at for at in range(first, end) if self.tokens[at].around == self.opening]
+
+    def parts(self):
+        """The three parts of the header, each from its first token to the one behind its last."""
+        marks = [at for at in self.direct(self.opening + 1, self.closing) if self.tokens[at].text == ";"]
+        if any(token.text.startswith("_Cilk_") for token in self.tokens[self.opening:self.closing]):
+            self.refuse("no keyword of Cilk may stand in the header")
+        if len(marks) != 2:
+            self.refuse("expected an initialization, a condition and an increment")
+        ends = [self.opening, *marks, self.closing]
+        for first, end, what in zip(ends, ends[1:], ("control variable initialization", "condition expression",
+                                                     "increment expression")):
+            if first + 1 == end:
+                self.refuse(f"missing loop {what}")
+        return [(first + 1, end) for first, end in zip(ends, ends[1:])]
+
+    def piece(self, first, end):
+        """A piece of the program, on its own lines; what follows is on the loop's."""
+        user = self.text[self.tokens[first].start:self.tokens[end - 1].end]
+        return self.tokens[first].marker() + user + self.here
+
+    def declare(self, first, end):
+        direct = self.direct(first, end)
+        sign = next((at for at in direct if self.tokens[at].text == "="), None)
+        if sign is None or self.tokens[sign - 1].kind != "word":
+            self.refuse("expected a declaration `type name = value' of the loop control variable")
+        if any(self.tokens[at].text == "," for at in direct if at > sign):
+            self.refuse("cannot declare more than one loop control variable")
+        words = {self.tokens[at].text for at in direct if at < sign}
+        if sign - 1 == first or (self.tokens[first].text == "*"):
+            self.refuse("the loop control variable has to be declared")
+        if words & {"static", "extern", "register", "const", "volatile", "_Thread_local", "thread_local", "&", "&&"}:
+            self.refuse("loop control variable must be a plain automatic variable")
+        self.name = self.tokens[sign - 1].text
+        self.declaration = self.piece(first, end)
+
+    def compare(self, first, end):
+        direct = [self.tokens[at].text for at in self.direct(first, end)]
+        if not set(direct) & set(COMPARISONS):
+            self.refuse("loop condition operator must be one of '<', '<=', '>', '>=', or '!='")
+        if self.tokens[first].text == self.name and self.tokens[first + 1].text in COMPARISONS:
+            self.comparison, limit = self.tokens[first + 1].text, (first + 2, end)
+        elif self.tokens[end - 1].text == self.name and self.tokens[end - 2].text in COMPARISONS:
+            self.comparison, limit = COMPARISONS[self.tokens[end - 2].text], (first, end - 2)
+        else:
+            self.refuse(f"loop condition does not test control variable '{self.name}'")
+        looser = LOOSER if self.language == "c++" else LOOSER | set(COMPARISONS)
+        if limit[0] == limit[1] or {self.tokens[at].text for at in self.direct(*limit)} & looser:
+            self.refuse("loop condition has to be one comparison")
+        if any(token.text == self.name for token in self.tokens[limit[0]:limit[1]]):
+            self.refuse(f"loop condition may name control variable '{self.name}' only once")
+        self.limit = self.piece(*limit)
+
+    def move(self, first, end):
+        texts = [token.text for token in self.tokens[first:end]]
+        self.step = None
+        if sorted(texts) in (sorted([self.name, "++"]), sorted([self.name, "--"])):
+            self.operator = "++" if "++" in texts else "--"
+        elif texts[0] == self.name and texts[1] in ("+=", "-="):
+            self.operator = texts[1]
+            self.step = self.piece(first + 2, end)
+            direct = {self.tokens[at].text for at in self.direct(first + 2, end)}
+            if direct & {",", "=", "+=", "-="} or self.name in texts[2:]:
+                self.refuse(f"loop increment has to be one assignment, whose step doesn't name '{self.name}',")
+        elif self.name in texts:
+            self.refuse("loop increment operator must be one of operators '++', '--', '+=', or '-='")
+        else:
+            self.refuse(f"loop increment does not modify control variable '{self.name}'")
+        wrong = {"++": (">", ">="), "--": ("<", "<=")}.get(self.operator, ())
+        if self.comparison in wrong:
+            sign = "negative" if self.operator == "++" else "positive"
+            self.refuse(f"loop increment is inconsistent with condition: expected {sign} stride")
+
+    def header(self):
+        """What stands in place of the loop's own header, up to the body."""
+        name, is_cplusplus = self.name, self.language == "c++"
+        auto, value = ("auto", "({})") if is_cplusplus else ("__auto_type", "((void)0, ({}))")
+        made = [f"{{ {self.declaration};", f"{auto} __spbags_end = {value.format(self.limit)};"]
+        if self.step:
+            made.append(f"{auto} __spbags_step = {value.format(self.step)};")
+        moved = f"{name}{self.operator}{' __spbags_step' if self.step else ''}"
+        made += [f"{entered(self.tokens[self.at])} long __spbags_number = 0;",
+                 f"for (; {name} {self.comparison} __spbags_end; {moved}, (void)0, __spbags_number++) {{"]
+        made += self.lambda_header() if is_cplusplus else self.outlined_header()
+        return self.here + " ".join(made) + self.tokens[self.closing].marker()
+
+    def outlined_header(self):
+        name = self.name
+        kinds = f"__builtin_classify_type({name})"
+        return [f'_Static_assert({kinds} != 8 && sizeof {name} <= sizeof(long), '
+                f'"loop control variable must have an integer or pointer type in \'cilk_for\'");'
+                f"__spbags_iteration((long){name}, {kinds} == 5 ? __spbags_number : (long){name});",
+                self.here + OUTLINES[self.language] + self.here,
+                f"{{ __typeof__({name}) {name} = (__typeof__({name}))__spbags_counter(); do"]
+
+    def lambda_header(self):
+        return [f"auto __spbags_body = [&, {self.name}]() mutable __attribute__((noipa)) {{ do"]
+
+    def footer(self):
+        end = "while (0); } __spbags_return(0, 0); } }"
+        if self.language == "c++":
+            end = (f"while (0); }}; __spbags_iteration(0, __spbags_shown({self.name}, __spbags_number)); __spbags_body(); "
+                   "__spbags_return(&__spbags_body, sizeof __spbags_body); } }")
+        return self.here + end + self.tokens[self.last].marker()
+
+    def edits(self):
+        """What is put in place of tokens, each with the first and the last, and what is put behind one."""
+        return (self.at, self.closing, self.header()), (self.last, self.footer())
+
+
+def scope_edits(tokens, at):
+    first, last = at + 1, statement_end(tokens, at + 1)
+    if tokens[first].text != "{":
+        raise Refused(tokens[at], "expected '{' after 'cilk_scope'")
+    check_entries(tokens, first, last, "cilk_scope")
+    here = tokens[at].marker(" 3")
+    return (at, at, f"{here}{{ {entered(tokens[at])}{tokens[at].marker()}"), (last, " }")

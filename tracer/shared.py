@@ -1,0 +1,92 @@
+"""Shared libraries of a traced program. The file of one has, beside what the compiler makes of it, the objects that it is
+made of and the names of the libraries that it needs. A program that is linked with it gets these objects as its own."""
+import os
+import shutil
+import subprocess
+
+OBJECTS, NEEDED = ".spbags_objects", ".spbags_needed"
+
+
+def keep(library, parts, folder, run):
+    """Adds to a library that was linked what it is made of."""
+    names = []
+    for part in parts:
+        if not part.is_shared and not part.is_system:
+            names.append(os.path.join(folder, f"{len(names)}-{os.path.basename(part.member or part.file)}"))
+            take_out(part, names[-1], run)
+    archive, needed = os.path.join(folder, "objects.a"), os.path.join(folder, "needed")
+    run("ar", "qc", archive, *names)
+    with open(needed, "w", encoding="utf-8", errors="surrogateescape") as file:
+        file.write("".join(os.path.abspath(part.file) + "\n" for part in parts if part.is_shared))
+    run("objcopy", f"--add-section={OBJECTS}={archive}", f"--add-section={NEEDED}={needed}", library)
+
+
+def take_out(part, name, run):
+    if part.member:
+        with open(name, "wb") as file:
+            subprocess.run(["ar", "p", part.file, part.member], stdout=file, check=True)
+    else:
+        shutil.copyfile(part.file, name)
+
+
+def has_objects(library):
+    try:
+        with open(library, "rb") as file:
+            return OBJECTS.encode() in file.read()
+    except OSError:
+        return False
+
+
+class Libraries:
+    """Those of one link: the archives of their objects, each behind those of the libraries that it needs; and the other
+    libraries that they need."""
+
+    def __init__(self, folder, run, fail):
+        self.folder, self.run, self.fail = folder, run, fail
+        self.seen, self.names, self.archives, self.others = set(), set(), [], []
+
+    def add(self, library):
+        self.names.add(os.path.basename(library))
+        real = os.path.realpath(library)
+        if real in self.seen:
+            return
+        self.seen.add(real)
+        archive = os.path.join(self.folder, f"{len(self.seen)}-{os.path.basename(library)}")
+        needed = archive + ".needed"
+        self.run("objcopy", f"--dump-section={OBJECTS}={archive}", f"--dump-section={NEEDED}={needed}", library,
+                 archive + ".copy")
+        with open(needed, encoding="utf-8", errors="surrogateescape") as file:
+            for other in file.read().splitlines():
+                self.need(self.found(other, library))
+        self.archives.append(archive)
+
+    def need(self, library):
+        if has_objects(library):
+            self.add(library)
+        elif library not in self.others:
+            self.others.append(library)
+
+    def found(self, library, needs_it):
+        """A library where it was, or else beside the one that needs it."""
+        for name in (library, os.path.join(os.path.dirname(needs_it), os.path.basename(library))):
+            if os.path.exists(name):
+                return name
+        return self.fail(f"{needs_it} needs {library}, which isn't there")
+
+    def items(self, items):
+        """The words of a link with the objects in place of the libraries. They come first, as a library begins before
+        the program that needs it."""
+        rest, words = [], iter(items)
+        for word in words:
+            both = [word, next(words, "")] if word == "-l" else [word]
+            if not self.is_named("".join(both)):
+                rest += both
+        return ["-Wl,--whole-archive", *self.archives, "-Wl,--no-whole-archive", *rest, "-Wl,--push-state,--as-needed",
+                *self.others, "-Wl,--pop-state"]
+
+    def is_named(self, word):
+        """Whether a word names one of the libraries."""
+        if word.startswith("-l"):
+            name = word[3:] if word.startswith("-l:") else f"lib{word[2:]}.so"
+            return name in self.names
+        return not word.startswith("-") and os.path.realpath(word) in self.seen

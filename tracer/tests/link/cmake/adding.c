@@ -1,0 +1,4 @@
+int total;
+void add(int n) {
+    total += n; /* [add] */
+}

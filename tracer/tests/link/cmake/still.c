@@ -1,0 +1,1 @@
+int still(void) { return 1; }

@@ -1,0 +1,1 @@
+int outside_library(int *at) { return *at += 30; }

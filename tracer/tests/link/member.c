@@ -1,0 +1,1 @@
+int outside_member(int n) { return n + 20; }

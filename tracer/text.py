@@ -1,0 +1,343 @@
+"""The report of `spbags-run` as plain text, whose lines are no wider than what shows them."""
+import os
+import re
+import textwrap
+from collections import namedtuple
+from itertools import groupby
+
+import source
+from pairs import UNKNOWN_GUARD
+
+INDENT = " " * 4
+LABELS = {"spawn": "  spawned at", "call": "  called at", "allocation": "  allocated at"}
+INSIDE, BOTH, LEFT_OUT = "  inside", "both", "  .."
+# So many rows of a stack are shown at its beginning and at its end.
+FEW = 20
+LEAST_WIDTH = 60
+GAP = "  "
+CUT = ".."
+
+# A line of a stack. What stands behind the text isn't cut.
+Row = namedtuple("Row", "label place function text behind", defaults=("", "", "", ""))
+
+
+def many(number, name):
+    return f"{number} {name}{'' if number == 1 else 's'}"
+
+
+def place(position):
+    return f"{position.file}:{position.line}" if position.line > 0 else position.file
+
+
+def short_place(position):
+    """Without the folder of a header of the system."""
+    return place(position._replace(file=os.path.basename(position.file)) if source.is_system(position) else position)
+
+
+def in_middle(text, width):
+    """A text without its middle, where it is wider."""
+    first = (width - len(CUT) + 1) // 2
+    return text if len(text) <= width else text[:first] + CUT + text[len(text) - (width - len(CUT) - first):]
+
+
+def at_start(text, width):
+    return text if len(text) <= width else CUT + text[len(CUT) - width:]
+
+
+def at_end(text, width):
+    return text if len(text) <= width else text[:max(width - len(CUT), 0)] + CUT
+
+
+def common_tail(one, other):
+    """How many frames at the end of both stacks are alike, but for the accesses themselves."""
+    alike = 0
+    for frame, another in zip(reversed(one[1:]), reversed(other[1:])):
+        if frame[:2] != another[:2]:
+            break
+        alike += 1
+    return alike
+
+
+def without_regions(stack):
+    """A region of OpenMP is called by its own line, where its loop or its task is made too."""
+    return [frame for before, frame in zip([None, *stack], stack)
+            if not before or (before.role, frame.role) != ("spawn", "call") or before.position != frame.position]
+
+
+class Text:
+    """With colours where it goes to a terminal."""
+
+    def __init__(self, report, colours, width):
+        self.report, self.colours, self.width = report, colours, max(width, LEAST_WIDTH)
+
+    def coloured(self, text, colour):
+        return f"\033[{colour}m{text}\033[0m" if self.colours else text
+
+    def wrapped(self, text, colour):
+        return [self.coloured(line, colour)
+                for line in textwrap.wrap(text, self.width, subsequent_indent=INDENT, break_on_hyphens=False)]
+
+    def lines(self):
+        report = self.report
+        groups = [list(pairs) for _, pairs in groupby(report.pairs, key=lambda pair: pair.identity())]
+        has_headings = len(groups) < len(report.pairs)
+        for pairs in groups:
+            if has_headings:
+                yield from self.wrapped(self.heading(pairs), "1;36")
+            for pair in pairs:
+                yield from self.block(pair)
+                yield ""
+        if has_headings and len(groups) > 1:
+            yield "by variable:"
+            for pairs in groups:
+                yield INDENT + at_end(self.heading(pairs), self.width - len(INDENT))
+            yield ""
+        yield from self.ending()
+
+    @staticmethod
+    def heading(pairs):
+        races = many(sum(pair.races for pair in pairs), "location")
+        return f"{whole_name(pairs[0].variable)}: {races} in {many(len(pairs), 'pair')} of lines"
+
+    def ending(self):
+        report = self.report
+        for note in report.notes:
+            yield from self.wrapped(note, "1")
+        for line in [*report.incomplete, *map(unseen_line, report.unseen)]:
+            yield from self.wrapped(line, "1;33")
+        for used in report.suppressions:
+            yield from self.wrapped(suppression_line(used), "1")
+        yield from textwrap.wrap(self.last_line(), self.width, subsequent_indent=INDENT)
+
+    def last_line(self):
+        report = self.report
+        shown = len(report.pairs) + report.not_shown.pairs
+        parts = [f"races {report.races - report.suppressed.races - report.guarded.races}, pairs of lines {shown}"]
+        for what, left in (("not shown", report.not_shown), ("suppressed", report.suppressed),
+                           ("no data race", report.guarded)):
+            if left.pairs > 0:
+                parts.append(f"{what}: {many(left.races, 'race')} of {many(left.pairs, 'pair')}")
+        lines = len(report.incomplete) + len(report.unseen)
+        if lines > 0:
+            parts.append(f"not all was seen or modelled: {many(lines, 'line')} above")
+        return "; ".join(parts)
+
+    # ---- A pair ----
+
+    def block(self, pair):
+        yield from self.wrapped(f"{many(pair.races, 'location')}: {kinds_of(pair)}{guarded(pair.guard)}", "1;31")
+        stacks = [without_regions(side.stack) if pair.suggested else side.stack for side in pair.sides]
+        tail = common_tail(*stacks)
+        rows = [row for side, stack in zip(pair.sides, stacks)
+                for row in self.access_rows(stack[:len(stack) - tail], side.lead())]
+        if tail > 0:
+            rows += [Row(BOTH), *self.rows(stacks[0][len(stacks[0]) - tail:])]
+        owner = self.allocation_rows(pair.variable["stack"]) if pair.variable.get("stack") else []
+        label = max(len(row.label) for row in [*rows, *owner])
+        widths = self.widths([*rows, *owner], label)
+        yield from (self.row(row, widths) for row in rows)
+        yield from self.prose("variable", variable_line(pair.variable, self.report.unit), label)
+        yield from (self.row(row, widths) for row in owner)
+        if pair.siblings or pair.missing_sync:
+            yield from self.prose(*order_row(pair), label)
+
+    def widths(self, rows, label):
+        """Of the label, the place and the function, so that there is room for the text."""
+        room = (self.width - len(INDENT) - label - 3 * len(GAP)) * 2 // 5
+        functions = (len(row.function) for row in rows if row.text)
+        return [label, min(max(len(row.place) for row in rows), room), min(max(functions, default=0), room)]
+
+    def row(self, row, widths):
+        """A function without a text has the room of both."""
+        behind = row.behind and f"{GAP}({row.behind})"
+        line = f"{INDENT}{row.label:{widths[0]}}{GAP}{at_start(row.place, widths[1]):{widths[1]}}{GAP}"
+        if not row.text:
+            return (line + in_middle(row.function, self.width - len(line) - len(behind)) + behind).rstrip()
+        line += f"{in_middle(row.function, widths[2]):{widths[2]}}{GAP}"
+        return (line + at_end(row.text, self.width - len(line) - len(behind)) + behind).rstrip()
+
+    def prose(self, label, text, width):
+        start = f"{INDENT}{label:{width}}{GAP}"
+        return textwrap.wrap(text, self.width, initial_indent=start, subsequent_indent=" " * len(start),
+                             break_on_hyphens=False)
+
+    def access_rows(self, stack, lead):
+        """The user's own code comes first, where the access is in a header of the system."""
+        if stack[0].position == lead:
+            return self.rows(stack)
+        first = Row(stack[0].role, place(lead), lead.function, source.text_of(lead))
+        return [first, *self.rows([stack[0]._replace(role="header"), *stack[1:]])]
+
+    def allocation_rows(self, stack):
+        """Functions of the library stand behind the line that calls them."""
+        lead = source.leading([frame.position for frame in stack])
+        inside = next(number for number, frame in enumerate(stack) if frame.position == lead)
+        first = Row(LABELS["allocation"], place(lead), lead.function, source.text_of(lead))
+        if inside == 0:
+            return self.rows(stack)
+        return [first, *self.rows([stack[0]._replace(role="header"), *stack[1:inside]]), *self.rows(stack[inside + 1:])]
+
+    @staticmethod
+    def rows(stack):
+        """A row for each frame, with one for those that are alike and follow one another, and one for those of headers
+        of the system."""
+        rows = []
+        for is_system, frames in groupby(stack, key=lambda frame: source.is_system(frame.position)):
+            frames = list(frames)
+            if is_system and len(frames) > 1:
+                rows.append(system_row(frames))
+            else:
+                rows += (alike_row(key, len(list(alike)))
+                         for key, alike in groupby(frames, key=lambda frame: (frame.role, frame.position)))
+        left = len(rows) - 2 * FEW
+        return rows if left <= 1 else [*rows[:FEW], Row(LEFT_OUT, f"{left} more"), *rows[-FEW:]]
+
+
+def label_of(role):
+    return INSIDE if role == "header" else LABELS.get(role, role)
+
+
+def alike_row(key, times):
+    role, position = key
+    return Row(label_of(role), short_place(position), position.function, source.text_of(position),
+               f"{times} times" if times > 1 else "")
+
+
+def system_row(frames):
+    """The outermost function of the library, which other code calls."""
+    outer = frames[-1].position
+    return Row(label_of(frames[0].role), short_place(outer), outer.function, "",
+               f"and {len(frames) - 1} more")
+
+
+# ---- What is said of a pair ----
+
+def kinds_of(pair):
+    kinds = " against ".join(" or ".join(sorted(kinds)) for kinds in pair.kinds)
+    kinds += "; maybe only of neighbours" if pair.neighbours else ""
+    return kinds + ("; the stacks may be of another variable" if pair.borrowed else "")
+
+
+def guarded(guard):
+    if guard is None:
+        return ""
+    if guard == UNKNOWN_GUARD:
+        return "; what both hold isn't known, so it may be no data race"
+    held = "both are atomic" if guard == "atomic" else f"both hold {guard}"
+    return f"; {held}, so it is no data race, but either may come first"
+
+
+def unseen_line(unseen):
+    return f"not seen: {unseen.function} ({unseen.library}), called {many(unseen.calls, 'time')}"
+
+
+def suppression_line(used):
+    if used.pairs == 0:
+        return f"{used.line} suppresses nothing"
+    return f"{used.line} suppresses {many(used.races, 'race')} of {many(used.pairs, 'pair')}"
+
+
+def owned(variable, name):
+    """A variable with what tells it from others of its name."""
+    if variable["kind"] == "local":
+        return f"{name}, a local of {variable['function']}"
+    return name + (", thread-local" if variable.get("thread_local") else "")
+
+
+def whole_name(variable):
+    """What a heading calls a variable."""
+    kind = variable["kind"]
+    if "name" in variable:
+        return owned(variable, variable["name"])
+    if kind == "heap":
+        lead = source.leading([frame.position for frame in variable["stack"]])
+        return f"blocks of the heap from {place(lead)}"
+    if kind == "local":
+        return f"locals of {variable['function']}"
+    return "locals" if kind == "stack" else "other memory"
+
+
+def byte_of(offset, size):
+    return f", byte {offset} of {size}"
+
+
+def variable_line(variable, unit):
+    """The part of a variable with the location."""
+    kind = variable["kind"]
+    if kind == "heap":
+        offset, size, element = (variable[name] for name in ("offset", "size", "element"))
+        elements = f", or element {offset // element} of {size // element}" if element else ""
+        return "a block of the heap" + byte_of(offset, size) + elements
+    if variable.get("expression"):
+        rest = variable["rest"]
+        return owned(variable, variable["expression"] + (byte_of(*rest) if rest and all(rest) else ""))
+    if "name" in variable:
+        return owned(variable, variable["name"] + (
+            "" if variable["size"] <= unit else byte_of(variable["offset"], variable["size"])))
+    if kind == "local":
+        return f"a local of {variable['function']}"
+    return "a local" if kind == "stack" else f"memory at {variable['address']:#x}"
+
+
+def order_row(pair):
+    """Where something is missing between both accesses, and of OpenMP, what it may be."""
+    missing_sync = pair.missing_sync
+    line = siblings_line(pair.siblings) if pair.siblings else missing_sync_line(missing_sync)
+    if pair.suggested:
+        *others, last = pair.suggested
+        line += f". What may be missing: {', '.join(others)}{' or ' if others else ''}{last}"
+    return "no sync" if not pair.siblings and missing_sync["construct"] == "spawn" else "no order", line
+
+
+def siblings_line(siblings):
+    where = place(siblings["position"])
+    if siblings["construct"] == "task":
+        return f"tasks from {where} may run at once"
+    if siblings["construct"] == "region":
+        return f"threads of the region at {where} may do this at once"
+    numbers = (str(first) if first == last else f"{first} to {last}"
+               for first, last in (siblings["first"], siblings["second"]))
+    if siblings["construct"] == "sections":
+        return "sections {} and {} may run at once".format(*numbers)
+    construct = "cilk_for" if siblings["construct"] == "cilk_for" else "loop"
+    return "iterations {} and {} of the {} at {} may run at once".format(*numbers, construct, where)
+
+
+def missing_sync_line(missing_sync):
+    again = missing_sync["spawn"] == missing_sync["continues_at"]
+    before = "before what comes next on that line" if again else f"before {place(missing_sync['continues_at'])}"
+    after = f"the {missing_sync['construct']} at {place(missing_sync['spawn'])}"
+    line = f"in {missing_sync['function']} after {after} and {before}"
+    if missing_sync["syncs_at_return"]:
+        return f"{line}: it waits at its end"
+    return line + (f": it waits at {place(missing_sync['next_sync'])}" if missing_sync["next_sync"] else "")
+
+
+# What the hooks say of a program that may wait for ever, and the command that prints its stack.
+STUCK = re.compile("(.*) addr2line -Cfpie (.*?)((?: 0x[0-9a-f]+)*)")
+
+
+def stuck_lines(line):
+    """That with the stack itself, as far as it isn't of the system's headers."""
+    what, program, codes = STUCK.fullmatch(line).groups()
+    codes = [int(code, 16) + 1 for code in codes.split()]
+    found = source.positions_of(program, codes)
+    known = [position for code in codes for position in found[code] if position.line > 0]
+    own = [position for position in known if not source.is_system(position)]
+    rows = [(place(position), position.function, source.text_of(position)) for position in own or known]
+    widths = [max((len(row[column]) for row in rows), default=0) for column in range(2)]
+    return [what, *("    " + "  ".join(f"{cell:{width}}" for cell, width in zip(row, [*widths, 0])).rstrip()
+                    for row in rows)]
+
+
+def suppressions(pairs):
+    """Lines that leave out each of these, with a comment before each that says which."""
+    for line, alike in groupby(sorted(pairs, key=suppression_of), key=suppression_of):
+        for pair in alike:
+            first, second = (side.lead() for side in pair.sides)
+            yield f"# {many(pair.races, 'location')}: {kinds_of(pair)}, {place(first)} and {place(second)}"
+        yield line or "# Nothing there has a name that a line could say."
+
+
+def suppression_of(pair):
+    return pair.suppression() or ""

@@ -1,0 +1,152 @@
+"""The tokens of a preprocessed source in C or C++, and what can be told of statements and calls by them alone."""
+import re
+
+TOKEN = re.compile(
+    r"(?P<marker>^\#[^\n]*\n)"
+    r"|(?P<space>[ \t\f\v\r]+|\n)"
+    r"|(?P<raw>(?:u8|[uUL])?R\"(?P<delimiter>[^()\\\s]{0,16})\((?:.|\n)*?\)(?P=delimiter)\")"
+    r"|(?P<string>\"(?:\\.|[^\"\\\n])*\")"
+    r"|(?P<character>'(?:\\.|[^'\\\n])*')"
+    r"|(?P<number>\.?[0-9](?:[eEpP][+-]|'(?=\w)|[0-9A-Za-z_.])*)"
+    r"|(?P<word>[A-Za-z_$\x80-\uffff][A-Za-z0-9_$\x80-\uffff]*)"
+    r"|(?P<mark>\.\.\.|<<=|>>=|->|\+\+|--|<<|>>|[-+*/%&|^=!<>]=|&&|::|\|\||.)",
+    re.MULTILINE)
+LINE_MARKER = re.compile(r'#(?:line)? *([0-9]+) *("(?:\\.|[^"\\])*")?([ 0-9]*)')
+PARTNERS = {")": "(", "]": "[", "}": "{"}
+CONTROLS = {"if", "for", "while", "switch", "_Cilk_for"}
+
+
+class Refused(Exception):
+    """What can't be rewritten, and why."""
+
+    def __init__(self, token, why):
+        super().__init__(why)
+        self.token = token
+
+
+class Token:
+    def __init__(self, kind, text, start, file, line, system):
+        self.kind, self.text, self.start, self.file, self.line = kind, text, start, file, line
+        self.system = system  # whether it stands in a header of the system
+        self.end = start + len(text)
+        self.partner = None   # of a bracket: the index of the other one
+        self.around = None    # the index of the innermost bracket around it
+
+    def marker(self, flags=""):
+        """Puts what follows on this token's line of the program."""
+        return f"\n# {self.line} {self.file}{flags}\n"
+
+    def place(self):
+        return f"{self.file[1:-1]}:{self.line}"
+
+
+def tokens_of(text):
+    """The tokens of C, each with its line of the program."""
+    tokens, file, line, system = [], '"?"', 1, False
+    for match in TOKEN.finditer(text):
+        kind, found = match.lastgroup, match.group()
+        if kind == "marker":
+            numbered = LINE_MARKER.match(found)
+            line = int(numbered[1]) if numbered else line + 1
+            if numbered and numbered[2]:
+                file, system = numbered[2], "3" in numbered[3].split()
+        elif kind == "space":
+            line += found == "\n"
+        else:
+            tokens.append(Token(kind, found, match.start(), file, line, system))
+            line += found.count("\n")
+    match_brackets(tokens)
+    return tokens
+
+
+def match_brackets(tokens):
+    opened = []
+    for at, token in enumerate(tokens):
+        if token.kind == "mark" and token.text in PARTNERS:
+            if opened and tokens[opened[-1]].text == PARTNERS[token.text]:
+                token.partner = opened.pop()
+                tokens[token.partner].partner = at
+        token.around = opened[-1] if opened else None
+        if token.kind == "mark" and token.text in PARTNERS.values():
+            opened.append(at)
+
+
+def ends_label(tokens, colon):
+    """Whether this colon ends a label, and isn't the second half of `? :`."""
+    before = colon - 1
+    if tokens[before].text == "default":
+        return True
+    if tokens[before].kind == "word" and tokens[before - 1].text in ("{", "}", ";", ":", ")", "else", "do"):
+        return True
+    while before >= 0 and tokens[before].text not in ("{", "}", ";", "?"):
+        if tokens[before].text == "case":
+            return True
+        before -= 1
+    return False
+
+
+def is_in_block(tokens, at):
+    around = tokens[at].around
+    return around is not None and tokens[around].text == "{"
+
+
+def statement_start(tokens, spawn):
+    """The index of the first token of the statement in which this spawn stands."""
+    first = spawn
+    while first > 0:
+        before = tokens[first - 1]
+        if before.text in ("{", "}", ";", "else", "do"):
+            break
+        if before.text == ":" and ends_label(tokens, first - 1):
+            break
+        if before.text in (")", "]") and before.partner is not None:
+            if tokens[before.partner - 1].text in CONTROLS:
+                break
+            first = before.partner
+        else:
+            first -= 1
+    return first
+
+
+def after_postfixes(tokens, at):
+    """The end of the operators `(..)`, `[..]`, `.x` and `->x` from here on, and the last of them."""
+    last = None
+    while at < len(tokens):
+        text = tokens[at].text
+        if text not in ("(", "[", ".", "->") or (text in ("(", "[") and tokens[at].partner is None):
+            break
+        last = at
+        at = tokens[at].partner + 1 if text in ("(", "[") else at + 2
+    return at, last
+
+
+def call_after(tokens, before):
+    """The parenthesis that opens the arguments of the call after this token, where a semicolon ends it; or None."""
+    first = tokens[before + 1]
+    if first.text == "(" and first.partner is not None:
+        at = first.partner + 1
+    elif first.kind == "word":
+        at = before + 2
+    else:
+        return None
+    end, last = after_postfixes(tokens, at)
+    return last if last is not None and tokens[last].text == "(" and tokens[end].text == ";" else None
+
+
+def arguments_of(tokens, opening):
+    """The first and last index of each argument."""
+    arguments, first = [], opening + 1
+    for at in range(opening + 1, tokens[opening].partner + 1):
+        ends = at == tokens[opening].partner
+        if (ends or (tokens[at].text == "," and tokens[at].around == opening)) and first < at:
+            arguments.append((first, at - 1))
+            first = at + 1
+    return arguments
+
+
+def is_lvalue(tokens, first, end):
+    """Whether these tokens name memory, as `*a[i].x` does; otherwise they declare a variable."""
+    if tokens[first].text in ("*", "("):
+        return True
+    stop, last = after_postfixes(tokens, first + 1)
+    return stop == end and (last is None or tokens[last].text != "(")

@@ -1,0 +1,278 @@
+"""The names of variables and of their parts, such as `params[0].flag`, by a program's DWARF. What it doesn't tell has
+no name: a location that the reader doesn't know for sure, or DWARF that can't be read."""
+import re
+import struct
+import zlib
+from collections import namedtuple
+
+from dwarf import Dwarf, sleb, uleb
+
+# A variable, a byte of it by its offset, and its size; and the part with that byte, as an expression of C. Where that
+# is no scalar, the rest is the offset in it, and its size.
+Named = namedtuple("Named", "name offset size expression rest")
+# The memory that a function has: of its frame, from its end on, or from where clang has aligned it; of the data that it
+# is handed; a thread's; or a global.
+FRAME, ALIGNED, DATA, THREAD, GLOBAL = "frame", "aligned", "data", "thread", "global"
+
+UNREADABLE = (ValueError, LookupError, TypeError, AttributeError, RecursionError, struct.error, zlib.error)
+
+# Tags.
+ARRAY, CLASS, PARAMETER, BLOCK, MEMBER, POINTER, REFERENCE = 0x01, 0x02, 0x05, 0x0b, 0x0d, 0x0f, 0x10
+STRUCTURE, TYPEDEF, UNION, INHERITANCE, INLINED, SUBRANGE, CONST = 0x13, 0x16, 0x17, 0x1c, 0x1d, 0x21, 0x26
+FUNCTION, VARIABLE, VOLATILE, RESTRICT, NAMESPACE, RIGHT_REFERENCE, ATOMIC = 0x2e, 0x34, 0x35, 0x37, 0x39, 0x42, 0x47
+POINTERS, POINTER_SIZE = {POINTER, REFERENCE, RIGHT_REFERENCE}, 8
+RENAMING = {TYPEDEF, CONST, VOLATILE, RESTRICT, ATOMIC}
+WITH_MEMBERS = {CLASS, STRUCTURE, UNION}
+HOLDS_VARIABLES = {BLOCK, INLINED}
+
+# Attributes.
+BYTE_SIZE, BIT_OFFSET, BIT_SIZE, LOW_PC, UPPER_BOUND, COUNT = 0x0b, 0x0c, 0x0d, 0x11, 0x2f, 0x37
+MEMBER_LOCATION, DECLARATION, FRAME_BASE, TYPE, DATA_BITS = 0x38, 0x3c, 0x40, 0x49, 0x6b
+
+# Operations of an expression. Register 5 has a function's first argument where the function begins, and 6 its frame; 3
+# has what clang has aligned of that.
+ADDR, DEREF, PLUS, ARGUMENT, FRAME_POINTER, FRAME_OFFSET, ADDRX = 0x03, 0x06, 0x23, 0x75, 0x76, 0x91, 0xa1
+ALIGNED_POINTER = 0x73
+CONSTANT, IN_THREAD, AT_ENTRY = 0x0e, {0x9b, 0xe0}, {0xa3, 0xf3}
+THE_FRAME, THE_FRAME_POINTER = b"\x9c", b"\x56"
+# The frame pointer is so far below the frame's end, and so is what clang means by its frame.
+BELOW = 16
+# How a function begins that aligns its frame: it saves registers, aligns the stack, makes room, and keeps that place.
+ALIGNS = re.compile(rb"\x55\x48\x89\xe5((?:\x41?[\x50-\x57])*)\x48(?:\x83\xe4(.)|\x81\xe4(.{4}))"
+                    rb"\x48(?:\x83\xec(.)|\x81\xec(.{4}))\x48\x89\xe3", re.DOTALL)
+LONGEST_START, PUSH = 48, re.compile(rb"\x41?[\x50-\x57]")
+OWN = re.compile("__spbags_")
+# The hooks of accesses, by their width in bytes or, where they are atomic, in bits.
+ACCESS = re.compile("__(?:tsan|sanitizer_cov)_(?:unaligned_)?(?:read|write|load|store)([0-9]+)|__tsan_atomic([0-9]+)_")
+CALL, CALL_SIZE = 0xe8, 5
+OUTLINED = re.compile(r"\._omp_(?:cpy)?fn\.[0-9]+$")
+
+
+def readable(method):
+    """What a method finds, or nothing where the DWARF can't be read."""
+    def found(self, *words):
+        try:
+            return method(self, *words) if self.dwarf else None
+        except UNREADABLE:
+            return None
+    return found
+
+
+class Names:
+    def __init__(self, program):
+        self.functions, self.globals, self.dwarf = {}, {}, None
+        try:
+            self.dwarf = Dwarf(program)
+        except (*UNREADABLE, OSError):
+            pass
+
+    def has_any(self):
+        return bool(self.dwarf and self.dwarf.units)
+
+    @readable
+    def in_frame(self, code, offset, address):
+        """The variable of the function with this code that is so far from its frame's end, at this address."""
+        aligned = self.aligned(code, address - offset)
+        return self.local(code, FRAME, offset) or (aligned and self.local(code, ALIGNED, address - aligned))
+
+    @readable
+    def in_data(self, code, offset, _):
+        """The variable that is so far in the data which OpenMP hands to the function with this code."""
+        return self.local(code, DATA, offset)
+
+    @readable
+    def at(self, start, offset, in_thread=False):
+        """The part of a global that begins here; of a thread's variable its place in the thread's memory is said."""
+        wanted = (THREAD if in_thread else GLOBAL, start)
+        if wanted not in self.globals:
+            text = struct.pack("<BQ", CONSTANT if in_thread else ADDR, start)
+            self.globals[wanted] = self.entry_with(text, lambda entry: wanted in self.places(entry, None))
+        return self.globals[wanted] and self.named(self.globals[wanted], offset)
+
+    @readable
+    def width(self, code):
+        """How many bytes the access has whose hook returns to this code."""
+        elf, call = self.dwarf.elf, self.dwarf.elf.code_at(code - CALL_SIZE, CALL_SIZE)
+        hook = call and call[0] == CALL and elf.function_at(code + struct.unpack("<i", call[1:])[0])
+        found = hook and ACCESS.match(hook[1])
+        return found and (int(found[1]) if found[1] else int(found[2]) // 8)
+
+    def local(self, code, kind, offset):
+        """Where two variables may be meant, none is."""
+        found = set()
+        for place, size, entry in self.variables_of(code):
+            if place[0] == kind and 0 <= offset - place[1] < size:
+                found.add(self.named(entry, offset - place[1]))
+        return found.pop() if len(found) == 1 else None
+
+    def aligned(self, code, end):
+        """Where the function with this code has its locals, if it aligns its frame, which ends here."""
+        elf = self.dwarf.elf
+        found = ALIGNS.match(elf.code_at(elf.function_at(code)[0], LONGEST_START))
+        if not found:
+            return None
+        mask, size = (int.from_bytes(found[at] or found[at + 1], "little", signed=True) for at in (2, 4))
+        return (end - BELOW - 8 * len(PUSH.findall(found[1])) & mask) - size
+
+    def entry_with(self, text, is_wanted):
+        """The entry with these bytes among its values for which this holds."""
+        dwarf, at = self.dwarf, -1
+        while (at := dwarf.info.find(text, at + 1)) >= 0:
+            entry = dwarf.entry_around(at)
+            if entry and is_wanted(entry):
+                return entry
+        if not dwarf.section(".debug_addr"):
+            return None
+        # clang's addresses are in a table of their own.
+        return next(filter(is_wanted, (entry for unit in dwarf.units for entry in self.below(dwarf.root(unit)))), None)
+
+    def below(self, entry):
+        for child in self.dwarf.each_child(entry):
+            yield child
+            if child.tag in (FUNCTION, BLOCK, NAMESPACE):
+                yield from self.below(child)
+
+    # ---- Locals ----
+
+    def variables_of(self, code):
+        """The variables of the function with this code, each with a place where it may be, and its size."""
+        found = self.dwarf.elf.function_at(code)
+        if found and found[0] not in self.functions:
+            start, name = found
+            function = self.entry_with(struct.pack("<Q", start), lambda entry: self.is_function(entry, start))
+            is_outlined = OUTLINED.search(name) is not None
+            self.functions[start] = list(self.placed(function, function, is_outlined)) if function else []
+        return self.functions[found[0]] if found else []
+
+    def is_function(self, entry, start):
+        return entry.tag == FUNCTION and self.dwarf.address(entry, LOW_PC) == start
+
+    def placed(self, entry, function, is_outlined):
+        for child in self.dwarf.each_child(entry):
+            if child.tag in (VARIABLE, PARAMETER):
+                for place in self.places(child, function, is_outlined):
+                    yield place, self.size(self.type_of(child)) or 0, child
+            elif child.tag in HOLDS_VARIABLES:
+                yield from self.placed(child, function, is_outlined)
+
+    def places(self, entry, function, is_outlined=False):
+        """Where the variable may be."""
+        frame = function and function.block(FRAME_BASE)
+        base = {THE_FRAME: 0, THE_FRAME_POINTER: -BELOW}.get(bytes(frame) if frame else None)
+        expressions = self.dwarf.expressions(entry)
+        found = (self.place(expression, entry.unit, base, is_outlined and number == 0, is_outlined)
+                 for number, expression in enumerate(expressions))
+        return set(filter(None, found))
+
+    def place(self, expression, unit, base, is_at_entry, is_outlined):
+        """What an expression says as a whole, or None. An outlined function has its data's address as its argument; gcc
+        without optimisation keeps that in the frame."""
+        operation, rest = expression[0], expression[1:]
+        if operation == ADDR and len(rest) == 8:
+            return GLOBAL, struct.unpack("<Q", rest)[0]
+        if operation == ADDRX:
+            number, end = uleb(rest, 0)
+            return (GLOBAL, self.dwarf.indexed_address(unit, number)) if end == len(rest) else None
+        if operation == CONSTANT and len(rest) == 9 and rest[8] in IN_THREAD:
+            return THREAD, struct.unpack("<Q", rest[:8])[0]
+        if operation in AT_ENTRY:
+            return self.in_argument(rest[2:]) if is_outlined and rest[:2] == bytes([1, 0x55]) else None
+        if operation not in (ARGUMENT, FRAME_POINTER, FRAME_OFFSET, ALIGNED_POINTER):
+            return None
+        offset, end = sleb(rest, 0)
+        if operation == ALIGNED_POINTER:
+            return (ALIGNED, offset) if end == len(rest) else None
+        if operation == ARGUMENT:
+            return self.in_argument(rest[end:], offset) if is_at_entry else None
+        if is_outlined and rest[end:end + 1] == bytes([DEREF]):
+            return self.in_argument(rest[end + 1:])
+        start = -BELOW if operation == FRAME_POINTER else base
+        return (FRAME, start + offset) if end == len(rest) and start is not None else None
+
+    @staticmethod
+    def in_argument(rest, offset=0):
+        """Memory at this offset of the data, if no more is said than one number to add."""
+        if rest[:1] == bytes([PLUS]):
+            more, end = uleb(rest, 1)
+            offset, rest = offset + more, rest[end:]
+        return None if rest else (DATA, offset)
+
+    # ---- Types ----
+
+    def type_of(self, entry):
+        """The type of a variable, a member or an element, behind its other names."""
+        found = self.dwarf.inherited(entry, TYPE)
+        found = found and self.dwarf.referred(found, TYPE)
+        while found and found.tag in RENAMING:
+            found = self.dwarf.referred(found, TYPE)
+        return found
+
+    def size(self, kind):
+        if kind is None:
+            return None
+        if kind.tag != ARRAY or kind.number(BYTE_SIZE) is not None:
+            return kind.number(BYTE_SIZE, POINTER_SIZE if kind.tag in POINTERS else None)
+        size = self.size(self.type_of(kind))
+        for count in self.counts(kind):
+            size = size and count and size * count
+        return size or None
+
+    def counts(self, array):
+        """How many elements an array has in each dimension; None where that isn't known."""
+        for child in self.dwarf.each_child(array):
+            if child.tag == SUBRANGE:
+                last = child.number(UPPER_BOUND)
+                yield child.number(COUNT, None if last is None else last + 1)
+
+    def named(self, entry, offset):
+        """The part of a variable; what the tracer puts into a program has no name."""
+        name, kind = self.dwarf.name(entry), self.type_of(entry)
+        path, rest = self.part(kind, offset)
+        return Named(name, offset, self.size(kind), name + path, rest) if name and not OWN.match(name) else None
+
+    def part(self, kind, offset):
+        """The path to the part of a variable of this type at this offset; and if that is no scalar, what is left."""
+        if kind and kind.tag == ARRAY:
+            return self.element(kind, offset)
+        if kind and kind.tag in WITH_MEMBERS:
+            found = [(member, first) for member, first, size in self.members(kind)
+                     if size and first <= offset < first + size]
+            if len(found) != 1:
+                return "", (offset, self.size(kind))
+            member, first = found[0]
+            name = self.dwarf.name(member) if member.tag == MEMBER else None
+            path, rest = self.part(self.type_of(member), offset - first)
+            return (f".{name}" if name else "") + path, rest
+        return "", None
+
+    def element(self, array, offset):
+        element = self.type_of(array)
+        size, counts = self.size(element), list(self.counts(array))
+        if not size or None in counts[1:] or not counts:
+            return "", (offset, self.size(array))
+        index, indices = offset // size, []
+        for count in reversed(counts[1:]):
+            index, last = divmod(index, count)
+            indices.append(last)
+        path, rest = self.part(element, offset % size)
+        return "".join(f"[{number}]" for number in (index, *reversed(indices))) + path, rest
+
+    def members(self, kind):
+        """The members and the bases of a struct, class or union, with the bytes that they touch."""
+        for child in self.dwarf.each_child(kind):
+            if child.tag not in (MEMBER, INHERITANCE) or child.number(DECLARATION):
+                continue
+            first = child.number(MEMBER_LOCATION) if MEMBER_LOCATION in child.values else 0
+            if first is not None:
+                yield child, *self.bytes_of(child, first)
+
+    def bytes_of(self, member, first):
+        """The first byte that a member touches, and how many: it begins in this byte, or has some bits from there on."""
+        size, bits = self.size(self.type_of(member)), member.number(BIT_SIZE)
+        if not bits:
+            return first, size
+        start = member.number(DATA_BITS)
+        if start is None:
+            # DWARF 4 counts from the other end of what holds the bits.
+            start = 8 * first + 8 * member.number(BYTE_SIZE, size) - member.number(BIT_OFFSET, 0) - bits
+        return start // 8, (start % 8 + bits + 7) // 8
