@@ -8,6 +8,8 @@ BEGIN {
         folder = ""
     # The README has words in back-ticks that are no names, as those of traces and reports.
     strict = PAGE != "README.md"
+    # Only the tests' part of this page is looked at.
+    waits_for = PAGE ~ /DEVELOPING/ ? "What is only tested" : ""
 }
 
 function method_of(wanted) { sub(/^.*::/, "", wanted); return wanted }
@@ -38,6 +40,7 @@ NR == FNR && $1 == "opens" { opens[$2] = opens[$2] " " $3 }
 NR == FNR && $1 == "public" { public[$2 "\t" $3] }
 NR == FNR && $1 == "exported" { is_exported[$2, $3] }
 NR == FNR && $1 == "command" { is_command[$2] }
+NR == FNR && $1 == "explained" { is_explained[$2] }
 NR == FNR { next }
 
 # Counts a name, and tells of it where it doesn't stand there.
@@ -132,6 +135,8 @@ function look_at_functions(text, crate,  count, i, at, found) {
                 look_at_files(rests[at, found], found)
             function_crate[++functions] = at
             function_name[functions] = found
+            row_crate[++row_functions] = at
+            row_function[row_functions] = found
         }
     }
 }
@@ -278,6 +283,53 @@ function stands_in(path, wanted,  files, count, i) {
     return 0
 }
 
+# The row of a claim: its contracts stand in its files and cite its definitions, which DEFINITIONS.md explains; its
+# command proves a function; and its edits are there. The crate is that of the first file.
+function look_at_claim(  crate, count, i, k, stands, parts) {
+    count = names_of(cells[3])
+    for (i = 1; i <= count; i++) {
+        claim_file[i] = name[i]
+        look(name[i] in is_path, name[i], "there")
+    }
+    split(claim_file[1], parts, "/")
+    crate = parts[2]
+    row_functions = 0
+    if (cells[2] ~ /`: /)
+        look_at_contract(cells[2], crate)
+    for (k = 1; k <= row_functions; k++) {
+        stands = 0
+        for (i = 1; i <= count; i++)
+            stands = stands || (claim_file[i], method_of(row_function[k])) in in_file
+        look(stands, row_function[k], "in the files of its row")
+    }
+    count = names_of(cells[4])
+    for (i = 1; i <= count; i++) {
+        stands = name[i] !~ /^[A-Z]/
+        for (k = 1; k <= row_functions; k++)
+            stands = stands || reaches(row_crate[k], row_function[k], name[i])
+        look(stands && name[i] in is_explained, name[i], "explained in DEFINITIONS.md, or not cited")
+    }
+    count = names_of(cells[5])
+    for (i = 1; i <= count; i++) {
+        split(name[i], parts, " ")
+        sub(/^crates\//, "", parts[2])
+        stands = parts[2] in is_crate && (parts[7] == "" || (parts[2], parts[7]) in with_name)
+        look(stands, name[i], "a proof of a function")
+    }
+    look_at_claims_edits(cells[6], crate)
+}
+
+# Edits of a crate, and behind a semicolon `of` another one's.
+function look_at_claims_edits(cell, crate,  segments, last, k, i, count, at) {
+    last = split(cell, segments, /; /)
+    for (k = 1; k <= last; k++) {
+        count = names_of(segments[k])
+        at = segments[k] ~ /^of / ? name[1] : crate
+        for (i = at == name[1] ? 2 : 1; i <= count; i++)
+            look((at, name[i]) in is_edit, name[i], "an edit of crates/" at "/must-fail")
+    }
+}
+
 # The row of an edit: its crate is `trace` where it names none.
 function look_at_edit(  crate, count) {
     count = names_of(cells[1])
@@ -285,9 +337,11 @@ function look_at_edit(  crate, count) {
     look((crate, name[1]) in is_edit, name[1], "an edit of crates/" crate "/must-fail")
     delete edits[crate "/" name[1]]
     has_edits = 1
-    look_at_contract(cells[3], crate)
+    look_at_contract(cells[2], crate)
 }
 
+waits_for != "" && $0 != "## " waits_for { next }
+waits_for != "" { waits_for = "" }
 { look_at_links($0) }
 /^    / { next }
 /^## / {
@@ -305,9 +359,8 @@ function look_at_edit(  crate, count) {
     in_table = 1
     if (line ~ /^-/ || line == header)
         next
-    if (header == "Promise | Contract") {
-        look_at_mentions(cells[1], section)
-        look_at_contract(cells[2], section)
+    if (header ~ /^Claim \| Contract/) {
+        look_at_claim()
     } else if (header ~ /^Crate \| Public functions that may wait/) {
         gsub("`", "", cells[1])
         look_at_contract(cells[2], cells[1])
