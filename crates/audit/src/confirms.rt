@@ -58,7 +58,7 @@ impl Confirming {
         })
     }
 
-    /// Sees an access of a location. At most one entry has this location.
+    /// Sees an access to a location. At most one entry has this location.
     fn see_access(&mut self, location: u64, access: Access)
         ensures entries { Sees self.old.meetings location access self.old.entries.items self.new.entries.items }
         ensures same_races { races_of self.new.entries.items ≡ races_of self.old.entries.items }
@@ -162,7 +162,7 @@ pub(crate) fn answer_of(entries: &[Entry]) -> Confirm
 }
 
 /// Reads a trace to its end, and says whether every entry of a report is a race of it: whether its two places are
-/// parallel accesses of the location, of the kinds that the entry says. It doesn't ask whether the report lacks
+/// parallel accesses to the location, of the kinds that the entry says. It doesn't ask whether the report lacks
 /// entries, or whether another pair of the location comes earlier.
 ///
 /// A fault is the whole answer. It keeps three numbers for each active procedure, two numbers for each turn that

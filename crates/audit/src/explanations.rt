@@ -85,7 +85,7 @@ impl Explaining {
         }
     }
 
-    // Sees an access of the location: it completes the race, or it may be kept.
+    // Sees an access to the location: it completes the race, or it may be kept.
     fn see_access(&mut self, access: Access) -> Result<(), NoMemory>
         ensures location { self.new.location ≡ self.old.location }
         ensures meetings { self.new.meetings ≡ self.old.meetings }
@@ -264,9 +264,9 @@ fn openers_below(alloc: Global, level: usize, openers: &[Opener]) -> Result<Vec<
 /// Reads a trace to its end, and explains the race that the report has of a location, or says that there is none.
 ///
 /// A fault is the whole answer. It keeps three numbers and an opener for each active procedure, two numbers for each
-/// turn that these took from spawned children to called ones or back, and at most two accesses of the location, with
+/// turn that these took from spawned children to called ones or back, and at most two accesses to the location, with
 /// the openers of the procedures that hold them. After it has found the race it keeps only the openers of this race.
-/// Until then an access of the location costs at most two searches among the active procedures and two among the
+/// Until then an access to the location costs at most two searches among the active procedures and two among the
 /// turns, and a copy of the openers if it is kept. Any other record costs the same wherever it stands.
 ///
 /// ```rust

@@ -13,14 +13,14 @@ use crate::meetings::Meetings;
 use std::alloc::Global;
 use trace::{Access, Fault, Kind, Limits, NoMemory, Placed, Record, Source, Watch, read_to_end};
 
-/// An access of the location, and the depth of the procedure that executes it.
+/// An access to the location, and the depth of the procedure that executes it.
 #[derive(Clone, Copy)]
 pub(crate) struct KeptAccess {
     pub(crate) access: Access,
     pub(crate) depth: usize,
 }
 
-/// The accesses of a location so far, and its races.
+/// The accesses to a location so far, and its races.
 #[derive(Drop)]
 pub(crate) struct Pairing {
     pub(crate) location: u64,
@@ -79,7 +79,7 @@ fn add_pairs(
     Ok(())
 }
 
-/// The access of a location, if the record is one.
+/// The access to a location, if the record is one.
 pub(crate) fn access_of(placed: Placed, location: u64) -> Option<Access>
     ensures { MatchOption result ((k : Kind) → placed.what ≢ access k location) (λ a. (a.place ≡ placed.place)
         × (placed.what ≡ access a.kind location)) }
@@ -112,8 +112,8 @@ fn one_writes(first: Kind, second: Kind) -> bool
 /// first.
 ///
 /// A fault is the whole answer. It keeps three numbers for each active procedure, two numbers for each turn that
-/// these took from spawned children to called ones or back, and the accesses of the location with their depths. It
-/// compares each access of the location with all earlier ones, by one search among the active procedures and one
+/// these took from spawned children to called ones or back, and the accesses to the location with their depths. It
+/// compares each access to the location with all earlier ones, by one search among the active procedures and one
 /// among the turns. Any other record costs the same wherever it stands.
 ///
 /// ```rust

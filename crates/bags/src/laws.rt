@@ -6,7 +6,7 @@ ghost use Rattle.dag.specs.Traces.{IsWellNested};
 ghost use Rattle.dag.specs.Dag.{OneWayOut};
 
 /// One way out: for a place in the part of a completed procedure and a later place outside that part, a path leads
-/// from the first to the second exactly if one leads from the procedure's return to the second.
+/// from the first to the second if and only if one leads from the procedure's return to the second.
 pub fn out()
     ensures one_way { (w : List Record) (records depths : ℕ) → IsWellNested w records depths → OneWayOut w }
 {}

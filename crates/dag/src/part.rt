@@ -27,7 +27,7 @@ impl Part {
         Part { index: 0, count: 1 }
     }
 
-    /// What the part has of a record: a spawn, call, return or sync as it is; an access of one of its locations, by
+    /// What the part has of a record: a spawn, call, return or sync as it is; an access to one of its locations, by
     /// the location's number; and nothing of another access.
     #[inline(always)]
     pub fn of_record(self, placed: Placed) -> Option<Placed>

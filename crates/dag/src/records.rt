@@ -45,7 +45,7 @@ pub enum Kind {
     Write,
 }
 
-/// An access of a known location: its kind, and the place of its record.
+/// An access to a known location: its kind, and the place of its record.
 #[derive(Clone, Copy, Debug, PartialEq, Eq)]
 pub struct Access {
     /// Whether it reads or writes.
@@ -54,7 +54,7 @@ pub struct Access {
     pub place: u64,
 }
 
-/// Two accesses of one location, at least one of them a write. The first comes before the second, and their places
+/// Two accesses to one location, at least one of them a write. The first comes before the second, and their places
 /// are 1 to 2^48.
 #[derive(Clone, Copy, Debug, PartialEq, Eq)]
 pub struct Race {
@@ -78,7 +78,7 @@ impl Model for Race {
     ghost inverse = { λ r. record { location = r.location; first = r.first; second = r.second } };
 }
 
-/// The limits of a trace: its greatest number of records, at most 2^48, and the greatest depth of its procedures.
+/// The limits of a trace: its maximum number of records, at most 2^48, and the maximum depth of its procedures.
 #[derive(Clone, Copy, Debug, PartialEq, Eq)]
 pub struct Limits {
     /// The most records that a trace may have: 0 to 2^48.

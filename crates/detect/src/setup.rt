@@ -17,7 +17,7 @@ use std::hash::BuildHasher;
 use std::thread::PromisedHandle;
 use trace::{Limits, NoMemory, Part, Placed};
 
-/// The number of shards, the greatest number of items in each lane, and the limits of the trace.
+/// The number of shards, the maximum number of items in each lane, and the limits of the trace.
 #[derive(Clone, Copy, Debug, PartialEq, Eq)]
 pub struct Plan {
     pub(crate) shards: u32,

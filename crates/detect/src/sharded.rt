@@ -78,7 +78,7 @@ where
     detect_part(rt, alloc, plan, Part::whole(), source, gate, hashers)
 }
 
-/// Reads a trace to its end and reports the races of a part of its locations. It drops an access of any other
+/// Reads a trace to its end and reports the races of a part of its locations. It drops an access to any other
 /// location as soon as it has read it, and no shard gets it. The shards divide the numbers of the part's locations:
 /// shard j of n has the numbers with remainder j modulo n.
 pub fn detect_part<

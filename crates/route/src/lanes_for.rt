@@ -21,7 +21,7 @@ pub fn first_lane(what: Record, count: usize) -> usize
     }
 }
 
-/// The lane that an access of the location goes to.
+/// The lane that an access to the location goes to.
 #[inline(always)]
 pub fn lane_of(location: u64, count: usize) -> usize
     requires { 1 ≤ count }

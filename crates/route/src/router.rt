@@ -59,7 +59,7 @@ impl Router {
     ghost use Rattle.route.specs.Routers.{HasBlocked, IsStuck, WasRefused, refusals_in};
     ghost use Rattle.route.specs.RouterRuns.{begun, run_of};
 
-    /// A router over lanes without items. It takes memory for the receipts now, and none later. A refusal drops the
+    /// A router over lanes without items. It allocates memory for the receipts now, and none later. A refusal drops the
     /// senders.
     pub fn new(alloc: Global, senders: Vec<Sender<Placed>>) -> Result<Router, NoMemory>
         requires some { 1 ≤ vec_len senders }

@@ -32,7 +32,7 @@ pub fn detect_plain<R: Source, S: BuildHasher + Drop>(
     Ok(detector.finish()?)
 }
 
-/// Reads a trace to its end and reports the races of a part of its locations. It drops an access of any other
+/// Reads a trace to its end and reports the races of a part of its locations. It drops an access to any other
 /// location as soon as it has read it, so this access takes no memory.
 pub fn detect_plain_part<R: Source, S: BuildHasher + Drop>(
     alloc: Global,

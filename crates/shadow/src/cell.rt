@@ -128,7 +128,7 @@ impl Kept {
         }
     }
 
-    /// Takes an access of the location by the executing procedure, and reports its race, if it wasn't `reported`.
+    /// Takes an access to the location by the executing procedure, and reports its race, if it wasn't `reported`.
     #[inline(always)]
     pub fn touch(
         &mut self,

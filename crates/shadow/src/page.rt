@@ -45,7 +45,7 @@ impl Page {
         }
     }
 
-    /// Takes an access of the location in this seat, and reports its race, if any. The other seats don't change.
+    /// Takes an access to the location in this seat, and reports its race, if any. The other seats don't change.
     #[inline(always)]
     pub fn touch(
         &mut self,

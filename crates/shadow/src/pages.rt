@@ -129,7 +129,7 @@ impl<S: BuildHasher> Pages<S> {
         Some(index)
     }
 
-    /// Takes an access of the location of this spot, whose page is at this index, and reports its race, if any.
+    /// Takes an access to the location of this spot, whose page is at this index, and reports its race, if any.
     #[inline(always)]
     pub fn touch(
         &mut self,

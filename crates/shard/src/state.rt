@@ -130,7 +130,7 @@ impl<S: BuildHasher + Drop> Shard<S> {
         ensures ended { OnOk result (self.new.ended ≡ is_root_return self.old.bags placed.what) }
         ensures taken { OnOk result (self.new.taken ≡ capped_count (self.old.taken + 1)) }
 
-        // A refusal changes nothing, and comes only at a spawn or at the first access of a location.
+        // A refusal changes nothing, and comes only at a spawn or at the first access to a location.
         ensures refused { OnErr result (IsSameShard self.old self.new) }
         ensures may_grow { OnErr result (MayGrow self.old.memory placed.what) }
     {

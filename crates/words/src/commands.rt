@@ -67,7 +67,7 @@ The command reads the trace from FILE, or from standard input if FILE is `-`. Th
 number of races. Then each race has a line, such as `pair write 2 write 6`: the kinds and places of its two accesses.
 The lines are sorted by the second place, then by the first. Place k is on line k + 1 of the trace.
 
-The answer comes after the whole trace was read. The command compares every access of L with each earlier one of L,
+The answer comes after the whole trace was read. The command compares every access to L with each earlier one of L,
 even if L has no race: twice as many accesses take four times as long. It keeps these accesses and their races in
 memory.
 
