@@ -260,7 +260,7 @@ class Runner:
     def execute(self, said, files, silent, **settings):
         """Starts the program, whose lines about the run go into a pipe. It gets descriptors of these files, by the
         variables that name them."""
-        wanted = {"SPBAGS_MOST": "", **os.environ, **dict.fromkeys(OURS, ""), **self.settings, **settings,
+        wanted = {"SPBAGS_MAX_BYTES": "", **os.environ, **dict.fromkeys(OURS, ""), **self.settings, **settings,
                   "SPBAGS_SAYS": f"fd:{said.into}", **{variable: f"fd:{file}" for variable, file in files.items()}}
         # All runs have as long an environment, of as many variables: the program's words lie before it, and setenv
         # makes a copy.
@@ -386,5 +386,5 @@ class Runner:
         """A run that looks at the places of a report, and its notes."""
         said, notes = Said(self.tell), tempfile.TemporaryFile()
         self.execute(said, {"SPBAGS_TRACE": notes.fileno(), "SPBAGS_LOOK": report.fileno(), **files}, True,
-                     SPBAGS_MOST="", **settings)
+                     SPBAGS_MAX_BYTES="", **settings)
         return Run(*self.wait(said), notes)

@@ -116,7 +116,7 @@ __attribute__((noinline)) static void library_write(uintptr_t at, size_t size, _
     void __sanitizer_cov_store##SIZE(void *at) { OFTEN(true, at, SIZE); }
 ACCESSES(1) ACCESSES(2) ACCESSES(4) ACCESSES(8) ACCESSES(16)
 
-/* What the text in beside.s calls for the only unit of such an access: it has this mark, and is no repeat. */
+/* What the text in inline_checks.s calls for the only unit of such an access: it has this mark, and is no repeat. */
 void __spbags_first_read(void *at, uint32_t *mark) { note_usual(false, (uintptr_t)at, mark, CODE); }
 void __spbags_first_write(void *at, uint32_t *mark) { note_usual(true, (uintptr_t)at, mark, CODE); }
 

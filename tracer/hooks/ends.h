@@ -79,7 +79,7 @@ static void stop_at_limit(void) {
     uint64_t most = trace.most;
     end_trace();
     fail("the trace has reached its limit of %llu bytes, so the run ends here, and the trace has what came before: "
-         "SPBAGS_MOST sets another limit",
+         "SPBAGS_MAX_BYTES sets another limit",
          (unsigned long long)most);
 }
 

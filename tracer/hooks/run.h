@@ -81,7 +81,7 @@ static void set_limit(bool is_file) {
     struct statvfs space;
     if (is_file && fstatvfs(trace.file, &space) == 0)
         trace.most = space.f_bavail * space.f_frsize / 4;
-    trace.most = number_from("SPBAGS_MOST", "bytes", trace.most);
+    trace.most = number_from("SPBAGS_MAX_BYTES", "bytes", trace.most);
 }
 
 static void open_places(const char *name) {

@@ -41,8 +41,8 @@ check_inside_program() {
     local what=$1 wanted=$2
     shift 2
     [ "$has_inside" ] || return 0
-    "$@" --inside --beside -o inside && has_same_report ./inside
-    count $? "$what: the report of the detector inside, with tests beside the accesses"
+    "$@" --inside --inline-checks -o inside && has_same_report ./inside
+    count $? "$what: the report of the detector inside, with inline checks"
     "$@" --inside -o inside && has_same_report ./inside
     count $? "$what: the report of the detector inside"
     found_by_run ./inside | sort >found

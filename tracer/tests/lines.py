@@ -150,7 +150,7 @@ def accesses(source, level):
     """The accesses of a run: their lines, kinds and variables."""
     openmp = ["-fopenmp"] if "openmp" in source else []
     run(os.path.join(TRACER, "spbags-cc"), "-w", "-fwrapv", "-DRACY", *openmp, level, "-o", "program", source, "-lm")
-    run("./program", SPBAGS_TRACE="run.trace", SPBAGS_REPEATS="1", SPBAGS_MOST="100000000")
+    run("./program", SPBAGS_TRACE="run.trace", SPBAGS_REPEATS="1", SPBAGS_MAX_BYTES="100000000")
     names, found, codes, places = Globals(), set(), {}, answers.places_of("run.trace.places")
     with open("run.trace", encoding="ascii") as records:
         next(records)

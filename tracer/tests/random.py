@@ -201,7 +201,7 @@ class Batch:
 
     def build(self):
         batch = self.numbers[0] // BATCH
-        ways = ("-O0", "-O1")[batch % 2], *[["--beside"], []][batch // 2 % 2]
+        ways = ("-O0", "-O1")[batch % 2], *[["--inline-checks"], []][batch // 2 % 2]
         self.run(os.path.join(TRACER, "spbags-cc"), *self.inside, *ways, "-w", "-o", self.name, self.name + ".c")
         self.run("gcc" if not os.environ.get("CC") else os.environ["CC"], "-w", "-O1", "-I" + HERE, "-o",
                  self.name + "_judged", self.name + "_judged.c")

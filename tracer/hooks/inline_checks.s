@@ -1,8 +1,8 @@
-# The test for a repeat beside an access, in place of the call of its hook: `spbags-cc --beside` puts it there. The
+# The test for a repeat at an access, in place of the call of its hook: `spbags-cc --inline-checks` puts it there. The
 # address is in %rdi, and what a call may change is free. An access goes the short way, as in accesses.h, if the stack
 # pointer is below the end of that way, the address is a multiple of the size, and the region has marks. Then a repeat
 # calls nothing. FIRST is called for the only unit of what isn't one, HOOK for all else.
-.macro __spbags_beside HOOK, FIRST, SIZE, IS_REPEAT, IS_NONE
+.macro __spbags_inline_check HOOK, FIRST, SIZE, IS_REPEAT, IS_NONE
 	cmpq __spbags_short_way_end(%rip), %rsp
 	jae .Lspbags_hook\@
 	testb $\SIZE - 1, %dil
@@ -29,8 +29,8 @@
 .Lspbags_done\@:
 .endm
 .macro __spbags_read HOOK, SIZE
-	__spbags_beside \HOOK, __spbags_first_read, \SIZE, jae, jb
+	__spbags_inline_check \HOOK, __spbags_first_read, \SIZE, jae, jb
 .endm
 .macro __spbags_write HOOK, SIZE
-	__spbags_beside \HOOK, __spbags_first_write, \SIZE, ja, jbe
+	__spbags_inline_check \HOOK, __spbags_first_write, \SIZE, ja, jbe
 .endm
