@@ -72,7 +72,7 @@ class Places:
         size = os.fstat(file.fileno()).st_size
         self.bytes = mmap.mmap(file.fileno(), 0, access=mmap.ACCESS_READ) if size > 0 else b""
         if size < self.END.size or self.bytes[-8:] != self.MARK:
-            raise Failure(f"{name} has no end: did the run end before?")
+            raise Failure(f"{name} is incomplete: did the run end early?")
         self.count, sites, lists, notes, _ = self.END.unpack_from(self.bytes, size - self.END.size)
         starts = list(accumulate((2 * self.count, 8 * sites, lists, notes)))
         if starts[-1] != size - self.END.size:
@@ -106,6 +106,6 @@ def codes_of(places, wanted):
     """The code address of each of these places, or 0 where it isn't known."""
     for place in wanted:
         if not 0 < place <= places.count:
-            raise Failure(f"{places.name} has no place {place}: is the report of another trace?")
+            raise Failure(f"{places.name} has no place {place}: does the report belong to another trace?")
     sites = {place: places.site(place) for place in wanted}
     return {place: site.code if site else 0 for place, site in sites.items()}

@@ -179,8 +179,8 @@ class Linked:
         for other in self.traced:
             taken = [name for name in part.functions() & other.functions() if part.is_taken_for(name, other)]
             if taken:
-                yield f"{part.name()}: spbags-cc didn't compile this, and its {min(taken)} is taken in place of that of " \
-                      f"{other.name()}: compile it with spbags-cc, or put it behind the other one"
+                yield f"{part.name()}: spbags-cc didn't compile this, and its {min(taken)} is used in place of that of " \
+                      f"{other.name()}: compile it with spbags-cc, or put it after the other one"
 
     def unknown(self, known, hooks):
         """The functions that traced files call and nothing is known of. KNOWN are those of the system's libraries, and

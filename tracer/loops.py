@@ -48,7 +48,7 @@ def next_of(tokens, first, text):
     found = (at for at in range(first, len(tokens)) if tokens[at].text == text and tokens[at].around == around)
     end = next(found, None)
     if end is None:
-        raise Refused(tokens[first], f"expected '{text}' behind this")
+        raise Refused(tokens[first], f"expected '{text}' after this")
     return end
 
 
@@ -136,7 +136,7 @@ class Loop:
         if tokens[self.opening].text != "(" or self.closing is None:
             raise Refused(tokens[at], "expected '(' after 'cilk_for'")
         if not is_in_block(tokens, at):
-            raise Refused(tokens[at], "a cilk_for can't be traced here: write it into a block")
+            raise Refused(tokens[at], "a cilk_for can't be traced here: put it into a block")
         self.here = tokens[at].marker(" 3")
         declaration, condition, increment = self.parts()
         self.declare(*declaration)

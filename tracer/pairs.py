@@ -457,7 +457,7 @@ class Suppressions:
         if not line or line.startswith("#") or (colon and kind in self.OTHERS):
             return
         if kind not in ("race", "variable") or not pattern:
-            raise Failure(f"{where}: wanted race:FUNCTION, race:FILE or variable:NAME")
+            raise Failure(f"{where}: expected race:FUNCTION, race:FILE or variable:NAME")
         inner = pattern[pattern.startswith("^"):len(pattern) - pattern.endswith("$")]
         expression = re.compile(("^" if pattern.startswith("^") else "") + source.pattern(inner) +
                                 ("$" if pattern.endswith("$") else ""))

@@ -30,7 +30,8 @@ def checker():
     """The program `spbags`, which SPBAGS names, or else the one that is built or installed here."""
     named = os.environ.get("SPBAGS") or installed.PROGRAM
     if not os.access(named, os.X_OK) or not os.path.isfile(named):
-        raise Failure("spbags isn't built: run ./build of its repository, which takes some ten minutes, or let SPBAGS name it")
+        raise Failure("spbags isn't built: run ./build in its repository, which takes some ten minutes, or set SPBAGS to "
+                      "the program")
     return os.path.realpath(named)
 
 
@@ -228,7 +229,7 @@ class Run:
 
     def told_unit(self):
         """The unit that tells neighbours apart, where that is another one."""
-        found = filter(None, (re.search("SPBAGS_UNIT=([0-9]+) tells them apart", note) for note in self.notes))
+        found = filter(None, (re.search("SPBAGS_UNIT=([0-9]+) separates them", note) for note in self.notes))
         return next((match[1] for match in found), None)
 
     def ending(self):
@@ -300,7 +301,7 @@ class Runner:
         if number == 0:
             why = "which is much longer than the first run" if self.has_run else "as --timeout says"
             return f"the program was ended after {self.limit:.4g} seconds, {why}"
-        return f"the program was ended by signal {number} ({signal.strsignal(number)}), which came to spbags-run"
+        return f"the program was ended by signal {number} ({signal.strsignal(number)}), which was sent to spbags-run"
 
     def found(self, keep, silent, files, **settings):
         """A run and its report: by the detector inside, or where there is none or the trace is kept, by `spbags check`.
@@ -380,7 +381,7 @@ class Runner:
         said = [line for line in run.faults if "Broken pipe" not in line]
         if said:
             raise Failure(said[0])
-        raise Failure(f"{run.ending()}, and its trace isn't whole" if run.status < 0 and not run.faults else fault)
+        raise Failure(f"{run.ending()}, and its trace is incomplete" if run.status < 0 and not run.faults else fault)
 
     def looked(self, report, files, **settings):
         """A run that looks at the places of a report, and its notes."""

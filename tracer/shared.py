@@ -71,7 +71,7 @@ class Libraries:
         for name in (library, os.path.join(os.path.dirname(needs_it), os.path.basename(library))):
             if os.path.exists(name):
                 return name
-        return self.fail(f"{needs_it} needs {library}, which isn't there")
+        return self.fail(f"{needs_it} needs {library}, which isn't found")
 
     def items(self, items):
         """The words of a link with the objects in place of the libraries. They come first, as a library begins before

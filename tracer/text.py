@@ -336,7 +336,7 @@ def suppressions(pairs):
         for pair in alike:
             first, second = (side.lead() for side in pair.sides)
             yield f"# {many(pair.races, 'location')}: {kinds_of(pair)}, {place(first)} and {place(second)}"
-        yield line or "# Nothing there has a name that a line could say."
+        yield line or "# Nothing there has a name that a line could match."
 
 
 def suppression_of(pair):

@@ -53,7 +53,7 @@ __attribute__((noinline)) static void next_bundle(void) {
 static volatile sig_atomic_t stepping;
 
 __attribute__((noinline, cold, noreturn)) static void refuse_handler(void) {
-    fail("a signal handler of the program's own came into the detector, so the run ends here, and there is no report");
+    fail("a signal handler of the program interrupted the detector, so the run ends here without a report");
 }
 
 static inline void begin_step(void) {
@@ -92,8 +92,8 @@ static bool has_new_step(void) {
 /* What follows is done in the detector's thread. */
 __attribute__((noinline, cold, noreturn)) static void refuse_step(unsigned status) {
     if (status == SPBAGS_NO_MEMORY)
-        fail("out of memory: the detector was refused some, so the run ends here, and there is no report");
-    fail("the detector took no record, with status %u, so the run ends here, and there is no report", status);
+        fail("out of memory: the detector needs more than the system gives, so the run ends here without a report");
+    fail("the detector rejected a record with status %u, so the run ends here without a report", status);
 }
 
 static void take_bundle(const struct bundle *bundle) {

@@ -13,8 +13,8 @@ static void stop_tracing(void) {
 
 static void tell_notes(void) {
     if (narrow_accesses > 0)
-        tell("%llu accesses don't fill their units of %u bytes, so neighbours may seem to race: SPBAGS_UNIT=%u tells "
-             "them apart",
+        tell("%llu accesses don't fill their units of %u bytes, so races may be only of neighbours: SPBAGS_UNIT=%u "
+             "separates them",
              (unsigned long long)narrow_accesses, 1u << unit_shift, 1u << __builtin_ctzl(narrow_bits));
     if (most_procedures > DEFAULT_DEPTH + 1 && !detecting)
         tell("procedures nest %u deep, so spbags needs --depth %u or more", most_procedures - 1, most_procedures - 1);

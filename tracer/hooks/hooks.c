@@ -49,7 +49,7 @@
 #include "library_names.h"
 
 #if !defined(__x86_64__) || !defined(__linux__)
-#error "programs can be traced on x86-64 Linux alone"
+#error "programs can be traced only on x86-64 Linux"
 #endif
 
 /* The version of the trace's text where SPBAGS_VERSION doesn't say. */

@@ -120,7 +120,7 @@ static uintptr_t code_in(size_t frame, uintptr_t code) {
 static void add_node(size_t at) {
     struct frame *frame = &frames[at];
     if (last_node + 1 == MOST_NODES)
-        fail("too many functions hold a race");
+        fail("the races have too many different stacks");
     enum kind around = frames[at - 1].kind;
     bool is_part = frame->kind >= CALLED, is_shown = is_part || frame->kind == FUNCTION;
     bool has_part = is_part || (frame->kind == CHILD && frame->code != 0);

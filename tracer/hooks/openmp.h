@@ -164,8 +164,8 @@ static struct scope *open_child(enum scope_kind kind, uintptr_t code) {
     struct scope *parent = &scopes[newest_scope];
     if (unsynced(parent) == 0 && has_older()) {
         if (version == 1)
-            fail("tasks of one group run beside older ones, which only version 2 of the trace can say: leave out "
-                 "SPBAGS_VERSION=1");
+            fail("tasks of one group may run at once with older ones, which only version 2 of the trace can show: "
+                 "leave out SPBAGS_VERSION=1");
         write_open(SPBAGS_CALL, code);
         parent->owns = true;
     }

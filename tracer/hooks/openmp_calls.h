@@ -112,8 +112,8 @@ struct nested_lock {
 };
 
 __attribute__((noreturn)) static void wait_for_ever(void) {
-    fail("the program waits for a lock that stays set: a task runs to its end where it is made, so what holds the lock "
-         "can't go on");
+    fail("the program waits for a lock that is never unset: a task runs to its end where it is made, so what holds "
+         "the lock can't go on");
 }
 
 void omp_init_lock(struct lock *lock) { lock->count = 0; }

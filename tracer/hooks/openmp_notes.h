@@ -58,11 +58,11 @@ static void tell_unlike(const struct unlike *unlike) {
     source_line(unlike->asks, asks, ROOM);
     if (unlike->writes == 0)
         tell_incomplete("%s: what this parallel region does itself depends on its thread's number, which it asks for "
-                        "at %s, and the run has only what the thread 0 does",
+                        "at %s, and the run shows only what thread 0 does",
                         region, asks);
     else
         tell_incomplete("%s: what this parallel region does itself depends on its thread's number, which it asks for "
-                        "at %s, and the run has only what the thread 0 does. It writes shared memory then, first at %s",
+                        "at %s, and the run shows only what thread 0 does. It then writes shared memory, first at %s",
                         region, asks, source_line(unlike->writes, writes, ROOM));
 }
 
@@ -78,11 +78,11 @@ static void tell_replicated(void) {
                         source_line(region_code, line, ROOM));
     if (full_region != 0)
         tell_incomplete("%s: this parallel region itself accesses more than %d units of memory between two barriers: "
-                        "races of further ones with what its other threads do aren't seen",
+                        "races of the rest with what its other threads do aren't seen",
                         source_line(full_region, line, ROOM), MOST_REPLICAS);
     if (racy_region != 0)
-        tell_report("%s: each thread does what stands in this parallel region outside of its loops, sections, single "
-                    "and master regions, so shared memory that is written there races with itself",
+        tell_report("%s: each thread does what is in this parallel region outside of its loops, sections, single "
+                    "and master regions, so a write of shared memory there races with that of another thread",
                     source_line(racy_region, line, ROOM));
 }
 
@@ -95,11 +95,11 @@ static void tell_waits(void) {
                         source_line(outlived_wait, wait, ROOM), (unsigned long long)outlived,
                         source_line(outlived_code, code, ROOM));
     if (second_master != 0)
-        tell_incomplete("%s: no barrier stands between this master region and the one before, and the trace has one: "
+        tell_incomplete("%s: there is no barrier between this master region and the one before, but the trace has one: "
                         "races of what comes before with what comes after aren't seen",
                         source_line(second_master, wait, ROOM));
     if (after_ordered != 0)
-        tell_incomplete("%s: this access of shared memory comes after its iteration's ordered region, and in the trace "
+        tell_incomplete("%s: this access to shared memory comes after its iteration's ordered region, and in the trace "
                         "before the next iteration's: races of such accesses aren't seen",
                         source_line(after_ordered, wait, ROOM));
 }
@@ -107,25 +107,26 @@ static void tell_waits(void) {
 static void tell_shares(void) {
     char before[ROOM], after[ROOM];
     if (has_long_shares && team_size > 1)
-        tell_incomplete("SPBAGS_TEAM=%llu gives each loop as many blocks: races inside one block aren't seen",
+        tell_incomplete("SPBAGS_TEAM=%llu divides each loop into that many blocks: races inside a block aren't seen",
                         (unsigned long long)team_size);
     else if (has_long_shares)
-        tell_incomplete("SPBAGS_ITERATIONS=%llu makes so many iterations one child: races between them aren't seen",
+        tell_incomplete("SPBAGS_ITERATIONS=%llu makes that many iterations one child: races between them aren't seen",
                         (unsigned long long)iterations);
     if (alike_before != 0)
-        tell_seeming("%s and %s: no barrier stands between these loops, and with schedule(static) one thread has the "
-                     "same iterations of both, which the trace lacks: a race between such iterations is none",
+        tell_seeming("%s and %s: there is no barrier between these loops, but with schedule(static) one thread has the "
+                     "same iterations of both, which the trace doesn't show: a race between those is a false alarm",
                      source_line(alike_before, before, ROOM), source_line(alike_after, after, ROOM));
     if (simd_loop != 0)
-        tell_report("%s: a loop with simd alone is serial here: whether its iterations need one another isn't looked at",
+        tell_report("%s: a loop with simd alone runs serially here: whether its iterations depend on each other isn't "
+                    "checked",
                     source_line(simd_loop, before, ROOM));
     if (share_asks != 0)
-        tell_asking("%s: a loop asks for its thread's number, which is 0 in each iteration, so what it keeps by that "
-                    "number seems to race: SPBAGS_TEAM=8 shows whether it does",
+        tell_asking("%s: a loop asks for its thread's number, which is 0 in each iteration, so memory that it chooses "
+                    "by that number looks like a race: SPBAGS_TEAM=8 shows whether it is one",
                     source_line(share_asks, before, ROOM));
     if (task_asks != 0)
-        tell_seeming("%s: a task asks for its thread's number, which is the same in all tasks, so what they keep by "
-                     "that number seems to race",
+        tell_seeming("%s: a task asks for its thread's number, which is the same in all tasks, so memory that they "
+                     "choose by that number is reported as a race, perhaps a false alarm",
                      source_line(task_asks, before, ROOM));
 }
 
@@ -134,6 +135,6 @@ static void tell_openmp_notes(void) {
     tell_replicated();
     tell_shares();
     if (own[THREAD].end > own[THREAD].first)
-        tell_report("variables that each thread has of its own, %zu bytes, aren't recorded",
+        tell_report("variables of which each thread has its own, %zu bytes, aren't recorded",
                     (size_t)(own[THREAD].end - own[THREAD].first));
 }

@@ -58,7 +58,7 @@ void GOMP_task_reduction_remap(size_t count, size_t originals, void **addresses)
         while (array && !(variable = variable_of(array, (uintptr_t)addresses[number])))
             array = (uintptr_t *)array[NEXT_ARRAY];
         if (!variable)
-            fail("a task takes part in a reduction that no group around it has");
+            fail("a task has in_reduction of a variable that no group around it reduces");
         addresses[number] = (void *)(array[MEMORY] + (uintptr_t)omp_get_thread_num() * array[SIZE] + variable[1]);
         if (number < originals)
             addresses[count + number] = (void *)variable[0];

@@ -115,7 +115,7 @@ static void write_out(struct output *output) {
         else if (wrote == 0 || errno != EINTR)
             refused = true;
         if (refused && !output->is_spare)
-            fail("cannot write %s: %s", output->name, wrote == 0 ? "nothing was taken" : strerror(errno));
+            fail("cannot write %s: %s", output->name, wrote == 0 ? "no byte was written" : strerror(errno));
     }
     output->written += output->gone;
     output->used = output->gone = 0;

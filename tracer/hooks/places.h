@@ -123,7 +123,7 @@ static void give_up_places(void) {
         places.written = kept;
         end_places();
         write_out(&places);
-        tell("there is no room for places behind the first %llu", (unsigned long long)kept / 2);
+        tell("there is no room for places after the first %llu", (unsigned long long)kept / 2);
     }
     close(places.file);
     places.file = -1;

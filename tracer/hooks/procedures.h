@@ -218,7 +218,7 @@ __attribute__((noinline)) static void enter_function(uintptr_t end, uintptr_t co
     if (!tracing)
         return;
     if (end - stack_first > stack_size)
-        fail("the program runs on a stack of its own, or on more than %zu bytes", (size_t)stack_size);
+        fail("the program runs on a stack of its own, or on more than %zu bytes of stack", (size_t)stack_size);
     leave_jumped(end, code);
     clear_below(end);
     push_frame(FUNCTION, end);

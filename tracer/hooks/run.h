@@ -1,10 +1,15 @@
+/* One of the digits VALUES, or OTHERWISE if the variable isn't set. */
 static unsigned choice(const char *variable, const char *values, unsigned otherwise) {
     const char *value = getenv(variable);
     if (!value || !*value)
         return otherwise;
-    if (value[1] != '\0' || !strchr(values, *value))
-        fail("%s=%s: wanted one of the numbers %s", variable, value, values);
-    return (unsigned)(*value - '0');
+    if (value[1] == '\0' && strchr(values, *value))
+        return (unsigned)(*value - '0');
+    char listed[40];
+    size_t length = 0, count = strlen(values);
+    for (size_t at = 0; at < count; at++)
+        length += (size_t)sprintf(listed + length, "%s%c", at == 0 ? "" : at + 1 < count ? ", " : " or ", values[at]);
+    fail("%s=%s: expected %s", variable, value, listed);
 }
 
 /* Out of the program's way: its own files keep their numbers, and what it starts doesn't get ours. */
@@ -28,7 +33,7 @@ static int named_file(const char *variable, const char *name) {
     char *rest;
     long file = strtol(name + 3, &rest, 10);
     if (name[3] < '0' || name[3] > '9' || *rest != '\0' || file <= STDERR_FILENO || file > 65535)
-        fail("%s=%s: wanted fd: and the number of a descriptor above 2", variable, name);
+        fail("%s=%s: expected fd:N, with the number N of an open descriptor above 2", variable, name);
     int moved = move_away(variable, (int)file);
     close((int)file);
     return moved;
@@ -60,7 +65,7 @@ static uint64_t number_from(const char *variable, const char *what, uint64_t oth
     errno = 0;
     uint64_t number = strtoull(value, &rest, 10);
     if (*value < '1' || *value > '9' || *rest != '\0' || errno != 0)
-        fail("%s=%s: wanted a number of %s from 1 on", variable, value, what);
+        fail("%s=%s: expected a number of %s, at least 1", variable, value, what);
     return number;
 }
 
@@ -72,7 +77,7 @@ static void set_statuses(void) {
     char *rest;
     long status = strtol(value, &rest, 10);
     if (*value < '0' || *value > '9' || *rest != '\0' || status > 255)
-        fail("%s=%s: wanted a status from 0 to 255", name, value);
+        fail("%s=%s: expected a status from 0 to 255", name, value);
     racy_status = (int)status;
 }
 
@@ -139,7 +144,7 @@ static void start_thread(void) {
     pthread_attr_destroy(&small);
     sigprocmask(SIG_SETMASK, &before, NULL);
     if (error != 0)
-        fail("the detector has no thread: %s", strerror(error));
+        fail("the thread of the detector can't be started: %s", strerror(error));
     heap_at = at;
     heap_end = end;
 }
@@ -174,7 +179,7 @@ static void tell_fork(void) {
     static bool told;
     if (!tracing || !detecting || told)
         return;
-    tell("the program forks, and the report is of its first process alone");
+    tell("the program forks, and the report is of its first process only");
     told = true;
 }
 

@@ -36,7 +36,7 @@ __attribute__((no_caller_saved_registers, target("general-regs-only"))) void __s
 static void tell_unknown_functions(void) {
     for (struct unknown *function = unknown_functions; function < unknown_end; function++)
         if (*function->library == '\0' && *function->name == '\0')
-            tell_incomplete("calls of the virtual functions of %s aren't seen: spbags-cc didn't compile them",
+            tell_incomplete("calls to the virtual functions of %s aren't seen: spbags-cc didn't compile them",
                             function->shown);
         else if (*function->library == '\0')
             tell_incomplete("what the nested function %s accesses of the variables around it isn't seen",

@@ -143,7 +143,7 @@ check_inside_ends() {
     check_inside_end ends nest 0 ''
     check_inside_end ends copy 0 ''
     check_inside_end ways exit 3 ''
-    check_inside_end ways fork 0 'the program forks, and the report is of its first process alone'
+    check_inside_end ways fork 0 'the program forks, and the report is of its first process only'
     check_no_report 'a thread' 2 'the program starts a thread' ./ways thread
     check_inside_stack
     check_inside_statuses
@@ -156,7 +156,7 @@ check_inside_ends() {
 # Refuses each growth of the detector's memory in turn, up to the run that asks for no more. A run that met a refusal
 # ends with a line and without a report; or the detector could do without, and the report is whole.
 check_inside_refused() {
-    local growth status refused=0 line='spbags: out of memory: the detector was refused some, so the run ends here'
+    local growth status refused=0 line='spbags: out of memory: the detector needs more than the system gives, so the run ends here'
     line+=', and there is no report'
     [ "$has_inside" ] || return 0
     "$here/spbags-cc" --inside -DRACY -o racy fib.c &&
@@ -176,7 +176,7 @@ check_inside_refused() {
     done
     [ "$refused" -gt 3 ] && ! grep -q w letters && [ $status = 0 ] && cmp wanted report >&2
     count $? "$CC: inside, growth $growth is refused without a line, or with a report that isn't whole"
-    check_no_report 'its thread is refused' 2 'the detector has no thread: Resource temporarily unavailable' \
+    check_no_report 'its thread is refused' 2 'the thread of the detector can.t be started: Resource temporarily unavailable' \
         env REFUSED_START=1 LD_PRELOAD=./refusing.so ./racy 3>letters
 }
 

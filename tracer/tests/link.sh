@@ -149,10 +149,10 @@ check_refused_objects() {
     printf 'int main() { return shared(one(-2)); }\n' >>two.cpp
     "$here/spbags-cc" -c -o fills.o fills.c && gcc -w -c copy.c
     check_no_link "code of two compilers in one object" \
-        'copy.o: spbags-cc didn.t compile this, which couldn.t be told from' "$here/spbags-cc" -r fills.o copy.o
+        'copy.o: spbags-cc didn.t compile this, and one object can.t hold it' "$here/spbags-cc" -r fills.o copy.o
     g++ -c one.cpp && "$here/spbags-c++" -c two.cpp
     check_no_link "an inline function of another compiler" \
-        'one.o: spbags-cc didn.t compile this, and its _Z6sharedi is taken in place of that of two.o' \
+        'one.o: spbags-cc didn.t compile this, and its _Z6sharedi is used in place of that of two.o' \
         "$here/spbags-c++" one.o two.o
     "$here/spbags-c++" -o twice two.o one.o && ./twice 2>/dev/null
     count $? "an inline function of another compiler that comes later"
@@ -216,7 +216,7 @@ check_shared_libraries() {
         same "1 adding.c:3 adding.c:3" "$(found_by_run ./adds)"
     count $? "shared libraries that were moved"
     rm moved/libadding.so
-    check_no_link "a library that lacks another" "moved/libtwice.so needs .*/libadding.so, which isn.t there" \
+    check_no_link "a library that lacks another" "moved/libtwice.so needs .*/libadding.so, which isn.t found" \
         "$here/spbags-cc" adds.c moved/libtwice.so
     printf '#include <dlfcn.h>\nint main(void) { return !!dlopen("./moved/libtwice.so", RTLD_LAZY); }\n' >opens.c
     "$here/spbags-cc" -o opens opens.c && ends_with 0 "" env SPBAGS_TRACE=run.trace ./opens

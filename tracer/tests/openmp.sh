@@ -94,16 +94,16 @@ check_openmp_ways() {
     SPBAGS_ITERATIONS=2 check_openmp_way neighbours 0 'SPBAGS_ITERATIONS=2 makes' ""
     turn=$(line_of "$source" '[numbered]')
     check_openmp_way numbered 0 "" "1 $turn $turn"
-    SPBAGS_TEAM=3 check_openmp_way numbered 0 'SPBAGS_TEAM=3 gives' ""
-    check_openmp_way thread_memory 0 'variables that each thread has of its own, 4 bytes' ""
+    SPBAGS_TEAM=3 check_openmp_way numbered 0 'SPBAGS_TEAM=3 divides' ""
+    check_openmp_way thread_memory 0 'variables of which each thread has its own, 4 bytes' ""
     ends_with 2 "openmp.c:$(line_of "$source" '[inner]'): OpenMP's nested teams can't be traced" \
         env SPBAGS_TRACE=run.trace ./ways nested
     count $? "tests/openmp.c: nested teams"
-    ends_with 2 'waits for a lock that stays set' env SPBAGS_TRACE=run.trace ./ways lock
+    ends_with 2 'waits for a lock that is never unset' env SPBAGS_TRACE=run.trace ./ways lock
     count $? "tests/openmp.c: a lock for ever"
     SPBAGS_VERSION=1 ends_with 2 'leave out SPBAGS_VERSION=1' env SPBAGS_TRACE=run.trace ./ways grouped
     count $? "tests/openmp.c: version 1"
-    SPBAGS_TEAM=0 ends_with 2 'SPBAGS_TEAM=0: wanted a number of threads' env SPBAGS_TRACE=run.trace ./ways grouped
+    SPBAGS_TEAM=0 ends_with 2 'SPBAGS_TEAM=0: expected a number of threads' env SPBAGS_TRACE=run.trace ./ways grouped
     count $? "tests/openmp.c: a team that is none"
     ./ways outlives 2>/dev/null
     count $? "tests/openmp.c: no trace"
@@ -127,7 +127,7 @@ check_openmp_answer() {
 
 # What each thread of a team does, and the run does once.
 check_openmp_replicated() {
-    local source=tracer/tests/openmp.c each="openmp.c:[0-9]*: each thread does what stands in this parallel region"
+    local source=tracer/tests/openmp.c each="openmp.c:[0-9]*: each thread does what is in this parallel region"
     "$here/spbags-cc" -fopenmp -Wall -Werror -o ways "$source"
     count $? "$source: compile without a warning"
     check_openmp_answer each_thread 1 "${each/[0-9]\*/$(line_of "$source" '[team]')}" each each
@@ -140,18 +140,18 @@ check_openmp_replicated() {
     check_openmp_answer summed_nowait 1 "" summed sum
     check_openmp_answer no_race 0 "" "" ""
     check_openmp_answer by_number 3 "openmp.c:$(line_of "$source" '[unlike]'): .*openmp.c:$(line_of "$source" \
-        '[asks]'), .*thread 0 does. It writes .*openmp.c:$(line_of "$source" '[by number]')" "" ""
+        '[asks]'), .*thread 0 does. It then writes .*openmp.c:$(line_of "$source" '[by number]')" "" ""
     check_openmp_answer by_number_read 3 "openmp.c:$(line_of "$source" '[unlike read]'): .*thread 0 does\"" "" ""
     check_openmp_answer exits 3 "openmp.c:$(line_of "$source" '[exits]'): the run ends inside" "" ""
-    check_openmp_answer two_masters 3 "openmp.c:$(line_of "$source" '[second master]'): no barrier" "" ""
+    check_openmp_answer two_masters 3 "openmp.c:$(line_of "$source" '[second master]'): there is no barrier" "" ""
     check_openmp_answer after_ordered 3 "openmp.c:$(line_of "$source" '[after ordered]'): this access" "" ""
     check_openmp_answer ordered_last 0 "" "" ""
     check_openmp_answer alike 1 "openmp.c:$(line_of "$source" '[one loop]') and .*openmp.c:$(line_of "$source" \
-        '[other loop]'): no barrier" "one static" "other static"
+        '[other loop]'): there is no barrier" "one static" "other static"
     check_openmp_answer lanes 0 "openmp.c:$(line_of "$source" '[lanes]'): a loop with simd alone" "" ""
     check_openmp_answer task_number 0 "" "" ""
     check_openmp_answer numbered 0 "the report is that of a team of 8; .* 1 location would" "" ""
-    check_openmp_answer numbered_blocks 3 "SPBAGS_TEAM=8 gives each loop as many blocks" "" ""
+    check_openmp_answer numbered_blocks 3 "SPBAGS_TEAM=8 divides each loop into that many blocks" "" ""
     SPBAGS_TEAM=1 check_openmp_answer numbered 1 "openmp.c:$(line_of "$source" '[numbered]'): a loop asks" \
         numbered numbered
     SPBAGS_TEAM=8 check_openmp_answer numbered 0 "" "" ""
@@ -159,7 +159,7 @@ check_openmp_replicated() {
         'numbered once' 'numbered once'
     ends_with 1 "" "$here/spbags-run" --keep run.trace -- ./ways numbered_once
     count $? "tests/openmp.c, numbered_once: with its trace kept"
-    check_openmp_answer numbered_file 1 "the program takes another course each time" 'numbered file' 'numbered file'
+    check_openmp_answer numbered_file 1 "the program takes another path each time" 'numbered file' 'numbered file'
     same "atomic,the critical region without a name,the lock " \
         "$("$here/spbags-run" --json -- ./ways guarded | sed -n 's/^ *"guard": "\([^"]*\)".*/\1/p' |
             sed 's/at 0x[0-9a-f]*//' | sort | paste -sd,)"
@@ -194,11 +194,11 @@ check_openmp_refused() {
         "$here/spbags-cc" -fopenmp -o unknown unknown.c
     count $? "an object of clang's OpenMP"
     if clang --version >/dev/null 2>&1; then
-        CC=clang ends_with 1 'OpenMP can.t be traced with clang, whose calls are __kmpc_' \
+        CC=clang ends_with 1 'OpenMP can be traced only with gcc' \
             "$here/spbags-cc" -fopenmp -o unknown unknown.c
         count $? "clang's OpenMP"
     fi
-    ends_with 1 'fib.c:8: error: Cilk can.t be traced beside OpenMP' "$here/spbags-cc" -fopenmp -c fib.c
+    ends_with 1 'fib.c:8: error: Cilk can.t be traced together with OpenMP' "$here/spbags-cc" -fopenmp -c fib.c
     count $? "Cilk beside OpenMP"
     cp fib.c fib_too.cpp
     ends_with 1 'fib_too.cpp:8: error: spawns can.t be traced in C++' "$here/spbags-c++" -c fib_too.cpp

@@ -107,7 +107,7 @@ MAIN = ("call", "[run]")
 def check_a_global():
     status, report = found("global")
     same((1, 2, 1, 4, True), (status, report["version"], report["races"], report["unit"], report["stacks"]))
-    same({"status": 1, "signal": None, "whole": True}, report["ended"])
+    same({"status": 1, "signal": None, "complete": True}, report["ended"])
     same(["the program ended with status 1"], report["notes"])
     [pair] = report["pairs"]
     same([[("write", "[set]"), ("call", "[set below]"), ("spawn", "[spawn global]"), MAIN],
@@ -240,7 +240,7 @@ def check_another_course():
     [pair] = report["pairs"]
     same([[("write", "[set]")], [("write", "[global]")]], sides_of(pair))
     same("table", pair["variable"]["name"])
-    assert any("the second run took another course" in note for note in report["notes"]), report["notes"]
+    assert any("the second run took another path" in note for note in report["notes"]), report["notes"]
     kept = found("course", options=("--keep", "run.trace"))[1]
     same([[("write", "[set]")], [("write", "[global]")]], sides_of(kept["pairs"][0]))
 
@@ -263,7 +263,7 @@ def check_a_program_that_keeps_a_file():
     os.remove("ran")
     text = run(RUN, "--", "./run", "file")[1]
     same("races 1, pairs of lines 1", text.splitlines()[-1])
-    assert re.search("the second run took another course: record [0-9]+, an access of the first run, is .* in the second; "
+    assert re.search("the second run took another path: record [0-9]+, an access of the first run, is .* in the second; "
                      "lines without stacks: 1 of 1 race", " ".join(text.split())), text
 
 
@@ -614,12 +614,12 @@ def check_no_room():
 def check_signals():
     """A run that ends by a signal is judged up to there."""
     status, report = found_with("./ends", "fault")
-    same((1, 11, False, 1), (status, report["ended"]["signal"], report["ended"]["whole"], len(report["pairs"])))
+    same((1, 11, False, 1), (status, report["ended"]["signal"], report["ended"]["complete"], len(report["pairs"])))
     assert report["stacks"] and "signal 11 (Segmentation fault)" in report["notes"][-1], report["notes"]
-    check_failure(r"the program ended by signal 11 \(Segmentation fault\): there was no race up to there", "--",
+    check_failure(r"the program ended by signal 11 \(Segmentation fault\): there was no race up to that point", "--",
                   "./faults")
     status, report = found_with("./ends", "exec")
-    same((1, False), (status, report["ended"]["whole"]))
+    same((1, False), (status, report["ended"]["complete"]))
 
 
 def check_a_signal_from_outside():
@@ -667,7 +667,7 @@ def check_waits_without_end():
         assert said in line, line
         same([*stack, *tail], lines_in("ends.c", "".join(rows)))
         same((1, number, True, 1), (process.returncode, report["ended"]["signal"], report["stacks"], report["races"]))
-        assert re.search(rf"signal {number} \(.*\), which came to spbags-run", report["notes"][0]), report["notes"]
+        assert re.search(rf"signal {number} \(.*\), which was sent to spbags-run", report["notes"][0]), report["notes"]
 
 
 def check_control_c():
@@ -687,7 +687,7 @@ def check_control_c():
     with open("interrupted") as file:
         report = json.load(file)
     same((1, 2, 1), (status, report["ended"]["signal"], report["races"]))
-    same("the program ended by signal 2 (Interrupt): this is the run up to there", report["notes"][0])
+    same("the program ended by signal 2 (Interrupt): this is the run up to that point", report["notes"][0])
 
 
 def check_a_program_that_takes_the_signal():
@@ -696,7 +696,7 @@ def check_a_program_that_takes_the_signal():
     same("taking\n", process.stdout.readline())
     process.send_signal(signal.SIGTERM)
     said, errors = process.communicate(timeout=120)
-    same((2, "", "spbags-run: the program was ended by signal 15 (Terminated), which came to spbags-run: there was no race "
+    same((2, "", "spbags-run: the program was ended by signal 15 (Terminated), which was sent to spbags-run: there was no race "
           "up to there\n"), (process.returncode, said, errors))
 
 
@@ -713,12 +713,12 @@ def check_a_wait_for_input():
 
 
 def check_timeouts():
-    check_failure("the program was ended after 0.5 seconds, as --timeout says: there was no race up to there",
+    check_failure("the program was ended after 0.5 seconds, as --timeout says: there was no race up to that point",
                   "--timeout", "0.5", "--", "./endless")
     same(125, run(RUN, "--timeout", "0.5", "--no-answer-status", "125", "--", "./endless")[0])
     status, report = found_with("./ends", "stubborn", options=("--timeout", "1"))
-    same((1, 63, False, 1), (status, report["ended"]["signal"], report["ended"]["whole"], report["races"]))
-    same(["the program was ended after 1 seconds, as --timeout says: this is the run up to there"], report["notes"])
+    same((1, 63, False, 1), (status, report["ended"]["signal"], report["ended"]["complete"], report["races"]))
+    same(["the program was ended after 1 seconds, as --timeout says: this is the run up to that point"], report["notes"])
     for word in ("0", "-1", "x", "nan", "inf"):
         same(2, run(RUN, "--timeout", word, "--", "./run")[0])
 
