@@ -213,7 +213,7 @@ def system_row(frames):
 # ---- What is said of a pair ----
 
 def kinds_of(pair):
-    kinds = " against ".join(" or ".join(sorted(kinds)) for kinds in pair.kinds)
+    kinds = " races with ".join(" or ".join(sorted(kinds)) for kinds in pair.kinds)
     kinds += "; maybe only of neighbours" if pair.neighbours else ""
     return kinds + ("; the stacks may be of another variable" if pair.borrowed else "")
 
@@ -305,12 +305,12 @@ def siblings_line(siblings):
 
 def missing_sync_line(missing_sync):
     again = missing_sync["spawn"] == missing_sync["continues_at"]
-    before = "before what comes next on that line" if again else f"before {place(missing_sync['continues_at'])}"
-    after = f"the {missing_sync['construct']} at {place(missing_sync['spawn'])}"
-    line = f"in {missing_sync['function']} after {after} and {before}"
+    before = "what comes next on that line" if again else place(missing_sync["continues_at"])
+    function, spawn = missing_sync["function"], f"the {missing_sync['construct']} at {place(missing_sync['spawn'])}"
+    line = f"in {function} between {spawn} and {before}"
     if missing_sync["syncs_at_return"]:
-        return f"{line}: it waits at its end"
-    return line + (f": it waits at {place(missing_sync['next_sync'])}" if missing_sync["next_sync"] else "")
+        return f"{line}: {function} waits only when it returns"
+    return line + (f": it waits next at {place(missing_sync['next_sync'])}" if missing_sync["next_sync"] else "")
 
 
 # What the hooks say of a program that may wait for ever, and the command that prints its stack.

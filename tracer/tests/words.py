@@ -126,8 +126,8 @@ def check_pairs_by_variable():
     """All pairs of a variable stand below its name, the most frequent first."""
     same(["grid"] * 3, [pair["variable"]["name"] for pair in pairs_of("words", "pairs")])
     blocks = blocks_of(text_of("words", "pairs"))
-    same(["grid: 40 locations in 3 pairs of lines", "25 locations: write against write"], blocks[0].splitlines()[:2])
-    same(["10 locations: write against write", "5 locations: write against write", "races 40, pairs of lines 3"],
+    same(["grid: 40 locations in 3 pairs of lines", "25 locations: write races with write"], blocks[0].splitlines()[:2])
+    same(["10 locations: write races with write", "5 locations: write races with write", "races 40, pairs of lines 3"],
          [block.splitlines()[0] for block in blocks[1:]])
 
 
