@@ -26,7 +26,7 @@ def is_current():
 def build(say, fail):
     if not shutil.which("rt"):
         fail("the detector isn't built, or is older than its sources, and no rt, the Rattle toolchain, is on the PATH")
-    say(f"proving and building the detector, which takes some minutes the first time; the log is {LOG}")
+    say(f"proving and building the detector, which takes some ten minutes the first time; the log is {LOG}")
     with open(LOG, "w", encoding="utf-8") as log:
         done = subprocess.run(["rt", "lib"], cwd=CRATE, stdin=subprocess.DEVNULL, stdout=log, stderr=log)
     if done.returncode != 0:

@@ -20,9 +20,9 @@ FLOATING = ("", "f", "l", "f32", "f64", "f128", "f32x", "f64x")
 PAGE = """\
 # Library calls that the tracer sees
 
-`library.py` makes this page from `library.table`. `at, n` are n bytes from the address `at` on; `result` is what the
-function returns. `at, n, m, d` are m pieces of n bytes, each d bytes behind the one before. The other words are numbers
-of bytes, or addresses:
+Nobody has to read this page: search it for a function's name. `library.py` makes it from `library.table`. `at, n` are n
+bytes from the address `at` on; `result` is what the function returns. `at, n, m, d` are m pieces of n bytes, each d
+bytes behind the one before. The other words are numbers of bytes, or addresses:
 
 - `all(s)` is a string with its zero, `some(s, n)` at most n bytes of it, and `end(s)` the address of the zero.
 - `until(s, b, n)` ends with the first byte b, or after n bytes. `alike(a, b, n)` ends with the first byte in which a
