@@ -1,24 +1,18 @@
-//! The traces of `examples/` with their answers. No answer comes from the program's own output.
-mod calls;
-mod explained;
-mod matrices;
-mod others;
-mod sorts;
-mod sums;
+//! Three traces of `examples/` with their answers. No answer comes from the program's own output. `examples/check` asks the
+//! built program about all of them.
+mod texts;
 
 use super::{assert_left, run, run_with_report};
-use explained::EXPLAINED;
 use std::alloc::{AllocError, Global};
 use std::process::Abort;
 use std::sync::Wait;
 use std::test::Fail;
 use std::thread::Threads;
 use std::time::Clock;
+use texts::{EXPLAINED, FIB_WITHOUT_SYNC, FIRST, WRITE_WRITE};
 
 #[derive(Clone, Copy)]
 struct Example {
-    // The files are NAME.trace and NAME.report in `examples/`, and `examples/compare` says whether they have these
-    // texts.
     name: &'static str,
     trace: &'static str,
     report: &'static str,
@@ -29,20 +23,7 @@ struct Example {
     pairs: &'static str,
 }
 
-const EXAMPLES: [Example; 12] = [
-    calls::FIB_WITHOUT_SYNC,
-    calls::FILL,
-    others::FIRST,
-    matrices::MATRIX_PRODUCT,
-    matrices::MATRIX_PRODUCT_WITHOUT_SYNC,
-    others::QUEENS,
-    sorts::SORT,
-    sorts::SORT_WITHOUT_SYNC,
-    others::STENCIL,
-    sums::SUM,
-    sums::SUM_BY_PARTS,
-    others::WRITE_WRITE,
-];
+const EXAMPLES: [Example; 3] = [FIB_WITHOUT_SYNC, FIRST, WRITE_WRITE];
 
 // Asserts the report of an example, by one shard and by several.
 fn check_example<T: Threads + Wait + Clock + Sync + Abort>(
