@@ -560,7 +560,7 @@ def check_suppressed():
     same("races 2, pairs of lines 2; suppressed: 1000 races of 1 pair", text.splitlines()[-1])
     with open("suppressed", "w") as file:
         file.write("races:main\n")
-    check_failure("suppressed:1: wanted race:FUNCTION, race:FILE or variable:NAME", "--suppress", "suppressed", "--", "./run")
+    check_failure("suppressed:1: expected race:FUNCTION, race:FILE or variable:NAME", "--suppress", "suppressed", "--", "./run")
 
 
 def check_guards():
@@ -612,7 +612,7 @@ def check_no_room():
 
 
 def check_signals():
-    """A run that ends by a signal is judged up to there."""
+    """A run that ends by a signal is judged up to that point."""
     status, report = found_with("./ends", "fault")
     same((1, 11, False, 1), (status, report["ended"]["signal"], report["ended"]["complete"], len(report["pairs"])))
     assert report["stacks"] and "signal 11 (Segmentation fault)" in report["notes"][-1], report["notes"]
@@ -697,7 +697,7 @@ def check_a_program_that_takes_the_signal():
     process.send_signal(signal.SIGTERM)
     said, errors = process.communicate(timeout=120)
     same((2, "", "spbags-run: the program was ended by signal 15 (Terminated), which was sent to spbags-run: there was no race "
-          "up to there\n"), (process.returncode, said, errors))
+          "up to that point\n"), (process.returncode, said, errors))
 
 
 def check_a_wait_for_input():
