@@ -9,6 +9,9 @@ import source
 import variables
 from source import UNKNOWN, Failure
 
+# Of Cilk, of oneTBB and of C++: what a child is one of, where a report suggests nothing of OpenMP.
+NO_OPENMP = {"cilk_for", "parallel_for", "parallel_for_each", "parallel_reduce", "parallel_scan", "parallel_invoke",
+             "parallel_sort", "task_group", "algorithm"}
 # The number of the guard that all atomic accesses hold; and the name of the one that isn't known.
 ATOMIC, UNKNOWN_GUARD = 1, "unknown"
 # A position on the stack, and what stands there: `write` or `read`, `spawn`, or `call`. The depth is how many functions
@@ -217,20 +220,26 @@ class Program:
         self.variables, self.names, self.unit, self.thread = source.Variables(name), variables.Names(name), unit, thread
 
     def stack(self, role, words):
-        """The frames of these words, from the innermost on; `spawn` stands behind a position that spawned."""
-        frames, depth = [], sum(word != "spawn" for word in words)
+        """The frames of these words, from the innermost on; `spawn` stands behind a position that spawned. What stands in
+        the tracer's own headers is done by whoever calls them."""
+        return self.frames(role, words, lambda position: not source.is_own(position.file)) or self.frames(role, words, bool)
+
+    def frames(self, role, words, is_shown):
+        frames, depth, spawns = [], sum(word != "spawn" for word in words), False
         for word, behind in zip(words, [*words[1:], ""]):
             if word == "spawn":
                 continue
-            code = int(word, 16)
+            positions = list(filter(is_shown, self.positions[int(word, 16)]))
+            spawns |= behind == "spawn"
             if frames:
-                role = "spawn" if behind == "spawn" else "call"
-            for position in self.positions[code]:
+                role = "spawn" if spawns else "call"
+            for position in positions:
                 frames.append(Frame(role, position, depth))
                 role = "call"
-            if len(frames) == len(self.positions[code]) and behind == "spawn":
+            if positions and len(frames) == len(positions) and spawns:
                 # The child has no function of its own: it stores a result, or is a function of the library.
-                frames.append(Frame("spawn", self.positions[code][0], depth))
+                frames.append(Frame("spawn", positions[0], depth))
+            spawns &= not positions
             depth -= 1
         return frames
 
@@ -336,9 +345,9 @@ class Program:
         if not first or not second or first.of != second.of:
             return None
         position = source.leading(self.positions[first.code])
-        if first.of == "task":
+        if first.of in ("task", "task_group"):
             is_same = position == source.leading(self.positions[second.code])
-            return {"construct": "task", "position": position, "first": None, "second": None} if is_same else None
+            return {"construct": first.of, "position": position, "first": None, "second": None} if is_same else None
         return {"construct": first.of, "position": position, "first": list(first[2:]),
                 "second": list(second[2:])} if first.code == second.code else None
 
@@ -346,7 +355,7 @@ class Program:
     def suggested(noted, siblings, variable):
         """What OpenMP has for such a pair: between two children of one construct, or behind a child."""
         first = noted.children[0]
-        if first and first.of == "cilk_for":
+        if first and first.of in NO_OPENMP:
             return ()
         if not siblings:
             tasks = ("taskwait", "depend") if first and first.of in ("task", "taskloop") else ("barrier",)

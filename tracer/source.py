@@ -16,6 +16,8 @@ OUTLINED = re.compile(r"(?:\._omp_(?:cpy)?fn\.[0-9]+| \[clone [^]]*\])+$")
 # What clang makes of a loop's body.
 CAPTURED = re.compile(r"__captured_stmt(?:\.[0-9]+)?")
 SYSTEM = ("/usr/include/", "/usr/local/include/", "/usr/lib")
+# The headers of the tracer itself.
+OWN = os.path.join(os.path.dirname(os.path.realpath(__file__)), "include", "")
 
 
 class Failure(Exception):
@@ -48,8 +50,13 @@ def shown(file):
     return os.path.normpath(file) if relative.startswith("..") else relative
 
 
+@functools.lru_cache
+def is_own(file):
+    return os.path.abspath(file).startswith(OWN)
+
+
 def is_system(position):
-    return position.file.startswith(SYSTEM)
+    return position.file.startswith(SYSTEM) or is_own(position.file)
 
 
 def leading(positions):

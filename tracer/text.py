@@ -6,7 +6,7 @@ from collections import namedtuple
 from itertools import groupby
 
 import source
-from pairs import UNKNOWN_GUARD
+from pairs import NO_OPENMP, UNKNOWN_GUARD
 
 INDENT = " " * 4
 LABELS = {"spawn": "  spawned at", "call": "  called at", "allocation": "  allocated at"}
@@ -291,7 +291,7 @@ def order_row(pair):
 
 def siblings_line(siblings):
     where = place(siblings["position"])
-    if siblings["construct"] == "task":
+    if siblings["construct"] in ("task", "task_group"):
         return f"tasks from {where} may run at once"
     if siblings["construct"] == "region":
         return f"threads of the region at {where} may do this at once"
@@ -299,8 +299,9 @@ def siblings_line(siblings):
                for first, last in (siblings["first"], siblings["second"]))
     if siblings["construct"] == "sections":
         return "sections {} and {} may run at once".format(*numbers)
-    construct = "cilk_for" if siblings["construct"] == "cilk_for" else "loop"
-    return "iterations {} and {} of the {} at {} may run at once".format(*numbers, construct, where)
+    construct = siblings["construct"] if siblings["construct"] in NO_OPENMP else "loop"
+    parts = {"parallel_invoke": "functions", "algorithm": "elements", "parallel_sort": "parts"}.get(construct, "iterations")
+    return "{} {} and {} of the {} at {} may run at once".format(parts, *numbers, construct, where)
 
 
 def missing_sync_line(missing_sync):

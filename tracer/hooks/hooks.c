@@ -6,8 +6,8 @@
    Each part stands on those before it: what goes out; the detector and its heap, where SPBAGS_INSIDE is defined; what is
    held; places; what a strand has done; records; locations, and bytes; procedures; a look at the races' places; scopes
    and loops of Cilk; the hooks of accesses, of library functions and of jumps; a watch for waits without end; the hooks
-   of locks; the heap; those of C++ and, where SPBAGS_OPENMP is defined, of OpenMP; functions that nothing is known of,
-   and what of the code has no hook of the compiler's; the ends of the run, and its beginning. */
+   of locks; the heap; those of C++, of its parallel libraries and, where SPBAGS_OPENMP is defined, of OpenMP; functions
+   that nothing is known of, and what of the code has no hook of the compiler's; the ends of the run, and its beginning. */
 #define _GNU_SOURCE
 #include <ctype.h>
 #include <dlfcn.h>
@@ -99,6 +99,8 @@ static bool looking;
 #include "heap.h"
 #include "cplusplus.h"
 #include "containers.h"
+#include "source_line.h"
+#include "parallel.h"
 #ifdef SPBAGS_OPENMP
 /* Libraries with OpenMP of their own have threads of their own. */
 #pragma GCC visibility push(hidden)

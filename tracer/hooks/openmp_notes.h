@@ -1,32 +1,5 @@
 /* What the report of a run with OpenMP has to say beside the races. */
 
-/* The file and the line of a call that returns to this address, as addr2line has it: "file:line". */
-static const char *source_line(uintptr_t code, char *line, size_t size) {
-    char program[40], address[24];
-    int ends[2];
-    snprintf(program, sizeof program, "/proc/%d/exe", (int)getpid());
-    snprintf(address, sizeof address, "%#zx", (size_t)code - 1);
-    char *words[] = {"addr2line", "-e", program, address, NULL};
-    snprintf(line, size, "address %s", address);
-    if (pipe(ends) != 0)
-        return line;
-    pid_t child = vfork();
-    if (child == 0) {
-        dup2(ends[1], STDOUT_FILENO);
-        __real_execvp(words[0], words);
-        __real__exit(127);
-    }
-    close(ends[1]);
-    char answer[size];
-    ssize_t got = child > 0 ? read(ends[0], answer, size - 1) : 0;
-    close(ends[0]);
-    if (child > 0)
-        waitpid(child, NULL, 0);
-    if (got > 0 && answer[0] != '?')
-        snprintf(line, size, "%.*s", (int)strcspn((answer[got] = '\0', answer), " \n"), answer);
-    return line;
-}
-
 static void refuse_nested(uintptr_t code) {
     char line[400];
     fail("%s: OpenMP's nested teams can't be traced: leave out omp_set_nested or omp_set_max_active_levels",

@@ -109,7 +109,13 @@ static void sync_children(struct frame *frame, uintptr_t code) {
     frame->children = NONE;
 }
 
+/* What holds the newest group of tasks, or NULL. */
+static struct frame *grouped;
+__attribute__((noinline, cold)) static void leave_groups(uintptr_t code);
+
 static void leave_top(uintptr_t code) {
+    if (__builtin_expect(top <= grouped, 0))
+        leave_groups(code);
     if (__builtin_expect(top->node != NONE, 0))
         look_at_wait(top, code, true);
     if (top->kind == CHILD || top->called)
@@ -211,6 +217,8 @@ void __spbags_sync(void) {
     if (!tracing)
         return;
     back_to_function(STACK_POINTER, CODE);
+    if (__builtin_expect(top <= grouped, 0))
+        leave_groups(CODE);
     sync_children(top, CODE);
 }
 
