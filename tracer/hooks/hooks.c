@@ -117,6 +117,7 @@ static bool looking;
 #include "system_calls.h"
 #include "assembly.h"
 #include "vectors.h"
+#include "copies.h"
 #include "ends.h"
 #include "run.h"
 #ifdef SPBAGS_OPENMP

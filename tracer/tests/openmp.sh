@@ -274,6 +274,20 @@ check_cplusplus() {
     count $? "std::thread"
 }
 
+# Structs that calls in C++ take or give, by the line of each.
+check_copies() {
+    local source=tracer/tests/copies.cpp options
+    for options in "" -march=native; do
+        "$here/spbags-c++" "$level" $options -fopenmp -o copies "$source" && SPBAGS_UNIT=1 found_by_run ./copies >found
+        ./copies 2>/dev/null >wanted
+        [ -s wanted ] && same "$(by_call "$source" <wanted)" "$(by_call "$source" <found)"
+        count $? "$source $level $options"
+    done
+    printf 'struct S { int a, b; } x;\nint f(S);\nint g() { return f(x); }\n' >intel.cpp
+    ends_with 1 'can.t be traced with -masm=intel' "$here/spbags-c++" "$level" -masm=intel -c intel.cpp
+    count $? "a copy in the other syntax of the assembler"
+}
+
 # What the library has of containers is seen, and does what the library's own does.
 check_containers() {
     local source=tracer/tests/containers.cpp tag
@@ -300,7 +314,7 @@ start_openmp() {
     done
     unset CC
     for level in -O0 -O1; do
-        run_checks "openmp$level" check_openmp_examples check_cplusplus check_cilk_cplusplus &
+        run_checks "openmp$level" check_openmp_examples check_cplusplus check_cilk_cplusplus check_copies &
         run_checks "parallel$level" check_tbb check_execution &
     done
     CC=gcc run_checks link check_unknown check_library_with_openmp check_known check_refused_objects check_openmp_link \
