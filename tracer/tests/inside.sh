@@ -116,7 +116,7 @@ check_inside_statuses() {
     ends_with 2 '' with_report env SPBAGS_EXITCODE=77 ./ways thread
     count $? "$CC: inside: SPBAGS_EXITCODE where there is no report"
     for way in -1 256 x; do
-        ends_with 2 "SPBAGS_EXITCODE=$way: wanted a status from 0 to 255" env SPBAGS_EXITCODE=$way ./ends
+        ends_with 2 "SPBAGS_EXITCODE=$way: expected a status from 0 to 255" env SPBAGS_EXITCODE=$way ./ends
         count $? "$CC: inside: SPBAGS_EXITCODE=$way"
     done
 }
@@ -156,8 +156,8 @@ check_inside_ends() {
 # Refuses each growth of the detector's memory in turn, up to the run that asks for no more. A run that met a refusal
 # ends with a line and without a report; or the detector could do without, and the report is whole.
 check_inside_refused() {
-    local growth status refused=0 line='spbags: out of memory: the detector needs more than the system gives, so the run ends here'
-    line+=', and there is no report'
+    local growth status refused=0 line='spbags: out of memory: the detector needs more than the system gives'
+    line+=', so the run ends here without a report'
     [ "$has_inside" ] || return 0
     "$here/spbags-cc" --inside -DRACY -o racy fib.c &&
         "$CC" -shared -fPIC -o refusing.so "$here/../checks/refusing.c" -ldl
