@@ -3,7 +3,7 @@
 #
 #   sbatch --dependency=afterok:NUMBER machines/merge.slurm PREFIX 16 [TRACE]
 #
-# The report is the file PREFIX.report, which is there when it is whole. The job succeeds where it is there, with races
+# The report is the file PREFIX.report, which appears when it is complete. The job succeeds if it is there, with races
 # or without.
 #SBATCH --job-name=spbags-merge
 #SBATCH --kill-on-invalid-dep=yes
