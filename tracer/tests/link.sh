@@ -36,7 +36,7 @@ not seen: outside_words (outside.o), called 2 times"
     printf '#include "shape.h"\nint shape::sides() { return 0; }\n' >shape.cpp
     printf '#include "shape.h"\nint main() { return (new shape)->sides(); }\n' >draws.cpp
     g++ -c shape.cpp && "$here/spbags-c++" -o draws draws.cpp shape.o && ends_with 3 "" "$here/spbags-run" -- ./draws &&
-        grep -q '^calls of the virtual functions of shape aren.t seen' output
+        grep -q '^calls to the virtual functions of shape aren.t seen' output
     count $? "unknown functions: virtual ones"
     printf '#include <cilk/cilk.h>\nint main(void) {\n int around = 0;\n' >nested.c
     printf ' void add(void) { around++; }\n cilk_spawn add();\n add();\n cilk_sync;\n return around - 2;\n}\n' >>nested.c
