@@ -52,6 +52,8 @@ class Noted:
     waits: tuple = None
     guard: tuple = None
     block: tuple = None
+    # Whether it is of a reducer.
+    reducer: bool = False
 
 
 # So many units from an address on. Of the stack there is the code of the function whose frame it is in, and how far
@@ -88,6 +90,8 @@ class Pair:
     neighbours: bool = False
     # Whether the stacks may be those of a race of another variable.
     borrowed: bool = False
+    # Whether the variable is a reducer, of which an update is a read, and any use of the value a write.
+    reducer: bool = False
     kinds: tuple = field(default_factory=lambda: (set(), set()))
 
     def key(self):
@@ -163,6 +167,9 @@ class Notes:
 
     def take_ends(self, code):
         self.pairs[-1].waits = (int(code, 16), True)
+
+    def take_reducer(self):
+        self.pairs[-1].reducer = True
 
     def take_guard(self, number, *words):
         self.pairs[-1].guard = (int(number, 16), " ".join(words))
@@ -249,7 +256,8 @@ class Program:
         siblings = self.siblings(noted)
         for location, races, variable, borrowed in self.pieces(noted):
             yield Pair(races, location, sides, variable, self.missing_sync(noted, sides), self.guard(noted.guard),
-                       siblings, self.suggested(noted, siblings, variable), noted.is_narrow, borrowed)
+                       siblings, self.suggested(noted, siblings, variable), noted.is_narrow, borrowed,
+                       noted.reducer)
 
     def pieces(self, noted):
         """Of each variable the location of the first race, the number of races, and whether the stacks are borrowed."""

@@ -8,6 +8,7 @@ every other spawn is refused.
 import re
 
 import loops
+import reducers
 from tokens import (CONTROLS, Refused, after_postfixes, arguments_of, call_after, is_in_block, is_lvalue, statement_start,
                     tokens_of)
 
@@ -25,7 +26,6 @@ IGNORED = re.compile(r"^[ \t]*#[ \t]*pragma[ \t]+omp\b.*", re.MULTILINE)
 
 SHAPES = "write `cilk_spawn f(..);', `x = cilk_spawn f(..);' or `x += cilk_spawn f(..);' as a statement of its own"
 REFUSED = {
-    "_Hyperobject": "reducers can't be traced",
     **{word: f"{word} is no keyword here: write `#include <cilk/cilk.h>' above"
        for word in ("cilk_spawn", "cilk_sync", "cilk_for", "cilk_scope")},
 }
@@ -207,8 +207,10 @@ def rewritten(text, language):
     with the stores of what calls give."""
     if language != "gcc" and not TOUCHED.search(text):
         return text, []
+    text, refused_reducers = reducers.rewritten(text, language)
     has_tasks = language == "gcc" and "_Cilk_for" in text
     if has_tasks:
         text = IGNORED.sub("", text)
     text, faults = Rewriting(text, language).rewritten()
+    faults = sorted(faults + refused_reducers, key=lambda line: int(re.search(r":(\d+): error: ", line)[1]))
     return (text + loops.INSTEAD_OF_TASK if has_tasks else text), faults

@@ -30,6 +30,19 @@ void __spbags_leave(const char *const *place);
 void __spbags_iteration(long value, long shown);
 long __spbags_counter(void);
 
+/* A reducer's view, of so many bytes, begins; is updated; has its value read or set; or ends. If what another schedule
+   would do beside isn't known, the note says so. Between the last two an update accesses what else the view has. */
+void __spbags_reducer(const volatile void *view, unsigned long size, const char *note);
+void *__spbags_update(const volatile void *view, unsigned long size, const char *note);
+void *__spbags_value(const volatile void *view, unsigned long size, const char *note);
+void __spbags_reducer_end(const volatile void *view);
+/* The same of a global view, unless the address is that of another variable. */
+void *__spbags_update_of(const volatile void *at, unsigned long size, const char *note, const void *view);
+void *__spbags_value_of(const volatile void *at, unsigned long size, const char *note, const void *view);
+void __spbags_not_seen(const char *note);
+void __spbags_hide(void);
+void __spbags_show(void);
+
 /* A statement of the assembler is about to access so much memory here, perhaps as one atomic instruction; or memory that
    isn't known, at this place of the source. */
 void __spbags_asm(const volatile void *at, unsigned long size, int writes, int locked);
@@ -60,6 +73,28 @@ template <class T> static inline long __spbags_shown(const T &, long number) { r
 __SPBAGS_SHOWN(int) __SPBAGS_SHOWN(unsigned) __SPBAGS_SHOWN(long) __SPBAGS_SHOWN(unsigned long)
 __SPBAGS_SHOWN(long long) __SPBAGS_SHOWN(unsigned long long) __SPBAGS_SHOWN(short) __SPBAGS_SHOWN(unsigned short)
 #undef __SPBAGS_SHOWN
+
+/* A part of the program in which a view that has more memory elsewhere is updated. */
+struct __spbags_hidden {
+    __spbags_hidden() { __spbags_hide(); }
+    ~__spbags_hidden() { __spbags_show(); }
+};
+
+#if __cplusplus >= 201103L
+/* An argument that is evaluated before the call: what isn't of a class is read then. */
+template <class T> struct __spbags_bare {
+    enum { IS_SCALAR = !__is_class(T) && !__is_union(T) };
+};
+template <class T> struct __spbags_bare<T &> : __spbags_bare<T> {};
+template <class T, bool IS_SCALAR> struct __spbags_held { typedef T type; };
+template <class T> struct __spbags_held<T &, true> { typedef T type; };
+template <class T, __SIZE_TYPE__ COUNT> struct __spbags_held<T (&)[COUNT], true> { typedef T (&type)[COUNT]; };
+template <class T, class... More> struct __spbags_held<T (&)(More...), true> { typedef T (&type)(More...); };
+template <class T>
+static inline typename __spbags_held<T, __spbags_bare<T>::IS_SCALAR>::type __spbags_given(T &&value) {
+    return static_cast<T &&>(value);
+}
+#endif
 #endif
 
 #endif

@@ -11,6 +11,8 @@ from pairs import NO_OPENMP, UNKNOWN_GUARD
 INDENT = " " * 4
 LABELS = {"spawn": "  spawned at", "call": "  called at", "allocation": "  allocated at"}
 INSIDE, BOTH, LEFT_OUT = "  inside", "both", "  .."
+# What is told of a reducer.
+OF_REDUCER = {"read": "update", "write": "value"}
 # So many rows of a stack are shown at its beginning and at its end.
 FEW = 20
 LEAST_WIDTH = 60
@@ -127,6 +129,7 @@ class Text:
     def block(self, pair):
         yield from self.wrapped(f"{many(pair.races, 'location')}: {kinds_of(pair)}{guarded(pair.guard)}", "1;31")
         stacks = [without_regions(side.stack) if pair.suggested else side.stack for side in pair.sides]
+        stacks = [[stack[0]._replace(role=kind_of(stack[0].role, pair)), *stack[1:]] for stack in stacks]
         tail = common_tail(*stacks)
         rows = [row for side, stack in zip(pair.sides, stacks)
                 for row in self.access_rows(stack[:len(stack) - tail], side.lead())]
@@ -212,8 +215,13 @@ def system_row(frames):
 
 # ---- What is said of a pair ----
 
+def kind_of(kind, pair):
+    return OF_REDUCER.get(kind, kind) if pair.reducer else kind
+
+
 def kinds_of(pair):
-    kinds = " races with ".join(" or ".join(sorted(kinds)) for kinds in pair.kinds)
+    kinds = " races with ".join(" or ".join(sorted(kind_of(kind, pair) for kind in kinds)) for kinds in pair.kinds)
+    kinds += " of a reducer" if pair.reducer else ""
     kinds += "; maybe only of neighbours" if pair.neighbours else ""
     return kinds + ("; the stacks may be of another variable" if pair.borrowed else "")
 
@@ -269,8 +277,10 @@ def variable_line(variable, unit):
         elements = f", or element {offset // element} of {size // element}" if element else ""
         return "a block of the heap" + byte_of(offset, size) + elements
     if variable.get("expression"):
-        rest = variable["rest"]
-        return owned(variable, variable["expression"] + (byte_of(*rest) if rest and all(rest) else ""))
+        # A reducer's parts are the tracer's own.
+        expression, parts, _ = variable["expression"].partition(".__spbags_")
+        rest = not parts and variable["rest"]
+        return owned(variable, expression + (byte_of(*rest) if rest and all(rest) else ""))
     if "name" in variable:
         return owned(variable, variable["name"] + (
             "" if variable["size"] <= unit else byte_of(variable["offset"], variable["size"])))

@@ -20,6 +20,7 @@ SETS("setjmp") SETS("_setjmp") SETS("__sigsetjmp")
     __attribute__((noreturn)) void __wrap_##NAME(void *at, int value) { \
         if (tracing) \
             LIBRARY_READ(at, sizeof(jmp_buf), __wrap_##NAME); \
+        hide_updates(0); \
         __real_##NAME(at, value); \
     }
 JUMPS(longjmp) JUMPS(_longjmp) JUMPS(siglongjmp) JUMPS(__longjmp_chk)

@@ -51,8 +51,14 @@ static void clear(uintptr_t address, size_t size) {
             *stack_mark(first) = UNTOUCHED;
 }
 
+/* Whether there are views of reducers; their units are noted otherwise. */
+static bool has_views;
+static bool note_view(uintptr_t unit, uint32_t *mark, unsigned shift, uintptr_t code);
+
 /* A unit that is accessed, by its first address and its mark: it is no repeat. */
 static inline void note_unit(bool writes, uintptr_t address, uint32_t *mark, unsigned shift, uintptr_t code) {
+    if (__builtin_expect(has_views, 0) && note_view(address, mark, shift, code))
+        return;
     uint64_t location = location_of(address, *mark, shift);
     *mark = new_mark(writes);
     access_record(writes, location, address, code);

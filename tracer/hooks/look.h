@@ -28,7 +28,10 @@ struct race {
     uint32_t pair;
     uintptr_t address;
     struct owner frame, data;
+    /* Whether it is of a reducer's view. */
+    bool is_view;
 };
+static bool is_view(uintptr_t address);
 
 static struct race *races;
 static size_t races_count;
@@ -342,6 +345,7 @@ static void add_race(struct race *race, uintptr_t address) {
     race->address = address;
     race->frame = frame_owner(address, &race->second);
     race->data = data_owner(address, &race->second);
+    race->is_view = is_view(address);
 }
 
 /* This function waits for its children, and maybe ends with that. */
@@ -500,6 +504,8 @@ static void put_pair(const struct pair *pair, const struct race *race) {
     put_side("first", &race->first, meets);
     put_side("second", &race->second, meets);
     put_threads(race);
+    if (race->is_view)
+        put("reducer\n");
     if (pair->waits != 0 && meets == pair->meeting)
         put("%s %lx\n", pair->ends ? "ends" : "waits", pair->waits);
     if (pair->guard) {

@@ -103,6 +103,7 @@ static void mark_own(uintptr_t first, uintptr_t end) {
 }
 
 static void forget_divided(void);
+static void forget_views(void);
 
 /* All numbers are taken: they begin again, and no mark may have an old one. What was touched stays touched, since that
    says on the stack that a unit has its number. */
@@ -116,6 +117,7 @@ __attribute__((noinline, cold)) static void forget_strands(void) {
     for (size_t at = THREAD; at <= COPIES; at++)
         mark_own(own[at].first, own[at].end);
     forget_divided();
+    forget_views();
     has_read = 0;
 }
 

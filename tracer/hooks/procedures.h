@@ -178,6 +178,8 @@ static inline void become_procedure(uintptr_t code) {
         top->children = procedures;
 }
 
+static void tell_hidden_child(void);
+
 /* A spawn and a sync are in a function itself: a child that is still open above it was left by a longjmp. */
 static inline void back_to_function(uintptr_t stack_pointer, uintptr_t code) {
     leave_jumped(stack_pointer, code);

@@ -40,7 +40,15 @@ int refused(int n, int *p) {
         y++;
     if (cilk_spawn f(0)) /* [refused] */
         y++;
-    int cilk_reducer(0) reducer; /* [refused] */
+    int cilk_reducer(zero, add) array[2]; /* [refused] */
+    int cilk_reducer(zero, add) *pointer; /* [refused] */
+    int cilk_reducer(zero, add) one, other; /* [refused] */
+    for (int cilk_reducer(zero, add) i = 0; i < n; i++) /* [refused] */
+        y++;
+    typedef int cilk_reducer(zero, add) type; /* [refused] */
+    struct {
+        int cilk_reducer(zero, add) member; /* [refused] */
+    } s;
     cilk_sync;
     return cilk_spawn f(x + y); /* [refused] */
 }

@@ -1,4 +1,4 @@
-/* The keywords of Cilk, for programs that `spbags-cc` compiles. It rewrites all but the last, which it refuses. */
+/* The keywords of Cilk, for programs that `spbags-cc` compiles, which rewrites them. */
 #ifndef CILK_CILK_H
 #define CILK_CILK_H
 

@@ -1,0 +1,232 @@
+/* Reducers of Cilk. The serial run has one view of each, in the program's memory. Whatever touches it there is an
+   update, and counts as a read of the view, so that updates don't race with each other; a read of the value counts as a
+   write of the whole view, and so do a set, the reducer's beginning and its end. So a view's units have locations as all
+   memory has, and a mark of a write says there that the strand has updated it. */
+struct view {
+    uintptr_t first, end;
+    /* Of a view on the stack the number of its first unit: another variable there has another one. */
+    uint64_t number;
+    /* The mark of the strand that wrote the view last; or that no access has been an update yet. */
+    uint32_t wrote;
+};
+enum { MOST_VIEWS = 1 << 24, BEGINS = 0 };
+/* By their addresses. */
+static struct view *views;
+static size_t views_count;
+/* Whether a view is being written. */
+static bool writes_view;
+
+static inline bool is_of_stack(uintptr_t address) { return address - stack_first < stack_size; }
+
+/* The first view that ends above this address. */
+static size_t view_above(uintptr_t address) {
+    size_t first = 0, end = views_count;
+    while (first < end) {
+        size_t middle = first + (end - first) / 2;
+        if (views[middle].end <= address)
+            first = middle + 1;
+        else
+            end = middle;
+    }
+    return first;
+}
+
+static void remove_view(size_t at) {
+    memmove(views + at, views + at + 1, (views_count - at - 1) * sizeof *views);
+    has_views = --views_count > 0;
+}
+
+/* The number of the stack's unit with this address, which has none if nothing has touched it. */
+static uint64_t stack_number(uintptr_t address) {
+    uintptr_t unit = address & ~unit_mask;
+    return *mark_of(unit, unit_shift) == UNTOUCHED ? 0 : numbers[(unit - stack_first) >> unit_shift];
+}
+
+/* The view with this byte. One whose function has ended is none any more. */
+static struct view *view_at(uintptr_t address) {
+    for (;;) {
+        size_t at = view_above(address);
+        if (at == views_count || views[at].first > address)
+            return NULL;
+        if (!is_of_stack(address) || stack_number(views[at].first) == views[at].number)
+            return &views[at];
+        remove_view(at);
+    }
+}
+
+static bool is_view(uintptr_t address) { return view_at(address) != NULL; }
+
+/* An access of this unit that is no repeat: whether it is an update of a view, and then its record has gone out. */
+__attribute__((noinline)) static bool note_view(uintptr_t unit, uint32_t *mark, unsigned shift, uintptr_t code) {
+    uintptr_t first = unit, end = unit + ((uintptr_t)1 << shift);
+    if (narrow.end != 0) {
+        first = narrow.first > first ? narrow.first : first;
+        end = narrow.end < end ? narrow.end : end;
+    }
+    struct view *view = writes_view ? NULL : view_at(first);
+    if (!view || end > view->end)
+        return false;
+    if (is_repeat(false, *mark))
+        return true;
+    uint64_t location = location_of(unit, *mark, shift);
+    /* Where another variable has a part of the unit, the mark is that of a read. */
+    *mark = new_mark(view->first <= unit && unit + ((uintptr_t)1 << shift) <= view->end);
+    if (view->wrote == BEGINS)
+        view->wrote = TOUCHED;
+    access_record(false, location, unit, code);
+    return true;
+}
+
+/* No unit of the view that is all its own has been written, whatever its mark says. */
+static void forget_updates(const struct view *view) {
+    for (uintptr_t unit = (view->first + unit_mask) & ~unit_mask; unit + unit_mask < view->end; unit += unit_mask + 1) {
+        uint32_t *mark = mark_of(unit, unit_shift);
+        *mark = *mark == UNTOUCHED ? UNTOUCHED : TOUCHED;
+    }
+}
+
+static void write_view(struct view *view, uintptr_t code) {
+    if (view->wrote == new_mark(true))
+        return;
+    if (view->wrote != BEGINS)
+        forget_updates(view);
+    view->wrote = new_mark(true);
+    writes_view = true;
+    touch(true, view->first, view->end - view->first, code);
+    writes_view = false;
+}
+
+/* Numbers of strands begin again. */
+static void forget_views(void) {
+    for (size_t at = 0; at < views_count; at++)
+        views[at].wrote = TOUCHED;
+}
+
+/* ---- What isn't run ---- */
+
+/* A line for what another schedule would do beside, once for each text. */
+static void tell_not_run(const char *text) {
+    enum { MOST_TEXTS = 1000 };
+    static const char *told[MOST_TEXTS];
+    static size_t count;
+    for (size_t at = 0; at < count; at++)
+        if (strcmp(told[at], text) == 0)
+            return;
+    if (count < MOST_TEXTS)
+        told[count++] = text;
+    tell_incomplete("%s", text);
+}
+
+/* ---- The hooks ---- */
+
+static struct view *add_view(uintptr_t first, size_t size, const char *note) {
+    if (!views)
+        views = reserve(MOST_VIEWS * sizeof *views);
+    if (views_count == MOST_VIEWS)
+        fail("there are more than %d reducers at once", MOST_VIEWS);
+    size_t at = view_above(first);
+    while (at < views_count && views[at].first < first + size)
+        remove_view(at);
+    memmove(views + at + 1, views + at, (views_count - at) * sizeof *views);
+    views[at] = (struct view){.first = first, .end = first + size};
+    views_count++;
+    has_views = true;
+    uint32_t *mark = mark_of(first & ~unit_mask, unit_shift);
+    if (is_of_stack(first)) {
+        location_of(first & ~unit_mask, *mark, unit_shift);
+        *mark = *mark == UNTOUCHED ? TOUCHED : *mark;
+        views[at].number = stack_number(first);
+    }
+    if (note)
+        tell_not_run(note);
+    return &views[at];
+}
+
+static struct view *known_view(uintptr_t first, size_t size, const char *note) {
+    struct view *view = view_at(first);
+    return view && view->first == first && view->end == first + size ? view : add_view(first, size, note);
+}
+
+/* How many updates are going on whose accesses aren't recorded. They count among the initialisations too. */
+static unsigned hidden_updates;
+
+static bool records_views(void) { return tracing && initialising == hidden_updates; }
+
+/* The reducer begins. */
+void __spbags_reducer(const volatile void *at, unsigned long size, const char *note) {
+    if (!tracing || size == 0)
+        return;
+    leave_jumped(STACK_POINTER, CODE);
+    struct view *view = add_view((uintptr_t)at, size, note);
+    if (records_views())
+        write_view(view, CODE);
+}
+
+/* One that never began, as a global one, begins now. */
+static void *update(uintptr_t at, size_t size, const char *note, uintptr_t stack_pointer, uintptr_t code) {
+    enum { FIRST_BYTES = 8 };
+    if (records_views() && size > 0) {
+        leave_jumped(stack_pointer, code);
+        known_view(at, size, note);
+        touch(false, at, size < FIRST_BYTES ? size : FIRST_BYTES, code);
+    }
+    return (void *)at;
+}
+
+static void *value(uintptr_t at, size_t size, const char *note, uintptr_t stack_pointer, uintptr_t code) {
+    if (records_views() && size > 0) {
+        leave_jumped(stack_pointer, code);
+        write_view(known_view(at, size, note), code);
+    }
+    return (void *)at;
+}
+
+void *__spbags_update(const volatile void *at, unsigned long size, const char *note) {
+    return update((uintptr_t)at, size, note, STACK_POINTER, CODE);
+}
+
+void *__spbags_value(const volatile void *at, unsigned long size, const char *note) {
+    return value((uintptr_t)at, size, note, STACK_POINTER, CODE);
+}
+
+void *__spbags_update_of(const volatile void *at, unsigned long size, const char *note, const void *view) {
+    return at == view ? update((uintptr_t)at, size, note, STACK_POINTER, CODE) : (void *)at;
+}
+
+void *__spbags_value_of(const volatile void *at, unsigned long size, const char *note, const void *view) {
+    return at == view ? value((uintptr_t)at, size, note, STACK_POINTER, CODE) : (void *)at;
+}
+
+void __spbags_reducer_end(const volatile void *at) {
+    struct view *view = tracing ? view_at((uintptr_t)at) : NULL;
+    if (!view)
+        return;
+    leave_jumped(STACK_POINTER, CODE);
+    if (records_views())
+        write_view(view, CODE);
+    remove_view((size_t)(view - views));
+}
+
+void __spbags_not_seen(const char *note) {
+    if (tracing)
+        tell_not_run(note);
+}
+
+static void hide_updates(unsigned count) {
+    initialising += count - hidden_updates;
+    hidden_updates = count;
+    if (tracing)
+        find_short_way();
+}
+
+/* An update of a view that has more memory elsewhere begins and ends. */
+void __spbags_hide(void) { hide_updates(hidden_updates + 1); }
+void __spbags_show(void) {
+    if (hidden_updates > 0)
+        hide_updates(hidden_updates - 1);
+}
+
+/* What is spawned in such an update isn't recorded either. */
+static void tell_hidden_child(void) {
+    tell_not_run("an update of a reducer spawns, and what its children access isn't seen");
+}

@@ -1,0 +1,1 @@
+#include <cilk/reducer_min_max.h>

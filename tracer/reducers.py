@@ -1,0 +1,539 @@
+"""The reducers of OpenCilk in a preprocessed source, `T _Hyperobject(identity, reduce) name = init;`, and what stands
+for each use of their names: the address of the view, by a hook that says whether the use updates the view or reads or
+sets its value.
+
+A statement that changes the name by `+=`, `++` and the like, by `name = ..` with the name on the right too, or that
+hands its address to a function, updates the view, and so does `if (.. name ..) name = ..`. Any other use of the name
+reads or sets the value."""
+import re
+
+from loops import statement_end
+from tokens import (CONTROLS, Refused, after_postfixes, arguments_of, is_in_block, statement_start, tokens_of)
+
+KEYWORD = "_Hyperobject"
+CHANGES = {"+=", "-=", "*=", "/=", "%=", "&=", "|=", "^=", "<<=", ">>="}
+STEPS = {"++", "--"}
+SCALARS = set("int long short char unsigned signed float double _Bool bool wchar_t size_t ssize_t ptrdiff_t "
+              "__int128".split())
+SCALAR = re.compile(r"u?int(?:_fast|_least)?(?:8|16|32|64|ptr|max)_t|__spbags_\w+")
+# Words of a declaration that are no part of its type.
+STORAGE = set("static extern inline register const volatile constexpr thread_local _Thread_local __thread "
+              "__extension__".split())
+# Before a name that is declared no such word stands.
+BEFORE_VALUES = set("return else do case goto sizeof throw new delete co_return co_yield co_await and or not xor bitand "
+                    "bitor compl and_eq or_eq xor_eq not_eq operator _Cilk_spawn _Cilk_sync _Alignof alignof typeof "
+                    "__typeof__ __typeof decltype __extension__ if while for switch".split())
+UNEVALUATED = {"sizeof", "_Alignof", "alignof", "__alignof__", "typeof", "__typeof__", "__typeof", "decltype"}
+STATEMENTS = {"if", "while", "for", "switch", "return", "static_cast", "const_cast", "reinterpret_cast", "sizeof"}
+CLASSES = {"struct", "union", "class", "enum"}
+# What a function may be made of that touches its parameters alone.
+PLAIN_WORDS = SCALARS | {"const", "void", "if", "else", "return", "static_cast", "reinterpret_cast", "auto"}
+
+
+def header_start(tokens, brace):
+    """Where the statement begins whose block this brace opens."""
+    return statement_start(tokens, brace) if brace > 0 else 0
+
+
+def is_of(tokens, brace, words):
+    """Whether this brace opens what one of these words begins."""
+    if tokens[brace].text != "{" or tokens[brace - 1].text == ")":
+        return False
+    return any(token.text in words for token in tokens[header_start(tokens, brace):brace])
+
+
+def is_global(tokens, at):
+    """Whether no function holds this."""
+    around = tokens[at].around
+    while around is not None and is_of(tokens, around, {"namespace", "extern"}):
+        around = tokens[around].around
+    return around is None
+
+
+def is_scalar(words):
+    return bool(words) and all(word in SCALARS or SCALAR.fullmatch(word) for word in words)
+
+
+def quoted(line):
+    """A string of C."""
+    return '"' + line.replace("\\", "\\\\").replace('"', '\\"') + '"'
+
+
+class Reducer:
+    """A declaration: the name, and how far it is known."""
+
+    def __init__(self, text, tokens, at, language):
+        self.tokens, self.keyword, self.language = tokens, at, language
+        token = tokens[at]
+        around = token.around
+        if around is not None and tokens[around].text != "{":
+            raise Refused(token, "a reducer can't be traced here: declare it as a variable, in a statement of its own")
+        if around is not None and is_of(tokens, around, CLASSES):
+            raise Refused(token, "a reducer that is a member of a struct can't be traced: declare it as a variable")
+        self.first = statement_start(tokens, at)
+        self.monoid_end = tokens[at + 1].partner if tokens[at + 1].text == "(" else at
+        stop = next(after for after in range(self.monoid_end + 1, len(tokens))
+                    if tokens[after].text in ("=", ";", ",", "{", "[", "(") and tokens[after].around == around)
+        before = [other.text for other in tokens[self.first:at]]
+        after = [other.text for other in tokens[self.monoid_end + 1:stop]]
+        self.name_at = stop - 1
+        self.name = tokens[self.name_at].text
+        if {"typedef", "using"} & set(before) or tokens[stop].text in ("[", ",") or "*" in after or "&" in after or \
+                tokens[self.name_at].kind != "word" or (tokens[stop].text == "(" and language != "c++"):
+            raise Refused(token, "this reducer can't be traced: declare one variable `type cilk_reducer(identity, "
+                                 "reduce) name', neither an array nor a pointer nor a type")
+        if {"thread_local", "_Thread_local", "__thread"} & set(before + after):
+            raise Refused(token, "a reducer that is local to a thread can't be traced")
+        self.last = next(after for after in range(stop, len(tokens))
+                         if tokens[after].text == ";" and tokens[after].around == around)
+        if any(tokens[other].text == "," and tokens[other].around == around for other in range(stop, self.last)):
+            raise Refused(token, "this reducer can't be traced: declare one variable in a declaration")
+        if any(other.text.startswith("_Cilk_") for other in tokens[self.first:self.last]):
+            raise Refused(token, "a spawn can't be traced in the declaration of a reducer")
+        self.is_global = is_global(tokens, at)
+        self.is_automatic = not self.is_global and not {"static", "extern"} & set(before + after)
+        self.is_scalar = is_scalar([word for word in before + after[:-1] if word not in STORAGE])
+        self.end = len(tokens) if self.is_global else tokens[around].partner
+        self.given = arguments_of(tokens, at + 1) if self.monoid_end > at else []
+        given = {tokens[first].text for first, _ in self.given}
+        self.is_older = language != "c++" and given in (set(), {"0"})
+        self.note = self.noted(text)
+
+    def functions(self):
+        """The names of the functions that are given."""
+        named = [self.tokens[first] for first, last in self.given if first == last]
+        return [token.text for token in named if token.kind == "word" and token.text != "nullptr"]
+
+    def noted(self, text):
+        """What isn't run, as a string of C, or 0."""
+        tokens, given = self.tokens, self.given
+        if self.is_scalar and len(given) == 2 and all(is_plain(tokens, *one) for one in given):
+            return "0"
+        what = text[tokens[given[1][0]].start:tokens[given[1][1]].end] if len(given) == 2 else "the reduce function"
+        what = what if re.fullmatch(r"[\w:<>, &]+", what) else "the reduce function"
+        place = tokens[self.keyword].place()
+        line = f"{place}: what {what} does for the reducer {self.name} in another schedule isn't run"
+        line += "" if self.is_scalar else ", nor is it seen what updates of the reducer access inside of functions"
+        return quoted(line)
+
+
+def is_plain(tokens, first, last):
+    """Whether this names a function, or is one, that touches nothing but its parameters: it calls none, and names no
+    other variable."""
+    if tokens[first].text == "&" and first < last:
+        first += 1
+    if tokens[first].text == "[":
+        opening = tokens[first].partner + 1
+        return tokens[first + 1].text == "]" and tokens[opening].text == "(" and is_plain_body(tokens, opening)
+    if tokens[first].kind == "number":
+        return True  # a null pointer, which no one calls
+    name = tokens[first].text
+    return any(token.text == name and tokens[at + 1].text == "(" and tokens[at + 1].partner is not None and
+               tokens[tokens[at + 1].partner + 1].text == "{" and is_plain_body(tokens, at + 1)
+               for at, token in enumerate(tokens[:-1]) if token.kind == "word")
+
+
+def is_plain_body(tokens, opening):
+    """Of the function whose parameters these brackets hold."""
+    body = tokens[opening].partner + 1
+    if tokens[body].text != "{":
+        return False
+    known = {tokens[last].text for _, last in arguments_of(tokens, opening)} | PLAIN_WORDS
+    for at in range(body, tokens[body].partner):
+        token = tokens[at]
+        if token.kind in ("string", "raw"):
+            return False
+        if token.kind != "word" or tokens[at - 1].text in (".", "->"):
+            continue
+        if tokens[at + 1].text == "(" and token.text not in STATEMENTS:
+            return False
+        if token.text not in known and not SCALAR.fullmatch(token.text):
+            before = at - 1
+            while tokens[before].text in ("*", "const"):
+                before -= 1
+            if tokens[before].text == "," and is_in_block(tokens, at):
+                before = statement_start(tokens, at)  # one more variable of the same declaration
+            if not is_scalar([tokens[before].text]) and tokens[before].text != "auto":
+                return False
+            known.add(token.text)
+    return True
+
+
+# ---- Other variables of the same name ----
+
+def types_in(tokens):
+    """The names that typedefs and classes give to types."""
+    names = set()
+    for at, token in enumerate(tokens):
+        if token.text in CLASSES and tokens[at + 1].kind == "word":
+            names.add(tokens[at + 1].text)
+        if token.text == "typedef":
+            end = next((after for after in range(at, len(tokens))
+                        if tokens[after].text == ";" and tokens[after].around == token.around), at)
+            names.add(tokens[end - 1].text)
+    return names
+
+
+def is_template(tokens, closing):
+    """Whether this `>` ends the arguments of a template."""
+    depth, at = 0, closing
+    while at > 0:
+        text = tokens[at].text
+        depth += {">": 1, ">>": 2, "<": -1}.get(text, 0)
+        if depth <= 0:
+            break
+        if tokens[at].kind not in ("word", "number") and text not in (">", ">>", "<", "::", ",", "*", "&", "(", ")"):
+            return False
+        at -= 1
+    at -= 1
+    while at > 0 and (tokens[at].kind == "word" or tokens[at].text == "::"):
+        at -= 1
+    return tokens[at].text in ("{", "}", ";", "(", ",")
+
+
+def declares(tokens, at, types):
+    """Whether the name here is that of another variable which is declared here."""
+    before = at - 1
+    while tokens[before].text in ("*", "&", "&&", "const", "volatile", "restrict", "__restrict"):
+        before -= 1
+    token = tokens[before]
+    if before == at - 1 and token.kind == "word":
+        return token.text not in BEFORE_VALUES
+    if token.kind == "word":
+        tagged = tokens[before - 1].text in CLASSES
+        is_type = token.text in SCALARS | {"void", "auto", "__auto_type"} | types
+        return tagged or is_type or SCALAR.fullmatch(token.text) is not None
+    return token.text in (">", ">>") and is_template(tokens, before)
+
+
+def scope_end(tokens, at):
+    """The last token of the scope of a variable that is declared here."""
+    around = tokens[at].around
+    if around is None:
+        return len(tokens)
+    closing = tokens[around].partner
+    if tokens[around].text != "(":
+        return closing
+    if tokens[around - 1].text in CONTROLS | {"catch"}:
+        return statement_end(tokens, closing + 1)
+    after = closing + 1
+    while tokens[after].kind == "word" or tokens[after].text in ("->", "::", "*", "&", "<", ">"):
+        after += 1
+    return tokens[after].partner if tokens[after].text == "{" else closing
+
+
+# ---- Uses ----
+
+class Use:
+    """A use of a reducer's name, from its first token to its last, and the expression in which it stands."""
+
+    def __init__(self, reducer, tokens, at):
+        self.reducer, self.tokens = reducer, tokens
+        self.first = self.last = self.name_at = at
+        while tokens[self.first - 1].text == "::" and tokens[self.first - 2].kind == "word":
+            self.first -= 2
+        if tokens[self.first - 1].text == "::":
+            self.first -= 1
+        # The older library's reducers are structs in C.
+        if reducer.is_older and tokens[at + 1].text == "." and tokens[at + 2].text == "value":
+            self.last = at + 2
+        # Brackets around the name alone.
+        first, last = self.first, self.last
+        while tokens[first - 1].text == "(" and tokens[first - 1].partner == last + 1 and \
+                (tokens[first - 2].kind == "mark" and tokens[first - 2].text not in (")", "]") or
+                 tokens[first - 2].text in BEFORE_VALUES or
+                 tokens[first - 2].text == ")" and is_control(tokens, tokens[first - 2].partner)):
+            first, last = first - 1, last + 1
+        self.outer = first, last
+        self.region = region_of(tokens, first)
+        self.changes = self.way()
+
+    def way(self):
+        """How this use changes the view: `update`, `hand` or `keep` its address, `call` a member, `set`; or None."""
+        tokens, (first, last) = self.tokens, self.outer
+        end, postfix = after_postfixes(tokens, last + 1)
+        before = first - 1
+        stars = 0
+        while tokens[before].text == "*" and is_prefix(tokens, before):
+            before -= 1
+            stars += 1
+        if tokens[end].text in CHANGES | STEPS or tokens[before].text in STEPS:
+            return "update"
+        if tokens[end].text == "=":
+            return "set" if end == last + 1 and stars == 0 else "update"
+        if tokens[before].text == "&" and is_prefix(tokens, before):
+            return "hand" if is_argument(tokens, before) else "keep"
+        is_statement = before + 1 == self.region[0] and tokens[self.region[1] + 1].text == ";"
+        if self.reducer.language == "c++" and is_statement and is_in_block(tokens, first):
+            if postfix is not None and tokens[postfix].text == "(" and end == self.region[1] + 1:
+                return "call"
+            if tokens[end].text in ("<<", ">>"):
+                return "update"
+        return None
+
+
+def is_prefix(tokens, at):
+    """Whether the operator here has nothing on its left."""
+    before = tokens[at - 1]
+    if before.kind == "word":
+        return before.text in BEFORE_VALUES
+    return before.kind == "mark" and before.text not in (")", "]") or before.text == ")" and is_cast(tokens, at - 1)
+
+
+def is_cast(tokens, closing):
+    opening = tokens[closing].partner
+    return opening is not None and tokens[closing - 1].text == "*" and tokens[opening - 1].kind != "word"
+
+
+def is_argument(tokens, at):
+    """Whether the expression here is what a function is handed."""
+    around = tokens[at].around
+    while tokens[at - 1].text == ")" and is_cast(tokens, at - 1):
+        at = tokens[at - 1].partner
+    if around is None or tokens[around].text != "(" or tokens[at - 1].text not in ("(", ","):
+        return False
+    caller = tokens[around - 1]
+    return caller.kind == "word" and caller.text not in CONTROLS | BEFORE_VALUES or caller.text in (")", "]", ">")
+
+
+def is_control(tokens, opening):
+    return tokens[opening - 1].text in CONTROLS | {"catch"}
+
+
+def region_of(tokens, at):
+    """The first and the last token of the expression around this that is no part of another one."""
+    around = tokens[at].around
+    while around is not None and tokens[around].text in ("(", "[") and not is_control(tokens, around):
+        at, around = around, tokens[around].around
+    first = last = at
+    if around is None or tokens[around].text == "{":
+        first = statement_start(tokens, at)
+    else:
+        while first - 1 > around and tokens[first - 1].text != ";":
+            first -= 1
+    while True:
+        if tokens[last].text in ("(", "[", "{"):
+            last = tokens[last].partner
+        if tokens[last + 1].around != around or tokens[last + 1].text in (";", "}", ")", "]"):
+            break
+        last += 1
+    return first, last
+
+
+def condition_before(tokens, first):
+    """The brackets with the condition on which the statement that begins here is run, if an `if` stands before it, or
+    before the block around it."""
+    for at in (first, tokens[first].around):
+        if at is not None and at > 0 and tokens[at - 1].text == ")":
+            opening = tokens[at - 1].partner
+            if opening is not None and tokens[opening - 1].text == "if":
+                return opening
+    return None
+
+
+class Rewriting:
+    """All reducers of a source, and their uses."""
+
+    def __init__(self, text, language):
+        self.text, self.language, self.tokens = text, language, tokens_of(text)
+        self.edits, self.faults, self.aliases = [], [], set()
+        self.types = types_in(self.tokens)
+
+    def edit(self, first, end, instead):
+        """Puts something in place of the text between these."""
+        self.edits.append((first, end, instead))
+
+    def rewritten(self):
+        found = []
+        for at, token in enumerate(self.tokens):
+            if token.text == KEYWORD:
+                try:
+                    found.append(Reducer(self.text, self.tokens, at, self.language))
+                except Refused as refused:
+                    self.faults.append(f"{refused.token.place()}: error: {refused}")
+        if self.faults:
+            return self.text, self.faults
+        uses = []
+        for reducer in found:
+            self.declare(reducer)
+        for reducer in found:
+            uses += self.uses_of(reducer, found)
+        self.rewrite(uses)
+        return self.applied(0, len(self.text)), self.faults
+
+    def applied(self, start, stop):
+        """This part of the text with its edits."""
+        made, done = [], start
+        for first, end, instead in sorted(self.edits):
+            if start <= first and end <= stop and first >= done:
+                made += [self.text[done:first], instead]
+                done = end
+        return "".join(made) + self.text[done:stop]
+
+    # ---- Declarations ----
+
+    def declare(self, reducer):
+        tokens = self.tokens
+        cleanup = "__attribute__((cleanup(__spbags_reducer_end))) " if reducer.is_automatic else ""
+        self.edit(tokens[reducer.keyword].start, tokens[reducer.monoid_end].end, cleanup)
+        name, end = reducer.name, tokens[reducer.last].end
+        if reducer.is_automatic:
+            used = "".join(f" (void){function};" for function in reducer.functions())
+            self.edit(end, end, f"{used} __spbags_reducer(&{name}, sizeof {name}, {reducer.note});")
+        elif reducer.is_global and (tokens[reducer.name_at].around, name) not in self.aliases:
+            # So another variable of this name is told from the reducer.
+            self.aliases.add((tokens[reducer.name_at].around, name))
+            named = ", ".join(f"(void *){word}" for word in [f"&{name}", *reducer.functions()])
+            self.edit(end, end, f" static void *const __spbags_of_{name}[] __attribute__((unused)) = {{{named}}};")
+
+    # ---- Uses ----
+
+    def uses_of(self, reducer, reducers):
+        """Those of this name that aren't of another variable."""
+        tokens, at = self.tokens, reducer.last + 1
+        others = {other.name_at: other for other in reducers if other.name == reducer.name and other is not reducer}
+        while at < reducer.end:
+            if tokens[at].text != reducer.name or tokens[at].kind != "word":
+                at += 1
+                continue
+            if at in others:
+                if others[at].is_global and reducer.is_global:
+                    return  # from there on it is the other declaration's
+                at = others[at].end + 1
+                continue
+            before = tokens[at - 1].text
+            if before in (".", "->") or self.is_unevaluated(at) or (before == "&" and self.is_capture(at - 1)):
+                at += 1
+            elif self.is_capture(at):
+                self.refuse(at, f"a lambda can't be traced that has a copy of the reducer {reducer.name}")
+                at += 1
+            elif before != "::" and declares(tokens, at, self.types):
+                at = scope_end(tokens, at) + 1
+            else:
+                yield Use(reducer, tokens, at)
+                at += 1
+
+    def refuse(self, at, why):
+        self.faults.append(f"{self.tokens[at].place()}: error: {why}")
+
+    def is_unevaluated(self, at):
+        tokens = self.tokens
+        if tokens[at - 1].text in UNEVALUATED:
+            return True
+        around = tokens[at].around
+        return around is not None and tokens[around].text == "(" and tokens[around - 1].text in UNEVALUATED
+
+    def is_capture(self, at):
+        """Whether this stands in what a lambda captures."""
+        around = self.tokens[at].around
+        if self.language != "c++" or around is None or self.tokens[around].text != "[":
+            return False
+        before = self.tokens[around - 1]
+        return self.tokens[at - 1].text in ("[", ",") and (
+            before.kind == "mark" and before.text not in (")", "]") or before.text in BEFORE_VALUES)
+
+    def rewrite(self, uses):
+        by_region = {}
+        for use in uses:
+            by_region.setdefault((use.region, use.reducer.name), []).append(use)
+        updated = {key for key, several in by_region.items() if self.is_update(key, several, by_region)}
+        for key, several in by_region.items():
+            for use in several:
+                if use.changes == "set" and key not in updated and self.is_spawned(use):
+                    self.refuse(use.first, f"a child that sets the reducer {use.reducer.name} can't be traced")
+                self.put(use, key in updated)
+        for (region, _), several in by_region.items():
+            self.hide(region, several)
+
+    def is_spawned(self, use):
+        return any(token.text == "_Cilk_spawn" for token in self.tokens[use.region[0]:use.region[1]])
+
+    def is_update(self, key, several, by_region):
+        """Whether the uses of a name in one expression update its view."""
+        region, name = key
+        ways = {use.changes for use in several}
+        if ways - {None, "set"}:
+            return True
+        if "set" in ways:
+            condition = condition_before(self.tokens, region[0])
+            return len(several) > 1 or condition is not None and any(
+                other == name and condition < first for (first, last), other in by_region
+                if last < self.tokens[condition].partner)
+        return self.guards_update(region, name, by_region)
+
+    def guards_update(self, region, name, by_region):
+        """Whether this is the condition of an `if` whose statement changes the name."""
+        tokens = self.tokens
+        opening = tokens[region[0]].around
+        if opening is None or tokens[opening].text != "(" or tokens[opening - 1].text != "if":
+            return False
+        first = tokens[opening].partner + 1
+        last = statement_end(tokens, first)
+        return any(other == name and first <= inner[0] and inner[1] <= last and
+                   (inner[0] == first or tokens[inner[0]].around == first) and any(use.changes for use in found)
+                   for (inner, other), found in by_region.items())
+
+    def put(self, use, updates):
+        tokens, reducer = self.tokens, use.reducer
+        name = self.text[tokens[use.first].start:tokens[use.name_at].end]
+        kind = "decltype" if self.language == "c++" else "__typeof__"
+        hook = "__spbags_update" if updates else "__spbags_value"
+        at, more = f"&{name}", ""
+        if reducer.is_global:
+            hook, more = hook + "_of", f", *{name[:len(name) - len(reducer.name)]}__spbags_of_{reducer.name}"
+        call = f"{hook}({at}, sizeof({name}), {reducer.note}{more})"
+        if use.changes == "keep":
+            note = f"{tokens[use.first].place()}: what is done by this address of the reducer {reducer.name} counts as " \
+                   "an update"
+            call = f"(__spbags_not_seen({quoted(note)}), {call})"
+        self.edit(tokens[use.first].start, tokens[use.last].end, f"(*({kind}({name}) *){call})")
+
+    # ---- Updates by functions ----
+
+    def hide(self, region, several):
+        """A statement that hands the address of a view with more memory elsewhere to a function: what the function does
+        isn't recorded, but what its arguments do is."""
+        tokens, (first, last) = self.tokens, region
+        handed = [use for use in several if use.changes in ("hand", "call")]
+        if not handed or handed[0].reducer.is_scalar or tokens[last + 1].text != ";" or tokens[last].text != ")" or \
+                not is_in_block(tokens, first) or any(token.text == "_Cilk_spawn" for token in tokens[first:last]):
+            return
+        opening = tokens[last].partner
+        is_call = tokens[handed[0].first].around == opening and is_callee(tokens, first, opening)
+        if handed[0].changes == "hand" and not is_call:
+            return
+        here = tokens[first].marker(" 3")
+        made, names = [], []
+        for number, (start, end) in enumerate(arguments_of(tokens, opening)):
+            piece = tokens[start].marker() + self.applied(tokens[start].start, tokens[end].end) + here
+            if start == end and tokens[start].kind in ("string", "number", "character") or tokens[start].text == "{":
+                names.append(piece)
+            elif self.language == "c++":
+                made.append(f"auto &&__spbags_{number} = __spbags_given({piece});")
+                names.append(f"static_cast<decltype(__spbags_{number})>(__spbags_{number})")
+            else:
+                made.append(f"__auto_type __spbags_{number} = ((void)0, ({piece}));")
+                names.append(f"__spbags_{number}")
+        callee = tokens[first].marker() + self.applied(tokens[first].start, tokens[opening].start) + here
+        begin, end = "__spbags_hide();", "__spbags_show();"
+        if self.language == "c++":
+            begin, end = "__spbags_hidden __spbags_h;", ""
+        whole = f"{here}{{ {' '.join(made)} {begin} {callee}({', '.join(names)}); {end} }}{tokens[last + 1].marker()}"
+        start, end = tokens[first].start, tokens[last + 1].end
+        self.edits = [edit for edit in self.edits if not (start <= edit[0] and edit[1] <= end)]
+        self.edit(start, end, whole)
+
+
+def is_callee(tokens, first, opening):
+    """Whether all before these brackets is what they call."""
+    end, last = after_postfixes(tokens, first + 1 if tokens[first].text != "(" else tokens[first].partner + 1)
+    while tokens[end].text == "::" or tokens[end].text == "<" or (tokens[end].kind == "word" and end < opening):
+        end += 1
+    return end > opening or last == opening
+
+
+def rewritten(text, language):
+    """The source without reducers, and a line for each that can't be traced."""
+    if KEYWORD not in text:
+        return text, []
+    return Rewriting(text, language).rewritten()

@@ -1,2 +1,0 @@
-#include <cilk/reducer_opadd.h>
-int nothing;

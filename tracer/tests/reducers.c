@@ -1,0 +1,173 @@
+/* Reducers in C, of OpenCilk and of the older library. Iterations update each at once, which is no race; with the
+   word `racy` at the end one of them reads or sets the value instead, on a line with a tag, two above the update's. The words
+   `list` and `arguments` are for a view that has more memory elsewhere, and `kept` for an address that is kept. */
+#include <cilk/cilk.h>
+#include <cilk/reducer_max.h>
+#include <cilk/reducer_opadd.h>
+#include <stdio.h>
+#include <stdlib.h>
+#include <string.h>
+
+struct counts {
+    int of[3];
+    double all;
+};
+
+static void zero(void *view) { *(int *)view = 0; }
+static void add(void *left, void *right) { *(int *)left += *(int *)right; }
+static void least(void *view) { *(int *)view = -1; }
+static void greatest(void *left, void *right) {
+    int *one = left, *other = right;
+    if (*other > *one)
+        *one = *other;
+}
+static void no_counts(void *view) { memset(view, 0, sizeof(struct counts)); }
+static void add_counts(void *left, void *right) {
+    struct counts *one = left, *other = right;
+    one->all += other->all;
+}
+
+static int cilk_reducer(zero, add) total = 0;
+extern int cilk_reducer(least, greatest) best;
+int cilk_reducer(least, greatest) best = -1;
+static int racy, kept;
+
+static void add_to(int *sum, int n) { *sum += n; /* [added] */ }
+
+static void scalars(void) {
+    static int cilk_reducer(zero, add) calls;
+    int cilk_reducer(zero, add) sum = 1;
+    cilk_for (int i = 0; i < 4; i++)
+        if (racy && i == 2)
+            kept = total; /* [value] */
+        else
+            total += i;
+    cilk_for (int i = 0; i < 4; i++)
+        if (racy && i == 2)
+            sum = 4; /* [value] */
+        else
+            sum = sum + i;
+    cilk_for (int i = 0; i < 4; i++)
+        if (racy && i == 2)
+            printf("%d\n", calls); /* [value] */
+        else
+            calls++;
+    cilk_for (int i = 0; i < 4; i++)
+        if (racy && i == 2)
+            kept = -best; /* [value] */
+        else {
+            if (i > best)
+                best = i;
+        }
+    for (int total = 0; total < 2; total++)
+        sum += total;
+    printf("%d %d %d %d %zu\n", total, sum, calls, best, sizeof total);
+}
+
+/* A child gets the address, and the reducer ends before a sync. */
+static void addresses(void) {
+    int cilk_reducer(zero, add) sum = 1;
+    cilk_spawn add_to(&sum, 2);
+    add_to(&sum, 3);
+    if (racy)
+        kept = sum; /* [before sync] */
+    cilk_sync;
+    { int cilk_reducer(zero, add) inner = 0; cilk_spawn add_to(&inner, 2); if (!racy) cilk_sync; } /* [ends] */
+    cilk_sync;
+    printf("%d\n", sum);
+}
+
+/* A variable of the same name. */
+static int shadowed(void) {
+    int total = 0;
+    cilk_for (int i = 0; i < 4; i++)
+        total += i; /* [shadowed] */
+    return total;
+}
+
+static void structs(void) {
+    struct counts cilk_reducer(no_counts, add_counts) counts = {.all = 1};
+    cilk_for (int i = 0; i < 4; i++)
+        if (racy && i == 2)
+            kept = (int)counts.all; /* [value] */
+        else
+            counts.of[i % 3] += i;
+    printf("%d %g\n", counts.of[1], counts.all);
+}
+
+static void older(void) {
+    CILK_C_REDUCER_OPADD(sum, double, 0);
+    CILK_C_REDUCER_MAX(most, int, 0);
+    CILK_C_REGISTER_REDUCER(sum);
+    cilk_for (int i = 0; i < 4; i++)
+        if (racy && i == 2)
+            kept = (int)REDUCER_VIEW(sum); /* [value] */
+        else
+            REDUCER_VIEW(sum) += i;
+    cilk_for (int i = 0; i < 4; i++)
+        if (racy && i == 2)
+            kept = most.value; /* [value] */
+        else
+            CILK_C_REDUCER_MAX_CALC(most, i);
+    CILK_C_UNREGISTER_REDUCER(sum);
+    printf("%g %d\n", sum.value, REDUCER_VIEW(most));
+}
+
+struct node {
+    struct node *next;
+    int n;
+};
+typedef struct node *nodes;
+
+static void no_nodes(void *view) { *(nodes *)view = NULL; }
+static void join(void *left, void *right) { (void)left, (void)right; }
+static nodes cilk_reducer(no_nodes, join) list = NULL;
+
+/* It changes the element before too. */
+static void push(nodes *to, int n) {
+    nodes made = malloc(sizeof *made);
+    *made = (struct node){.next = *to, .n = n};
+    if (*to)
+        (*to)->n += 1;
+    *to = made;
+}
+
+static void lists(int keeps) {
+    static int numbers[4];
+    cilk_for (int i = 0; i < 4; i++) {
+        numbers[keeps ? 0 : i] = i; /* [number] */
+        push(&list, numbers[keeps ? 0 : i]);
+    }
+    int sum = 0;
+    for (nodes at = list; at; at = at->next)
+        sum += at->n;
+    printf("%d\n", sum);
+}
+
+static void keep(void) {
+    cilk_for (int i = 0; i < 4; i++) {
+        int *at = &total; /* [kept] */
+        *at += i;
+    }
+}
+
+int main(int count, char **words) {
+    /* Without words what it does is racy too, and it reads none. */
+    const char *word = count > 1 ? words[1] : "";
+    racy = count != 2 || strcmp(words[1], "racy") == 0;
+    if (strcmp(word, "list") == 0) {
+        lists(0);
+    } else if (strcmp(word, "arguments") == 0) {
+        lists(1);
+    } else if (strcmp(word, "kept") == 0) {
+        keep();
+    } else if (strcmp(word, "struct") == 0) {
+        structs();
+    } else {
+        scalars();
+        addresses();
+        older();
+        if (racy)
+            printf("%d\n", shadowed());
+    }
+}

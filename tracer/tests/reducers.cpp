@@ -1,0 +1,135 @@
+/* Reducers in C++, of OpenCilk and of the older library. Iterations update each at once, which is no race; with the
+   word `racy` one of them reads or sets the value as well, on the line behind the update's. The word `own` is for a
+   monoid of the program's own. */
+#include <cilk/cilk.h>
+#include <cilk/opadd_reducer.h>
+#include <cilk/ostream_reducer.h>
+#include <cilk/reducer_list.h>
+#include <cilk/reducer_max.h>
+#include <cilk/reducer_min.h>
+#include <cilk/reducer_opadd.h>
+#include <cilk/reducer_opand.h>
+#include <cilk/reducer_opmul.h>
+#include <cilk/reducer_opor.h>
+#include <cilk/reducer_opxor.h>
+#include <cilk/reducer_ostream.h>
+#include <cilk/reducer_string.h>
+#include <cstdio>
+#include <cstring>
+#include <iostream>
+#include <set>
+#include <string>
+
+static bool racy;
+
+template <class Update, class Value> static void both(Update update, Value value) {
+    cilk_for (int i = 0; i < 4; i++) {
+        update(i + 1);
+        if (racy && i == 2)
+            value();
+    }
+}
+
+static void zero(void *view) { *static_cast<long *>(view) = 0; }
+static void plus(void *left, void *right) { *static_cast<long *>(left) += *static_cast<long *>(right); }
+static long cilk_reducer(zero, plus) everywhere = 0;
+
+struct Totals {
+    cilk::opadd_reducer<int> sum;
+    cilk::reducer_opadd<double> older;
+};
+
+static void opencilk() {
+    long cilk_reducer(zero, plus) local = 5;
+    cilk::opadd_reducer<long> library = 0;
+    cilk::ostream_reducer<char> out(std::cout);
+    Totals totals;
+    both([&](int i) { everywhere += i; }, /* [update] */
+         [&] { (void)everywhere; });
+    both([&](int i) { local += i; }, /* [update] */
+         [&] { local = 3; });
+    both([&](int i) { library += i; }, /* [update] */
+         [&] { (void)static_cast<long>(library); });
+    both([&](int) { ++totals.sum; }, /* [update] */
+         [&] { totals.sum = 1; });
+    both([&](int i) { totals.older += i; }, /* [update] */
+         [&] { totals.older.get_value(); });
+    out << "out " << 7;
+    std::printf("%ld %ld %ld %d %g\n", everywhere, local, static_cast<long>(library), static_cast<int>(totals.sum),
+                totals.older.get_value());
+}
+
+static void scalars() {
+    cilk::reducer<cilk::op_add<int>> sum(1);
+    cilk::reducer<cilk::op_mul<long>> product;
+    cilk::reducer<cilk::op_and<unsigned>> bits;
+    cilk::reducer<cilk::op_or<unsigned>> some;
+    cilk::reducer<cilk::op_xor<unsigned>> odd;
+    cilk::reducer<cilk::op_max<int>> most;
+    cilk::reducer<cilk::op_min<double>> least;
+    cilk::reducer<cilk::op_max_index<int, int>> where;
+    cilk::reducer_opadd<int> older(2);
+    cilk::reducer_max<int> older_most(0);
+    int taken = 0;
+    both([&](int i) { *sum += i; }, /* [update] */
+         [&] { sum.get_value(); });
+    both([&](int i) { *product *= i; }, /* [update] */
+         [&] { product.set_value(1); });
+    both([&](int i) { *bits &= 0xf0u | static_cast<unsigned>(i); }, /* [update] */
+         [&] { bits.get_value(); });
+    both([&](int i) { *some = *some | static_cast<unsigned>(i); }, /* [update] */
+         [&] { some.get_value(); });
+    both([&](int i) { odd.view() ^= static_cast<unsigned>(i); }, /* [update] */
+         [&] { odd.get_value(); });
+    both([&](int i) { *most = cilk::max_of(*most, i); }, /* [update] */
+         [&] { most.move_in(taken); });
+    both([&](int i) { least->calc_min(i); }, /* [update] */
+         [&] { least.get_value(); });
+    both([&](int i) { where->calc_max(i, 10 - i); }, /* [update] */
+         [&] { where.get_value(); });
+    both([&](int) { older++; }, /* [update] */
+         [&] { older.get_value(); });
+    both([&](int i) { older_most = cilk::max_of(older_most, i); }, /* [update] */
+         [&] { older_most.get_value(); });
+    std::printf("%d %ld %x %u %u %d %g %d %d %d\n", sum.get_value(), product.get_value(), bits.get_value(),
+                some.get_value(), odd.get_value(), most.get_value(), least.get_value(), where.get_value().first,
+                older.get_value(), older_most.get_value());
+}
+
+static void owners() {
+    cilk::reducer<cilk::op_list_append<int>> list;
+    cilk::reducer_list_prepend<std::string> before;
+    cilk::reducer<cilk::op_string> text("t");
+    cilk::reducer<cilk::op_ostream> out(std::cout);
+    std::list<int> taken;
+    both([&](int i) { list->push_back(i); }, /* [update] */
+         [&] { list.move_out(taken); });
+    both([&](int i) { before.push_front(std::string(20, static_cast<char>('a' + i))); }, /* [update] */
+         [&] { before.get_value(); });
+    both([&](int i) { *text += std::string(10, static_cast<char>('a' + i)); }, /* [update] */
+         [&] { text.get_value().size(); });
+    *out << " and " << 8 << std::endl;
+    std::printf("%zu %s %s\n", list.get_value().size(), before.get_value().front().c_str(), text.get_value().c_str());
+}
+
+struct Union : cilk::monoid_base<std::set<int>> {
+    static void reduce(std::set<int> *left, std::set<int> *right) { left->insert(right->begin(), right->end()); }
+};
+
+static void own() {
+    cilk::reducer<Union> all;
+    both([&](int i) { all->insert(i); }, /* [own] */
+         [&] { all.get_value(); });
+    std::printf("%zu\n", all.get_value().size());
+}
+
+int main(int, char **words) {
+    racy = std::strcmp(words[1], "racy") == 0;
+    if (std::strcmp(words[1], "own") == 0) {
+        own();
+        return 0;
+    }
+    opencilk();
+    scalars();
+    owners();
+}

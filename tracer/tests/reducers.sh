@@ -1,0 +1,65 @@
+# shellcheck shell=bash disable=SC2154
+# The checks of reducers. tracer/check reads this, and has what is called here besides.
+
+# spbags-run with these words has to have this status and, if it is anything, this line in its report.
+reports() {
+    local status=$1 line=$2 found
+    shift 2
+    "$here/spbags-run" "$@" >output 2>&1
+    found=$?
+    [ "$found" = "$status" ] && { [ ! "$line" ] || tr -s ' \n' ' ' <output | grep -q -- "$line"; } || {
+        echo "status $found: $(tail -n 3 output)" >&2
+        return 1
+    }
+}
+
+# The pairs of lines that race, without the number of locations.
+racy_lines() {
+    found_by_run "$@" | sed -E "s,^[0-9]+ ,,; s,[^ ]*reducers\.(c|cpp):,,g" | sort
+}
+
+# In C the line of the value is two above that of the update.
+check_reducers() {
+    local source=tracer/tests/reducers.c
+    "$here/spbags-cc" "$level" -Wall -Wextra -Werror -o reducers "$source"
+    count $? "$CC $level: $source"
+    reports 0 "" -- ./reducers clean && same $'6 8 4 3 4\n6\n6 3' "$(grep -v '^races' output)"
+    count $? "$CC $level: $source, clean"
+    same "$( (grep -nF '[value]' "$source" | cut -d: -f1 | awk -v struct="$(line_of "$source" 'counts.all; /*')" \
+        '$1 != struct { print $1, $1 + 2 }'
+        echo "$(line_of "$source" '[added]') $(line_of "$source" '[before sync]')"
+        echo "$(line_of "$source" '[added]') $(line_of "$source" '[ends]')"
+        echo "$(line_of "$source" '[shadowed]') $(line_of "$source" '[shadowed]')") | sort)" "$(racy_lines ./reducers racy)"
+    count $? "$CC $level: $source, racy"
+    reports 3 'what add_counts does for the reducer counts in another schedule' -- ./reducers struct
+    count $? "$CC $level: $source, a struct"
+    same "$(line_of "$source" 'counts.all; /*' | awk '{ print $1, $1 + 2 }')" "$(racy_lines ./reducers struct racy)"
+    count $? "$CC $level: $source, a struct, racy"
+    reports 3 'what join does for the reducer list in another schedule' -- ./reducers list
+    count $? "$CC $level: $source, more memory"
+    same "$(line_of "$source" '[number]' | awk '{ print $1, $1 }')" "$(racy_lines ./reducers arguments)"
+    count $? "$CC $level: $source, an argument that is evaluated before"
+    reports 3 "$(line_of "$source" '[kept]'): what is done by this address of the reducer total" -- ./reducers kept
+    count $? "$CC $level: $source, an address that is kept"
+    if [ "$has_inside" ]; then
+        "$here/spbags-cc" "$level" --inside --beside -o inside "$source" && has_same_report ./inside
+        count $? "$CC $level: $source, the report of the detector inside"
+    fi
+    check_repeats cat ./reducers
+    count $? "$CC $level: $source, the same without repeats"
+}
+
+# In C++ it is one below.
+check_reducers_cplusplus() {
+    local source=tracer/tests/reducers.cpp
+    "$here/spbags-c++" "$level" -Wall -Wextra -Werror -o reducers "$source"
+    count $? "$source $level"
+    reports 0 "" --unseen-ok 'std::allocator*' -- ./reducers clean &&
+        same $'out 710 15 10 4 10\n11 24 f0 7 4 4 1 1 6 4\n and 8\n4 eeeeeeeeeeeeeeeeeeee tbbbbbbbbbbccccccccccddddddddddeeeeeeeeee' \
+            "$(grep -v -e '^races' -e '^not seen' output)"
+    count $? "$source $level, clean"
+    same "$(grep -nF '[update]' "$source" | cut -d: -f1 | awk '{ print $1, $1 + 1 }' | sort)" "$(racy_lines ./reducers racy)"
+    count $? "$source $level, racy"
+    reports 3 'what the monoid Union does in another schedule' -- ./reducers own
+    count $? "$source $level, a monoid of its own"
+}
