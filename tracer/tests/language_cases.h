@@ -68,6 +68,19 @@ CASE(NUMBER(taker.take(*AS(struct large, big))), R(big, ONE(struct large)))
 CASE(NUMBER((*taking)(*AS(struct large, big))), R(big, ONE(struct large)))
 CASE(NUMBER(taken_by(*AS(struct large, big))), R(big, ONE(struct large)))
 CASE(NUMBER(takers[sink > 0](*AS(struct large, big))), R(big, ONE(struct large)))
+CASE(__typeof__(take_large) *f = take_large; NUMBER(f(*AS(struct large, big))), R(big, ONE(struct large)))
+CASE(__typeof__(take_small) *f = take_small; NUMBER(f(*AS(struct small, big))), R(big, ONE(struct small)))
+
+/* ---- A call's struct inside a larger expression; the last function writes it where its caller wants it ---- */
+CASE(sink = (*AS(struct small, big) = make_small(5)).one, W(big, ONE(struct small)))
+CASE(NUMBER(take_small(*AS(struct small, big) = make_small(5))), W(big, ONE(struct small)))
+CASE(while ((*AS(struct small, big) = make_small(0)).one) sink = 0, W(big, ONE(struct small)))
+CASE(for (int i = 0; i < 1; *AS(struct small, big) = make_small(5)) i++, W(big, ONE(struct small)))
+CASE(sink > 1000 ? *AS(struct small, big) : (*AS(struct small, big) = make_small(5)), W(big, ONE(struct small)))
+CASE(sink = (make_small(3), *AS(struct small, big) = make_small(5), 1), W(big, ONE(struct small)))
+CASE(AS(struct small, big)[1] = AS(struct small, big)[0] = make_small(5), W(big, 0, 2 * sizeof(struct small)))
+static struct large placed(void); /* on one line with the call */
+CASE(sink = (int)(*AS(struct large, big) = placed()).many[1], W(big, ONE(struct large))) static struct large placed(void) { return (struct large){{3}}; }
 
 /* ---- Arguments without a number, and memory of the stack that another one gets ---- */
 static int taken_from(int count, ...) {
@@ -78,6 +91,14 @@ static int taken_from(int count, ...) {
     return first;
 }
 CASE(sink = taken_from(1, *AS(int, big)), R(big, 0, 4))
+static int taken_struct(int count, ...) {
+    va_list list;
+    va_start(list, count);
+    struct middle first = va_arg(list, struct middle);
+    va_end(list);
+    return (int)first.two;
+}
+CASE(sink = taken_struct(1, *AS(struct middle, big)), R(big, ONE(struct middle)))
 CASE(long many[sink + 4]; many[sink] = *AS(long, big); sink = (int)many[sink], R(big, 0, 8))
 CASE(long *many = __builtin_alloca(64); many[sink] = *AS(long, big); sink = (int)many[sink], R(big, 0, 8))
 
