@@ -43,9 +43,6 @@ int __wrap___cxa_guard_acquire(void *guard) {
 
 /* std::thread, which the library starts itself. */
 #define START_THREAD _ZNSt6thread15_M_start_threadESt10unique_ptrINS_6_StateESt14default_deleteIS1_EEPFvvE
-#define NAMED(PREFIX, NAME) PREFIX##NAME
-#define REAL(NAME) NAMED(__real_, NAME)
-#define WRAP(NAME) NAMED(__wrap_, NAME)
 __attribute__((weak)) void REAL(START_THREAD)(void *thread, void *state, void (*depends)(void));
 void WRAP(START_THREAD)(void *thread, void *state, void (*depends)(void)) {
     refuse_thread();

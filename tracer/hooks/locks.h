@@ -34,3 +34,19 @@ UNLOCKS(pthread_spin_unlock, pthread_spinlock_t)
 LOCKS(mtx_trylock, mtx_t)
 WAITING_LOCKS(mtx_lock, mtx_trylock, mtx_t, thrd_busy)
 UNLOCKS(mtx_unlock, mtx_t)
+
+/* One that has no time to wait says whether it would. The library may lack these. */
+#pragma weak pthread_rwlock_timedrdlock
+#pragma weak pthread_rwlock_timedwrlock
+#define WAITING_SHARED_LOCKS(NAME, TIMED) \
+    __attribute__((weak)) int __real_##NAME(pthread_rwlock_t *lock); \
+    int __wrap_##NAME(pthread_rwlock_t *lock) { \
+        const struct timespec past = {0}; \
+        int answer = TIMED(lock, &past); \
+        if (answer != ETIMEDOUT) \
+            return answer; \
+        tell_endless_wait(); \
+        return __real_##NAME(lock); \
+    }
+WAITING_SHARED_LOCKS(pthread_rwlock_rdlock, pthread_rwlock_timedrdlock)
+WAITING_SHARED_LOCKS(pthread_rwlock_wrlock, pthread_rwlock_timedwrlock)

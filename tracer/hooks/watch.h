@@ -189,6 +189,19 @@ void __wrap__ZNSt18condition_variable4waitERSt11unique_lockISt5mutexE(void *cond
     __real__ZNSt18condition_variable4waitERSt11unique_lockISt5mutexE(condition, lock);
 }
 
+/* That of std::future, which waits while the word has this value. */
+#define WAIT_FOR_FUTURE \
+    _ZNSt28__atomic_futex_unsigned_base19_M_futex_wait_untilEPjjbNSt6chrono8durationIlSt5ratioILl1ELl1EEEENS2_IlS3_ILl1ELl1000000000EEEE
+#define NAMED(PREFIX, NAME) PREFIX##NAME
+#define REAL(NAME) NAMED(__real_, NAME)
+#define WRAP(NAME) NAMED(__wrap_, NAME)
+__attribute__((weak)) bool REAL(WAIT_FOR_FUTURE)(void *, unsigned *, unsigned, bool, long, long);
+bool WRAP(WAIT_FOR_FUTURE)(void *future, unsigned *word, unsigned value, bool has_end, long seconds, long rest) {
+    if (!has_end && __atomic_load_n(word, __ATOMIC_RELAXED) == value)
+        tell_endless_wait();
+    return REAL(WAIT_FOR_FUTURE)(future, word, value, has_end, seconds, rest);
+}
+
 int __real_sem_wait(sem_t *semaphore);
 int __wrap_sem_wait(sem_t *semaphore) {
     int free = 0;

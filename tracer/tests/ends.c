@@ -63,6 +63,11 @@ static void wait_for_ever(const char *way) {
     pthread_barrier_init(&barrier, NULL, 2);
     if (strcmp(way, "barrier") == 0)
         pthread_barrier_wait(&barrier); /* [meets] */
+    pthread_rwlock_t shared = PTHREAD_RWLOCK_INITIALIZER;
+    pthread_rwlock_rdlock(&shared);
+    pthread_rwlock_rdlock(&shared);
+    if (strcmp(way, "share") == 0)
+        pthread_rwlock_wrlock(&shared); /* [shares] */
     int word = 1;
     if (strcmp(way, "futex") == 0)
         syscall(SYS_futex, &word, FUTEX_WAIT_PRIVATE, 1, NULL); /* [sleeps] */

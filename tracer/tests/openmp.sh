@@ -253,6 +253,30 @@ check_cilk_cplusplus() {
     count $? "$source, an exception"
 }
 
+# A task waits for what comes later in the serial order.
+check_future() {
+    cat >future.cpp <<'END'
+#include <future>
+int main() {
+    std::promise<int> promise;
+    auto future = promise.get_future();
+#pragma omp task
+    future.get();
+    promise.set_value(3);
+}
+END
+    "$here/spbags-c++" -fopenmp -o future future.cpp
+    SPBAGS_TRACE=run.trace ./future 2>errors &
+    for _ in {1..6000}; do
+        grep -q 'and so for ever' errors && break
+        sleep 0.01
+    done
+    kill $!
+    wait $! 2>/dev/null
+    grep -q 'and so for ever' errors
+    count $? "std::future, for which nobody waits in vain without a line"
+}
+
 check_cplusplus() {
     local source=tracer/tests/cplusplus.cpp
     "$here/spbags-c++" "$level" -fopenmp -o cplusplus "$source"
@@ -272,6 +296,7 @@ check_cplusplus() {
     "$here/spbags-c++" -o thread thread.cpp &&
         ends_with 2 'the program starts a thread' env SPBAGS_TRACE=run.trace ./thread
     count $? "std::thread"
+    check_future
 }
 
 # Structs that calls in C++ take or give, by the line of each.

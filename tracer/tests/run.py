@@ -658,6 +658,7 @@ def check_waits_without_end():
                                      ("lock", signal.SIGTERM, "and so for ever", ["[locks]"]),
                                      ("condition", signal.SIGTERM, "and so for ever", ["[wants]"]),
                                      ("barrier", signal.SIGTERM, "and so for ever", ["[meets]"]),
+                                     ("share", signal.SIGTERM, "and so for ever", ["[shares]"]),
                                      ("futex", signal.SIGTERM, "and so for ever", ["[sleeps]"]),
                                      ("doze", signal.SIGTERM, "it waits for ever", ["[dozes]", "[calls doze]"])):
         process = start("--json", "--", "./ends", way)
