@@ -260,7 +260,7 @@ check_future() {
 int main() {
     std::promise<int> promise;
     auto future = promise.get_future();
-#pragma omp task
+#pragma omp task shared(future)
     future.get();
     promise.set_value(3);
 }
@@ -274,7 +274,7 @@ END
     kill $!
     wait $! 2>/dev/null
     grep -q 'and so for ever' errors
-    count $? "std::future, for which nobody waits in vain without a line"
+    count $? "std::future: a wait without end"
 }
 
 check_cplusplus() {
