@@ -31,6 +31,9 @@ HEAD = """\
 #include <stdlib.h>
 #include <string.h>
 typedef volatile int number;
+static void zero(void *view) { *(int *)view = 0; }
+static void add(void *left, void *right) { *(int *)left += *(int *)right; }
+static void add_to(int *sum, int n) { *sum += n; }
 """
 
 
@@ -55,10 +58,12 @@ class Writer:
         count = self.random.randint(2, 5)
         names = [f"p{self.number}_g{at}" for at in range(GLOBALS)]
         self.line(f"static number {', '.join(names)};", f"static int {', '.join(names)};")
+        sum = f"p{self.number}_sum"
+        self.line(f"static int cilk_reducer(zero, add) {sum};", f"static int {sum};")
         for at in range(count):
-            Function(self, at, names).write()
+            Function(self, at, names, sum).write()
         self.line(f"static void p{self.number}(void) {{", f"static void p{self.number}(void) {{ begin_program();")
-        for name in names:
+        for name in (*names, sum):
             self.tagged(name, f"{name} = 0;", f'{name} = variable("{name}"); touch({name}, true);')
         last = f"p{self.number}_f{count - 1}"
         self.line(f"{last}(&{names[0]}, &{names[1]}); }}",
@@ -68,10 +73,10 @@ class Writer:
 class Function:
     """A function of the program; it calls those before it."""
 
-    def __init__(self, writer, at, names):
+    def __init__(self, writer, at, names, sum):
         self.writer, self.random, self.at, self.globals = writer, writer.random, at, names
         self.name = f"p{writer.number}_f{at}"
-        self.locals, self.steps = [], 0
+        self.locals, self.steps, self.sums = [], 0, [sum]
 
     def variable(self):
         """A variable: its address in C, itself in C, and for the judge."""
@@ -96,6 +101,30 @@ class Function:
                 made = f"number {name} = 0;"
             self.writer.tagged(tag, made, f'int {name} = variable("{tag}"); touch({name}, true);')
             self.locals.append((name, on_heap))
+        if self.random.random() < 0.3:
+            name = f"w{len(self.sums)}"
+            tag = f"{self.name}.{len(self.writer.cilk)}.{name}"
+            self.writer.tagged(tag, f"int cilk_reducer(zero, add) {name} = 0;",
+                               f'int {name} = variable("{tag}"); touch({name}, true);')
+            self.sums.append(name)
+
+    def ends(self, known):
+        """What the judge is told at the end of a block for its reducers: all but so many."""
+        told = "".join(f"touch({name}, true); " for name in self.sums[known:])
+        del self.sums[known:]
+        return told
+
+    def reduce(self):
+        """An update of a reducer is a read of it, and all else a write."""
+        name, kind, number = self.random.choice(self.sums), self.random.randrange(9), self.random.randrange(6)
+        _, this, judged = self.variable()
+        update, value = f"touch({name}, false);", f"touch({name}, true);"
+        self.writer.line(*(
+            (f"{name} += {number};", update), (f"{name}++;", update), (f"{name} = {number} + {name};", update),
+            (f"if ({name} < {number}) {name} = {number};", update), (f"add_to(&{name}, {number});", update),
+            (f"cilk_spawn add_to(&{name}, {number});", f"{update} spawn(); {update} spawned();"),
+            (f"(void){name};", value), (f"{this} = {name};", f"{value} touch({judged}, true);"),
+            (f"{name} = {number};", value))[kind])
 
     def access(self):
         (at, this, judged), kind = self.variable(), self.random.randrange(6)
@@ -127,6 +156,8 @@ class Function:
             self.call(False)
         elif kind == 6:
             self.writer.line("cilk_sync;", "sync_children();")
+        elif kind == 8:
+            self.reduce()
         elif kind == 7 and deep < 2:
             self.random.choice((self.loop, self.parallel_loop, self.scope))(deep + 1)
         else:
@@ -146,12 +177,12 @@ class Function:
 
     def parallel_loop(self, deep):
         """Each iteration is a child, with a function's locals and syncs, and the loop is a function that is called."""
-        before, known = self.steps, len(self.locals)
+        before, known, known_sums = self.steps, len(self.locals), len(self.sums)
         self.writer.line("cilk_for (int i = 0; i < 2; i++) {",
                          "enter(); for (int i = 0; i < 2; i++) { spawn(); enter();")
         self.declare()
         self.statements(deep)
-        self.writer.line("}", "leave(); spawned(); } leave();")
+        self.writer.line("}", self.ends(known_sums) + "leave(); spawned(); } leave();")
         del self.locals[known:]
         self.steps += self.steps - before
 
@@ -166,7 +197,7 @@ class Function:
         self.declare()
         for _ in range(self.random.randint(2, 8)):
             self.statement(0)
-        self.writer.line("return 1; }", "leave(); }")
+        self.writer.line("return 1; }", self.ends(1) + "leave(); }")
         self.writer.steps.append(self.steps + 1)
 
 
