@@ -7,7 +7,7 @@ from dataclasses import dataclass, field
 import answers
 import source
 import variables
-from source import UNKNOWN, Failure
+from source import UNKNOWN, Failure, Position
 
 # Of Cilk, of oneTBB and of C++: what a child is one of, where a report suggests nothing of OpenMP.
 NO_OPENMP = {"cilk_for", "parallel_for", "parallel_for_each", "parallel_reduce", "parallel_scan", "parallel_invoke",
@@ -232,12 +232,17 @@ class Program:
         return self.frames(role, words, lambda position: not source.is_own(position.file)) or self.frames(role, words, bool)
 
     def frames(self, role, words, is_shown):
-        frames, depth, spawns = [], sum(word != "spawn" for word in words), False
+        frames, depth, spawns, part = [], sum(word != "spawn" for word in words), False, None
         for word, behind in zip(words, [*words[1:], ""]):
             if word == "spawn":
                 continue
             positions = list(filter(is_shown, self.positions[int(word, 16)]))
             spawns |= behind == "spawn"
+            before, part = part, self.positions[int(word, 16)][0].part
+            if frames and not spawns and (before == Position.STATEMENT or part == Position.WAY):
+                # A statement that spawns is a function of its own in C++, and so is what it calls then.
+                positions = []
+                frames[-1] = frames[-1]._replace(depth=depth) if before == Position.STATEMENT else frames[-1]
             if frames:
                 role = "spawn" if spawns else "call"
             for position in positions:

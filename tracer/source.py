@@ -6,8 +6,15 @@ import re
 import subprocess
 from collections import namedtuple
 
-# A function, and a line of it; the line is 0 where it isn't known.
-Position = namedtuple("Position", "file line function")
+
+
+class Position(namedtuple("Position", "file line function")):
+    """A function, and a line of it; the line is 0 where it isn't known."""
+    # What of a spawn of C++ this is: the function that its statement becomes, or what this calls for the child.
+    STATEMENT, WAY = "statement", "way"
+    part = None
+
+
 Variable = namedtuple("Variable", "name offset size")
 
 UNKNOWN = Position("?", 0, "?")
@@ -18,6 +25,8 @@ CAPTURED = re.compile(r"__captured_stmt(?:\.[0-9]+)?")
 SYSTEM = ("/usr/include/", "/usr/local/include/", "/usr/lib")
 # The headers of the tracer itself.
 OWN = os.path.join(os.path.dirname(os.path.realpath(__file__)), "include", "")
+# The functions that a spawn of C++ is made of, by their first parameter; and those of the headers.
+SPAWNED, ON_THE_WAY = "::{lambda(__spbags_spawned", "__spbags_"
 
 
 class Failure(Exception):
@@ -82,7 +91,36 @@ def positions_of(program, codes):
 def position_of(function, where):
     file, _, line = where.split(" (")[0].rpartition(":")
     function = CAPTURED.sub("cilk_for", OUTLINED.sub("", function))
-    return Position(shown(file), int(line) if line.isdigit() else 0, function)
+    position = Position(shown(file), int(line) if line.isdigit() else 0, without_spawns(function))
+    innermost = function.rfind("::{lambda(")
+    if ON_THE_WAY in position.function or function.startswith(SPAWNED + ",", innermost):
+        position.part = Position.WAY
+    elif function.startswith(SPAWNED + ")", innermost):
+        position.part = Position.STATEMENT
+    return position
+
+
+def after_brackets(text, at, opening, closing):
+    """The end of the brackets that begin here, if any do."""
+    deep = 0
+    for end in range(at, len(text)):
+        deep += {opening: 1, closing: -1}.get(text[end], 0)
+        if deep == 0:
+            return end + 1 if end > at else at
+    return at
+
+
+def without_spawns(function):
+    """The name of a function, without those that a spawn's statement becomes, in which it stands."""
+    start = function.find(SPAWNED)
+    end = function.find("}::operator()", start)
+    if start < 0 or end < 0:
+        return function
+    end += len("}::operator()")
+    for brackets in ("<>", "()"):
+        end = after_brackets(function, end, *brackets)
+    end += len(" const") if function.startswith(" const", end) else 0
+    return without_spawns(function[:start].removeprefix("decltype(auto) ").removeprefix("auto ") + function[end:])
 
 
 @functools.lru_cache

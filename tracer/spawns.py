@@ -1,14 +1,15 @@
-"""Rewrites the spawns and syncs of a preprocessed C source into calls of the hooks, and stores that no hook would see.
+"""Rewrites the spawns and syncs of a preprocessed source into calls of the hooks, and stores that no hook would see.
 
-A spawn is a statement `f(..)`, `x = f(..)` or `x += f(..)` with the keyword before the call. What the parent evaluates comes first,
-into temporaries: the function, its arguments, the address of the result. Then the child is opened, and the call and the
-store of the result are the child's. Nothing else can be divided between a parent and its child by a text alone, so
-every other spawn is refused.
+In C a spawn is a statement `f(..)`, `x = f(..)` or `x += f(..)` with the keyword before the call. What the parent
+evaluates comes first, into temporaries: the function, its arguments, the address of the result. Then the child is
+opened, and the call and the store of the result are the child's. Nothing else can be divided between a parent and its
+child by a text alone, so every other spawn is refused.
 """
 import re
 
 import loops
 import reducers
+import spawns_cplusplus
 from tokens import (CONTROLS, Refused, after_postfixes, arguments_of, call_after, is_in_block, is_lvalue, statement_start,
                     tokens_of)
 
@@ -149,26 +150,30 @@ def rewritten_store(text, tokens, sign):
 
 
 def edits_of(text, tokens, at, stores, language):
-    """What has to be rewritten here: the indexes of the first and the last token, and their new text; and perhaps the
-    index of a later token, and what comes behind it. Or None."""
+    """What has to be rewritten here: the indexes of the first and the last token, and their new text; and later edits,
+    each of this form, or the index of a token and what comes behind it. Or None."""
     token = tokens[at]
     if token.text in REFUSED:
         raise Refused(token, REFUSED[token.text])
     if token.text == "_Cilk_spawn":
         if language == "c++":
-            raise Refused(token, "spawns can't be traced in C++, only in C")
+            return spawns_cplusplus.Spawn(text, tokens, at).edits()
         found = Spawn(text, tokens, at)
-        return (found.first, found.last, found.rewritten()), None
+        return (found.first, found.last, found.rewritten()), []
     if token.text == "_Cilk_for":
-        return loops.Loop(text, tokens, at, language).edits()
+        edit, later = loops.Loop(text, tokens, at, language).edits()
+        return edit, [later]
     if token.text == "_Cilk_scope":
-        return loops.scope_edits(tokens, at)
+        edit, later = loops.scope_edits(tokens, at)
+        return edit, [later]
     if token.text == "_Cilk_sync":
-        return (at, at, "__spbags_sync()"), None
+        return (at, at, "__spbags_sync()"), []
+    if token.text == "try" and language == "c++" and not token.system:
+        return spawns_cplusplus.try_edits(tokens, at)
     if token.text in INLINED and not token.system:
-        return (at, at, "__unused__"), None
+        return (at, at, "__unused__"), []
     found = rewritten_store(text, tokens, at) if stores and token.text == "=" and not token.system else None
-    return (found, None) if found else None
+    return (found, []) if found else None
 
 
 class Rewriting:
@@ -177,11 +182,11 @@ class Rewriting:
     def __init__(self, text, language):
         self.text, self.language, self.stores = text, language, language == "gcc"
         self.tokens = tokens_of(text)
-        self.made, self.done, self.faults, self.behind = [], 0, [], {}
+        self.made, self.done, self.faults, self.behind, self.planned = [], 0, [], {}, {}
 
     def rewrite(self, at):
         try:
-            edits = edits_of(self.text, self.tokens, at, self.stores, self.language)
+            edits = self.planned.pop(at, None) or edits_of(self.text, self.tokens, at, self.stores, self.language)
         except Refused as refused:
             self.faults.append(f"{refused.token.place()}: error: {refused}")
             return
@@ -189,8 +194,11 @@ class Rewriting:
             (first, last, instead), later = edits
             self.made += [self.text[self.done:self.tokens[first].start], instead]
             self.done = self.tokens[last].end
-            if later:
-                self.behind.setdefault(later[0], []).insert(0, later[1])
+            for edit in later:
+                if len(edit) == 3:
+                    self.planned[edit[0]] = edit, []
+                else:
+                    self.behind.setdefault(edit[0], []).insert(0, edit[1])
 
     def rewritten(self):
         for at, token in enumerate(self.tokens):

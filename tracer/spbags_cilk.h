@@ -95,6 +95,8 @@ static inline typename __spbags_held<T, __spbags_bare<T>::IS_SCALAR>::type __spb
     return static_cast<T &&>(value);
 }
 #endif
+
+#include "include/spbags/spawn.h"
 #endif
 
 #endif

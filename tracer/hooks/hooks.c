@@ -3,12 +3,12 @@
    file instead of the sanitizer's own runtime. This file is compiled without that flag. The program runs on one thread,
    in the serial order: a spawned child runs at once, as an ordinary call.
 
-   Each part stands on those before it: what goes out; the detector and its heap, where SPBAGS_INSIDE is defined; what is
-   held; places; what a strand has done; records; locations, and bytes; procedures; a look at the races' places;
-   reducers; scopes and loops of Cilk; the hooks of accesses, of library functions and of jumps; a watch for waits
-   without end; the hooks of locks; the heap; those of C++, of its parallel libraries and, where SPBAGS_OPENMP is
-   defined, of OpenMP; functions that nothing is known of, and what of the code has no hook of the compiler's; the ends
-   of the run, and its beginning. */
+   Each part stands on those before it: what goes out; the detector and its heap, where SPBAGS_INSIDE is defined; what
+   is held; places; what a strand has done; records; locations, and bytes; procedures; a look at the races' places;
+   reducers; scopes and loops of Cilk; the hooks of accesses, of C++'s spawns, of library functions and of jumps; a
+   watch for waits without end; the hooks of locks; the heap; those of C++, of its parallel libraries and, where
+   SPBAGS_OPENMP is defined, of OpenMP; functions that nothing is known of, and what of the code has no hook of the
+   compiler's; the ends of the run, and its beginning. */
 #define _GNU_SOURCE
 #include <ctype.h>
 #include <dlfcn.h>
@@ -94,6 +94,7 @@ static bool looking;
 #include "reducers.h"
 #include "cilk.h"
 #include "accesses.h"
+#include "spawns_cplusplus.h"
 #include "library.h"
 #include "jumps.h"
 #include "watch.h"

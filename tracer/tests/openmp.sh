@@ -200,14 +200,16 @@ check_openmp_refused() {
     fi
     ends_with 1 'fib.c:8: error: Cilk can.t be traced together with OpenMP' "$here/spbags-cc" -fopenmp -c fib.c
     count $? "Cilk beside OpenMP"
-    cp fib.c fib_too.cpp
-    ends_with 1 'fib_too.cpp:8: error: spawns can.t be traced in C++' "$here/spbags-c++" -c fib_too.cpp
-    count $? "a spawn in C++"
+    source=tracer/tests/refused.cpp
+    same "$(line_of "$source" '// [refused]')" \
+        "$("$here/spbags-c++" -c -o refused.o "$source" 2>&1 |
+            sed -n 's/.*refused\.cpp:\([0-9]*\): error: .*/\1/p' | uniq)"
+    count $? "spawns of C++ that can't be rewritten"
 }
 
-# The bytes that race by the tags of tests/cplusplus.cpp, and their two lines, the lesser first.
+# The bytes that race by the tags of such a source, and their two lines, the lesser first.
 tagged_races() {
-    awk '{ while (match($0, /\[[0-9]+ [a-z]+ (first|second)\]/)) {
+    awk '{ while (match($0, /\[[0-9]+ [a-z_]+ (first|second)\]/)) {
             split(substr($0, RSTART + 1, RLENGTH - 2), word, " ")
             line[word[2] word[3]] = NR
             many[word[2]] = word[1]
@@ -251,6 +253,32 @@ check_cilk_cplusplus() {
     "$here/spbags-run" -- ./loops thrown >output 2>&1
     [ $? = 3 ] && grep -q "$source:$(line_of "$source" 'i < 4'): an exception leaves a child here" output
     count $? "$source, an exception"
+    check_spawns_cplusplus
+}
+
+# Spawns in C++: they do what the serial program does, and race where the tags say.
+check_spawns_cplusplus() {
+    local source=tracer/tests/spawns.cpp version
+    "$here/spbags-c++" "$level" -Wall -Wextra -Werror -o spawns "$source" &&
+        g++ -w -D_Cilk_spawn= -D_Cilk_sync= -I"$here/include" -o plain "$source"
+    count $? "$source, $level: compile without a warning"
+    for version in 1 2; do
+        SPBAGS_VERSION=$version SPBAGS_UNIT=1 SPBAGS_TRACE=run.trace ./spawns clean >output 2>/dev/null &&
+            same "$(./plain clean)" "$(cat output)" && "$spbags" check run.trace >report
+        count $? "$source, $level, version $version: clean"
+        SPBAGS_VERSION=$version SPBAGS_UNIT=1 found_by_run ./spawns racy | sed "s,$source:,,g" | sort >found
+        same "$(tagged_races "$source")" "$(cat found)"
+        count $? "$source, $level, version $version: racy"
+    done
+    SPBAGS_REPEATS=0 SPBAGS_UNIT=1 check_repeats cat setarch -R ./spawns racy
+    count $? "$source, $level: the same without repeats"
+    ends_with 3 "" "$here/spbags-run" -- ./spawns thrown &&
+        grep -q "$source:$(line_of "$source" '[thrown]'): an exception leaves a child here" output
+    count $? "$source, $level: an exception"
+    if [ "$has_inside" ]; then
+        "$here/spbags-c++" "$level" --inside -o inside "$source" && SPBAGS_UNIT=1 has_same_report ./inside racy
+        count $? "$source, $level: the report of the detector inside"
+    fi
 }
 
 # A task waits for what comes later in the serial order.

@@ -1,0 +1,252 @@
+"""The spawns of C++ in a preprocessed source, and what stands for them.
+
+A spawn's statement becomes a lambda: a function that first evaluates the target, what is called and the arguments, as
+a part of the parent. include/spbags/spawn.h then makes a child of it, which calls, stores and destroys. So the text of
+the program stays where it is, in one full expression, and the compiler chooses the function."""
+import re
+
+from loops import entered, is_in_inner
+from tokens import CONTROLS, Refused, arguments_of, is_in_block, statement_start
+
+SHAPES = ("write `cilk_spawn f(..);', `x = cilk_spawn f(..);', `x += cilk_spawn f(..);' or "
+          "`T x = cilk_spawn f(..);' as a statement of its own")
+ASSIGNMENTS = {"=", "+=", "-=", "*=", "/=", "%=", "&=", "|=", "^=", "<<=", ">>="}
+# What looks like a call and is none, or like a type.
+NO_NAMES = CONTROLS | set("sizeof alignof typeid decltype noexcept new delete throw return static_cast dynamic_cast "
+                          "const_cast reinterpret_cast co_await co_yield co_return operator requires catch auto "
+                          "__attribute__ asm __asm__ __typeof__ typeof".split())
+NO_LOCALS = {"static", "extern", "typedef", "using", "thread_local", "_Thread_local", "__thread", "constexpr",
+             "constinit"}
+STATEMENT = "[&](__spbags_spawned) __attribute__((noipa))"
+OUTSIDE = "__attribute__((no_sanitize_thread))"
+FORWARDED = "static_cast<decltype(__spbags_p) &&>(__spbags_p)..."
+
+
+def after_angles(tokens, at):
+    """The token behind the template's arguments that begin here, or None where none do."""
+    deep = 0
+    while at < len(tokens) and tokens[at].text not in (";", "{", "}", ")", "]"):
+        text = tokens[at].text
+        deep += {"<": 1, ">": -1, ">>": -2}.get(text, 0)
+        if deep <= 0:
+            return at + 1 if deep == 0 else None
+        at = tokens[at].partner + 1 if text in ("(", "[") and tokens[at].partner else at + 1
+    return None
+
+
+def after_name(tokens, at):
+    """The token behind a name that begins here, perhaps qualified or of a template; or None."""
+    at += tokens[at].text == "::"
+    while True:
+        at += tokens[at].text == "template"
+        if tokens[at].kind != "word" or tokens[at].text in NO_NAMES:
+            return None
+        at += 1
+        if tokens[at].text == "<":
+            at = after_angles(tokens, at) or at
+        if tokens[at].text != "::":
+            return at
+        at += 1
+
+
+def after_lambda(tokens, at):
+    """The token behind a lambda that begins here, or None."""
+    at = tokens[at].partner + 1
+    while tokens[at].text not in ("{", ";", "}", ")"):
+        at = tokens[at].partner + 1 if tokens[at].text in ("(", "[") else at + 1
+    return tokens[at].partner + 1 if tokens[at].text == "{" else None
+
+
+def is_statement(tokens, at):
+    """Whether this stands in a block of a function, and not in one of a class or a namespace."""
+    if not is_in_block(tokens, at):
+        return False
+    opening = tokens[at].around
+    words = {token.text for token in tokens[statement_start(tokens, opening):opening]}
+    return "(" in words or ")" in words or not {"struct", "class", "union", "namespace", "extern"} & words
+
+
+def after_primary(tokens, at):
+    text = tokens[at].text
+    if text == "[":
+        return after_lambda(tokens, at)
+    if text == "(":
+        return tokens[at].partner + 1
+    end = after_name(tokens, at)
+    return tokens[end].partner + 1 if end and tokens[end].text == "{" and tokens[end].partner else end
+
+
+class Postfix:
+    """An expression from a token on: its end, where its last call begins, and where the member that this calls does."""
+
+    def __init__(self, tokens, first):
+        self.first, self.call, self.member = first, None, None
+        self.end = after_primary(tokens, first)
+        while self.end is not None and tokens[self.end].text in ("(", "[", ".", "->"):
+            at, text = self.end, tokens[self.end].text
+            if text in ("(", "["):
+                self.call = at if text == "(" else None
+                self.end = tokens[at].partner + 1
+            else:
+                self.call, self.member = None, at
+                self.end = after_name(tokens, at + 1)
+        if self.call is not None and self.member is not None and after_name(tokens, self.member + 1) != self.call:
+            self.member = None
+
+
+class Spawn:
+    """One spawn, and the pieces of what stands for its statement."""
+
+    def __init__(self, text, tokens, spawn):
+        self.text, self.tokens, self.spawn = text, tokens, spawn
+        self.here = tokens[spawn].marker(" 3")
+        self.callee = Postfix(tokens, spawn + 1)
+        self.opening = self.callee.call
+        if self.opening is None or not is_statement(tokens, spawn):
+            self.refuse(f"a spawn inside a larger expression can't be traced: {SHAPES}")
+        self.closing = tokens[self.opening].partner
+        self.is_braced = tokens[spawn - 1].text == "{" and tokens[spawn - 1].partner == self.closing + 1
+        self.last = self.closing + 1 + self.is_braced
+        if tokens[self.last].text != ";":
+            self.refuse(f"a spawn inside a larger expression can't be traced: {SHAPES}")
+        if self.is_braced and not is_in_block(tokens, spawn - 1):
+            self.refuse("a spawn can't be traced in this declaration: declare the variable before it")
+        self.first = statement_start(tokens, spawn - self.is_braced)
+
+    def refuse(self, why):
+        raise Refused(self.tokens[self.spawn], why)
+
+    def piece(self, first, last, without=()):
+        """A piece of the program, on its own lines; what follows is on the spawn's."""
+        start, user = self.tokens[first].start, self.text[self.tokens[first].start:self.tokens[last].end]
+        for token in without:
+            user = user[:token.start - start] + " " * len(token.text) + user[token.end - start:]
+        return self.tokens[first].marker() + user + self.here
+
+    def count(self):
+        """How many arguments there are, where the text says it."""
+        arguments = arguments_of(self.tokens, self.opening)
+        if any(self.tokens[last].text == "..." for _, last in arguments):
+            return "__spbags_all"
+        return str(len(arguments))
+
+    def called(self):
+        """What goes before the callee in the text, and the edits of the callee itself."""
+        callee, tokens = self.callee, self.tokens
+        if callee.member is not None:
+            pointed = "*__spbags_pointed(" if tokens[callee.member].text == "->" else ""
+            calls = self.here + (")" if pointed else "") + self.member_calls() + tokens[self.opening].marker()
+            edit = (callee.member, self.opening - 1, calls)
+            return f"__spbags_member<{self.count()}>({pointed}", [edit]
+        if self.is_name(self.spawn + 1, self.opening):
+            calls = self.here + self.name_calls() + tokens[self.opening].marker()
+            edit = (self.spawn + 1, self.opening - 1, calls)
+            return f"__spbags_name<{self.count()}>(", [edit]
+        return f"__spbags_expression<{self.count()}>(", [(self.opening - 1, ")")]
+
+    def is_name(self, first, end):
+        """Whether these tokens are a name, perhaps in brackets."""
+        if self.tokens[first].text == "(" and self.tokens[first].partner == end - 1:
+            return self.is_name(first + 1, end - 1)
+        return self.tokens[first].text != "this" and after_name(self.tokens, first) == end
+
+    def words(self, first):
+        """The name that is called, and whether it is that of a template with its arguments. Such a name may stand for
+        several functions, also where its address has one type."""
+        last = self.opening - 1
+        has_arguments = any(token.text in (">", ">>") for token in self.tokens[last - 1:last + 1])
+        name = re.sub(r"\s*\n(?:#[^\n]*\n)?\s*", " ", self.text[self.tokens[first].start:self.tokens[last].end])
+        return name, has_arguments
+
+    def name_calls(self):
+        name, has_arguments = self.words(self.spawn + 1)
+        one = f"__spbags_one({'__spbags_spawned()' if has_arguments else name}, __spbags_any)"
+        call = f"{name}({FORWARDED})"
+        calls = [f"[&](__spbags_spawned, auto &&...__spbags_p) {how} -> decltype(auto) {{ return {call}; }}"
+                 for how in ("", OUTSIDE)]
+        return (f"[&](__spbags_spawned, auto __spbags_any) -> decltype({one}) {{ return {one}; }}, "
+                f"{', '.join(calls)}, 0)")
+
+    def member_calls(self):
+        first = self.callee.member + 1
+        name, has_arguments = self.words(first)
+        if has_arguments and self.tokens[first].text != "template" and \
+                "::" not in [token.text for token in self.tokens[first:self.opening]]:
+            name = "template " + name
+        call = f"static_cast<decltype(__spbags_o) &&>(__spbags_o).{name}({FORWARDED})"
+        calls = [f"[&](__spbags_spawned, auto &&__spbags_o, auto &&...__spbags_p) {how} -> decltype(auto) "
+                 f"{{ return {call}; }}" for how in ("", OUTSIDE)]
+        taken = f"&__spbags_referent<decltype(*__spbags_o)>::type::{name}"
+        taken = "__spbags_no_signature()" if has_arguments else f"__spbags_signature_of({taken})"
+        return (f", {', '.join(calls)}, [&](__spbags_spawned, auto *__spbags_o) -> decltype({taken}) "
+                "{ return {}; }, 0)")
+
+    def target(self):
+        """What the statement's function begins with, its type, and the declaration of what gets the result."""
+        before = [token.text for token in self.tokens[self.first:self.spawn]]
+        if before in ([], ["(", "void", ")"]):
+            return "(void)", "", None
+        sign = self.spawn - 1
+        direct = {token.text for token in self.tokens[self.first:sign] if token.around == self.tokens[sign].around}
+        if not self.is_braced and (before[-1] not in ASSIGNMENTS or sign == self.first or
+                                   (ASSIGNMENTS | {",", "?", "return", "throw", "<<", ">>"}) & direct):
+            self.refuse(f"a spawn inside a larger expression can't be traced: {SHAPES}")
+        if not self.is_braced and self.is_lvalue(sign):
+            at = self.piece(self.first, sign - 1)
+            return f"auto &&__spbags_at = ({at}); __spbags_at {before[-1]} ", "", None
+        return self.declaration(sign)
+
+    def is_lvalue(self, sign):
+        return self.tokens[self.first].text in ("*", "(") or Postfix(self.tokens, self.first).end == sign
+
+    def declaration(self, sign):
+        """Of a variable, which the statement's function returns."""
+        words = self.tokens[self.first:sign - 1]
+        texts = [token.text for token in words if token.around == self.tokens[self.first].around]
+        if not words or self.tokens[sign - 1].kind != "word" or self.tokens[sign].text not in ("=", "{") or \
+                NO_LOCALS & set(texts) or texts[-1] in ("&", "&&", ".", "->", "::") or "(" in texts:
+            self.refuse("a spawn can't be traced in this declaration: declare the variable before it")
+        # No hook sees the read of what is declared to be constant.
+        behind = max((at for at in range(self.first, sign) if self.tokens[at].text == "*"), default=self.first)
+        declared = self.piece(self.first, sign - 1, [token for token in words if token.text == "const" and
+                                                     token.start >= self.tokens[behind].start and
+                                                     token.around == self.tokens[self.first].around])
+        if "auto" in texts:
+            return "return ", "", declared
+        plain = f"typename __spbags_plain<{self.piece(self.first, sign - 2)}>::type"
+        return f"return {plain + '{' if self.is_braced else ''}", f" -> {plain}", declared
+
+    def edits(self):
+        """What is put in place of tokens, and later edits: in place of others, or behind one."""
+        begins, kind, declared = self.target()
+        opens, later = self.called()
+        number = f"_{self.spawn}" if declared else ""
+        made = f"__spbags_statement{number}"
+        made_by = f"{'' if declared else '{ '}auto {made} = {STATEMENT}{kind} {{ {begins}{opens}"
+        place = f"{self.tokens[self.spawn].file[:-1]}:{self.tokens[self.spawn].line}\""
+        ends = f" }}; __spbags_ending __spbags_ended{number}{{{place}, &{made}, sizeof {made}}}; "
+        if declared:
+            name = self.tokens[self.spawn - 2].text
+            ends += (f"{declared} = {made}({{}}); __spbags_check_local<decltype({name})>(); "
+                     f"__spbags_ended{number}.end(__builtin_addressof({name}), sizeof {name});")
+        else:
+            ends += f"{made}({{}}); __spbags_ended.end(0, 0); }}"
+        if self.is_braced and not kind:
+            later.append((self.closing + 1, self.closing + 1, ""))
+        later.append((self.last, self.here + ends + self.tokens[self.last].marker()))
+        return (self.first, self.spawn, self.here + made_by + self.tokens[self.spawn].marker()), later
+
+
+def try_edits(tokens, at):
+    """A block whose exceptions are handled waits at its end for its own children; None where it spawns none."""
+    first = at + 1
+    while tokens[first].text not in ("{", ";", "}"):
+        first = tokens[first].partner + 1 if tokens[first].text == "(" and tokens[first].partner else first + 1
+    last = tokens[first].partner if tokens[first].text == "{" else None
+    if last is None or not any(tokens[inner].text == "_Cilk_spawn" and not is_in_inner(tokens, inner, first, ())
+                               for inner in range(first, last)):
+        return None
+    if first != at + 1:
+        raise Refused(tokens[at], "a spawn can't be traced in a constructor's function try block")
+    here = tokens[first].marker(" 3")
+    return (first, first, f"{{{here}{entered(tokens[at])}{tokens[first].marker()}"), []

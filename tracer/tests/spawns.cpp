@@ -1,0 +1,314 @@
+// Spawns of C++. With the word clean there is no race; with racy those of the tags, which say how many bytes race and
+// on which lines. With thrown an exception leaves a child.
+#include <cilk/cilk.h>
+#include <cstdio>
+#include <cstring>
+#include <functional>
+#include <memory>
+#include <string>
+#include <utility>
+#include <vector>
+
+static bool racy;
+static void keep(long value) {
+    volatile long kept = value;
+    (void)kept;
+}
+#define WAIT \
+    if (!racy) \
+        cilk_sync
+
+static int one(int number) { return number; }
+static void add(int &to, int number) { to += number; } // [4 ref first] [4 nested first] [4 own first]
+static void look(const int &at) { keep(at); }         // [4 look first]
+static void use(int number) { keep(number); }
+
+// ---- Results ----
+struct Pair {
+    int a, b;
+};
+static Pair pair(int number) { return {number, number}; }
+
+static void results() {
+    int declared = cilk_spawn one(1); // [4 declared first]
+    auto deduced = cilk_spawn one(2); // [4 deduced first]
+    long braced{cilk_spawn one(3)};   // [8 braced first]
+    Pair made = cilk_spawn pair(1);   // [4 made first]
+    const Pair fixed = cilk_spawn pair(1); // [4 fixed first]
+    WAIT;
+    keep(declared); // [4 declared second]
+    keep(deduced);  // [4 deduced second]
+    keep(braced);   // [8 braced second]
+    keep(made.b);   // [4 made second]
+    keep(fixed.a);  // [4 fixed second]
+    cilk_sync;
+    int numbers[2] = {0, 5}, at = 0;
+    Pair set = {1, 2};
+    numbers[at++] = cilk_spawn one(4); // [4 set first]
+    numbers[at++] += cilk_spawn one(5); // [4 sum first]
+    set = cilk_spawn pair(2);           // [4 struct first]
+    WAIT;
+    keep(numbers[0]); // [4 set second]
+    keep(numbers[1]); // [4 sum second]
+    keep(set.a);      // [4 struct second]
+    cilk_sync;
+    std::printf("%d %d %ld %d %d ", declared, deduced, braced, made.a, fixed.b);
+    std::printf("%d %d %d\n", numbers[0], numbers[1], set.b);
+}
+
+// ---- Classes: what is constructed, moved and destroyed ----
+struct Owner {
+    int *at;
+    explicit Owner(int number) : at(new int(number)) {} // [8 result first]
+    Owner(const Owner &other) : at(new int(*other.at)) {}
+    Owner(Owner &&other) noexcept : at(other.at) { other.at = nullptr; } // [8 moved first]
+    Owner &operator=(Owner &&other) noexcept {
+        delete at; // [8 moved second]
+        at = other.at;
+        other.at = nullptr;
+        return *this;
+    }
+    ~Owner() { delete at; }
+};
+static Owner own(int number) { return Owner(number); }
+static void take(Owner owner) { keep(*owner.at); }
+static void taken_there(Owner &&owner) {
+    Owner mine(std::move(owner));
+    keep(*mine.at);
+}
+struct Marks {
+    int *at;
+    ~Marks() { *at = 1; } // [4 temporary first]
+};
+static void watch(const Marks &marks) { keep(*marks.at); }
+
+static void classes() {
+    Owner result = cilk_spawn own(1);
+    WAIT;
+    keep(result.at != nullptr); // [8 result second]
+    cilk_sync;
+    Owner given(1), moved(2);
+    cilk_spawn take(given);
+    cilk_spawn take(std::move(given)); // the parent moves it
+    given = Owner(3);
+    cilk_spawn take(given);
+    cilk_sync;
+    cilk_spawn taken_there(std::move(moved));
+    WAIT;
+    moved = Owner(4);
+    cilk_sync;
+    int mark = 0;
+    cilk_spawn watch(Marks{&mark});
+    WAIT;
+    keep(mark); // [4 temporary second]
+    cilk_sync;
+    std::string words[3];
+    for (int i = 0; i < 3; i++)
+        words[i] = cilk_spawn std::string(std::string(20, 'a') + std::to_string(i)).substr(i);
+    cilk_sync;
+    std::printf("%d %d %s\n", *result.at, *moved.at, words[2].c_str());
+}
+
+// ---- Arguments: the parent reads what is handed over by value ----
+template <class T> static T twice(T value) { return value + value; }
+static void use_pair(Pair by) { keep(by.a); }
+static void over(Pair by) { keep(by.b); }
+static void over(int by) { keep(by); }
+
+static void arguments() {
+    int ref = 0, looked = 0, own_place = 0;
+    cilk_spawn add(ref, 1);
+    cilk_spawn look(looked);
+    WAIT;
+    keep(ref); // [4 ref second]
+    looked = 1; // [4 look second]
+    cilk_sync;
+    Pair shared = {1, 2};
+    cilk_spawn [&] { shared.a = 3; }(); // [4 read first]
+    WAIT;
+    cilk_spawn use_pair(shared); // [4 read second]
+    shared.b = 4;
+    cilk_sync;
+    long sums[3];
+    for (int i = 0; i < 3; i++) {
+        cilk_spawn use(i);
+        cilk_spawn over(i);
+        cilk_spawn over(shared);
+        sums[i] = cilk_spawn twice<long>(i);
+        cilk_spawn look(i + 1);
+        shared.b = i;
+    }
+    cilk_sync;
+    int each[4] = {0};
+    std::string text = "text";
+    for (int i = 0; i < 4; i++) {
+        cilk_spawn add(each[i], i);
+        cilk_spawn take(Owner(i));
+        cilk_spawn [i, text](const std::string &, int) { keep(i); }(text + "s", each[0] * 0);
+    }
+    cilk_sync;
+    cilk_spawn add(own_place, own_place);
+    WAIT;
+    cilk_spawn use(own_place); // [4 own second]
+    cilk_sync;
+    std::printf("%d %d %ld\n", ref, each[3], sums[2]);
+}
+
+// ---- What is called ----
+struct Counter {
+    int n = 0, more = 0, last = 0;
+    virtual ~Counter() {}
+    virtual void count(int by) { more += by; }
+    void raise(int by) { n += by; }     // [4 object first] [4 pointer first]
+    void lower(int by) { more -= by; }  // [4 this first]
+    void reset(int to) { last = to; }   // [4 implied first]
+    void both() {
+        cilk_spawn this->lower(1);
+        cilk_spawn reset(1);
+        WAIT;
+        keep(more); // [4 this second]
+        keep(last); // [4 implied second]
+    }
+    template <class T> T plus(T by) { return n + by; }
+
+  private:
+    friend void members();
+    void hidden(int by) { last = by; } // [4 private first]
+};
+struct Special : Counter {
+    void count(int by) override { n += by; } // [4 virtual first]
+};
+template <class T> struct Sums {
+    T sum{};
+    void add(T by) { sum += by; } // [8 template first] [8 template second]
+    void all(const std::vector<T> &many) {
+        for (const T &each : many) {
+            cilk_spawn add(each);
+            WAIT;
+        }
+    }
+};
+
+void members() {
+    Counter object;
+    Special special;
+    auto shared = std::make_shared<Counter>();
+    Counter &base = special;
+    cilk_spawn object.raise(1);
+    cilk_spawn shared->raise(1);
+    cilk_spawn base.count(1);
+    cilk_spawn base.Counter::count(2);
+    cilk_spawn (&special)->hidden(3);
+    WAIT;
+    keep(object.n);     // [4 object second]
+    keep(shared->n);    // [4 pointer second]
+    keep(special.n);    // [4 virtual second]
+    keep(special.last); // [4 private second]
+    cilk_sync;
+    object.both();
+    long sum = cilk_spawn object.plus<long>(1);
+    cilk_sync;
+    Sums<long> sums;
+    sums.all({1, 2, 3});
+    std::printf("%d %d %ld %ld\n", special.n, object.n, sum, 0 * sums.sum);
+}
+
+static int with_default(int one, int other = 2) { return one + other; }
+static void other(int &to, int number) { to -= number; } // [4 address first]
+
+static void callees() {
+    int a = 0, b = 0, c = 0, d = 0, e = 0;
+    auto counts = [&](int by) { a += by; }; // [4 object_a first]
+    auto any = [&](auto by) { b += by; };   // [4 generic first]
+    std::function<void(int)> function = [&](int by) { c += by; }; // [4 function first]
+    void (*address)(int &, int) = other;
+    cilk_spawn counts(1);
+    cilk_spawn any(1);
+    cilk_spawn function(1);
+    cilk_spawn address(d, 1);
+    address = add; // the parent has read it
+    cilk_spawn (*address)(e, 1);
+    WAIT;
+    keep(a); // [4 object_a second]
+    keep(b); // [4 generic second]
+    keep(c); // [4 function second]
+    keep(d); // [4 address second]
+    cilk_sync;
+    int nested = 0, inner = 0;
+    cilk_spawn [&] {
+        cilk_spawn add(nested, 1);
+        cilk_spawn [&] { inner = 1; }(); // [4 inner first]
+        WAIT;
+        keep(inner); // [4 inner second]
+    }();
+    WAIT;
+    keep(nested); // [4 nested second]
+    char bytes[4] = {1, 1, 1, 1};
+    cilk_spawn std::memset(bytes, 0, sizeof bytes); // [1 library first]
+    WAIT;
+    keep(bytes[1]); // [1 library second]
+    int sum = cilk_spawn with_default(1);
+    cilk_sync;
+    std::printf("%d %d %d\n", sum, d, e);
+}
+
+// ---- Blocks and exceptions ----
+static void blocks() {
+    int outer = 0, tried = 0;
+    cilk_spawn [&] { outer = 1; }(); // [4 outer first]
+    WAIT;
+    try {
+        cilk_spawn [&] { tried = 1; }(); // the block's end waits
+        cilk_sync;                       // for the block's own child alone
+        keep(outer);                    // [4 outer second]
+        cilk_spawn [&] { tried = 2; }();
+    } catch (int) {
+    }
+    keep(tried);
+}
+
+static int thrower(int number) {
+    if (number > 1)
+        throw number; // [throws]
+    return number;
+}
+
+// In the end the handler has waited for the other child.
+static int caught() {
+    int at = 0, result = 0;
+    std::string kept(30, 'k');
+    try {
+        cilk_spawn [&] { at = 1; }();
+        result = cilk_spawn thrower(2); // [thrown]
+        result = 3;
+    } catch (int number) {
+        result += number + at;
+    }
+    at = 2;
+    return result;
+}
+
+// Arguments that throw are the parent's.
+static int before_the_child() {
+    try {
+        cilk_spawn use(thrower(2));
+    } catch (int number) {
+        return number;
+    }
+    return 0;
+}
+
+int main(int, char **words) {
+    racy = std::strcmp(words[1], "racy") == 0;
+    if (std::strcmp(words[1], "thrown") == 0) {
+        std::printf("%d\n", caught());
+        return 0;
+    }
+    results();
+    classes();
+    arguments();
+    members();
+    callees();
+    blocks();
+    std::printf("%d\n", before_the_child());
+}
