@@ -13,8 +13,9 @@ STRING = re.compile(r'"(?:\\.|[^"\\])*"')
 VALUE = re.compile(r"[\w.$]*_\d+(?:\(D\))?|&.*|[-+\d].*|[\"{].*|_Literal.*|__complex__.*")
 DECLARED = re.compile(r"[\w.$]*D\.\d+")
 # No functions: constants, what gcc has for itself, and its builtins, which no struct is passed to.
-NO_CALLEE = ("__complex__", ".", "__builtin_", "__asm__", "if", "switch", "goto", "#", "return")
-RESULT = re.compile(r"^  <retval>(?:[.\[].*)? = ", re.MULTILINE)
+NO_CALLEE = ("__complex__", ".", "__builtin_", "__asm__ ", "#")
+# The result's own memory; where it is known by a pointer, which has a number, the hooks see all.
+RESULT = re.compile(r"^  [^=\n]*<retval>(?!(?:D\.\d+)?_\d)[^=\n]* = ", re.MULTILINE)
 
 LABEL = re.compile(r"(?!\.L|\d)([\w.$]+):")
 TARGET = re.compile(r"\.L\d+:")
@@ -31,10 +32,12 @@ LETTERS = {"b": 1, "w": 2, "l": 4, "q": 8}
 WIDTHS = {"%x": 16, "%y": 32, "%z": 64}
 VECTOR = re.compile(r"v?(?:mov(?:[au]p[sd]|dq[au]\d*|ntdq|ntp[sd])|lddqu|punpck\w+|unpck\w+)")
 SCALAR = re.compile(r"v?(?:mov(?P<half>ss|d)|mov(?:sd|q|[lh]p[sd]|ddup)|p(?:ins|ext)r(?P<part>[bwdq]))")
+HALVES = {"128": 16, "32x4": 16, "64x2": 16, "32x8": 32, "64x4": 32}
+HALF = re.compile("v(?:insert|extract)[fi](128|32x4|64x2|32x8|64x4)")
 EXTENDING = re.compile(r"mov[sz]([bwl])[wlq]")
 COPROCESSOR = {"fldt": 10, "fstpt": 10, "fldl": 8, "fstpl": 8, "fstl": 8, "flds": 4, "fstps": 4, "fsts": 4}
 PLAIN = re.compile(r"(?:mov|add|sub|and|or|xor|cmp|test|push|pop|inc|dec|neg|not|adc|sbb|imul|mul|div|idiv|sal|sar|shl|shr|"
-                   r"movabs|cmov[a-z]+?|xchg)([bwlq])")
+                   r"movabs|cmov[a-z]+?|xchg|xadd|cmpxchg|bt[src]?)([bwlq])")
 ONLY_READS = re.compile("cmp|test|push|mul|div|idiv|fld")
 NO_ACCESS = re.compile("lea|nop|prefetch|call|j[a-z]|ret|ud2|endbr|leave")
 
@@ -138,6 +141,9 @@ class Instruction:
         register = next((operand for operand in self.operands if operand[:2] in WIDTHS and operand[2:4] == "mm"), None)
         if VECTOR.fullmatch(self.name) and register:
             return WIDTHS[register[:2]]
+        half = HALF.fullmatch(self.name)
+        if half:
+            return HALVES[half[1]]
         scalar = SCALAR.fullmatch(self.name) if register else None
         if scalar:
             return {"b": 1, "w": 2, "d": 4, "q": 8}[scalar["part"]] if scalar["part"] else 4 if scalar["half"] else 8
@@ -179,8 +185,16 @@ class Function:
             if self.dump.given and self.is_wanted(self.dump.given, callees, name):
                 self.mark_behind(call)
         if self.dump.stores_result:
-            self.stores.update(at for at in range(self.first, self.last) if self.at(at).accesses()
-                               and self.at(at).writes() and not self.at(at).is_of_frame())
+            self.mark_all()
+
+    def mark_all(self):
+        """All stores but those of the program's own assembly and of this function's own memory."""
+        is_own = False
+        for at in range(self.first, self.last):
+            if self.lines[at].startswith(("#APP", "#NO_APP")):
+                is_own = self.lines[at].startswith("#APP")
+            elif not is_own and self.at(at).accesses() and self.at(at).writes() and not self.at(at).is_of_frame():
+                self.stores.add(at)
 
     def ends_stretch(self, at):
         """Whether what runs before this line may not run behind it, or has had its hooks."""
@@ -254,25 +268,26 @@ class Assembly:
                 return f"{self.files.get(found[1], '?')}:{found[2]}"
         return "?"
 
-    def functions(self):
-        """The name, the first and the last line of each; some have a part of their own for what is run rarely."""
+    def functions(self, names):
+        """The first and the last line of each of these; some have a part of their own for what is run rarely."""
         name, first = None, 0
         for at, line in enumerate(self.lines):
             found = LABEL.match(line)
-            if found:
-                name, first = found[1], at
-            elif line.startswith("\t.cfi_endproc") and name:
+            if found and not name and found[1].removesuffix(".cold") in names:
+                name, first = found[1].removesuffix(".cold"), at
+            elif line.startswith(("\t.cfi_endproc", "\t.size\t")) and name:
                 yield name, first, at
                 name = None
 
     def rewritten(self, dumps):
-        found = {}
-        for name, first, last in self.functions():
-            dump = dumps.get(name) or dumps.get(name.removesuffix(".cold"))
-            if dump:
-                function = Function(self, dump, first, last)
-                function.mark()
-                found.update(function.hooks())
+        found, left = {}, set(dumps)
+        for name, first, last in self.functions(dumps.keys()):
+            function = Function(self, dumps[name], first, last)
+            function.mark()
+            found.update(function.hooks())
+            left.discard(name)
+        if left:
+            raise Unreadable(f"the assembly lacks {min(left)}, in which a call takes or gives a struct")
         return "".join(found.get(at, "") + line + "\n" for at, line in enumerate(self.lines))
 
 
