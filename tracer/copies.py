@@ -36,8 +36,8 @@ HALVES = {"128": 16, "32x4": 16, "64x2": 16, "32x8": 32, "64x4": 32}
 HALF = re.compile("v(?:insert|extract)[fi](128|32x4|64x2|32x8|64x4)")
 EXTENDING = re.compile(r"mov[sz]([bwl])[wlq]")
 COPROCESSOR = {"fldt": 10, "fstpt": 10, "fldl": 8, "fstpl": 8, "fstl": 8, "flds": 4, "fstps": 4, "fsts": 4}
-PLAIN = re.compile(r"(?:mov|add|sub|and|or|xor|cmp|test|push|pop|inc|dec|neg|not|adc|sbb|imul|mul|div|idiv|sal|sar|shl|shr|"
-                   r"movabs|cmov[a-z]+?|xchg|xadd|cmpxchg|bt[src]?)([bwlq])")
+PLAIN = re.compile(r"(?:mov|add|sub|and|or|xor|cmp|test|push|pop|inc|dec|neg|not|adc|sbb|imul|mul|div|idiv|sal|sar|"
+                   r"shl|shr|movabs|cmov[a-z]+?|xchg|xadd|cmpxchg|bt[src]?)([bwlq])")
 ONLY_READS = re.compile("cmp|test|push|mul|div|idiv|fld")
 NO_ACCESS = re.compile("lea|nop|prefetch|call|j[a-z]|ret|ud2|endbr|leave")
 
@@ -77,7 +77,9 @@ class Dump:
         if any(self.is_shared(argument) for argument in parts_of(call["arguments"])):
             self.passed.add(name)
         result = call["result"]
-        if result and "[return slot optimization]" not in line and not result.startswith("<retval>") and self.is_shared(result):
+        # What is given where it is wanted, or becomes this function's result, is stored in the one that is called.
+        is_elsewhere = "[return slot optimization]" in line or not result or result.startswith("<retval>")
+        if not is_elsewhere and self.is_shared(result):
             self.given.add(name)
 
     def is_shared(self, part):

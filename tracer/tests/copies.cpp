@@ -1,6 +1,6 @@
 // For each way to copy a struct for a call, a child copies one, and the parent touches all bytes of that. All of them
-// race: expected are the bytes of the object, since a copy is of the whole. A case stands on one line, with the functions
-// that write where their caller wants the result, and the program prints the line and how many bytes of it race.
+// race: expected are the bytes of the object, since a copy is of the whole. A case stands on one line, with the
+// functions that write where their caller wants the result, and the program prints the line and how many bytes race.
 #include <complex>
 #include <cstdarg>
 #include <cstdio>
@@ -177,7 +177,7 @@ static void give_in_ways() {
     WRITES(8, while ((shared<Small>() = MADE(Small)).a) sink = 0)
     WRITES(8, sink = 1, shared<Small>() = MADE(Small); sink = 0)
     WRITES(8, Small other{1, 2}; shared<Small>() = sink ? other : MADE(Small))
-    WRITES(104, struct Maker { Large large; Small small; Maker() : large(MADE(Large)), small(MADE(Small)) {} }; new (room) Maker)
+    WRITES(104, struct Maker { Large l; Small s; Maker() : l(MADE(Large)), s(MADE(Small)) {} }; new (room) Maker)
     WRITES(104, new (room) Whole{MADE(Large), MADE(Small)})
     WRITES(96, auto chain = [] { return MADE(Large); }; new (room) Large(chain()))
     WRITES(96, try { shared<Large>() = MADE(Large); may_throw(sink == 0); } catch (int) {})
