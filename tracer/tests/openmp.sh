@@ -305,6 +305,13 @@ END
     count $? "std::future: a wait without end"
 }
 
+check_random_cplusplus() {
+    "$here/tests/random.py" --c++ --count "$programs" --seconds 60 ${has_inside:+--inside} 2>&1 |
+        sed "s/^/tracer: C++: /" >&2
+    [ "${PIPESTATUS[0]}" = 0 ]
+    count $? "C++: random programs"
+}
+
 check_cplusplus() {
     local source=tracer/tests/cplusplus.cpp
     "$here/spbags-c++" "$level" -fopenmp -o cplusplus "$source"
@@ -374,6 +381,7 @@ start_openmp() {
     CC=gcc run_checks link check_unknown check_library_with_openmp check_known check_refused_objects check_openmp_link \
         check_options check_shared_libraries &
     CC=gcc run_checks link_built check_cmake check_meson &
+    run_checks random_cplusplus check_random_cplusplus &
     run_checks openmp check_openmp_outputs check_openmp_ways check_openmp_replicated check_openmp_guards \
         check_openmp_refused check_containers &
 }

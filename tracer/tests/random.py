@@ -2,12 +2,13 @@
 """Random Cilk programs, traced and judged. Each is written twice: as a program in C for spbags-cc, and as one that
 tells judge.h what it does, which says by definition which variables race. Their names have to be those of the locations
 that `spbags check` reports of the trace, with repeats and without, and both reports have to name the same locations.
-With --inside the programs have the detector inside, and its report of each run has to be the checker's.
+With --inside the programs have the detector inside, and its report of each run has to be the checker's. With --c++ they
+are of C++, and spawn members, lambdas, templates and what is handed over by reference.
 
-    random.py [--count 200] [--seed 1] [--seconds 60] [--inside]
+    random.py [--count 200] [--seed 1] [--seconds 60] [--inside] [--c++]
 
-CC names the compiler and SPBAGS the checker. It stops after so many seconds, and its last line says how many programs
-it tried and how many of them were wrong."""
+CC names the compiler of C and SPBAGS the checker. It stops after so many seconds, and its last line says how many
+programs it tried and how many of them were wrong."""
 import argparse
 import collections
 import os
@@ -35,13 +36,36 @@ static void zero(void *view) { *(int *)view = 0; }
 static void add(void *left, void *right) { *(int *)left += *(int *)right; }
 static void add_to(int *sum, int n) { *sum += n; }
 """
+# What a child of C++ does: it writes what it gets by reference, and by a pointer that it gets in an object.
+CPLUSPLUS_HEAD = HEAD + """\
+static void by_value(int) {}
+static void by_reference(number &to) { to = 1; }
+static int by_constant(const number &from) { return from; }
+template <class T> static void any(T) {}
+static void over(int, long) {}
+static void over(int, char *) {}
+struct Holder {
+    number *at;
+    explicit Holder(number *at) : at(at) {}
+    Holder(Holder &&from) : at(from.at) { from.at = 0; }
+    ~Holder() { if (at) (void)*at; }
+    void put(int n) { *at = n; }
+    virtual void set(int n) { *at += n; }
+};
+struct Other : Holder {
+    using Holder::Holder;
+    void set(int n) override { *at = n; }
+};
+static void take(Holder by) { *by.at = 1; }
+static Holder made(number *at) { return Holder(at); }
+"""
 
 
 class Writer:
     """One program in both forms: lines of Cilk C, and what they do, told to the judge."""
 
-    def __init__(self, number, source):
-        self.random, self.number = source, number
+    def __init__(self, number, source, function):
+        self.random, self.number, self.function = source, number, function
         self.cilk, self.judged = [], []
         self.steps = []  # by function: how many steps a call of it takes
         self.tags = {}   # by line of `cilk`: the variable whose first access it is
@@ -61,7 +85,7 @@ class Writer:
         sum = f"p{self.number}_sum"
         self.line(f"static int cilk_reducer(zero, add) {sum};", f"static int {sum};")
         for at in range(count):
-            Function(self, at, names, sum).write()
+            self.function(self, at, names, sum).write()
         self.line(f"static void p{self.number}(void) {{", f"static void p{self.number}(void) {{ begin_program();")
         for name in (*names, sum):
             self.tagged(name, f"{name} = 0;", f'{name} = variable("{name}"); touch({name}, true);')
@@ -95,7 +119,7 @@ class Function:
             name, on_heap = f"v{len(self.locals)}", self.random.random() < 0.3
             tag = f"{self.name}.{len(self.writer.cilk)}.{name}"
             if on_heap:
-                self.writer.line(f"number *{name} = malloc(sizeof *{name});", "")
+                self.writer.line(f"number *{name} = (number *)malloc(sizeof *{name});", "")
                 made = f"*{name} = 0;"
             else:
                 made = f"number {name} = 0;"
@@ -201,15 +225,99 @@ class Function:
         self.writer.steps.append(self.steps + 1)
 
 
+class CplusplusFunction(Function):
+    """A function with spawns as C++ alone has them."""
+    deep = 0
+
+    def reduce(self):
+        self.access()
+
+    def statement(self, deep):
+        self.deep = deep
+        super().statement(deep)
+
+    def call(self, spawns):
+        if spawns and self.random.random() < 0.7:
+            self.random.choice((self.spawn_lambda, self.spawn_argument, self.spawn_member, self.spawn_result))()
+        else:
+            super().call(spawns)
+
+    def spawn_lambda(self):
+        """A function of its own, which may spawn: it waits for its own children."""
+        callee = self.random.randrange(self.at)
+        (_, this, judged), (_, other, judged_other), (a, _, judged_a) = (self.variable() for _ in range(3))
+        name = f"p{self.writer.number}_f{callee}"
+        call, told = f"{name}({a}, {a})", f"{name}({judged_a}, {judged_a});"
+        wrote, wrote_other = f"touch({judged}, true);", f"touch({judged_other}, true);"
+        child = self.random.choice((
+            (f"[&] {{ {this} = {call}; {other} = 1; }}()", f"{told} {wrote} {wrote_other}"),
+            (f"[&] {{ cilk_spawn by_reference({this}); {other} = {call}; }}()",
+             f"spawn(); {wrote} spawned(); {told} {wrote_other}"),
+            (f"[&](int n) {{ {this} = n; }}({other})", None)))
+        judged_child = f"spawn(); enter(); {child[1]} leave(); spawned();" if child[1] else \
+            f"touch({judged_other}, false); spawn(); {wrote} spawned();"
+        self.writer.line(f"cilk_spawn {child[0]};", judged_child)
+        self.steps += self.writer.steps[callee]
+
+    def spawn_argument(self):
+        """The parent reads what is handed over by value, and moves what is moved."""
+        at, this, judged = self.variable()
+        read, wrote = f"touch({judged}, false);", f"touch({judged}, true);"
+        call, before, child = self.random.choice((
+            (f"by_value({this})", read, ""), (f"any({this})", read, ""), (f"over({this}, 1L)", read, ""),
+            (f"by_reference({this})", "", wrote), (f"by_constant({this})", "", read),
+            (f"take(Holder({at}))", "", wrote + read), ("take(static_cast<Holder &&>(moved))", "", wrote + read)))
+        declared = f"Holder moved({at}); " if "moved" in call else ""
+        self.writer.line(f"{{ {declared}cilk_spawn {call}; }}", f"{before} spawn(); {child} spawned();")
+
+    def spawn_member(self):
+        """Of an object that the child destroys, or of one that stays."""
+        at, this, judged = self.variable()
+        read, wrote = f"touch({judged}, false);", f"touch({judged}, true);"
+        spawn, child, behind = self.random.choice((
+            (f"cilk_spawn Holder({at}).put(1);", wrote + read, ""),
+            (f"cilk_spawn made({at}).set(1);", read + wrote + read, ""),
+            (f"Other kept({at}); Holder *some = &kept; cilk_spawn some->set(1); cilk_sync;", wrote,
+             f"sync_children(); {read}")))
+        self.writer.line(f"{{ {spawn} }}", f"spawn(); {child} spawned(); {behind}")
+
+    def spawn_result(self):
+        """The child stores into a variable that begins with that."""
+        if self.deep > 0:
+            self.spawn_argument()
+            return
+        callee, (a, _, judged_a) = self.random.randrange(self.at), self.variable()
+        name = f"v{len(self.locals)}"
+        tag = f"{self.name}.{len(self.writer.cilk)}.{name}"
+        told = f"p{self.writer.number}_f{callee}({judged_a}, {judged_a});"
+        self.writer.tagged(tag, f"number {name} = cilk_spawn p{self.writer.number}_f{callee}({a}, {a});",
+                           f'int {name} = variable("{tag}"); spawn(); {told} touch({name}, true); spawned();')
+        self.locals.append((name, False))
+        self.steps += self.writer.steps[callee]
+
+    def scope(self, deep):
+        """A block of `try` with a spawn waits before its handler."""
+        at, this, judged = self.variable()
+        throws = self.random.random() < 0.5
+        self.writer.line(f"try {{ cilk_spawn by_reference({this});",
+                         f"enter(); spawn(); touch({judged}, true); spawned(); {{")
+        self.statements(deep)
+        self.writer.line(f"{'throw 1; ' if throws else ''}}} catch (int) {{", f"}} leave(); if ({int(throws)}) {{")
+        self.access()
+        self.writer.line("}", "}")
+
+
 class Batch:
     """Some programs in one file, built both ways."""
 
-    def __init__(self, folder, first, count, seed, inside):
+    def __init__(self, folder, first, count, seed, inside, is_cplusplus):
         self.name, self.inside = os.path.join(folder, f"b{first}"), ["--inside"] if inside else []
         self.numbers, self.tags, self.differ = range(first, first + count), {}, set()
-        cilk, judged = HEAD.splitlines(), ['#include "judge.h"']
+        self.compiler, self.ending = ("spbags-c++", ".cpp") if is_cplusplus else ("spbags-cc", ".c")
+        cilk = (CPLUSPLUS_HEAD if is_cplusplus else HEAD).splitlines()
+        judged = ['#include "judge.h"']
         for number in self.numbers:
-            writer = Writer(number, random.Random(f"{seed} {number}"))
+            writer = Writer(number, random.Random(f"{seed} {number}"), CplusplusFunction if is_cplusplus else Function)
             writer.write()
             self.tags.update({len(cilk) + line + 1: tag for line, tag in writer.tags.items()})
             cilk += writer.cilk
@@ -217,7 +325,7 @@ class Batch:
         calls = " ".join(f"case {number}: p{number}(); break;" for number in self.numbers)
         cilk.append(f"int main(int count, char **words) {{ switch (atoi(words[1])) {{ {calls} }} }}")
         judged.append(f"int main(void) {{ {' '.join(f'p{number}();' for number in self.numbers)} }}")
-        self.write(".c", cilk)
+        self.write(self.ending, cilk)
         self.write("_judged.c", judged)
 
     def write(self, ending, lines):
@@ -233,7 +341,8 @@ class Batch:
     def build(self):
         batch = self.numbers[0] // BATCH
         ways = ("-O0", "-O1")[batch % 2], *[["--inline-checks"], []][batch // 2 % 2]
-        self.run(os.path.join(TRACER, "spbags-cc"), *self.inside, *ways, "-w", "-o", self.name, self.name + ".c")
+        self.run(os.path.join(TRACER, self.compiler), *self.inside, *ways, "-w", "-o", self.name,
+                 self.name + self.ending)
         self.run("gcc" if not os.environ.get("CC") else os.environ["CC"], "-w", "-O1", "-I" + HERE, "-o",
                  self.name + "_judged", self.name + "_judged.c")
         told = self.run(self.name + "_judged")
@@ -295,10 +404,11 @@ def main():
     for name, value in (("count", 200), ("seed", 1), ("seconds", 60)):
         parser.add_argument("--" + name, type=int, default=value)
     parser.add_argument("--inside", action="store_true")
+    parser.add_argument("--c++", action="store_true", dest="is_cplusplus")
     words = parser.parse_args()
     end, tried, wrong, racy = time.monotonic() + words.seconds, 0, 0, 0
     with tempfile.TemporaryDirectory(prefix="spbags-random-") as folder, ThreadPoolExecutor(2) as pool:
-        batches = [Batch(folder, first, min(BATCH, words.count - first), words.seed, words.inside)
+        batches = [Batch(folder, first, min(BATCH, words.count - first), words.seed, words.inside, words.is_cplusplus)
                    for first in range(0, words.count, BATCH)]
         results = [(batch, pool.submit(lambda batch=batch: batch.wrong() if time.monotonic() < end else None))
                    for batch in batches]
