@@ -72,9 +72,12 @@ static void look_from(const struct node *node, int distance) {
 static void set(const struct node *node, int distance, struct bag *layer) {
     if (!node)
         return;
-#ifndef RACY
-    if (distances[node->place] < 0)
+#ifdef RACY
+    int is_new = 1;
+#else
+    int is_new = distances[node->place] < 0;
 #endif
+    if (is_new)
         insert(layer, node->place);
     distances[node->place] = distance;
     set(node->left, distance, layer);

@@ -375,7 +375,7 @@ start_openmp() {
     unset CC
     for level in -O0 -O1; do
         run_checks "openmp$level" check_openmp_examples check_cplusplus check_cilk_cplusplus check_copies \
-            check_reducers_cplusplus &
+            check_reducers_cplusplus check_cilk_cplusplus_examples &
         run_checks "parallel$level" check_tbb check_execution &
     done
     CC=gcc run_checks link check_unknown check_library_with_openmp check_known check_refused_objects check_openmp_link \

@@ -49,6 +49,24 @@ check_reducers() {
     count $? "$CC $level: $source, the same without repeats"
 }
 
+# The examples of Cilk in C++, where the last column is what each prints.
+check_cilk_cplusplus_examples() {
+    local program prints
+    while read -r program prints <&3; do
+        "$here/spbags-c++" "$level" -Wall -Wextra -o program "$program.cpp"
+        count $? "$program.cpp $level: compile"
+        same "" "$(found_by_run ./program)" && same "$prints" "$(SPBAGS_TRACE=run.trace ./program 2>/dev/null)"
+        count $? "$program.cpp $level"
+        "$here/spbags-c++" "$level" -DRACY -o program "$program.cpp"
+        same "$(expected_races "$program")" "$(found_by_run ./program | sort)"
+        count $? "$program.cpp $level -DRACY: races"
+    done 3<<'END'
+queens_for 10 boards, the first 0 2
+search_for 6 after 32 looks
+cholesky_for 17.5914
+END
+}
+
 # In C++ it is one below.
 check_reducers_cplusplus() {
     local source=tracer/tests/reducers.cpp
