@@ -155,7 +155,7 @@ class Function:
         other_at, _, other = self.variable()
         read, wrote = f"touch({judged}, false);", f"touch({judged}, true);"
         self.writer.line(*(
-            (f"{this};", read), (f"{this} = {kind};", wrote), (f"{this} += {kind};", read + wrote),
+            (f"(void)+{this};", read), (f"{this} = {kind};", wrote), (f"{this} += {kind};", read + wrote),
             (f"if ({this} == 1) {this} = 1; else {this} = 2;", read + wrote),
             (f"memmove((void *)({at}), (void *)({other_at}), sizeof(number));", f"touch({other}, false); {wrote}"),
             (f"memset((void *)({at}), 1, sizeof(number));", wrote))[kind])
