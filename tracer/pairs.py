@@ -429,7 +429,13 @@ def common_guard(sites):
         return None
     if None in held:
         return 0, UNKNOWN_GUARD
-    return next((guard for guard in held[0] if guard[0] in dict(held[1])), None)
+    return next((guard for guard in held[0] if any(excludes(guard[0], other) for other, _ in held[1])), None)
+
+
+def excludes(one, other):
+    """Whether what holds these two guards comes one after the other. A lock for readers too has two guards, and the odd
+    one is a reader's, which excludes no other reader."""
+    return (one == ATOMIC or one % 2 == 0) if one == other else one ^ other == 1 and one > ATOMIC
 
 
 def by_sites(races, places):

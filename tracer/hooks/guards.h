@@ -101,6 +101,14 @@ static const struct standing *stands;
 
 static inline uint32_t guards_of_access(void) { return stands ? stands->guards : guards_now(); }
 
+/* A lock for readers too has two guards: its address, and that with this bit for a reader. What one reader holds excludes
+   no other one. */
+enum { READER = 1 };
+
+static bool excludes(uintptr_t one, uintptr_t other) {
+    return one == other ? one == ATOMIC || !(one & READER) : (one ^ other) == READER && (one & ~(uintptr_t)READER) != 0;
+}
+
 static const struct guard *guard_in(uint32_t list, uintptr_t id) {
     const struct guard *guard = listed + lists[list].first, *end = guard + lists[list].length;
     while (guard < end && guard->id != id)
@@ -108,12 +116,19 @@ static const struct guard *guard_in(uint32_t list, uintptr_t id) {
     return guard < end ? guard : NULL;
 }
 
+static bool excluded_in(uint32_t list, uintptr_t id) {
+    const struct guard *guard = listed + lists[list].first, *end = guard + lists[list].length;
+    while (guard < end && !excludes(guard->id, id))
+        guard++;
+    return guard < end;
+}
+
 /* Null where there is none, and the unknown one where that can't be told. */
 static const struct guard *common_guard(uint32_t list, uint32_t other) {
     if (list != 0 && other != 0 && (list == UNKNOWN_LIST || other == UNKNOWN_LIST))
         return &listed[MOST_LISTED];
     const struct guard *guard = listed + lists[list].first, *end = guard + lists[list].length;
-    while (guard < end && !guard_in(other, guard->id))
+    while (guard < end && !excluded_in(other, guard->id))
         guard++;
     return guard < end ? guard : NULL;
 }

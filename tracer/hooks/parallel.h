@@ -1,6 +1,9 @@
 /* What the headers of include/tbb and include/execution call: the children of oneTBB's algorithms and of C++'s own
    parallel ones, and the tasks of oneTBB's groups. */
 
+/* How many children of these have begun; a child's frame has its number in place of what a function has called. */
+static uint32_t parts_begun;
+
 /* A child of the function or scope that calls this begins: one of a construct, at this code of the program's, with these
    as its first and its last iteration. It returns by __spbags_return. */
 void __spbags_part(const char *of, const void *code, long first, long last) {
@@ -8,7 +11,16 @@ void __spbags_part(const char *of, const void *code, long first, long last) {
         return;
     begin_child((__spbags_function)__spbags_counter, STACK_POINTER, CODE);
     top->code = code ? (uintptr_t)code : CODE;
+    top->called = ++parts_begun;
     note_part((struct part){.of = of, .first = (uint64_t)first, .last = (uint64_t)last});
+}
+
+/* The number of the child around, which no other one has; 0 in the root. */
+unsigned long __spbags_child(void) {
+    const struct frame *frame = top;
+    while (frame > frames && (frame->kind != CHILD || frame->called == 0))
+        frame--;
+    return tracing && frame->kind == CHILD ? frame->called : 0;
 }
 
 /* ---- Lines of the report ---- */
@@ -141,6 +153,7 @@ void __spbags_group_run(const void *id, const char *of, const void *code, long f
     top->stack_pointer = stack_pointer;
     top->callee = (__spbags_function)id;
     top->code = here;
+    top->called = ++parts_begun;
     note_part((struct part){.of = of, .first = (uint64_t)first, .last = (uint64_t)last});
 }
 

@@ -376,12 +376,12 @@ start_openmp() {
     for level in -O0 -O1; do
         run_checks "openmp$level" check_openmp_examples check_cplusplus check_cilk_cplusplus check_copies \
             check_reducers_cplusplus check_cilk_cplusplus_examples &
-        run_checks "parallel$level" check_tbb check_execution &
+        run_checks "parallel$level" check_tbb check_tbb_containers check_execution &
     done
     CC=gcc run_checks link check_unknown check_library_with_openmp check_known check_refused_objects check_openmp_link \
         check_options check_shared_libraries &
     CC=gcc run_checks link_built check_cmake check_meson &
     run_checks random_cplusplus check_random_cplusplus &
     run_checks openmp check_openmp_outputs check_openmp_ways check_openmp_replicated check_openmp_guards \
-        check_openmp_refused check_containers &
+        check_openmp_refused check_containers check_tbb_refused &
 }

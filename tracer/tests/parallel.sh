@@ -27,6 +27,41 @@ check_tbb() {
     done
 }
 
+# What two hold that race, whose tag has a name with held, makes it no data race.
+check_tbb_containers() {
+    local source=tracer/tests/tbb_containers.cpp
+    check_parallel_program tbb_containers
+    SPBAGS_UNIT=1 "$here/spbags-run" --data-races --json --most 1000 -- ./tbb_containers racy 2>/dev/null |
+        "$here/tests/run.py" brief | sed "s,$source:,,g" | sort >found
+    same "$(tagged_races <(sed 's/\[[0-9]* held[a-z]* [a-z]*\]//g' "$source"))" "$(cat found)"
+    count $? "$source $level: data races"
+    "$here/spbags-run" -- ./tbb_containers racy >report 2>&1
+    grep -q 'both hold the lock lock, so it is no data race' report
+    count $? "$source $level: a lock's name"
+}
+
+check_tbb_refused() {
+    local header
+    for header in parallel_pipeline flow_graph; do
+        printf '#include <tbb/%s.h>\nint main() {}\n' $header >refused.cpp
+        ends_with 1 "can.t be traced" "$here/spbags-c++" -c refused.cpp
+        count $? "oneTBB's $header"
+    done
+    printf '#include <tbb/task_arena.h>\nint main() { tbb::task_arena().enqueue([] {}); }\n' >refused.cpp
+    ends_with 1 "task_arena::enqueue can.t be traced" "$here/spbags-c++" -c refused.cpp
+    count $? "oneTBB's enqueue"
+    # A serial run waits for ever there.
+    printf '#include <tbb/concurrent_queue.h>\nint main() { tbb::concurrent_bounded_queue<int> q; int i; q.pop(i); }\n' \
+        >waits.cpp
+    "$here/spbags-c++" -o waits waits.cpp && "$here/spbags-run" --timeout 2 -- ./waits >output 2>&1
+    grep -q 'waits for another task or thread, and so for ever' output
+    count $? "oneTBB's queue that waits for ever"
+    # The standard that a program asks for.
+    printf '#include <tbb/tbb.h>\nint main() { tbb::parallel_for(0, 3, [](int) {}); }\n' >older.cpp
+    "$here/spbags-c++" -std=c++11 -Wall -Wextra -Werror -o older older.cpp && "$here/spbags-run" -- ./older
+    count $? "oneTBB in C++11"
+}
+
 check_execution() {
     local source=tracer/tests/execution.cpp
     check_parallel_program execution

@@ -137,10 +137,6 @@ inline bool is_current_task_group_canceling() { return false; }
 
 } // namespace v1
 
-namespace task {
-using ::tbb::task_group_context;
-}
-
 /* ---- What the algorithms take beside their own arguments, and has no meaning here ---- */
 
 namespace spbags_detail {

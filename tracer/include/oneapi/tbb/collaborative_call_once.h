@@ -1,0 +1,1 @@
+#error "oneTBB's collaborative_call_once can't be traced: take std::call_once"

@@ -1,0 +1,2 @@
+#pragma once
+#include "enumerable_thread_specific.h"

@@ -1,0 +1,1 @@
+#error "oneTBB's concurrent_lru_cache can't be traced"

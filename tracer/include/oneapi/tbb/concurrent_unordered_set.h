@@ -1,0 +1,2 @@
+#pragma once
+#include "concurrent_unordered_map.h"

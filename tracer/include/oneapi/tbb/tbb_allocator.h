@@ -1,0 +1,2 @@
+#pragma once
+#include "cache_aligned_allocator.h"
