@@ -95,6 +95,9 @@ static void open_group(const void *id, struct frame *holder, uintptr_t code) {
         groups = reserve(MOST_DEPTH * sizeof *groups);
     if (++newest_group == MOST_DEPTH)
         fail("groups of tasks nest deeper than %d", MOST_DEPTH);
+#ifdef SPBAGS_OPENMP
+    tell_at(code, "a group of tasks in a program with OpenMP: a wait of the one may be taken for a wait of the other");
+#endif
     bool marks = holder->children == NONE;
     if (marks)
         holder->children = procedures;

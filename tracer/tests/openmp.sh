@@ -383,5 +383,5 @@ start_openmp() {
     CC=gcc run_checks link_built check_cmake check_meson &
     run_checks random_cplusplus check_random_cplusplus &
     run_checks openmp check_openmp_outputs check_openmp_ways check_openmp_replicated check_openmp_guards \
-        check_openmp_refused check_containers check_tbb_refused &
+        check_openmp_refused check_containers check_tbb_refused check_tbb_groups &
 }

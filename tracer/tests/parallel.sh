@@ -27,6 +27,19 @@ check_tbb() {
     done
 }
 
+# What the trace can't say.
+check_tbb_groups() {
+    local source=tracer/tests/tbb.cpp
+    "$here/spbags-c++" -o tbb_groups "$source"
+    "$here/spbags-run" -- ./tbb_groups mixed >output 2>&1
+    [ $? = 3 ] && grep -q "$source:$(line_of "$source" '[mixed]'): a task begins in one group while" output
+    count $? "$source: tasks of two groups by turns"
+    grep -q "$source:$(line_of "$source" '[outlives]'): tasks outlive the child here" output
+    count $? "$source: tasks that outlive an iteration"
+    ends_with 2 'a group of tasks needs version 2' env SPBAGS_VERSION=1 SPBAGS_TRACE=run.trace ./tbb_groups clean
+    count $? "$source: a group in version 1"
+}
+
 # What two hold that race, whose tag has a name with held, makes it no data race.
 check_tbb_containers() {
     local source=tracer/tests/tbb_containers.cpp

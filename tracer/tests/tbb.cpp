@@ -1,5 +1,6 @@
 // oneTBB, each construct once. With the word clean there is no race; with racy each has one, and a tag says how many bytes
-// race, and on which lines. It prints the same both times. With thrown exceptions leave children.
+// race, and on which lines. It prints the same both times. With thrown exceptions leave children; mixed has what a trace
+// can't say.
 #include <cstdio>
 #include <cstring>
 #include <functional>
@@ -233,6 +234,19 @@ static int thrown() {
     return caught;
 }
 
+// What no fork and join says. Each has a line.
+static void mixed() {
+    tbb::task_group first, second;
+    first.run([] {});
+    second.run([] {});
+    first.run([] {}); // [mixed]
+    second.wait();
+    tbb::parallel_for(0, 2, [&](int) { // [outlives]
+        first.run([] {});
+    });
+    first.wait();
+}
+
 int main(int, char **words) {
     is_racy = std::strcmp(words[1], "racy") == 0;
     loops();
@@ -246,6 +260,8 @@ int main(int, char **words) {
     print(fibonacci(7));
     if (std::strcmp(words[1], "thrown") == 0)
         print(thrown());
+    if (std::strcmp(words[1], "mixed") == 0)
+        mixed();
     for (int at = 0; at < print_at; at++)
         std::printf("%ld ", printed[at]);
     std::printf("\n");

@@ -2,7 +2,6 @@
 // on which lines. What races under a lock, or inside a container's operations, has a name with held: it is no data race.
 #include <cstdio>
 #include <cstring>
-#include <string>
 #include <tbb/tbb.h>
 #include <vector>
 
@@ -79,15 +78,15 @@ static void vectors() {
 }
 
 static void queues() {
-    tbb::concurrent_queue<std::string> words;
-    words.push("one");
+    tbb::concurrent_queue<std::vector<int>> lists;
+    lists.push({1, 2});
     if (is_racy)
-        tbb::parallel_invoke([&] { words.push("two"); }, [&] { // [8 heldqueue first]
-            std::string word;
-            words.try_pop(word); // [8 heldqueue second]
+        tbb::parallel_invoke([&] { lists.push({3}); }, [&] { // [8 heldqueue first]
+            std::vector<int> list;
+            lists.try_pop(list); // [8 heldqueue second]
         });
-    std::string word;
-    print(words.try_pop(word));
+    std::vector<int> list;
+    print(lists.try_pop(list));
     tbb::concurrent_bounded_queue<int> numbers;
     numbers.set_capacity(1);
     print(numbers.try_push(7) * 2 + numbers.try_push(8));
@@ -103,11 +102,19 @@ static void queues() {
 
 // ---- Keys ----
 
-typedef tbb::concurrent_hash_map<std::string, int> Counts;
+typedef std::vector<int> Word;
+
+struct By_first {
+    size_t hash(const Word &word) const { return static_cast<size_t>(word[0]); }
+    bool equal(const Word &one, const Word &other) const { return one == other; }
+};
+
+typedef tbb::concurrent_hash_map<Word, int, By_first> Counts;
 
 static void counts() {
     Counts counts;
-    std::vector<std::string> words{"a", "b", "c"};
+    std::vector<Word> words{{'a'}, {'b'}, {'c'}};
+    const Word more{'d'};
     // Each task has a key of its own.
     tbb::parallel_for(0, 3, [&](int i) {
         Counts::accessor found;
@@ -117,19 +124,19 @@ static void counts() {
     if (is_racy)
         tbb::parallel_for(0, 2, [&](int i) {
             Counts::accessor found;
-            counts.find(found, "c");
+            counts.find(found, words[2]);
             found->second = i; // [4 heldelement first] [4 heldelement second]
         });
     if (is_racy)
-        tbb::parallel_invoke([&] { counts.insert({"d", 1}); }, // [8 heldkey first]
-                             [&] { seen[5] = static_cast<int>(counts.count("d")); }); // [8 heldkey second]
+        tbb::parallel_invoke([&] { counts.insert({more, 1}); }, // [8 heldkey first]
+                             [&] { seen[5] = static_cast<int>(counts.count(more)); }); // [8 heldkey second]
     long sum = 0;
     for (auto &count : counts)
         sum += count.second;
     print(sum > 0);
-    print(counts.erase("a"));
+    print(counts.erase(words[0]));
     Counts::const_accessor found;
-    print(counts.find(found, "a") * 2 + counts.find(found, "b"));
+    print(counts.find(found, words[0]) * 2 + counts.find(found, words[1]));
     print(found->second);
 }
 

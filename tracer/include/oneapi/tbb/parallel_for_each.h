@@ -5,26 +5,26 @@
 #include "task_group.h"
 
 namespace tbb {
-namespace spbags_detail {
-template <class Body, class Item> class Feeder;
-}
-
 inline namespace v1 {
 
 template <class Item> class feeder {
-protected:
-    feeder() {}
-    virtual ~feeder() {}
+    typedef void (*Process)(feeder &, ::spbags::Box<Item> &);
+    Process run;
 
-private:
-    virtual void take(const Item &item, const void *code) = 0;
-    virtual void take(Item &&item, const void *code) = 0;
+protected:
+    explicit feeder(Process with) : run(with) {}
+    ~feeder() {}
 
 public:
     feeder(const feeder &) = delete;
     feeder &operator=(const feeder &) = delete;
-    SPBAGS_INLINE void add(const Item &item) { take(item, spbags::here()); }
-    SPBAGS_INLINE void add(Item &&item) { take(std::move(item), spbags::here()); }
+    /* What is added is a task beside the rest of whoever adds it. */
+    template <class From> SPBAGS_INLINE void add(From &&item) {
+        ::spbags::Box<Item> box(std::forward<From>(item));
+        __spbags_group_run(this, "parallel_for_each", nullptr, 0, 0);
+        run(*this, box);
+        __spbags_return(&box, sizeof box);
+    }
 };
 
 } // namespace v1
@@ -52,27 +52,13 @@ typename std::enable_if<!std::is_lvalue_reference<Argument>::value>::type proces
 template <class Body, class Item> class Feeder : public feeder<Item> {
     const Body &body;
 
-    SPBAGS_APART void process_added(spbags::Box<Item> &box) {
-        process(body, std::move(box.object), static_cast<feeder<Item> &>(*this), 0);
+    static SPBAGS_APART void process_box(feeder<Item> &self, ::spbags::Box<Item> &box) {
+        process(static_cast<Feeder &>(self).body, std::move(box.object), self, 0);
         box.object.~Item();
-    }
-    /* What is added is a task beside the rest of whoever adds it. */
-    void begin(spbags::Box<Item> &box, const void *code) {
-        __spbags_group_run(this, "parallel_for_each", code, 0, 0);
-        process_added(box);
-        __spbags_return(&box, sizeof box);
-    }
-    void take(const Item &item, const void *code) override {
-        spbags::Box<Item> box(item);
-        begin(box, code);
-    }
-    void take(Item &&item, const void *code) override {
-        spbags::Box<Item> box(std::move(item));
-        begin(box, code);
     }
 
 public:
-    explicit Feeder(const Body &by) : body(by) {}
+    explicit Feeder(const Body &by) : feeder<Item>(process_box), body(by) {}
 
     template <class Iterator> SPBAGS_APART void process_at(Iterator at) {
         process(body, *at, static_cast<feeder<Item> &>(*this), 0);
@@ -84,9 +70,9 @@ public:
         __spbags_return(nullptr, 0);
     }
     template <class Iterator> SPBAGS_INLINE void one(Iterator at, long number, std::input_iterator_tag) {
-        spbags::Box<Item> box(*at);
+        ::spbags::Box<Item> box(*at);
         __spbags_group_run(this, "parallel_for_each", nullptr, number, number);
-        process_added(box);
+        process_box(*this, box);
         __spbags_return(&box, sizeof box);
     }
 };
