@@ -501,7 +501,9 @@ int __spbags_goes_on(void) {
 
 /* ---- Critical regions ---- */
 
-static const char critical_name[] = "the critical region ", lock_name[] = "the lock ";
+/* An even address, as those of locks are. */
+static const _Alignas(2) char critical_name[] = "the critical region ";
+static const char lock_name[] = "the lock ";
 
 void GOMP_critical_start(void) { enter_guard((uintptr_t)critical_name, "the critical region without a name"); }
 void GOMP_critical_end(void) { leave_guard((uintptr_t)critical_name); }
