@@ -16,7 +16,7 @@ void __spbags_part(const char *of, const void *code, long first, long last) {
 }
 
 /* The number of the child around, which no other one has; 0 in the root. */
-unsigned long __spbags_child(void) {
+unsigned long __spbags_child_number(void) {
     const struct frame *frame = top;
     while (frame > frames && (frame->kind != CHILD || frame->called == 0))
         frame--;

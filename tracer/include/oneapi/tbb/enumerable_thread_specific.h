@@ -15,7 +15,7 @@
 #include "cache_aligned_allocator.h"
 #include "detail_containers.h"
 
-extern "C" unsigned long __spbags_child(void);
+extern "C" unsigned long __spbags_child_number(void);
 
 namespace tbb {
 namespace spbags_detail {
@@ -48,7 +48,7 @@ protected:
     }
     /* The value is made by the program's own code, which is seen. */
     Type &local_value(bool &exists) {
-        unsigned long child = __spbags_child();
+        unsigned long child = __spbags_child_number();
         Own *own = find(child);
         exists = own != nullptr;
         if (!own) {
