@@ -150,7 +150,7 @@ void __spbags_group_run(const void *id, const char *of, const void *code, long f
         open_group(id, holder, CODE);
     else if (at < newest_group)
         tell_at(here, "a task begins in one group while a newer one hasn't been waited for, and the wait for that one waits "
-                      "for it too: races behind it aren't seen");
+                      "for it too: races after it aren't seen");
     open_procedure(SPBAGS_SPAWN, CODE);
     push_frame(CHILD, top->end - 1);
     top->stack_pointer = stack_pointer;
@@ -165,7 +165,7 @@ static void wait_for_group(const void *id, uintptr_t code) {
     if (at == 0)
         return;
     if (at < newest_group)
-        tell_at(code, "a newer group hasn't been waited for, and this wait waits for it too: races behind it aren't seen");
+        tell_at(code, "a newer group hasn't been waited for, and this wait waits for it too: races after it aren't seen");
     if (top->node != NONE)
         look_at_wait(top, code, false);
     while (newest_group >= at)

@@ -7,10 +7,10 @@ reports() {
     shift 2
     "$here/spbags-run" "$@" >output 2>&1
     found=$?
-    [ "$found" = "$status" ] && { [ ! "$line" ] || tr -s ' \n' ' ' <output | grep -q -- "$line"; } || {
+    if [ "$found" != "$status" ] || { [ "$line" ] && ! tr -s ' \n' ' ' <output | grep -q -- "$line"; }; then
         echo "status $found: $(tail -n 3 output)" >&2
         return 1
-    }
+    fi
 }
 
 # The pairs of lines that race, without the number of locations.
