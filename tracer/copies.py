@@ -6,14 +6,15 @@ import re
 
 # Names in a dump are the assembly's, and a variable's has a number, which the name of a value doesn't.
 DUMPED = "-fdump-tree-optimized-asmname-uid="
-FUNCTION = re.compile(r"^;; Function .* \(\*?(\S+), funcdef_no=", re.MULTILINE)
-CALL = re.compile(r"  (?:(?P<result>\S.*?) = )?(?P<callee>[^ =].*?) \((?P<arguments>.*)\);(?: \[.*\])?$")
+FUNCTION = re.compile(r"^;; Function .* \(\*?(\S+), funcdef_no=\d+, decl_uid=(\d+)", re.MULTILINE)
+# What ends with a sign is the beginning of a cast.
+CALL = re.compile(r"  (?:(?P<result>\S.*?) = )?(?P<callee>[^ =](?:.*?[^=])?) \((?P<arguments>.*)\);(?: \[.*\])?$")
 STRING = re.compile(r'"(?:\\.|[^"\\])*"')
 # What no memory is read for: a value without a place, an address, a constant.
 VALUE = re.compile(r"[\w.$]*_\d+(?:\(D\))?|&.*|[-+\d].*|[\"{].*|_Literal.*|__complex__.*")
-DECLARED = re.compile(r"[\w.$]*D\.\d+")
-# No functions: constants, what gcc has for itself, and its builtins, which no struct is passed to.
-NO_CALLEE = ("__complex__", ".", "__builtin_", "__asm__ ", "#")
+DECLARED = re.compile(r"[\w.$]*D\.(\d+)")
+# No functions: constants, what gcc has for itself, and its builtins and the hooks, which no struct is passed to.
+NO_CALLEE = ("__complex__", ".", "__builtin_", "__tsan_", "__spbags_", "__asm__ ", "#")
 # The result's own memory; where it is known by a pointer, which has a number, the hooks see all.
 RESULT = re.compile(r"^  [^=\n]*<retval>(?!(?:D\.\d+)?_\d)[^=\n]* = ", re.MULTILINE)
 
@@ -59,10 +60,10 @@ def parts_of(text):
 
 
 class Dump:
-    """What gcc's dump of a function says of it."""
+    """What gcc's dump of a function says of it. FUNCTIONS are the numbers of the source's."""
 
-    def __init__(self, text):
-        self.text, self.header = text, text.partition("<bb ")[0]
+    def __init__(self, text, functions):
+        self.text, self.header, self.functions = text, text.partition("<bb ")[0], functions
         # By name, or `*` for what is called by a pointer: the functions that get a struct, and that give one.
         self.passed, self.given = set(), set()
         self.stores_result = bool(RESULT.search(text))
@@ -87,6 +88,8 @@ class Dump:
         if VALUE.fullmatch(part):
             return False
         base = DECLARED.match(part)
+        if base and base[1] in self.functions:
+            return False
         if not base or "&" + base[0] in self.text:
             return True
         declared = re.search(rf"^.*(?<![\w.$]){re.escape(base[0])}(?=[;,)\[ ]).*$", self.header, re.MULTILINE)
@@ -99,8 +102,8 @@ class Dump:
 def dumps_of(text):
     """The functions that have such copies, by their names in the assembly."""
     starts = list(FUNCTION.finditer(text))
-    ends = [start.start() for start in starts[1:]] + [len(text)]
-    found = ((start[1], Dump(text[start.end():end])) for start, end in zip(starts, ends))
+    ends, functions = [start.start() for start in starts[1:]] + [len(text)], {start[2] for start in starts}
+    found = ((start[1], Dump(text[start.end():end], functions)) for start, end in zip(starts, ends))
     return {name: dump for name, dump in found if dump.is_of_use()}
 
 

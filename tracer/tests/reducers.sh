@@ -42,7 +42,7 @@ check_reducers() {
     reports 3 "$(line_of "$source" '[kept]'): what is done by this address of the reducer total" -- ./reducers kept
     count $? "$CC $level: $source, an address that is kept"
     if [ "$has_inside" ]; then
-        "$here/spbags-cc" "$level" --inside --beside -o inside "$source" && has_same_report ./inside
+        "$here/spbags-cc" "$level" --inside --inline-checks -o inside "$source" && has_same_report ./inside
         count $? "$CC $level: $source, the report of the detector inside"
     fi
     check_repeats cat ./reducers
