@@ -1,6 +1,6 @@
 //! Three traces of `examples/` with their answers. No answer comes from the program's own output. `examples/check` asks the
 //! built program about all of them.
-mod texts;
+mod traces;
 
 use super::{assert_left, run, run_with_report};
 use std::alloc::{AllocError, Global};
@@ -9,7 +9,7 @@ use std::sync::Wait;
 use std::test::Fail;
 use std::thread::Threads;
 use std::time::Clock;
-use texts::{EXPLAINED, FIB_WITHOUT_SYNC, FIRST, WRITE_WRITE};
+use traces::{EXPLAINED, FIB_WITHOUT_SYNC, FIRST, WRITE_WRITE};
 
 #[derive(Clone, Copy)]
 struct Example {
