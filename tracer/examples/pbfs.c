@@ -1,6 +1,6 @@
 /* Leiserson's and Schardl's search of a graph, layer by layer; here the graph is a grid. A layer is a bag: trees of 1,
    2, 4, .. places, so that two bags are added up like numbers. What a layer's places find goes into the next bag, a
-   reducer; when all have looked, their distances are set. RACY: who finds a place sets its distance, as in the paper. */
+   reducer; when all have looked, their distances are set. RACY: who finds a place sets its distance, as theirs does. */
 #include <cilk/cilk.h>
 #include <stdio.h>
 #include <stdlib.h>
