@@ -1,5 +1,6 @@
 -- Promised: how the words of a command line name a part of the locations, and files.
-use Rattle.std.specs.Prelude.{◌≡◌, ℕ, ◌<◌, ◌++◌, List, Option, None, Some, String, codes, decimal, string_len, string_bytes}
+use Rattle.std.specs.Prelude.{◌≡◌, ℕ, ◌<◌, ◌++◌, List, Option, None, Some}
+use Rattle.std.specs.Prelude.{String, codes, decimal, string_len, string_bytes}
 use Rattle.dag.specs.declared.part.Part.{Part}
 
 -- the spelling of a part, as `2/16`

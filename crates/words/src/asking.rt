@@ -32,11 +32,11 @@ pub enum Question {
 /// `check`: the races of a trace.
 #[derive(Debug, Drop, PartialEq, Eq)]
 pub struct CheckWords {
-    /// How many threads the locations are divided among.
+    /// The number of threads that share the locations.
     pub shards: u32,
-    /// How many records may wait for a thread.
+    /// The number of records queued per shard.
     pub capacity: u32,
-    /// How deep procedures may nest.
+    /// The maximum nesting of spawns and calls.
     pub depth: u32,
     /// The part of the locations that the report covers; the whole if the words name no part.
     pub part: Part,
@@ -51,7 +51,7 @@ pub struct CheckWords {
 /// `pairs`: all races of one location.
 #[derive(Debug, Drop, PartialEq, Eq)]
 pub struct PairsWords {
-    /// How deep procedures may nest.
+    /// The maximum nesting of spawns and calls.
     pub depth: u32,
     /// The name of the trace's file; `-` is standard input.
     pub trace: String,
@@ -64,7 +64,7 @@ pub struct PairsWords {
 /// `explain`: why one location is racy.
 #[derive(Debug, Drop, PartialEq, Eq)]
 pub struct ExplainWords {
-    /// How deep procedures may nest.
+    /// The maximum nesting of spawns and calls.
     pub depth: u32,
     /// The name of the trace's file; `-` is standard input.
     pub trace: String,
@@ -77,7 +77,7 @@ pub struct ExplainWords {
 /// `measure`: the numbers of a trace.
 #[derive(Debug, Drop, PartialEq, Eq)]
 pub struct MeasureWords {
-    /// How deep procedures may nest.
+    /// The maximum nesting of spawns and calls.
     pub depth: u32,
     /// The name of the trace's file; `-` is standard input.
     pub trace: String,
@@ -88,7 +88,7 @@ pub struct MeasureWords {
 /// `confirm`: whether the entries of a report are races.
 #[derive(Debug, Drop, PartialEq, Eq)]
 pub struct ConfirmWords {
-    /// How deep procedures may nest.
+    /// The maximum nesting of spawns and calls.
     pub depth: u32,
     /// The name of the trace's file; `-` is standard input.
     pub trace: String,

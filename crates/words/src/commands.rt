@@ -11,7 +11,7 @@ use std::alloc::{AllocError, Global};
 pub const VERSION: &str = "0.1.0";
 
 const ABOUT: &str = "\
-Finds the determinacy races of a fork-join program in the trace of one run, and answers questions about it.";
+Finds determinacy races in a fork-join program, such as one in Cilk or OpenMP, from a trace of one serial run.";
 
 const NOTES: &str = "\
 Examples:
@@ -23,9 +23,12 @@ Examples:
   spbags merge part-0.report part-1.report
 
 Exit status:
-  0  no race, or the trace was measured, or yes, or help
-  1  a race, or no
+  0  success: no race, the trace was measured, the report is confirmed, or help
+  1  a race, or an entry of the report is no race
   2  no answer; standard error says why
+
+A program compiled with `spbags-cc` or `spbags-c++` writes its trace to the file that SPBAGS_TRACE names.
+`spbags-run ./program` runs such a program and shows its races with source lines.
 
 A trace is text. Its first line is `trace 1` or `trace 2`. Then each record has a line, in the order of the run:
 `spawn`, `sync`, `return`, `read L` or `write L`, where L is a location, 0 to 18446744073709551615. After `trace 2` a
@@ -33,21 +36,21 @@ line may also be `call`, an ordinary call of a procedure that may spawn. The roo
 line.
 A file named `-` is standard input. Each command has its own help, such as `spbags check --help`.";
 
-const CHECK_ABOUT: &str = "Reports one race of each location that has any.";
+const CHECK_ABOUT: &str = "Reports one race for each racy location.";
 
 const CHECK_NOTES: &str = "\
 The command reads the trace from FILE, or from standard input if FILE is `-`. The first line of the report is the
 number of races. Then each race has a line, such as `race 5 write 2 write 6`: the location, and the kinds and places
 of its two accesses. Place k is on line k + 1 of the trace. `spbags explain run.trace 5` says why it is a race.
 
-With --shards N location l belongs to shard l mod N. Neither --shards nor --capacity changes the report.
-With --part K/N the report has only the locations l with l mod N = K. The part numbers them by l div N, and --shards
-divides these numbers. `spbags merge` makes the whole report from those of all parts.
+For a trace of a program that was compiled with `spbags-cc` use --shards 1: more are no faster there. One thread reads
+the trace, and each shard is a further thread, so give at most as many shards as processors are idle. With
+--capacity 16384 the threads wait for each other less often; it takes a megabyte for each shard. Neither --shards nor
+--capacity changes the report.
 
-For a trace that takes minutes, `pv run.trace | spbags check -` shows the progress (pv is a Debian package). One
-thread reads, and each shard is a further thread, so give at most as many shards as processors are idle. If the
-locations are addresses, --shards 1 is as fast as more and takes no more memory. With --capacity 16384 the threads
-wait for each other less often; it takes a megabyte for each shard.
+With --part K/N the report has only the locations l with l mod N = K. `spbags merge` makes the whole report from those
+of all parts. For a trace that takes minutes, `pv run.trace | spbags check -` shows the progress (pv is a Debian
+package).
 
 Examples:
   spbags check run.trace
@@ -67,7 +70,7 @@ The command reads the trace from FILE, or from standard input if FILE is `-`. Th
 number of races. Then each race has a line, such as `pair write 2 write 6`: the kinds and places of its two accesses.
 The lines are sorted by the second place, then by the first. Place k is on line k + 1 of the trace.
 
-The answer comes after the whole trace was read. The command compares every access to L with each earlier one of L,
+The answer comes when the whole trace has been read. The command compares every access to L with each earlier one of L,
 even if L has no race: twice as many accesses take four times as long. It keeps these accesses and their races in
 memory.
 
@@ -79,15 +82,16 @@ Exit status:
   1  a race; the pairs are on standard output
   2  no answer; standard error says why";
 
-const EXPLAIN_ABOUT: &str = "Says why the race of one location is a race.";
+const EXPLAIN_ABOUT: &str =
+    "Explains why the two accesses of a reported race can run in either order.";
 
 const EXPLAIN_NOTES: &str = "\
-The command reads the trace from FILE, or from standard input if FILE is `-`. Without a race of L the answer is
-`no race`. Otherwise it is the race that `check` reports of L, and why another schedule may run its accesses in the
+The command reads the trace from FILE, or from standard input if FILE is `-`. If L has no race, the answer is
+`no race`. Otherwise it is the race that `check` reports for L, and why another schedule may run its accesses in the
 other order:
 
   race 5 write 2 write 6   the race: its location, and the kinds and places of its two accesses
-  meet 0                   the deepest procedure that holds both accesses: the place that opened it; the root is 0
+  meet 0                   the innermost procedure that contains both accesses: its opening place; the root is 0
   first spawn 1 write 2    the way from there down to the first access: what opened each procedure, and the access
   second write 6           the way down to the second access
   joined 7                 the place where the meeting procedure next waits for its children: a sync, or its return
@@ -106,9 +110,14 @@ Exit status:
 const MEASURE_ABOUT: &str = "Reports how long, how parallel and how deep the run was.";
 
 const MEASURE_NOTES: &str = "\
-The command reads the trace from FILE, or from standard input if FILE is `-`. The answer has four lines: the number of
-records, the greatest number of records that every schedule runs one after another, the number of spawns, and the
-depth of the deepest record.
+The command reads the trace from FILE, or from standard input if FILE is `-`. The answer has four lines:
+
+  work 8     the number of records
+  span 6     the number of records on the longest path: every schedule runs them one after another
+  spawns 2   the number of spawns
+  depth 1    the depth of the deepest record
+
+The parallelism is work divided by span.
 
 Example:
   spbags measure run.trace
@@ -132,7 +141,7 @@ Exit status:
   1  no
   2  no answer; standard error says why";
 
-const MERGE_ABOUT: &str = "Makes one report of many, such as those of all parts of a trace.";
+const MERGE_ABOUT: &str = "Merges reports, such as those of all parts of a trace.";
 
 const MERGE_NOTES: &str = "\
 The command reads the reports one after another, each as a whole. One of them may be `-`, which is standard input. A
@@ -302,17 +311,17 @@ fn argument_of<'a>(alloc: Global, argument: Argument) -> Arg<'a>
         Argument::Shards => number(
             alloc,
             "shards",
-            "How many threads share the locations: 1 to 64, by default 4",
+            "Threads that share the locations: 1 to 64, by default 4",
         ),
         Argument::Capacity => number(
             alloc,
             "capacity",
-            "How many records may wait for a thread: 1 to 65536, by default 1024",
+            "Records queued per shard: 1 to 65536, by default 1024",
         ),
         Argument::Depth => number(
             alloc,
             "depth",
-            "How deep procedures may nest: 0 to 1000000, by default 65536",
+            "Maximum nesting of spawns and calls: 0 to 1000000, by default 65536",
         ),
         Argument::Part => option(
             alloc,

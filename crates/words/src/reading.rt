@@ -265,7 +265,7 @@ fn location_of(found: &ArgMatches<'_>) -> Result<u64, WordsFault>
     decimal_of(digits.as_bytes()).ok_or(WordsFault::Bad)
 }
 
-// How many threads the locations are divided among.
+// The number of threads that share the locations.
 fn shards_of(found: &ArgMatches<'_>) -> Result<u32, WordsFault>
     ensures within { IfOk result IsShardCount }
     ensures asked { IfOk result (IsNumberAsked 4 (first_of (codes "shards") (rows_in found.now))) }
@@ -277,7 +277,7 @@ fn shards_of(found: &ArgMatches<'_>) -> Result<u32, WordsFault>
     }
 }
 
-// How many records may wait for a thread.
+// The number of records queued per shard.
 fn capacity_of(found: &ArgMatches<'_>) -> Result<u32, WordsFault>
     ensures within { IfOk result IsCapacity }
     ensures asked { IfOk result (IsNumberAsked 1024 (first_of (codes "capacity") (rows_in found.now))) }
@@ -289,7 +289,7 @@ fn capacity_of(found: &ArgMatches<'_>) -> Result<u32, WordsFault>
     }
 }
 
-// How deep procedures may nest.
+// The maximum nesting of spawns and calls.
 fn depth_of(found: &ArgMatches<'_>) -> Result<u32, WordsFault>
     ensures within { IfOk result IsDepth }
     ensures asked { IfOk result (IsDepthAsked (rows_in found.now)) }

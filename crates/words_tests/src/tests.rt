@@ -356,7 +356,7 @@ fn helps(rt: HostRuntime) -> Result<(), Fail> {
 }
 
 // Command lines that ask for help, and what it has to say.
-const HELPS: [(&str, &str); 34] = [
+const HELPS: [(&str, &str); 35] = [
     ("--help", "`trace 1` or `trace 2`"),
     ("--help", "`spawn`, `sync`, `return`, "),
     ("--help", "After `trace 2` a\nline may also be `call`"),
@@ -369,11 +369,11 @@ const HELPS: [(&str, &str); 34] = [
     ("check --help", "1 to 65536, by default 1024"),
     ("check --help", "0 to 1000000, by default 65536"),
     ("check --help", "Place k is on line k + 1"),
-    ("check --help", "shard l mod N"),
+    ("check --help", "use --shards 1"),
     ("pairs --help", "0 to 1000000, by default 65536"),
     ("pairs --help", "0 to 18446744073709551615"),
     ("pairs --help", "Place k is on line k + 1"),
-    ("pairs --help", "comes after the whole trace was read"),
+    ("pairs --help", "when the whole trace has been read"),
     ("pairs --help", "four times as long"),
     ("--help", "spbags explain run.trace 5"),
     (
@@ -386,12 +386,13 @@ const HELPS: [(&str, &str); 34] = [
     ("explain --help", "the race that `check` reports"),
     ("explain --help", "first spawn 1 write 2"),
     ("measure --help", "0 to 1000000, by default 65536"),
+    ("measure --help", "work divided by span"),
+    ("--help", "SPBAGS_TRACE"),
     ("confirm --help", "0 to 1000000, by default 65536"),
     ("confirm --help", "67108864 bytes"),
     ("--help", "spbags merge part-0.report part-1.report"),
     ("check --help", "N is 1 to 65536, K below N"),
     ("check --help", "l with l mod N = K"),
-    ("check --help", "numbers them by l div N"),
     ("merge --help", "67108864 bytes"),
     (
         "merge --help",
