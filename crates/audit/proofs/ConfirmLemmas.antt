@@ -35,38 +35,38 @@ use Rattle.trace.specs.Watching.{ComesAfter}
 use Rattle.audit.specs.Following.{WhateverComes}
 use Rattle.audit.specs.Meetings.{HasMet, DecidesParallel, Moves}
 use Rattle.audit.specs.Confirms.{StatesRace, Confirms}
-use Rattle.audit.specs.Entries.{entry_race, races_of, entry_of, AreAscending, HasBegun, Stands, AllStand, Sees, AnswersBy, HasConfirmed}
+use Rattle.audit.specs.Entries.{entry_race, entry_races, entry_of, AreAscending, HasBegun, HasStanding, AllStand, SeesEntries, AnswersBy, HasConfirmed}
 use Rattle.audit.proofs.ListLemmas.{record_there}
 use Rattle.audit.proofs.MeetingLemmas.{met_next}
 use Rattle.audit.proofs.PairLemmas.{race_by}
 
 -- the entries of a report ascend, and have the shape of races
 
-location-at : (es : List Entry) (k : ℕ) (e : Entry) → slice_get es k ≡ Some e → slice_get (locations (races_of es)) k ≡ Some e.location
+location-at : (es : List Entry) (k : ℕ) (e : Entry) → slice_get es k ≡ Some e → slice_get (locations (entry_races es)) k ≡ Some e.location
 location-at es k e s =
-    slice_get-map (λ (r : RaceAt). r.location) (races_of es) k
+    slice_get-map (λ (r : RaceAt). r.location) (entry_races es) k
     ∙ ap (option_map (λ (r : RaceAt). r.location)) (slice_get-map entry_race es k ∙ ap (option_map entry_race) s)
 
-length-locations : (es : List Entry) → length (locations (races_of es)) ≡ length es
+length-locations : (es : List Entry) → length (locations (entry_races es)) ≡ length es
 length-locations [] = refl
 length-locations (x ∷ es) = ap suc (length-locations es)
 
-pub ascending : (es : List Entry) → IsReportList (races_of es) → AreAscending es
+pub ascending : (es : List Entry) → IsReportList (entry_races es) → AreAscending es
 ascending es h j k e f l s t =
-    let a : get_or (locations (races_of es)) j 0 ≡ e.location = get_or_from_slice_get (locations (races_of es)) j e.location 0 (location-at es j e s) in
-    let b : get_or (locations (races_of es)) k 0 ≡ f.location = get_or_from_slice_get (locations (races_of es)) k f.location 0 (location-at es k f t) in
-    let c : get_or (locations (races_of es)) j 0 < get_or (locations (races_of es)) k 0 = AllPairs-from_increasing (locations (races_of es)) h.ascending j k 0 l (omega (arith, length-locations es, slice_get_within es k f t)) in
+    let a : get_or (locations (entry_races es)) j 0 ≡ e.location = get_or_from_slice_get (locations (entry_races es)) j e.location 0 (location-at es j e s) in
+    let b : get_or (locations (entry_races es)) k 0 ≡ f.location = get_or_from_slice_get (locations (entry_races es)) k f.location 0 (location-at es k f t) in
+    let c : get_or (locations (entry_races es)) j 0 < get_or (locations (entry_races es)) k 0 = AllPairs-from_increasing (locations (entry_races es)) h.ascending j k 0 l (omega (arith, length-locations es, slice_get_within es k f t)) in
     omega arith
 
-entry-at : (P : RaceAt → Type 0) (es : List Entry) → AllByRecursion P (races_of es) → (k : ℕ) (e : Entry) → slice_get es k ≡ Some e → P (entry_race e)
+entry-at : (P : RaceAt → Type 0) (es : List Entry) → AllByRecursion P (entry_races es) → (k : ℕ) (e : Entry) → slice_get es k ≡ Some e → P (entry_race e)
 entry-at P [] h k e s = absurd (cc)
 entry-at P (x ∷ es) h zero e s = let f : x ≡ e = cc in subst (λ (z : Entry). P (entry_race z)) f h.0
 entry-at P (x ∷ es) h (suc k) e s = entry-at P es h.1 k e s
 
-shape-at : (es : List Entry) → IsReportList (races_of es) → (k : ℕ) (e : Entry) → slice_get es k ≡ Some e → IsRaceShape e.first e.second
+shape-at : (es : List Entry) → IsReportList (entry_races es) → (k : ℕ) (e : Entry) → slice_get es k ≡ Some e → IsRaceShape e.first e.second
 shape-at es h k e s = (entry-at IsEntry es h.entries k e s).shape
 
-pub none-found : (races : List RaceAt) → races_of (map entry_of races) ≡ races
+pub none-found : (races : List RaceAt) → entry_races (map entry_of races) ≡ races
 none-found [] = refl
 none-found (r ∷ races) = ap (λ (z : List RaceAt). r ∷ z) (none-found races)
 
@@ -78,7 +78,7 @@ missing-at (r ∷ races) (suc k) e s = missing-at races k e s
 -- one place further
 
 -- an entry whose accesses don't stand at the place
-stays : (w : List Record) (t : ℕ) (e : RaceAt) (s : Standing) → (e.first.place ≡ suc t → IsAccess w e.location e.first.place e.first.kind → ⊥) → (e.second.place ≡ suc t → StatesRace w e → ⊥) → Stands w t e s → Stands w (suc t) e s
+stays : (w : List Record) (t : ℕ) (e : RaceAt) (s : Standing) → (e.first.place ≡ suc t → IsAccess w e.location e.first.place e.first.kind → ⊥) → (e.second.place ≡ suc t → StatesRace w e → ⊥) → HasStanding w t e s → HasStanding w (suc t) e s
 stays w t e Missing m n h = λ l a. elim (cases_eq e.first.place (suc t)) [
   | inl q ↦ m q a
   | inr q ↦ h (omega arith) a
@@ -95,7 +95,7 @@ stays w t e (Begun deep) m n h = record {
 stays w t e Confirmed m n h = h
 
 -- the place accesses another location, or none
-pub stays_elsewhere : (w : List Record) (t : ℕ) (e : RaceAt) (s : Standing) → ((k : Kind) → IsAccess w e.location (suc t) k → ⊥) → Stands w t e s → Stands w (suc t) e s
+pub stays_elsewhere : (w : List Record) (t : ℕ) (e : RaceAt) (s : Standing) → ((k : Kind) → IsAccess w e.location (suc t) k → ⊥) → HasStanding w t e s → HasStanding w (suc t) e s
 stays_elsewhere w t e s never h = stays w t e s (λ q a. never e.first.kind (subst (λ (z : ℕ). IsAccess w e.location z e.first.kind) q a))
     (λ q r. never e.second.kind (subst (λ (z : ℕ). IsAccess w e.location z e.second.kind) q r.second_kind)) h
 
@@ -106,7 +106,7 @@ same_access w l t a b e p f q =
     λ i. record { kind = k i; place = s i }
 
 -- the place has another access of the entry's location
-pub stays_other : (w : List Record) (t : ℕ) (e : RaceAt) (s : Standing) (a : Access) → a.place ≡ suc t → IsAccess w e.location a.place a.kind → (s ≡ Missing → a ≡ e.first → ⊥) → ((deep : ℕ) → s ≡ Begun deep → a ≡ e.second → ⊥) → Stands w t e s → Stands w (suc t) e s
+pub stays_other : (w : List Record) (t : ℕ) (e : RaceAt) (s : Standing) (a : Access) → a.place ≡ suc t → IsAccess w e.location a.place a.kind → (s ≡ Missing → a ≡ e.first → ⊥) → ((deep : ℕ) → s ≡ Begun deep → a ≡ e.second → ⊥) → HasStanding w t e s → HasStanding w (suc t) e s
 stays_other w t e Missing a is p m n h = λ l x. elim (cases_eq e.first.place (suc t)) [
   | inl q ↦ m refl (same_access w e.location t a e.first is p q x)
   | inr q ↦ h (omega arith) x
@@ -151,7 +151,7 @@ access-false a b e f =
     cc
 
 -- an entry that has begun, at another access of its location
-pub begun_stays : (w : List Record) (t : ℕ) (r : RaceAt) (s : Standing) (deep : ℕ) (a : Access) → s ≡ Begun deep → a.place ≡ suc t → IsAccess w r.location a.place a.kind → (a ≡ r.second → ⊥) → Stands w t r s → Stands w (suc t) r s
+pub begun_stays : (w : List Record) (t : ℕ) (r : RaceAt) (s : Standing) (deep : ℕ) (a : Access) → s ≡ Begun deep → a.place ≡ suc t → IsAccess w r.location a.place a.kind → (a ≡ r.second → ⊥) → HasStanding w t r s → HasStanding w (suc t) r s
 begun_stays w t r s deep a e is p n h = stays_other w t r s a is p (λ f. absurd (let z : Missing ≡ Begun deep = sym f ∙ e in cc)) (λ d f. n) h
 
 -- its first access is there
@@ -214,15 +214,15 @@ set-cases (z ∷ xs) (suc i) x (suc k) y s = elim (set-cases xs i x k y s) [
   | inr q ↦ inr ((λ e. q.0 (omega arith)), q.1)
 ]
 
-pub races_of-set : (es : List Entry) (i : ℕ) (e x : Entry) → slice_get es i ≡ Some e → entry_race x ≡ entry_race e → races_of (slice_set es i x) ≡ races_of es
-races_of-set [] i e x s q = refl
-races_of-set (z ∷ es) zero e x s q = let f : z ≡ e = cc in ap (λ (r : RaceAt). r ∷ races_of es) (q ∙ ap entry_race (sym f))
-races_of-set (z ∷ es) (suc i) e x s q = ap (λ (rs : List RaceAt). entry_race z ∷ rs) (races_of-set es i e x s q)
+pub entry_races-set : (es : List Entry) (i : ℕ) (e x : Entry) → slice_get es i ≡ Some e → entry_race x ≡ entry_race e → entry_races (slice_set es i x) ≡ entry_races es
+entry_races-set [] i e x s q = refl
+entry_races-set (z ∷ es) zero e x s q = let f : z ≡ e = cc in ap (λ (r : RaceAt). r ∷ entry_races es) (q ∙ ap entry_race (sym f))
+entry_races-set (z ∷ es) (suc i) e x s q = ap (λ (rs : List RaceAt). entry_race z ∷ rs) (entry_races-set es i e x s q)
 
 -- what a look at one entry says of it
 abbrev pub NextStanding : Meetings → Entry → Access → Standing → Type 0
 NextStanding m e a next = (u : List Record) → HasMet m u → IsRaceShape e.first e.second → a.place ≡ suc (length u)
-    → WhateverComes u (λ w. IsAccess w e.location a.place a.kind → Stands w (length u) (entry_race e) e.standing → Stands w (suc (length u)) (entry_race e) next)
+    → WhateverComes u (λ w. IsAccess w e.location a.place a.kind → HasStanding w (length u) (entry_race e) e.standing → HasStanding w (suc (length u)) (entry_race e) next)
 
 one_location : (w : List Record) (l i p : ℕ) (k q : Kind) → IsAccess w l i k → IsAccess w p i q → l ≡ p
 one_location w l i p Read Read a b = let e : Some (records.Read l) ≡ Some (records.Read p) = sym a ∙ b in cc
@@ -230,19 +230,19 @@ one_location w l i p Write Write a b = let e : Some (records.Write l) ≡ Some (
 one_location w l i p Read Write a b = absurd (let e : Some (records.Read l) ≡ Some (records.Write p) = sym a ∙ b in cc)
 one_location w l i p Write Read a b = absurd (let e : Some (records.Write l) ≡ Some (records.Read p) = sym a ∙ b in cc)
 
-other_location : (w : List Record) (l t : ℕ) (e : Entry) (a : Access) → a.place ≡ suc t → IsAccess w l a.place a.kind → e.location ≢ l → Stands w t (entry_race e) e.standing → Stands w (suc t) (entry_race e) e.standing
+other_location : (w : List Record) (l t : ℕ) (e : Entry) (a : Access) → a.place ≡ suc t → IsAccess w l a.place a.kind → e.location ≢ l → HasStanding w t (entry_race e) e.standing → HasStanding w (suc t) (entry_race e) e.standing
 other_location w l t e a is p apart h = stays_elsewhere w t (entry_race e) e.standing (λ k q. apart (one_location w e.location (suc t) l k a.kind q (subst (λ (z : ℕ). IsAccess w l z a.kind) is p))) h
 
 -- the entry of the location is looked at
 pub seen_here : (m : Meetings) (l : ℕ) (a : Access) (es : List Entry) (i : ℕ) (e : Entry) (next : Standing) → slice_get es i ≡ Some e → e.location ≡ l → NextStanding m e a next
-    → Sees m l a es (slice_set es i (record { location = e.location; first = e.first; second = e.second; standing = next }))
+    → SeesEntries m l a es (slice_set es i (record { location = e.location; first = e.first; second = e.second; standing = next }))
 seen_here m l a es i e next there on steps u met report is w rest begins-with n d h p all k f s = by_place (set-cases es i x k f s)
   where
     x : Entry
     x = record { location = e.location; first = e.first; second = e.second; standing = next }
 
-    by_place : ((k ≡ i) × (record { location = e.location; first = e.first; second = e.second; standing = next } ≡ f)) ⊎ ((k ≢ i) × (slice_get es k ≡ Some f)) → Stands w (suc (length u)) (entry_race f) f.standing
-    by_place (inl (q, g)) = subst (λ (z : Entry). Stands w (suc (length u)) (entry_race z) z.standing) g
+    by_place : ((k ≡ i) × (record { location = e.location; first = e.first; second = e.second; standing = next } ≡ f)) ⊎ ((k ≢ i) × (slice_get es k ≡ Some f)) → HasStanding w (suc (length u)) (entry_race f) f.standing
+    by_place (inl (q, g)) = subst (λ (z : Entry). HasStanding w (suc (length u)) (entry_race z) z.standing) g
         (steps u met (shape-at es report i e there) is w rest begins-with n d h (subst (λ (z : ℕ). IsAccess w z a.place a.kind) (sym on) p) (all i e there))
     by_place (inr (q, g)) = other_location w l (length u) f a is p (λ z. apart z (cases_lt k i)) (all k f g)
       where
@@ -252,14 +252,14 @@ seen_here m l a es i e next there on steps u met report is w rest begins-with n 
 
 -- the same, where the entry was read twice
 pub seen_at : (m : Meetings) (l : ℕ) (a : Access) (es : List Entry) (i : ℕ) (e f : Entry) (next : Standing) → slice_get es i ≡ Some e → slice_get es i ≡ Some f → e.location ≡ l → NextStanding m e a next
-    → Sees m l a es (slice_set es i (record { location = f.location; first = f.first; second = f.second; standing = next }))
+    → SeesEntries m l a es (slice_set es i (record { location = f.location; first = f.first; second = f.second; standing = next }))
 seen_at m l a es i e f next there again on steps =
     let g : e ≡ f = (let z : Some e ≡ Some f = sym there ∙ again in cc) in
-    let P : Entry → Type 0 = λ x. Sees m l a es (slice_set es i (record { location = x.location; first = x.first; second = x.second; standing = next })) in
+    let P : Entry → Type 0 = λ x. SeesEntries m l a es (slice_set es i (record { location = x.location; first = x.first; second = x.second; standing = next })) in
     subst P g (seen_here m l a es i e next there on steps)
 
 -- no entry is on the location
-pub unseen : (m : Meetings) (l : ℕ) (a : Access) (es : List Entry) → (AreAscending es → (k : ℕ) (e : Entry) → slice_get es k ≡ Some e → e.location ≢ l) → Sees m l a es es
+pub unseen : (m : Meetings) (l : ℕ) (a : Access) (es : List Entry) → (AreAscending es → (k : ℕ) (e : Entry) → slice_get es k ≡ Some e → e.location ≢ l) → SeesEntries m l a es es
 unseen m l a es nowhere u met report is w rest begins-with n d h p all k f s = other_location w l (length u) f a is p (nowhere (ascending es report) k f s) (all k f s)
 
 -- one record more
@@ -267,16 +267,16 @@ unseen m l a es nowhere u met report is w rest begins-with n d h p all k f s = o
 pub confirming_none : (races : List RaceAt) (s : Confirming) → IsReportList races → s.entries.items ≡ map entry_of races → HasMet s.meetings [] → HasConfirmed races [] s
 confirming_none races s report is met = record {
   is_report = report;
-  same_races = ap races_of is ∙ none-found races;
+  same_races = ap entry_races is ∙ none-found races;
   met = met;
   stands = λ w rest begins-with n d h k e q. (let z : e.standing ≡ Missing = missing-at races k e (sym (ap (λ (es : List Entry). slice_get es k) is) ∙ q) in
-      subst (λ (v : Standing). Stands w 0 (entry_race e) v) (sym z) (none_there w e));
+      subst (λ (v : Standing). HasStanding w 0 (entry_race e) v) (sym z) (none_there w e));
 }
   where
     none_there : (w : List Record) (e : Entry) → e.first.place ≤ 0 → IsAccess w e.location e.first.place e.first.kind → ⊥
     none_there w e l a = omega (arith, (access-place w e.first.place (IsAccessPlace-at w e.location e.first.place e.first.kind a)).0)
 
-module _ (s s' : Confirming) (races : List RaceAt) (u : List Record) (p : Placed) (h : HasConfirmed races u s) (c : ComesAfter u p) (same : races_of s'.entries.items ≡ races_of s.entries.items)
+module _ (s s' : Confirming) (races : List RaceAt) (u : List Record) (p : Placed) (h : HasConfirmed races u s) (c : ComesAfter u p) (same : entry_races s'.entries.items ≡ entry_races s.entries.items)
     (moves : Moves p.place p.what s.meetings s'.meetings) where
   longer : suc (length u) ≡ length (u ++ p.what ∷ [])
   longer = omega (arith, length-append u (p.what ∷ []))
@@ -290,7 +290,7 @@ module _ (s s' : Confirming) (races : List RaceAt) (u : List Record) (p : Placed
   }
 
   -- an access
-  pub confirming_access : (l : ℕ) (a : Access) → p.what ≡ access a.kind l → a.place ≡ p.place → Sees s.meetings l a s.entries.items s'.entries.items → HasConfirmed races (u ++ p.what ∷ []) s'
+  pub confirming_access : (l : ℕ) (a : Access) → p.what ≡ access a.kind l → a.place ≡ p.place → SeesEntries s.meetings l a s.entries.items s'.entries.items → HasConfirmed races (u ++ p.what ∷ []) s'
   confirming_access l a what place sees = confirming_next next
     where
       at_next : a.place ≡ suc (length u)
@@ -322,41 +322,41 @@ not_access r (inr (inr (inr e))) l Write f = cc
 
 -- the same, where no growth was refused
 
-pub confirming_access_if : {T E : Type 0} (s s' : Confirming) (p : Placed) (l : ℕ) (a : Access) (o : Result T E) → p.what ≡ access a.kind l → a.place ≡ p.place → races_of s'.entries.items ≡ races_of s.entries.items → Sees s.meetings l a s.entries.items s'.entries.items
+pub confirming_access_if : {T E : Type 0} (s s' : Confirming) (p : Placed) (l : ℕ) (a : Access) (o : Result T E) → p.what ≡ access a.kind l → a.place ≡ p.place → entry_races s'.entries.items ≡ entry_races s.entries.items → SeesEntries s.meetings l a s.entries.items s'.entries.items
     → OnOk o (Moves p.place p.what s.meetings s'.meetings)
-    → OnOk o ((first : Confirming) (u : List Record) → HasConfirmed (races_of first.entries.items) u s → ComesAfter u p → HasConfirmed (races_of first.entries.items) (u ++ p.what ∷ []) s')
-confirming_access_if s s' p l a (Ok t) what place same sees moves = λ first u h c. confirming_access s s' (races_of first.entries.items) u p h c same moves l a what place sees
+    → OnOk o ((first : Confirming) (u : List Record) → HasConfirmed (entry_races first.entries.items) u s → ComesAfter u p → HasConfirmed (entry_races first.entries.items) (u ++ p.what ∷ []) s')
+confirming_access_if s s' p l a (Ok t) what place same sees moves = λ first u h c. confirming_access s s' (entry_races first.entries.items) u p h c same moves l a what place sees
 confirming_access_if s s' p l a (Err t) what place same sees moves = tt
 
 pub confirming_other_if : {T E : Type 0} (s s' : Confirming) (p : Placed) (o : Result T E) → ((l : ℕ) (k : Kind) → p.what ≢ access k l) → s'.entries.items ≡ s.entries.items
     → OnOk o (Moves p.place p.what s.meetings s'.meetings)
-    → OnOk o ((first : Confirming) (u : List Record) → HasConfirmed (races_of first.entries.items) u s → ComesAfter u p → HasConfirmed (races_of first.entries.items) (u ++ p.what ∷ []) s')
-confirming_other_if s s' p (Ok t) never es moves = λ first u h c. confirming_other s s' (races_of first.entries.items) u p h c (ap races_of es) moves never es
+    → OnOk o ((first : Confirming) (u : List Record) → HasConfirmed (entry_races first.entries.items) u s → ComesAfter u p → HasConfirmed (entry_races first.entries.items) (u ++ p.what ∷ []) s')
+confirming_other_if s s' p (Ok t) never es moves = λ first u h c. confirming_other s s' (entry_races first.entries.items) u p h c (ap entry_races es) moves never es
 confirming_other_if s s' p (Err t) never es moves = tt
 
 -- the answer of a whole trace
 
-stands-race : (w : List Record) (t : ℕ) (e : RaceAt) (s : Standing) → s ≡ Confirmed → Stands w t e s → StatesRace w e
-stands-race w t e s q h = subst (λ (z : Standing). Stands w t e z) q h
+stands-race : (w : List Record) (t : ℕ) (e : RaceAt) (s : Standing) → s ≡ Confirmed → HasStanding w t e s → StatesRace w e
+stands-race w t e s q h = subst (λ (z : Standing). HasStanding w t e z) q h
 
-stands-not_race : (w : List Record) (t : ℕ) (e : RaceAt) (s : Standing) → length w ≡ t → s ≢ Confirmed → Stands w t e s → StatesRace w e → ⊥
+stands-not_race : (w : List Record) (t : ℕ) (e : RaceAt) (s : Standing) → length w ≡ t → s ≢ Confirmed → HasStanding w t e s → StatesRace w e → ⊥
 stands-not_race w t e Missing l q h r =
     h (omega (arith, (access-place w e.first.place (IsAccessPlace-at w e.location e.first.place e.first.kind r.first_kind)).1)) r.first_kind
 stands-not_race w t e (Begun deep) l q h r =
     h.not_yet (omega (arith, (access-place w e.second.place (IsAccessPlace-at w e.location e.second.place e.second.kind r.second_kind)).1)) r
 stands-not_race w t e Confirmed l q h r = q refl
 
-race-at : (es : List Entry) (k : ℕ) (r : RaceAt) → slice_get (races_of es) k ≡ Some r → (e : Entry) × (slice_get es k ≡ Some e) × (entry_race e ≡ r)
+race-at : (es : List Entry) (k : ℕ) (r : RaceAt) → slice_get (entry_races es) k ≡ Some r → (e : Entry) × (slice_get es k ≡ Some e) × (entry_race e ≡ r)
 race-at [] k r s = absurd (cc)
 race-at (x ∷ es) zero r s = (x, refl, cc)
 race-at (x ∷ es) (suc k) r s = race-at es k r s
 
-race-of-at : (es : List Entry) (k : ℕ) (e : Entry) → slice_get es k ≡ Some e → slice_get (races_of es) k ≡ Some (entry_race e)
+race-of-at : (es : List Entry) (k : ℕ) (e : Entry) → slice_get es k ≡ Some e → slice_get (entry_races es) k ≡ Some (entry_race e)
 race-of-at es k e s = slice_get-map entry_race es k ∙ ap (option_map entry_race) s
 
-answer : (w : List Record) (es : List Entry) (a : Confirm) → AllStand w (length w) es → AnswersBy es a → Confirms w (races_of es) a
+answer : (w : List Record) (es : List Entry) (a : Confirm) → AllStand w (length w) es → AnswersBy es a → Confirms w (entry_races es) a
 answer w es Yes all by = λ k d l.
-    (let q = race-at es k (get_or (races_of es) k d) (slice_get-get_or (races_of es) k d l) in
+    (let q = race-at es k (get_or (entry_races es) k d) (slice_get-get_or (entry_races es) k d l) in
     subst (StatesRace w) q.2 (stands-race w (length w) (entry_race q.0) q.0.standing (by k q.0 q.1) (all k q.0 q.1)))
 answer w es (No entry) all by = record {
   before = by.before;

@@ -27,7 +27,7 @@ use Rattle.audit.specs.declared.explanations.Explaining.{Explaining}
 use Rattle.audit.specs.Following.{WhateverComes}
 use Rattle.audit.specs.Meetings.{HasMet, DecidesParallel, Moves}
 use Rattle.audit.specs.Explanations.{AreOpeners, WaitsAt, IsNextWait, AreJoined, IsExplained, Explains}
-use Rattle.audit.specs.Explaining.{IsTrail, Follows, KeepsWrite, KeepsReader, HasSought, IsUnjoined, reported_race, HasReported, Stands, DecidesNow, IsRival, Joins, NextJoined, ReportsIt, Keeps, Sees, Seeks, HasExplained, explanation}
+use Rattle.audit.specs.Explaining.{IsTrail, Follows, KeepsWrite, KeepsReader, HasSought, IsUnjoined, reported_race, HasFoundRace, Stands, DecidesNow, IsRival, Joins, NextJoined, ReportsIt, Keeps, Sees, Seeks, HasExplained, explanation}
 use Rattle.audit.proofs.ListLemmas.{place_there, record_there}
 use Rattle.audit.proofs.PathLemmas.{step_by, step_out}
 use Rattle.audit.proofs.MeetingLemmas.{met_next}
@@ -341,7 +341,7 @@ module _ (w : List Record) {n c : ℕ} (h : IsWellNested w n c) (t : ℕ) where
         holds = λ z. (let x = s.holds (omega arith) in holds_on w m (suc t) x (no_less m p.what e z (x.inside (suc t) x.after (omega arith)) (λ i v. q.0 (sym lies ∙ i ∙ on) v)));
       })
 
-  reported_next : (l deep : ℕ) (p : Placed) (d : Reported) (next : Option ℕ) → depth w (suc t) ≡ deep → at w (suc t) ≡ Some p.what → p.place ≡ suc t → HasReported w l t d → NextJoined p deep d.level d.joined next → HasReported w l (suc t) (record d { joined = next })
+  reported_next : (l deep : ℕ) (p : Placed) (d : Reported) (next : Option ℕ) → depth w (suc t) ≡ deep → at w (suc t) ≡ Some p.what → p.place ≡ suc t → HasFoundRace w l t d → NextJoined p deep d.level d.joined next → HasFoundRace w l (suc t) (record d { joined = next })
   reported_next l deep p d next lies e place s q = record {
     reported = s.reported;
     race = s.race;
@@ -375,7 +375,7 @@ module _ (d : Reported) (xs ys : List Opener) (within : d.level ≤ length xs) (
         holds_on w d.meeting (suc t) x (omega (arith, x.inside (suc t) x.after (omega arith), access_depth w h t l d.second.kind (sym (ap (at w) is) ∙ reported.second_kind) b)));
   }
 
-  pub reports_it : HasReported w l (suc t) d
+  pub reports_it : HasFoundRace w l (suc t) d
   reports_it = record {
     reported = reported;
     race = race;
@@ -394,18 +394,18 @@ abbrev pub StandsOpen : List Record → ℕ → ℕ → Explaining → Type 0
 StandsOpen w l t s = HasSought w l t s.last_write s.kept_reader × (suc t ≤ length w → IsTrail w (suc t) s.openers.items)
 
 abbrev pub StandsBy : List Record → ℕ → ℕ → Explaining → Option Reported → Type 0
-StandsBy w l t s reported = MatchOption reported (StandsOpen w l t s) (HasReported w l t)
+StandsBy w l t s reported = MatchOption reported (StandsOpen w l t s) (HasFoundRace w l t)
 
 stands_open : (w : List Record) (l t : ℕ) (s : Explaining) → s.reported ≡ None → Stands w l t s → StandsOpen w l t s
 stands_open w l t s e x = subst (StandsBy w l t s) e x
 
-stands_reported : (w : List Record) (l t : ℕ) (s : Explaining) (d : Reported) → s.reported ≡ Some d → Stands w l t s → HasReported w l t d
+stands_reported : (w : List Record) (l t : ℕ) (s : Explaining) (d : Reported) → s.reported ≡ Some d → Stands w l t s → HasFoundRace w l t d
 stands_reported w l t s d e x = subst (StandsBy w l t s) e x
 
 -- an access, which a kept one races with
 pub sees_reported : (s : Explaining) (a : Access) (k : Kind) (first : Trail) (d : Reported) (xs : List Opener) → s.openers.items ≡ xs → ReportsIt k first a xs d
     → ((l : ℕ) (u : List Record) → HasMet s.meetings u → WhateverComes u (λ w. IsAccess w l (suc (length u)) a.kind → HasSought w l (length u) s.last_write s.kept_reader → IsRival w l k first (record { kind = a.kind; place = suc (length u) })))
-    → (l : ℕ) (u : List Record) → HasMet s.meetings u → a.place ≡ suc (length u) → s.reported ≡ None → WhateverComes u (λ w. IsAccess w l a.place a.kind → Stands w l (length u) s → HasReported w l (suc (length u)) d)
+    → (l : ℕ) (u : List Record) → HasMet s.meetings u → a.place ≡ suc (length u) → s.reported ≡ None → WhateverComes u (λ w. IsAccess w l a.place a.kind → Stands w l (length u) s → HasFoundRace w l (suc (length u)) d)
 sees_reported s a k first d xs same decides rival l u met is none w rest begins n c h y x =
     let v = stands_open w l (length u) s none x in
     let z : IsAccess w l (suc (length u)) a.kind = subst (λ (i : ℕ). IsAccess w l i a.kind) is y in
@@ -549,7 +549,7 @@ explains s l answer w h a q = by_reported s.reported (stands_at_end s l w h a) q
     no_race : StandsOpen w l (length w) s → (i j : ℕ) → IsRace w l i j → ⊥
     no_race x i j r = x.0.none_reported i j r (elim r.second [ inl e ↦ (IsPlace-at w j _ e).1 | inr e ↦ (IsPlace-at w j _ e).1 ])
 
-    reported_is : (d : Reported) → HasReported w l (length w) d → IsExplained w (explanation l d)
+    reported_is : (d : Reported) → HasFoundRace w l (length w) d → IsExplained w (explanation l d)
     reported_is d x = record {
       reported = x.reported;
       meets = x.meets;

@@ -15,14 +15,14 @@ use Rattle.audit.specs.declared.measures.Suspended.{Suspended}
 use Rattle.audit.specs.declared.measures.Measuring.{Measuring}
 use Rattle.audit.specs.Measures.{is_spawn, IsMeasure, IsSpan, IsGreatestDepth}
 use Rattle.trace.specs.Watching.{ComesAfter}
-use Rattle.audit.specs.LongestPaths.{PathTo, IsLongestTo, IsReturnOf, LeadsOn, at_start, own, opened, came_back, IsLongestUnjoined, opened_by, IsSuspended, AreActive, IsSpanTo, IsDepthTo, HasMeasuredTo, IsWithin, HasMeasured, through, after_child, Advances}
+use Rattle.audit.specs.LongestPaths.{PathTo, IsLongestTo, IsReturnOf, LeadsOn, at_start, own, opened, came_back, IsLongestUnjoined, opened_by, IsSuspended, AreLongest, IsSpanTo, IsDepthTo, HasMeasuredTo, IsWithin, HasMeasured, through, after_child, Advances}
 use Rattle.dag.proofs.Lists.{slice_get-front, slice_get-last}
 use Rattle.audit.proofs.ListLemmas.{slice_get-push, place_there, record_there}
 use Rattle.audit.proofs.PathLemmas.{path_to, path_list, path_place, opened_by-opens, opens_no_return, opens_no_join, one_opener, step_by, step_in, step_out, longest_on, longest_joined, last_kept, last_here, waits_on, waits_here, unjoined_kept, unjoined_synced, unjoined_opened, unjoined_returned}
 
 -- the active procedures, where the next place is at depth d
 active_at : (w : List Record) (t d : ℕ) (e : Longest) (xs : List Suspended) → depth w (suc t) ≡ d → length xs ≡ d → LeadsOn w t d e.own → IsLongestUnjoined w t d e.unjoined
-    → ((k : ℕ) (f : Suspended) → slice_get xs k ≡ Some f → IsSuspended w t k f) → AreActive w t e xs
+    → ((k : ℕ) (f : Suspended) → slice_get xs k ≡ Some f → IsSuspended w t k f) → AreLongest w t e xs
 active_at w t d e xs q l o u a = record {
   level = l ∙ sym q;
   own = subst (λ (z : ℕ). LeadsOn w t z e.own) (sym q) o;
@@ -39,13 +39,13 @@ module _ (w : List Record) {n d : ℕ} (h : IsWellNested w n d) (t : ℕ) where
   other r q s a e = let f : Some r ≡ Some q = sym s ∙ e in let g : r ≡ q = cc in a g
 
   -- the longest path to the next place
-  longest_plain : (r : Record) (e : Longest) (xs : List Suspended) (x : ℕ) → suc t ≤ length w → AreActive w t e xs → (JoinsAt w (suc t) → ⊥) → x ≡ e.own + 1 → IsLongestTo w (suc t) x
+  longest_plain : (r : Record) (e : Longest) (xs : List Suspended) (x : ℕ) → suc t ≤ length w → AreLongest w t e xs → (JoinsAt w (suc t) → ⊥) → x ≡ e.own + 1 → IsLongestTo w (suc t) x
   longest_plain r e xs x b a j q = let f : suc e.own ≡ x = omega arith in subst (λ (z : ℕ). IsLongestTo w (suc t) z) f (longest_on w h t e.own b j a.own)
 
-  longest_waits : (e : Longest) (xs : List Suspended) (x : ℕ) → suc t ≤ length w → AreActive w t e xs → JoinsAt w (suc t) → x ≡ max e.own e.unjoined + 1 → IsLongestTo w (suc t) x
+  longest_waits : (e : Longest) (xs : List Suspended) (x : ℕ) → suc t ≤ length w → AreLongest w t e xs → JoinsAt w (suc t) → x ≡ max e.own e.unjoined + 1 → IsLongestTo w (suc t) x
   longest_waits e xs x b a j q = let f : suc (max e.own e.unjoined) ≡ x = omega arith in subst (λ (z : ℕ). IsLongestTo w (suc t) z) f (longest_joined w h t e.own e.unjoined b j a.own a.unjoined)
 
-  pub longest_at : (r : Record) (e : Longest) (xs : List Suspended) (x : ℕ) → suc t ≤ length w → at w (suc t) ≡ Some r → AreActive w t e xs → x ≡ through e r → IsLongestTo w (suc t) x
+  pub longest_at : (r : Record) (e : Longest) (xs : List Suspended) (x : ℕ) → suc t ≤ length w → at w (suc t) ≡ Some r → AreLongest w t e xs → x ≡ through e r → IsLongestTo w (suc t) x
   longest_at Spawn e xs x b s a q = longest_plain Spawn e xs x b a (not_joined Spawn s (λ z. cc) (λ z. cc)) q
   longest_at Call e xs x b s a q = longest_plain Call e xs x b a (not_joined Call s (λ z. cc) (λ z. cc)) q
   longest_at Return e xs x b s a q = longest_waits e xs x b a (inr s) q
@@ -54,10 +54,10 @@ module _ (w : List Record) {n d : ℕ} (h : IsWellNested w n d) (t : ℕ) where
   longest_at (Write l) e xs x b s a q = longest_plain (Write l) e xs x b a (not_joined (Write l) s (λ z. cc) (λ z. cc)) q
 
   -- those that wait stand above the place
-  above : (e : Longest) (xs : List Suspended) (k : ℕ) (f : Suspended) → AreActive w t e xs → slice_get xs k ≡ Some f → k < depth w (suc t)
+  above : (e : Longest) (xs : List Suspended) (k : ℕ) (f : Suspended) → AreLongest w t e xs → slice_get xs k ≡ Some f → k < depth w (suc t)
   above e xs k f a s = omega (arith, a.level, slice_get_within xs k f s)
 
-  wait_on : (e : Longest) (xs : List Suspended) → AreActive w t e xs → (IsReturnOf w Spawn (suc t) → ⊥) → (k : ℕ) (f : Suspended) → slice_get xs k ≡ Some f → IsSuspended w (suc t) k f
+  wait_on : (e : Longest) (xs : List Suspended) → AreLongest w t e xs → (IsReturnOf w Spawn (suc t) → ⊥) → (k : ℕ) (f : Suspended) → slice_get xs k ≡ Some f → IsSuspended w (suc t) k f
   wait_on e xs a m k f s =
       let l : k < depth w (suc t) = above e xs k f a s in
       let i : IsSuspended w t k f = a.waits k f s in
@@ -65,33 +65,33 @@ module _ (w : List Record) {n d : ℕ} (h : IsWellNested w n d) (t : ℕ) where
 
   -- an access
   next_plain : (r : Record) (e e' : Longest) (xs xs' : List Suspended) (x : ℕ) → suc (suc t) ≤ length w → (JoinsAt w (suc t) → ⊥) → at w (suc t) ≢ Some Return → depth w (suc (suc t)) ≡ depth w (suc t)
-      → AreActive w t e xs → IsLongestTo w (suc t) x → e' ≡ record { own = x; unjoined = e.unjoined } → xs' ≡ xs → AreActive w (suc t) e' xs'
+      → AreLongest w t e xs → IsLongestTo w (suc t) x → e' ≡ record { own = x; unjoined = e.unjoined } → xs' ≡ xs → AreLongest w (suc t) e' xs'
   next_plain r e e' xs xs' x b j m z a l p q =
       let o : x ≡ e'.own = sym (ap (λ (f : Longest). f.own) p) in
       let u : e.unjoined ≡ e'.unjoined = sym (ap (λ (f : Longest). f.unjoined) p) in
-      subst (λ (ys : List Suspended). AreActive w (suc t) e' ys) (sym q)
+      subst (λ (ys : List Suspended). AreLongest w (suc t) e' ys) (sym q)
       (active_at w (suc t) (depth w (suc t)) e' xs z a.level
       (subst (λ (y : ℕ). LeadsOn w (suc t) (depth w (suc t)) y) o (own (last_here w h t x (omega arith) m l) (λ c. m c.a_return)))
       (subst (λ (y : ℕ). IsLongestUnjoined w (suc t) (depth w (suc t)) y) u (unjoined_kept w h t (depth w (suc t)) e.unjoined (λ y. j) (λ y. absurd (m y.a_return)) a.unjoined))
       (wait_on e xs a (λ c. m c.a_return)))
 
-  next_sync : (e e' : Longest) (xs xs' : List Suspended) (x : ℕ) → suc (suc t) ≤ length w → at w (suc t) ≡ Some Sync → AreActive w t e xs → IsLongestTo w (suc t) x
-      → e' ≡ record { own = x; unjoined = 0 } → xs' ≡ xs → AreActive w (suc t) e' xs'
+  next_sync : (e e' : Longest) (xs xs' : List Suspended) (x : ℕ) → suc (suc t) ≤ length w → at w (suc t) ≡ Some Sync → AreLongest w t e xs → IsLongestTo w (suc t) x
+      → e' ≡ record { own = x; unjoined = 0 } → xs' ≡ xs → AreLongest w (suc t) e' xs'
   next_sync e e' xs xs' x b s a l p q =
       let m : at w (suc t) ≢ Some Return = other Sync Return s (λ z. cc) in
       let o : x ≡ e'.own = sym (ap (λ (f : Longest). f.own) p) in
       let u : 0 ≡ e'.unjoined = sym (ap (λ (f : Longest). f.unjoined) p) in
-      subst (λ (ys : List Suspended). AreActive w (suc t) e' ys) (sym q)
+      subst (λ (ys : List Suspended). AreLongest w (suc t) e' ys) (sym q)
       (active_at w (suc t) (depth w (suc t)) e' xs (step_by w h t Sync b s) a.level
       (subst (λ (y : ℕ). LeadsOn w (suc t) (depth w (suc t)) y) o (own (last_here w h t x (omega arith) m l) (λ c. m c.a_return)))
       (subst (λ (y : ℕ). IsLongestUnjoined w (suc t) (depth w (suc t)) y) u (unjoined_synced w h t s))
       (wait_on e xs a (λ c. m c.a_return)))
 
   -- a spawn or a call
-  next_opened : (c : Bool) (e e' : Longest) (xs xs' : List Suspended) (x : ℕ) → suc (suc t) ≤ length w → at w (suc t) ≡ Some (opened_by c) → AreActive w t e xs → IsLongestTo w (suc t) x
-      → e' ≡ record { own = x; unjoined = 0 } → xs' ≡ xs ++ record { longest = record { own = x; unjoined = e.unjoined }; calls = c } ∷ [] → AreActive w (suc t) e' xs'
+  next_opened : (c : Bool) (e e' : Longest) (xs xs' : List Suspended) (x : ℕ) → suc (suc t) ≤ length w → at w (suc t) ≡ Some (opened_by c) → AreLongest w t e xs → IsLongestTo w (suc t) x
+      → e' ≡ record { own = x; unjoined = 0 } → xs' ≡ xs ++ record { longest = record { own = x; unjoined = e.unjoined }; calls = c } ∷ [] → AreLongest w (suc t) e' xs'
   next_opened c e e' xs xs' x b s a l p q =
-      subst (λ (ys : List Suspended). AreActive w (suc t) e' ys) (sym q)
+      subst (λ (ys : List Suspended). AreLongest w (suc t) e' ys) (sym q)
       (active_at w (suc t) (suc (depth w (suc t))) e' (xs ++ parent ∷ []) (step_in w h t b opens) (omega (arith, a.level, length-append xs (parent ∷ [])))
       (subst (λ (y : ℕ). LeadsOn w (suc t) (suc (depth w (suc t))) y) o (opened opens refl l))
       (subst (λ (y : ℕ). IsLongestUnjoined w (suc t) (suc (depth w (suc t))) y) u (unjoined_opened w h t (omega arith) opens))
@@ -121,9 +121,9 @@ module _ (w : List Record) {n d : ℕ} (h : IsWellNested w n d) (t : ℕ) where
       by_place k f (inl g) = wait_on e xs a (λ y. m y.a_return) k f g
       by_place k f (inr (i, g)) = subst (λ (y : Suspended). IsSuspended w (suc t) k y) g (subst (λ (y : ℕ). IsSuspended w (suc t) y (record { longest = record { own = x; unjoined = e.unjoined }; calls = c })) (sym i) here)
 
-  next_return : (e e' : Longest) (xs ys : List Suspended) (f : Suspended) (x : ℕ) → suc (suc t) ≤ length w → at w (suc t) ≡ Some Return → AreActive w t e xs → IsLongestTo w (suc t) x
-      → xs ≡ ys ++ f ∷ [] → e' ≡ after_child x f.calls f.longest → AreActive w (suc t) e' ys
-  next_return e e' xs ys f x b s a l q p = subst (λ (g : Longest). AreActive w (suc t) g ys) (sym p) (by f.calls returned)
+  next_return : (e e' : Longest) (xs ys : List Suspended) (f : Suspended) (x : ℕ) → suc (suc t) ≤ length w → at w (suc t) ≡ Some Return → AreLongest w t e xs → IsLongestTo w (suc t) x
+      → xs ≡ ys ++ f ∷ [] → e' ≡ after_child x f.calls f.longest → AreLongest w (suc t) e' ys
+  next_return e e' xs ys f x b s a l q p = subst (λ (g : Longest). AreLongest w (suc t) g ys) (sym p) (by f.calls returned)
     where
       last : slice_get xs (length ys) ≡ Some f
       last = ap (λ (z : List Suspended). slice_get z (length ys)) q ∙ slice_get-last ys f
@@ -158,7 +158,7 @@ module _ (w : List Record) {n d : ℕ} (h : IsWellNested w n d) (t : ℕ) where
           let v : IsSuspended w t k g = a.waits k g (front k g i) in
           waits_on w h t k g (omega (arith, deeper)) (unjoined_kept w h t k g.longest.unjoined (λ z c. omega (arith, deeper)) (λ z c. omega (arith, deeper)) v.unjoined) v
 
-      by : (c : Bool) → IsReturnOf w (opened_by c) (suc t) → AreActive w (suc t) (after_child x c f.longest) ys
+      by : (c : Bool) → IsReturnOf w (opened_by c) (suc t) → AreLongest w (suc t) (after_child x c f.longest) ys
       by true r = active_at w (suc t) (length ys) (record { own = x; unjoined = f.longest.unjoined }) ys level refl (came_back r deeper l)
           (unjoined_kept w h t (length ys) f.longest.unjoined (λ z c. omega (arith, deeper)) (λ z c. one_opener w (suc t) r z) waited.unjoined) below
       by false r = active_at w (suc t) (length ys) (record { own = f.longest.own; unjoined = max f.longest.unjoined x }) ys level refl
@@ -166,12 +166,12 @@ module _ (w : List Record) {n d : ℕ} (h : IsWellNested w n d) (t : ℕ) where
           (unjoined_returned w h t (length ys) f.longest.unjoined x r deeper l waited.unjoined) below
 
   -- the root's return is the last record
-  only_root : (e : Longest) (xs : List Suspended) → AreActive w t e xs → at w (suc t) ≡ Some Return → xs ≡ [] → suc (suc t) ≤ length w → ⊥
+  only_root : (e : Longest) (xs : List Suspended) → AreLongest w t e xs → at w (suc t) ≡ Some Return → xs ≡ [] → suc (suc t) ≤ length w → ⊥
   only_root e xs a s q b =
       let z : length xs ≡ 0 = ap length q in
       h.no_earlier (suc t) b (record { a_return = s; at_zero = omega (arith, a.level) })
 
-  pub active_next : (r : Record) (e e' : Longest) (xs xs' : List Suspended) (x : ℕ) → suc (suc t) ≤ length w → at w (suc t) ≡ Some r → AreActive w t e xs → IsLongestTo w (suc t) x → Advances x r e xs e' xs' → AreActive w (suc t) e' xs'
+  pub active_next : (r : Record) (e e' : Longest) (xs xs' : List Suspended) (x : ℕ) → suc (suc t) ≤ length w → at w (suc t) ≡ Some r → AreLongest w t e xs → IsLongestTo w (suc t) x → Advances x r e xs e' xs' → AreLongest w (suc t) e' xs'
   active_next Spawn e e' xs xs' x b s a l (p, q) = next_opened false e e' xs xs' x b s a l p q
   active_next Call e e' xs xs' x b s a l (p, q) = next_opened true e e' xs xs' x b s a l p q
   active_next Return e e' xs xs' x b s a l (inl z) = absurd (only_root e xs a s z.0 b)
@@ -356,7 +356,7 @@ measured_next m m' u p x h c e a wk sp dp ss = record {
         there : at w (suc (length u)) ≡ Some p.what
         there = record_there w u rest p.what is
 
-        active : AreActive w (length u) m.executing m.suspended.items
+        active : AreLongest w (length u) m.executing m.suspended.items
         active = before.active here
 
         longest : IsLongestTo w (suc (length u)) x

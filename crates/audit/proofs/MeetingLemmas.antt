@@ -19,7 +19,7 @@ use Rattle.audit.specs.declared.meetings.Turn.{Turn}
 use Rattle.audit.specs.declared.meetings.Meetings.{Meetings}
 use Rattle.trace.specs.Watching.{ComesAfter}
 use Rattle.audit.specs.Following.{WhateverComes}
-use Rattle.audit.specs.Meetings.{IsActive, AreActive, ActiveAt, waits, executes, IsActivesOwn, HasTurn, AreTurns, AreMet, HasMet, IsKeeper, DecidesUnjoined, DecidesUnjoinedAfter, DecidesTurn, DecidesParallel, EndsIn, TakesTurn, OpensChild, Leaves, Syncs, Moves}
+use Rattle.audit.specs.Meetings.{IsActive, AreActive, ActiveAt, waits, executes, IsActivesOwn, HasTurn, AreTurns, AreMet, HasMet, IsLastOpenedBefore, DecidesUnjoined, DecidesUnjoinedAfter, DecidesTurn, DecidesParallel, EndsIn, TakesTurn, OpensChild, Leaves, Syncs, Moves}
 use Rattle.dag.proofs.Lists.{slice_get-front, slice_get-last, element_at}
 use Rattle.audit.proofs.ListLemmas.{slice_get-push, slice_get-take, take-slice_get, place_there, record_there}
 use Rattle.audit.proofs.PathLemmas.{step_by, step_out}
@@ -54,7 +54,7 @@ module _ (w : List Record) {n d : ℕ} (h : IsWellNested w n d) (t : ℕ) (e : A
   ])
 
   -- the keeper is the meeting procedure of the place and the next one
-  keeper-meeting : (i k : ℕ) (f : Active) → 1 ≤ i → i ≤ t → IsKeeper e xs i k f → IsMeeting w i (suc t) f.opened
+  keeper-meeting : (i k : ℕ) (f : Active) → 1 ≤ i → i ≤ t → IsLastOpenedBefore e xs i k f → IsMeeting w i (suc t) f.opened
   keeper-meeting i k f b l q = record {
     first = holds-shorter w f.opened i (suc t) q.before (omega arith) x.holds;
     second = x.holds;
@@ -79,7 +79,7 @@ module _ (w : List Record) {n d : ℕ} (h : IsWellNested w n d) (t : ℕ) (e : A
     | inr q ↦ omega (arith, turned.ascending i j (get_or ts i x) (get_or ts j x) (omega arith) (slice_get-get_or ts i x (omega arith)) (slice_get-get_or ts j x m))
   ])
 
-  module _ (i k : ℕ) (f : Active) (p : IsAccessPlace w i) (r : IsAccessPlace w (suc t)) (l : i ≤ t) (q : IsKeeper e xs i k f) where
+  module _ (i k : ℕ) (f : Active) (p : IsAccessPlace w i) (r : IsAccessPlace w (suc t)) (l : i ≤ t) (q : IsLastOpenedBefore e xs i k f) where
     keeper : IsActive w t k f
     keeper = is_active k f q.there
 

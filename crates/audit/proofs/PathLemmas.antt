@@ -9,7 +9,7 @@ use Rattle.dag.specs.Meeting.{Opens}
 use Rattle.dag.proofs.World.{Step, Reach, here, next, leaves, leaves_by, reach-return}
 use Rattle.dag.proofs.Traced.{traced, shape_of, is_call, opener_of, opener-is, shape-return, returns-shape, step_at, edge_from, edge_to, trace_edge}
 use Rattle.audit.specs.declared.measures.Suspended.{Suspended}
-use Rattle.audit.specs.LongestPaths.{PathTo, IsLongestTo, LastOn, IsReturnOf, LeadsOn, at_start, own, opened, came_back, IsUnjoined, IsLongestUnjoined, opened_by, IsSuspended}
+use Rattle.audit.specs.LongestPaths.{PathTo, IsLongestTo, LastOn, IsReturnOf, LeadsOn, at_start, own, opened, came_back, IsUnjoinedReturn, IsLongestUnjoined, opened_by, IsSuspended}
 
 -- paths that end at a place
 
@@ -228,7 +228,7 @@ module _ (w : List Record) {n d : ℕ} (h : IsWellNested w n d) where
         ]
       ]
 
-      by_child : (r : ℕ) → IsUnjoined w t (depth w (suc t)) r → PathTo w y r → PathTo w (suc y) (suc t)
+      by_child : (r : ℕ) → IsUnjoinedReturn w t (depth w (suc t)) r → PathTo w y r → PathTo w (suc y) (suc t)
       by_child r q p = longer p (join (path_place w y r p) (omega arith, b) (omega (arith, q.upto)) (record {
         a_return = q.returned.a_return;
         opener = q.returned.opener;
@@ -239,7 +239,7 @@ module _ (w : List Record) {n d : ℕ} (h : IsWellNested w n d) where
         first = λ k f g e i. q.not_yet k f (omega arith) e i;
       }))
 
-      by_longer : x < y → (y ≡ 0) ⊎ ((r : ℕ) × IsUnjoined w t (depth w (suc t)) r × PathTo w y r) → PathTo w (suc (max x y)) (suc t)
+      by_longer : x < y → (y ≡ 0) ⊎ ((r : ℕ) × IsUnjoinedReturn w t (depth w (suc t)) r × PathTo w y r) → PathTo w (suc (max x y)) (suc t)
       by_longer f (inl e) = absurd (omega arith)
       by_longer f (inr (r, q, p)) = let e : suc y ≡ suc (max x y) = omega arith in subst (λ (z : ℕ). PathTo w z (suc t)) e (by_child r q p)
 
@@ -311,7 +311,7 @@ module _ (w : List Record) {n d : ℕ} (h : IsWellNested w n d) where
     unjoined = u;
   }
 
-  earlier : (t k r : ℕ) → (r ≡ suc t → ⊥) → IsUnjoined w (suc t) k r → IsUnjoined w t k r
+  earlier : (t k r : ℕ) → (r ≡ suc t → ⊥) → IsUnjoinedReturn w (suc t) k r → IsUnjoinedReturn w t k r
   earlier t k r m u = record {
     upto = omega (arith, u.upto, m);
     returned = u.returned;
@@ -319,7 +319,7 @@ module _ (w : List Record) {n d : ℕ} (h : IsWellNested w n d) where
     not_yet = λ q f g. u.not_yet q f (omega arith);
   }
 
-  later : (t k r : ℕ) → (depth w (suc t) ≡ k → JoinsAt w (suc t) → ⊥) → IsUnjoined w t k r → IsUnjoined w (suc t) k r
+  later : (t k r : ℕ) → (depth w (suc t) ≡ k → JoinsAt w (suc t) → ⊥) → IsUnjoinedReturn w t k r → IsUnjoinedReturn w (suc t) k r
   later t k r m u = record {
     upto = omega (arith, u.upto);
     returned = u.returned;
@@ -330,11 +330,11 @@ module _ (w : List Record) {n d : ℕ} (h : IsWellNested w n d) where
     ];
   }
 
-  later_reached : (t k y : ℕ) → (depth w (suc t) ≡ k → JoinsAt w (suc t) → ⊥) → (y ≡ 0) ⊎ ((r : ℕ) × IsUnjoined w t k r × PathTo w y r) → (y ≡ 0) ⊎ ((r : ℕ) × IsUnjoined w (suc t) k r × PathTo w y r)
+  later_reached : (t k y : ℕ) → (depth w (suc t) ≡ k → JoinsAt w (suc t) → ⊥) → (y ≡ 0) ⊎ ((r : ℕ) × IsUnjoinedReturn w t k r × PathTo w y r) → (y ≡ 0) ⊎ ((r : ℕ) × IsUnjoinedReturn w (suc t) k r × PathTo w y r)
   later_reached t k y m (inl e) = inl e
   later_reached t k y m (inr (r, u, p)) = inr (r, later t k r m u, p)
 
-  not_the_return : (t k : ℕ) → (IsReturnOf w Spawn (suc t) → depth w (suc t) ≡ suc k → ⊥) → (r : ℕ) → IsUnjoined w (suc t) k r → r ≡ suc t → ⊥
+  not_the_return : (t k : ℕ) → (IsReturnOf w Spawn (suc t) → depth w (suc t) ≡ suc k → ⊥) → (r : ℕ) → IsUnjoinedReturn w (suc t) k r → r ≡ suc t → ⊥
   not_the_return t k m r u e = m (subst (λ (z : ℕ). IsReturnOf w Spawn z) e u.returned) (sym (ap (depth w) e) ∙ u.level)
 
   pub unjoined_kept : (t k y : ℕ) → (depth w (suc t) ≡ k → JoinsAt w (suc t) → ⊥) → (IsReturnOf w Spawn (suc t) → depth w (suc t) ≡ suc k → ⊥) → IsLongestUnjoined w t k y → IsLongestUnjoined w (suc t) k y
@@ -347,7 +347,7 @@ module _ (w : List Record) {n d : ℕ} (h : IsWellNested w n d) where
   pub unjoined_synced : (t : ℕ) → at w (suc t) ≡ Some Sync → IsLongestUnjoined w (suc t) (depth w (suc t)) 0
   unjoined_synced t s = record { most = λ r x q p. absurd (none r q); reached = inl refl }
     where
-      none : (r : ℕ) → IsUnjoined w (suc t) (depth w (suc t)) r → ⊥
+      none : (r : ℕ) → IsUnjoinedReturn w (suc t) (depth w (suc t)) r → ⊥
       none r q = elim (cases_eq r (suc t)) [
         | inl e ↦ (let f : at w r ≡ at w (suc t) = ap (at w) e in let g : at w r ≡ Some Return = q.returned.a_return in cc)
         | inr e ↦ q.not_yet (suc t) (omega (arith, q.upto)) (omega arith) refl (inl s)
@@ -357,13 +357,13 @@ module _ (w : List Record) {n d : ℕ} (h : IsWellNested w n d) where
   pub unjoined_opened : (t : ℕ) → suc t ≤ length w → Opens (at w (suc t)) → IsLongestUnjoined w (suc t) (suc (depth w (suc t))) 0
   unjoined_opened t b s = record { most = λ r x q p. absurd (none r (path_place w x r p) q); reached = inl refl }
     where
-      left : (r : ℕ) → 1 ≤ r → r ≤ t → IsUnjoined w (suc t) (suc (depth w (suc t))) r → ⊥
+      left : (r : ℕ) → 1 ≤ r → r ≤ t → IsUnjoinedReturn w (suc t) (suc (depth w (suc t))) r → ⊥
       left r a c q =
           let f : depth w r ≡ suc (depth w (suc r)) = leaves_by (traced w h) r a (omega arith) (returns-shape _ (at w r) q.returned.a_return) in
           let z = leaves (traced w h) (depth w (suc t)) (suc r) (suc t) (omega arith) (omega arith) b (omega (arith, q.level)) (omega arith) in
           q.not_yet z.0 (omega (arith, z.1.since)) (omega (arith, z.1.before)) z.1.level (inr (shape-return _ (at w z.0) z.1.a_return))
 
-      none : (r : ℕ) → IsPlace w r → IsUnjoined w (suc t) (suc (depth w (suc t))) r → ⊥
+      none : (r : ℕ) → IsPlace w r → IsUnjoinedReturn w (suc t) (suc (depth w (suc t))) r → ⊥
       none r a q = elim (cases_eq r (suc t)) [
         | inl e ↦ opens_no_return (at w (suc t)) s (sym (ap (at w) e) ∙ q.returned.a_return)
         | inr e ↦ left r a.0 (omega (arith, q.upto)) q
@@ -376,16 +376,16 @@ module _ (w : List Record) {n d : ℕ} (h : IsWellNested w n d) where
       elsewhere : depth w (suc t) ≡ k → JoinsAt w (suc t) → ⊥
       elsewhere f j = omega arith
 
-      here : IsUnjoined w (suc t) k (suc t)
+      here : IsUnjoinedReturn w (suc t) k (suc t)
       here = record { upto = omega arith; returned = s; level = e; not_yet = λ q f g. absurd (omega arith) }
 
-      most : (r x : ℕ) → IsUnjoined w (suc t) k r → PathTo w x r → x ≤ max y z
+      most : (r x : ℕ) → IsUnjoinedReturn w (suc t) k r → PathTo w x r → x ≤ max y z
       most r x q p = elim (cases_eq r (suc t)) [
         | inl f ↦ omega (arith, l.most x (subst (λ (i : ℕ). PathTo w x i) f p))
         | inr f ↦ omega (arith, u.most r x (earlier t k r f q) p)
       ]
 
-      reached : (y < z) ⊎ (z ≤ y) → (max y z ≡ 0) ⊎ ((r : ℕ) × IsUnjoined w (suc t) k r × PathTo w (max y z) r)
+      reached : (y < z) ⊎ (z ≤ y) → (max y z ≡ 0) ⊎ ((r : ℕ) × IsUnjoinedReturn w (suc t) k r × PathTo w (max y z) r)
       reached (inl f) = let i : z ≡ max y z = omega arith in inr (suc t, here, subst (λ (x : ℕ). PathTo w x (suc t)) i l.reached)
       reached (inr f) = let i : y ≡ max y z = omega arith in
-          subst (λ (x : ℕ). (x ≡ 0) ⊎ ((r : ℕ) × IsUnjoined w (suc t) k r × PathTo w x r)) i (later_reached t k y elsewhere u.reached)
+          subst (λ (x : ℕ). (x ≡ 0) ⊎ ((r : ℕ) × IsUnjoinedReturn w (suc t) k r × PathTo w x r)) i (later_reached t k y elsewhere u.reached)

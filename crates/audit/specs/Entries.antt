@@ -21,15 +21,16 @@ use Rattle.audit.specs.Confirms.{StatesRace}
 abbrev pub entry_race : Entry → RaceAt
 entry_race e = record { location = e.location; first = e.first; second = e.second }
 
-abbrev pub races_of : List Entry → List RaceAt
-races_of entries = map entry_race entries
+abbrev pub entry_races : List Entry → List RaceAt
+entry_races entries = map entry_race entries
 
 -- an entry of which nothing was found yet
 abbrev pub entry_of : RaceAt → Entry
 entry_of r = record { location = r.location; first = r.first; second = r.second; standing = Missing }
 
 abbrev pub AreAscending : List Entry → Type 0
-AreAscending entries = (j k : ℕ) (e f : Entry) → j < k → slice_get entries j ≡ Some e → slice_get entries k ≡ Some f → e.location < f.location
+AreAscending entries = (j k : ℕ) (e f : Entry) → j < k → slice_get entries j ≡ Some e → slice_get entries k ≡ Some f
+    → e.location < f.location
 
 -- the first access that an entry states is there, among the first t places, at a depth
 pub record HasBegun (w : List Record) (t : ℕ) (r : RaceAt) (deep : ℕ) : Type 0 where
@@ -39,18 +40,18 @@ pub record HasBegun (w : List Record) (t : ℕ) (r : RaceAt) (deep : ℕ) : Type
   pub not_yet : r.second.place ≤ t → StatesRace w r → ⊥
 
 -- how far the race that an entry states was found among the first t places
-abbrev pub Stands : List Record → ℕ → RaceAt → Standing → Type 0
-Stands w t r Missing = r.first.place ≤ t → IsAccess w r.location r.first.place r.first.kind → ⊥
-Stands w t r (Begun deep) = HasBegun w t r deep
-Stands w t r Confirmed = StatesRace w r
+abbrev pub HasStanding : List Record → ℕ → RaceAt → Standing → Type 0
+HasStanding w t r Missing = r.first.place ≤ t → IsAccess w r.location r.first.place r.first.kind → ⊥
+HasStanding w t r (Begun deep) = HasBegun w t r deep
+HasStanding w t r Confirmed = StatesRace w r
 
 -- each entry was found as far as it says
 abbrev pub AllStand : List Record → ℕ → List Entry → Type 0
-AllStand w t entries = (k : ℕ) (e : Entry) → slice_get entries k ≡ Some e → Stands w t (entry_race e) e.standing
+AllStand w t entries = (k : ℕ) (e : Entry) → slice_get entries k ≡ Some e → HasStanding w t (entry_race e) e.standing
 
 -- the entries of a report after an access of a location, which comes after the records u
-abbrev pub Sees : Meetings → ℕ → Access → List Entry → List Entry → Type 0
-Sees m l a old new = (u : List Record) → HasMet m u → IsReportList (races_of old) → a.place ≡ suc (length u)
+abbrev pub SeesEntries : Meetings → ℕ → Access → List Entry → List Entry → Type 0
+SeesEntries m l a old new = (u : List Record) → HasMet m u → IsReportList (entry_races old) → a.place ≡ suc (length u)
     → WhateverComes u (λ w. IsAccess w l a.place a.kind → AllStand w (length u) old → AllStand w (suc (length u)) new)
 
 -- what the entries answer
@@ -69,6 +70,6 @@ AnswersBy entries (No entry) = IsFirstOpen entries entry
 -- the records u were seen, whatever well nested trace begins with them
 pub record HasConfirmed (races : List RaceAt) (u : List Record) (s : Confirming) : Type 0 where
   pub is_report : IsReportList races
-  pub same_races : races_of s.entries.items ≡ races
+  pub same_races : entry_races s.entries.items ≡ races
   pub met : HasMet s.meetings u
   pub stands : WhateverComes u (λ w. AllStand w (length u) s.entries.items)

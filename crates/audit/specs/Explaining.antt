@@ -1,5 +1,6 @@
 -- Private: what is kept of the first records of a trace, so as to explain the race that is reported of one location.
-use Rattle.std.specs.Prelude.{◌≡◌, ℕ, suc, ◌<◌, ◌≤◌, Bool, List, [], ◌∷◌, ◌++◌, length, slice_get, Option, Some, None, MatchOption, ◌⊎◌}
+use Rattle.std.specs.Prelude.{◌≡◌, ℕ, suc, ◌<◌, ◌≤◌, Bool, List, [], ◌∷◌, ◌++◌}
+use Rattle.std.specs.Prelude.{length, slice_get, Option, Some, None, MatchOption, ◌⊎◌}
 use Rattle.dag.specs.declared.records.Record.{Record}
 use Rattle.dag.specs.declared.records.Record.TheVariants.{Spawn, Call, Return, Sync, Read, Write}
 use Rattle.dag.specs.declared.records.Kind.{Kind}
@@ -42,11 +43,13 @@ Follows place (Write l) old new = new ≡ old
 
 -- the last write up to place t, with its openers
 abbrev pub KeepsWrite : List Record → ℕ → ℕ → Option Trail → Type 0
-KeepsWrite w l t kept = MatchOption kept ((i : ℕ) → i ≤ t → IsWrite w l i → ⊥) (λ x. IsLastWrite w l (suc t) x.place × IsTrail w x.place x.openers.items)
+KeepsWrite w l t kept = MatchOption kept ((i : ℕ) → i ≤ t → IsWrite w l i → ⊥)
+    (λ x. IsLastWrite w l (suc t) x.place × IsTrail w x.place x.openers.items)
 
 -- the kept reader up to place t, with its openers
 abbrev pub KeepsReader : List Record → ℕ → ℕ → Option Trail → Type 0
-KeepsReader w l t kept = MatchOption kept (IsKeptReader w l (suc t) None) (λ x. IsKeptReader w l (suc t) (Some x.place) × IsTrail w x.place x.openers.items)
+KeepsReader w l t kept = MatchOption kept (IsKeptReader w l (suc t) None)
+    (λ x. IsKeptReader w l (suc t) (Some x.place) × IsTrail w x.place x.openers.items)
 
 -- no race has its second place among the first t places, and these are the accesses that are kept of them
 pub record HasSought (w : List Record) (l t : ℕ) (last_write kept_reader : Option Trail) : Type 0 where
@@ -63,7 +66,7 @@ abbrev pub reported_race : ℕ → Reported → RaceAt
 reported_race l d = record { location = l; first = d.first; second = d.second }
 
 -- the race is reported, and the meeting procedure's next sync or return is looked for, up to place t
-pub record HasReported (w : List Record) (l t : ℕ) (d : Reported) : Type 0 where
+pub record HasFoundRace (w : List Record) (l t : ℕ) (d : Reported) : Type 0 where
   pub reported : IsReported w (reported_race l d)
   pub race : IsRace w l d.first.place d.second.place
   pub meets : IsMeeting w d.first.place d.second.place d.meeting
@@ -75,7 +78,9 @@ pub record HasReported (w : List Record) (l t : ℕ) (d : Reported) : Type 0 whe
 
 -- what is known of the first t places
 abbrev pub Stands : List Record → ℕ → ℕ → Explaining → Type 0
-Stands w l t s = MatchOption s.reported (HasSought w l t s.last_write s.kept_reader × (suc t ≤ length w → IsTrail w (suc t) s.openers.items)) (HasReported w l t)
+Stands w l t s = MatchOption s.reported
+    (HasSought w l t s.last_write s.kept_reader × (suc t ≤ length w → IsTrail w (suc t) s.openers.items))
+    (HasFoundRace w l t)
 
 -- whether an access that is kept is parallel to the next place
 abbrev pub DecidesNow : Meetings → Bool → Trail → Type 0
@@ -83,7 +88,8 @@ DecidesNow m answer x = (u : List Record) → HasMet m u → DecidesParallel u x
 
 -- a race on l with these accesses is the one that is reported
 pub record IsRival (w : List Record) (l : ℕ) (first_kind : Kind) (first : Trail) (second : Access) : Type 0 where
-  pub reported : IsReported w (record { location = l; first = record { kind = first_kind; place = first.place }; second = second })
+  pub reported : IsReported w
+      (record { location = l; first = record { kind = first_kind; place = first.place }; second = second })
   pub race : IsRace w l first.place second.place
   pub trail : IsTrail w first.place first.openers.items
 
@@ -93,14 +99,17 @@ Joins r = (r ≡ Sync) ⊎ (r ≡ Return)
 
 -- what becomes of the join that is looked for, at a record on a depth
 abbrev pub NextJoined : Placed → ℕ → ℕ → Option ℕ → Option ℕ → Type 0
-NextJoined p deep meeting_level old new = MatchOption old (((deep ≡ meeting_level) × Joins p.what × (new ≡ Some p.place))
+NextJoined p deep meeting_level old new =
+    MatchOption old (((deep ≡ meeting_level) × Joins p.what × (new ≡ Some p.place))
     ⊎ ((deep ≡ meeting_level → Joins p.what → ⊥) × (new ≡ None))) (λ k. new ≡ Some k)
 
--- the race is reported, where the first access has one of these kinds and trails, and the active procedures these openers
+-- the race is reported, if the first access has one of these kinds and trails, and the active procedures have these
+-- openers
 abbrev pub ReportsIt : Kind → Trail → Access → List Opener → Reported → Type 0
-ReportsIt first_kind first second openers d = (w : List Record) (l t : ℕ) (records depths : ℕ) → IsWellNested w records depths
+ReportsIt first_kind first second openers d = (w : List Record) (l t : ℕ) (records depths : ℕ)
+    → IsWellNested w records depths
     → second.place ≡ suc t → IsRival w l first_kind first second
-    → IsTrail w second.place openers → HasReported w l (suc t) d
+    → IsTrail w second.place openers → HasFoundRace w l (suc t) d
 
 -- what is kept after an access with which none races
 abbrev pub Keeps : Explaining → Access → Explaining → Type 0
@@ -117,7 +126,8 @@ Sees s a s' = (l : ℕ) (u : List Record) → HasMet s.meetings u → a.place �
 -- what is known after the next record
 abbrev pub Seeks : Explaining → Placed → Explaining → Type 0
 Seeks s p s' = (u : List Record) → HasMet s.meetings u → p.place ≡ suc (length u) → s.reported ≡ None
-    → WhateverComes u (λ w. at w p.place ≡ Some p.what → Stands w s.location (length u) s → Stands w s.location (suc (length u)) s')
+    → WhateverComes u (λ w. at w p.place ≡ Some p.what → Stands w s.location (length u) s
+    → Stands w s.location (suc (length u)) s')
 
 -- the records u were seen, whatever well nested trace begins with them
 pub record HasExplained (location : ℕ) (u : List Record) (s : Explaining) : Type 0 where
@@ -127,4 +137,10 @@ pub record HasExplained (location : ℕ) (u : List Record) (s : Explaining) : Ty
 
 -- what is reported in the end
 abbrev pub explanation : ℕ → Reported → Explained
-explanation l d = record { race = reported_race l d; meeting = d.meeting; first = d.first_openers; second = d.second_openers; joined = d.joined }
+explanation l d = record {
+  race = reported_race l d;
+  meeting = d.meeting;
+  first = d.first_openers;
+  second = d.second_openers;
+  joined = d.joined;
+}

@@ -19,7 +19,8 @@ opening_record Call = records.Call
 -- the openers of the procedures below m that hold place i, from the outermost on
 pub record AreOpeners (w : List Record) (m i : ℕ) (openers : List Opener) : Type 0 where
   pub ascending : AllPairs (λ f g. f.place < g.place) openers
-  pub exactly : (f : Opener) → Contains openers f ↔ ((m < f.place) × Holds w f.place i × (at w f.place ≡ Some (opening_record f.what)))
+  pub exactly : (f : Opener) → Contains openers f
+      ↔ ((m < f.place) × Holds w f.place i × (at w f.place ≡ Some (opening_record f.what)))
 
 -- procedure m executes place k itself, and waits there for its children
 abbrev pub WaitsAt : List Record → ℕ → ℕ → Type 0

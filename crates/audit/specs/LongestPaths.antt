@@ -1,5 +1,6 @@
 -- Private: what measuring keeps of the first records of a trace: the longest paths in each active procedure.
-use Rattle.std.specs.Prelude.{◌≡◌, ◌≢◌, ℕ, suc, ◌+◌, ◌<◌, ◌≤◌, max, Bool, true, false, List, [], ◌∷◌, ◌++◌, length, count_by, slice_get, Some, ◌⊎◌}
+use Rattle.std.specs.Prelude.{◌≡◌, ◌≢◌, ℕ, suc, ◌+◌, ◌<◌, ◌≤◌, max, Bool, true, false, List, [], ◌∷◌, ◌++◌, length}
+use Rattle.std.specs.Prelude.{count_by, slice_get, Some, ◌⊎◌}
 use Rattle.dag.specs.declared.records.Record.{Record}
 use Rattle.dag.specs.declared.records.Record.TheVariants.{Spawn, Call, Return, Sync, Read, Write}
 use Rattle.dag.specs.Traces.{at, depth, IsPlace}
@@ -50,7 +51,7 @@ pub data LeadsOn (w : List Record) (t d : ℕ) : ℕ → Type 0 where
   came_back : {x : ℕ} → IsReturnOf w Call t → depth w t ≡ suc d → IsLongestTo w t x → LeadsOn w t d x
 
 -- at r a child returned that a procedure at depth d spawned, and up to place t the procedure hasn't waited for it
-pub record IsUnjoined (w : List Record) (t d r : ℕ) : Type 0 where
+pub record IsUnjoinedReturn (w : List Record) (t d r : ℕ) : Type 0 where
   pub upto : r ≤ t
   pub returned : IsReturnOf w Spawn r
   pub level : depth w r ≡ suc d
@@ -58,8 +59,8 @@ pub record IsUnjoined (w : List Record) (t d r : ℕ) : Type 0 where
 
 -- the longest path to such a return; 0 where there is none
 pub record IsLongestUnjoined (w : List Record) (t d x : ℕ) : Type 0 where
-  pub most : (r y : ℕ) → IsUnjoined w t d r → PathTo w y r → y ≤ x
-  pub reached : (x ≡ 0) ⊎ ((r : ℕ) × IsUnjoined w t d r × PathTo w x r)
+  pub most : (r y : ℕ) → IsUnjoinedReturn w t d r → PathTo w y r → y ≤ x
+  pub reached : (x ≡ 0) ⊎ ((r : ℕ) × IsUnjoinedReturn w t d r × PathTo w x r)
 
 -- the record that opened the child, by whether it was called
 abbrev pub opened_by : Bool → Record
@@ -73,7 +74,7 @@ pub record IsSuspended (w : List Record) (t d : ℕ) (f : Suspended) : Type 0 wh
   pub unjoined : IsLongestUnjoined w t d f.longest.unjoined
 
 -- the active procedures before place t + 1, with their longest paths; those that wait stand by their depths
-pub record AreActive (w : List Record) (t : ℕ) (executing : Longest) (suspended : List Suspended) : Type 0 where
+pub record AreLongest (w : List Record) (t : ℕ) (executing : Longest) (suspended : List Suspended) : Type 0 where
   pub level : length suspended ≡ depth w (suc t)
   pub own : LeadsOn w t (depth w (suc t)) executing.own
   pub unjoined : IsLongestUnjoined w t (depth w (suc t)) executing.unjoined
@@ -93,7 +94,7 @@ pub record IsDepthTo (w : List Record) (t greatest : ℕ) : Type 0 where
 pub record HasMeasuredTo (w : List Record) (t : ℕ) (m : Measuring) : Type 0 where
   pub span : IsSpanTo w t m.span
   pub depth : IsDepthTo w t m.depth
-  pub active : suc t ≤ length w → AreActive w t m.executing m.suspended.items
+  pub active : suc t ≤ length w → AreLongest w t m.executing m.suspended.items
 
 -- paths to the first n places have no more places
 pub record IsWithin (n : ℕ) (f : Longest) : Type 0 where
@@ -132,5 +133,7 @@ Advances x Call e suspended e' suspended' = (e' ≡ record { own = x; unjoined =
 Advances x Return e suspended e' suspended' = ((suspended ≡ []) × (suspended' ≡ []) × (e' ≡ e))
     ⊎ ((f : Suspended) × (suspended ≡ suspended' ++ f ∷ []) × (e' ≡ after_child x f.calls f.longest))
 Advances x Sync e suspended e' suspended' = (e' ≡ record { own = x; unjoined = 0 }) × (suspended' ≡ suspended)
-Advances x (Read l) e suspended e' suspended' = (e' ≡ record { own = x; unjoined = e.unjoined }) × (suspended' ≡ suspended)
-Advances x (Write l) e suspended e' suspended' = (e' ≡ record { own = x; unjoined = e.unjoined }) × (suspended' ≡ suspended)
+Advances x (Read l) e suspended e' suspended' = (e' ≡ record { own = x; unjoined = e.unjoined })
+    × (suspended' ≡ suspended)
+Advances x (Write l) e suspended e' suspended' = (e' ≡ record { own = x; unjoined = e.unjoined })
+    × (suspended' ≡ suspended)

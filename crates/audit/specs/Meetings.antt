@@ -1,5 +1,6 @@
 -- Private: what is kept of the active procedures, so that it shows where an earlier access and the next place meet.
-use Rattle.std.specs.Prelude.{◌≡◌, ℕ, suc, ◌-◌, ◌<◌, ◌≤◌, ◌↔◌, Bool, true, false, List, ◌∷◌, ◌++◌, length, take, slice_get, nat_lt, Some, ◌⊎◌, []}
+use Rattle.std.specs.Prelude.{◌≡◌, ℕ, suc, ◌-◌, ◌<◌, ◌≤◌, ◌↔◌, Bool, true, false, List, ◌∷◌, ◌++◌, length, take}
+use Rattle.std.specs.Prelude.{slice_get, nat_lt, Some, ◌⊎◌, []}
 use Rattle.std.specs.List.Sorted.{IsPartitionedBy}
 use Rattle.dag.specs.declared.records.Record.{Record}
 use Rattle.dag.specs.declared.records.Record.TheVariants.{Spawn, Call, Return, Sync, Read, Write}
@@ -52,40 +53,49 @@ pub record HasTurn (w : List Record) (turns : List Turn) (c : ℕ) : Type 0 wher
 -- The turns after t records: each began at a place that an active procedure executed itself, and every child that one
 -- has opened since its last sync has its turn. What stands before f.turns began no later than f was opened, and the
 -- rest later.
-pub record AreTurns (w : List Record) (t : ℕ) (executing : Active) (suspended : List Active) (turns : List Turn) : Type 0 where
-  pub ascending : (i j : ℕ) (x y : Turn) → i < j → slice_get turns i ≡ Some x → slice_get turns j ≡ Some y → x.opened < y.opened
+pub record AreTurns (w : List Record) (t : ℕ) (executing : Active) (suspended : List Active) (turns : List Turn)
+    : Type 0 where
+  pub ascending : (i j : ℕ) (x y : Turn) → i < j → slice_get turns i ≡ Some x → slice_get turns j ≡ Some y
+      → x.opened < y.opened
   pub upto : (i : ℕ) (x : Turn) → slice_get turns i ≡ Some x → x.opened ≤ t
   pub owned : (i : ℕ) (x : Turn) → slice_get turns i ≡ Some x → IsActivesOwn w executing suspended x.opened
   pub within : (k : ℕ) (f : Active) → ActiveAt executing suspended k f → f.turns ≤ length turns
-  pub before : (k : ℕ) (f : Active) → ActiveAt executing suspended k f → (i : ℕ) (x : Turn) → slice_get turns i ≡ Some x → i < f.turns → x.opened ≤ f.opened
-  pub behind : (k : ℕ) (f : Active) → ActiveAt executing suspended k f → (i : ℕ) (x : Turn) → slice_get turns i ≡ Some x → f.turns ≤ i → f.opened < x.opened
-  pub children : (k : ℕ) (f : Active) → ActiveAt executing suspended k f → (c : ℕ) → f.synced < c → c ≤ t → depth w c ≡ k → Opens (at w c) → HasTurn w turns c
+  pub before : (k : ℕ) (f : Active) → ActiveAt executing suspended k f → (i : ℕ) (x : Turn)
+      → slice_get turns i ≡ Some x → i < f.turns → x.opened ≤ f.opened
+  pub behind : (k : ℕ) (f : Active) → ActiveAt executing suspended k f → (i : ℕ) (x : Turn)
+      → slice_get turns i ≡ Some x → f.turns ≤ i → f.opened < x.opened
+  pub children : (k : ℕ) (f : Active) → ActiveAt executing suspended k f → (c : ℕ) → f.synced < c → c ≤ t
+      → depth w c ≡ k → Opens (at w c) → HasTurn w turns c
 
-pub record AreMet (w : List Record) (t : ℕ) (executing : Active) (suspended : List Active) (turns : List Turn) : Type 0 where
+pub record AreMet (w : List Record) (t : ℕ) (executing : Active) (suspended : List Active) (turns : List Turn)
+    : Type 0 where
   pub active : AreActive w t executing suspended
   pub turned : AreTurns w t executing suspended turns
 
 -- these are the active procedures and their turns after the records u, if others follow
 abbrev pub HasMet : Meetings → List Record → Type 0
-HasMet m u = WhateverComes u (λ w. suc (length u) ≤ length w → AreMet w (length u) m.executing m.suspended.items m.turns.items)
+HasMet m u = WhateverComes u (λ w. suc (length u) ≤ length w
+    → AreMet w (length u) m.executing m.suspended.items m.turns.items)
 
 -- what an answer says of an earlier access at a depth, and of the place after the records u
 abbrev pub DecidesParallel : List Record → ℕ → ℕ → Bool → Type 0
-DecidesParallel u place deep answer = WhateverComes u (λ w. IsAccessPlace w place → place ≤ length u → depth w place ≡ deep → IsAccessPlace w (suc (length u))
+DecidesParallel u place deep answer = WhateverComes u (λ w.
+    IsAccessPlace w place → place ≤ length u → depth w place ≡ deep → IsAccessPlace w (suc (length u))
     → (answer ≡ true) ↔ IsParallel w place (suc (length u)))
 
 -- of the active procedures that were opened before a place, the last one
-pub record IsKeeper (executing : Active) (suspended : List Active) (place k : ℕ) (f : Active) : Type 0 where
+pub record IsLastOpenedBefore (executing : Active) (suspended : List Active) (place k : ℕ) (f : Active) : Type 0 where
   pub there : ActiveAt executing suspended k f
   pub before : f.opened < place
   pub deeper : (l : ℕ) (g : Active) → k < l → ActiveAt executing suspended l g → place ≤ g.opened
 
 -- what an answer says of a place at a depth and of its keeper: whether a child of that one holds the place, and it
 -- hasn't synced since
-pub record DecidesUnjoined (executing : Active) (suspended : List Active) (place deep : ℕ) (answer : Bool) : Type 0 where
+pub record DecidesUnjoined (executing : Active) (suspended : List Active) (place deep : ℕ) (answer : Bool)
+    : Type 0 where
   pub on : ℕ
   pub keeper : Active
-  pub keeps : IsKeeper executing suspended place on keeper
+  pub keeps : IsLastOpenedBefore executing suspended place on keeper
   pub decides : (answer ≡ true) ↔ ((on < deep) × (keeper.synced < place))
 
 -- the same, after the records u
@@ -95,7 +105,8 @@ DecidesUnjoinedAfter m u place deep answer = WhateverComes u (λ w. 1 ≤ place 
 
 -- what an answer says of the last turn that began before a place: its kind
 abbrev pub DecidesTurn : List Turn → ℕ → Bool → Type 0
-DecidesTurn turns place answer = IsPartitionedBy (λ x. nat_lt x.opened place) turns → (i : ℕ) (x : Turn) → slice_get turns i ≡ Some x → x.opened < place
+DecidesTurn turns place answer = IsPartitionedBy (λ x. nat_lt x.opened place) turns → (i : ℕ) (x : Turn)
+    → slice_get turns i ≡ Some x → x.opened < place
     → ((j : ℕ) (y : Turn) → i < j → slice_get turns j ≡ Some y → place ≤ y.opened) → answer ≡ x.is_spawned
 
 -- the last turn is one of such children
@@ -104,7 +115,8 @@ EndsIn turns is_spawned = (x : Turn) × (slice_get turns (length turns - 1) ≡ 
 
 -- what becomes of the turns where a child is opened: its turn begins there, or the last one goes on
 abbrev pub TakesTurn : ℕ → Bool → List Turn → List Turn → Type 0
-TakesTurn place is_spawned old new = (new ≡ old ++ record { opened = place; is_spawned = is_spawned } ∷ []) ⊎ ((new ≡ old) × EndsIn old is_spawned)
+TakesTurn place is_spawned old new = (new ≡ old ++ record { opened = place; is_spawned = is_spawned } ∷ [])
+    ⊎ ((new ≡ old) × EndsIn old is_spawned)
 
 -- a child was opened at a place
 pub record OpensChild (place : ℕ) (is_spawned : Bool) (m m' : Meetings) : Type 0 where

@@ -26,7 +26,8 @@ IsAmong n kept place = (k : ℕ) × (a : KeptAccess) × (k < n) × (slice_get ke
 pub record AreKept (w : List Record) (l t : ℕ) (kept : List KeptAccess) : Type 0 where
   pub each : (k : ℕ) (a : KeptAccess) → slice_get kept k ≡ Some a → IsKept w l t a
   pub all : (i : ℕ) (kind : Kind) → i ≤ t → IsAccess w l i kind → IsAmong (length kept) kept i
-  pub ascending : (j k : ℕ) (a b : KeptAccess) → j < k → slice_get kept j ≡ Some a → slice_get kept k ≡ Some b → a.access.place < b.access.place
+  pub ascending : (j k : ℕ) (a b : KeptAccess) → j < k → slice_get kept j ≡ Some a → slice_get kept k ≡ Some b
+      → a.access.place < b.access.place
 
 -- the races whose second place is among the first t
 pub record ArePairsTo (w : List Record) (l t : ℕ) (pairs : List (Access × Access)) : Type 0 where
@@ -34,14 +35,18 @@ pub record ArePairsTo (w : List Record) (l t : ℕ) (pairs : List (Access × Acc
   pub exactly : (p : Access × Access) → Contains pairs p ↔ (IsPair w l p × (p.1.place ≤ t))
 
 -- these, and those of place t + 1 with the first n accesses that are kept
-pub record ArePairsWith (w : List Record) (l t n : ℕ) (kept : List KeptAccess) (pairs : List (Access × Access)) : Type 0 where
+pub record ArePairsWith (w : List Record) (l t n : ℕ) (kept : List KeptAccess) (pairs : List (Access × Access))
+    : Type 0 where
   pub ascending : AllPairs IsBefore pairs
-  pub exactly : (p : Access × Access) → Contains pairs p ↔ (IsPair w l p × ((p.1.place ≤ t) ⊎ ((p.1.place ≡ suc t) × IsAmong n kept p.0.place)))
+  pub exactly : (p : Access × Access) → Contains pairs p
+      ↔ (IsPair w l p × ((p.1.place ≤ t) ⊎ ((p.1.place ≡ suc t) × IsAmong n kept p.0.place)))
 
 -- the races of an access with the first n that are kept were added
-abbrev pub AddsPairs : Meetings → List KeptAccess → Access → ℕ → List (Access × Access) → List (Access × Access) → Type 0
+abbrev pub AddsPairs : Meetings → List KeptAccess → Access → ℕ → List (Access × Access) → List (Access × Access)
+    → Type 0
 AddsPairs m kept second n old new = (l : ℕ) (u : List Record) → HasMet m u → second.place ≡ suc (length u)
-    → WhateverComes u (λ w. AreKept w l (length u) kept → IsAccess w l second.place second.kind → ArePairsTo w l (length u) old
+    → WhateverComes u (λ w. AreKept w l (length u) kept → IsAccess w l second.place second.kind
+    → ArePairsTo w l (length u) old
     → ArePairsWith w l (length u) n kept new)
 
 -- the records u were seen, whatever well nested trace begins with them

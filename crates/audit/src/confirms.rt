@@ -1,11 +1,12 @@
 //! Whether the entries of a report are races: what is kept of a trace for this, and the answer.
-ghost use Rattle.std.specs.Prelude.{◌≡◌, ◌≢◌, ◌<◌, ℕ, suc, List, [], length, map, slice_get, Some, IfSome, IfNone, IfOk, OnOk};
+ghost use Rattle.std.specs.Prelude.{◌≡◌, ◌≢◌, ◌<◌, ℕ, suc, List, [], length, map};
+ghost use Rattle.std.specs.Prelude.{slice_get, Some, IfSome, IfNone, IfOk, OnOk};
 ghost use Rattle.dag.specs.declared.records.Record.{Record};
 ghost use Rattle.dag.specs.Accesses.{IsRaceShape};
 ghost use Rattle.dag.specs.Races.{IsAccess};
 ghost use Rattle.audit.specs.Following.{WhateverComes};
 ghost use Rattle.audit.specs.Meetings.{HasMet};
-ghost use Rattle.audit.specs.Entries.{AreAscending, Stands, AnswersBy, entry_of, entry_race};
+ghost use Rattle.audit.specs.Entries.{AreAscending, HasStanding, AnswersBy, entry_of, entry_race};
 ghost use Rattle.trace.specs.Devices.{◌⇝◌};
 ghost use Rattle.trace.specs.Endings.{EndsReading, IsWantOfMemory};
 ghost use Rattle.audit.specs.Confirms.{Confirms};
@@ -46,7 +47,7 @@ pub(crate) struct Confirming {
 }
 
 impl Confirming {
-    ghost use Rattle.audit.specs.Entries.{HasConfirmed, Sees, races_of};
+    ghost use Rattle.audit.specs.Entries.{HasConfirmed, SeesEntries, entry_races};
 
     /// The state before the first record.
     pub(crate) fn new(alloc: Global, report: &Report) -> Result<Confirming, NoMemory>
@@ -58,10 +59,10 @@ impl Confirming {
         })
     }
 
-    /// Sees an access to a location. At most one entry has this location.
+    /// SeesEntries an access to a location. At most one entry has this location.
     fn see_access(&mut self, location: u64, access: Access)
-        ensures entries { Sees self.old.meetings location access self.old.entries.items self.new.entries.items }
-        ensures same_races { races_of self.new.entries.items ≡ races_of self.old.entries.items }
+        ensures entries { SeesEntries self.old.meetings location access self.old.entries.items self.new.entries.items }
+        ensures same_races { entry_races self.new.entries.items ≡ entry_races self.old.entries.items }
         ensures meetings { self.new.meetings ≡ self.old.meetings }
     {
         if let Some(index) = find_entry(&self.entries, location) {
@@ -72,9 +73,9 @@ impl Confirming {
 }
 
 impl Watch for Confirming {
-    ghost use Rattle.audit.specs.Entries.{HasConfirmed, races_of};
+    ghost use Rattle.audit.specs.Entries.{HasConfirmed, entry_races};
 
-    ghost has_seen = { λ first u now. HasConfirmed (races_of first.entries.items) u now };
+    ghost has_seen = { λ first u now. HasConfirmed (entry_races first.entries.items) u now };
 
     fn see(&mut self, placed: Placed) -> Result<(), NoMemory> {
         let place = placed.place;
@@ -131,8 +132,8 @@ fn find_entry(entries: &[Entry], location: u64) -> Option<usize>
 fn next_standing(meetings: &Meetings, entry: Entry, access: Access) -> Standing
     ensures { (u : List Record) → HasMet meetings.now u → IsRaceShape entry.first entry.second
         → access.place ≡ suc (length u)
-        → WhateverComes u (λ w. IsAccess w entry.location access.place access.kind → Stands w (length u)
-        (entry_race entry) entry.standing → Stands w (suc (length u)) (entry_race entry) result) }
+        → WhateverComes u (λ w. IsAccess w entry.location access.place access.kind → HasStanding w (length u)
+        (entry_race entry) entry.standing → HasStanding w (suc (length u)) (entry_race entry) result) }
 {
     match entry.standing {
         Standing::Missing if access == entry.first => Standing::Begun(meetings.depth()),

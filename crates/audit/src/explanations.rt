@@ -1,5 +1,6 @@
 //! Why the reported race of a location is one: the two accesses, with the openers of the procedures that hold them.
-ghost use Rattle.std.specs.Prelude.{◌≡◌, ◌≤◌, ◌↔◌, List, [], length, drop, true, false, Some, None, OnOk, IfOk, IfNone, IfSome, MatchOption};
+ghost use Rattle.std.specs.Prelude.{◌≡◌, ◌≤◌, ◌↔◌, List, [], length, drop, true, false, Some};
+ghost use Rattle.std.specs.Prelude.{None, OnOk, IfOk, IfNone, IfSome, MatchOption};
 ghost use Rattle.dag.specs.declared.records.Record.{Record};
 ghost use Rattle.audit.specs.Explaining.{Follows, Joins, ReportsIt, explanation};
 ghost use Rattle.dag.specs.Accesses.{IsRaceShape};

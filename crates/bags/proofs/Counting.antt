@@ -8,7 +8,7 @@ use Rattle.dag.specs.Bounds.{most_records}
 use Rattle.bags.specs.Nested.{Nested}
 use Rattle.bags.specs.Procedures.{Active}
 use Rattle.bags.specs.Stretch.{Stretch}
-use Rattle.bags.specs.Held.{start, active_of, actives_of, procedures_of, AreTurns, AreCut, AreHeld}
+use Rattle.bags.specs.Held.{start, active_of, actives_of, procedures_of, AreAlternating, AreCut, AreHeld}
 use Rattle.bags.specs.Stretches.{in_one_bag, stretches_of, stretches}
 use Rattle.bags.proofs.Segments.{Ascends, any_of, turns_ascend, start_most, contains-bag_of, none_before, none_after, in_the_first, past_the_first}
 use Rattle.bags.proofs.Cuts.{Parts, parts, actives-cut, all_ascend, first_root, stretch_some}
@@ -37,7 +37,7 @@ begins-append (s ∷ low) ss q = ap (λ b. eqb s.first q || b) (begins-append lo
     assoc a b c = grind arith
 
 -- of two numbers side by side, both in the stretches of one procedure, the second begins a stretch or stands in one bag with the first
-in_turns : (b : Bool) (next : ℕ) (ss : List Stretch) (p : ℕ) → AreTurns b next ss → start next ss ≤ p → suc p < next → both_in next ss p (suc p) ≡ not (begins_at ss (suc p))
+in_turns : (b : Bool) (next : ℕ) (ss : List Stretch) (p : ℕ) → AreAlternating b next ss → start next ss ≤ p → suc p < next → both_in next ss p (suc p) ≡ not (begins_at ss (suc p))
 in_turns b next [] p h l u = absurd (omega arith)
 in_turns b next (s ∷ []) p h l u =
     let up : Ascends next (s ∷ []) = turns_ascend b next (s ∷ []) h in

@@ -9,7 +9,7 @@ use Rattle.dag.specs.declared.records.Record.TheVariants.{Sync, Return}
 use Rattle.bags.specs.Stretch.{Stretch}
 use Rattle.dag.specs.Bounds.{most_records}
 use Rattle.bags.specs.Search.{first_at}
-use Rattle.bags.specs.Held.{start, active_of, actives_of, procedures_of, AreTurns, AreCut, AreHeld}
+use Rattle.bags.specs.Held.{start, active_of, actives_of, procedures_of, AreAlternating, AreCut, AreHeld}
 use Rattle.bags.proofs.Segments.{Ascends, AreGrown, any_of, after, turns_ascend, start_most, contains-bag_of, opened_is, synced_is, adopted, grown_wider, grown_longer, last_kind, first_at-start, start-both, at_keeper, first_at_is, first_at-drop, any_of-append, ascends-append}
 
 -- the executing procedure's stretches follow those of all others
@@ -20,13 +20,13 @@ actives-cut next low ss f fs e =
     let back : drop f.begins (low ++ ss) ≡ ss = ap (λ n. drop n (low ++ ss)) e ∙ drop-append_seam low ss in
     λ i. active_of next f.is_called (back i) ∷ actives_of (start next (back i)) (front i) fs
 
-pub are-cut : (next : ℕ) (low ss : List Stretch) (f : Nested) (fs : List Nested) → f.begins ≡ length low → 0 < length ss → AreTurns false next ss → AreCut (start next ss) low fs
+pub are-cut : (next : ℕ) (low ss : List Stretch) (f : Nested) (fs : List Nested) → f.begins ≡ length low → 0 < length ss → AreAlternating false next ss → AreCut (start next ss) low fs
     → f.number ≡ start next ss → AreCut next (low ++ ss) (f ∷ fs)
 are-cut next low ss f fs e some turns cut number =
     let front : take f.begins (low ++ ss) ≡ low = ap (λ n. take n (low ++ ss)) e ∙ take-append_seam low ss in
     let back : drop f.begins (low ++ ss) ≡ ss = ap (λ n. drop n (low ++ ss)) e ∙ drop-append_seam low ss in (
       omega (arith, length-append low ss),
-      subst (AreTurns false next) (sym back) turns,
+      subst (AreAlternating false next) (sym back) turns,
       subst (λ xs. AreCut (start next xs) (take f.begins (low ++ ss)) fs) (sym back) (subst (λ xs. AreCut (start next ss) xs fs) (sym front) cut),
       subst (λ xs. f.number ≡ start next xs) (sym back) number,
     )
@@ -38,7 +38,7 @@ pub record Parts (next : ℕ) (ss : List Stretch) (f : Nested) (fs : List Nested
   pub rest : List Stretch
   pub whole : ss ≡ low ++ first ∷ rest
   pub from : f.begins ≡ length low
-  pub turns : AreTurns false next (first ∷ rest)
+  pub turns : AreAlternating false next (first ∷ rest)
   pub cut : AreCut first.first low fs
   pub number : f.number ≡ first.first
 
@@ -53,7 +53,7 @@ parts next ss f fs h = with_rest (drop f.begins ss) refl
       rest = rest;
       whole = sym (take-append-drop f.begins ss) ∙ ap (λ xs. take f.begins ss ++ xs) e;
       from = sym (length-take-le f.begins ss (omega (arith, h.0)));
-      turns = subst (AreTurns false next) e h.1;
+      turns = subst (AreAlternating false next) e h.1;
       cut = subst (λ xs. AreCut (start next xs) (take f.begins ss) fs) e h.2;
       number = subst (λ xs. f.number ≡ start next xs) e h.3;
     }
@@ -73,7 +73,7 @@ pub entered_held : (count : ℕ) (ss : List Stretch) (nested : List Nested) (s :
     → f.number ≡ count → AreHeld (count + 1) (ss ++ s ∷ []) (nested ++ f ∷ []) × (procedures_of (count + 1) (ss ++ s ∷ []) (nested ++ f ∷ []) ≡ entered (procedures_of count ss nested) f.is_called)
 entered_held count ss nested s f held few e k b number =
     let back : reverse (nested ++ f ∷ []) ≡ f ∷ reverse nested = reverse-last nested f in
-    let turns : AreTurns false (count + 1) (s ∷ []) = (k, omega arith, tt) in
+    let turns : AreAlternating false (count + 1) (s ∷ []) = (k, omega arith, tt) in
     let cut : AreCut (count + 1) (ss ++ s ∷ []) (f ∷ reverse nested) = are-cut (count + 1) ss (s ∷ []) f (reverse nested) b (omega arith) turns (subst (λ n. AreCut n ss (reverse nested)) (sym e) held.cut) (number ∙ sym e) in
     let is : actives_of (count + 1) (ss ++ s ∷ []) (f ∷ reverse nested) ≡ (entered (procedures_of count ss nested) f.is_called).active
     = actives-cut (count + 1) ss (s ∷ []) f (reverse nested) b ∙ (λ i. opened_is count f.is_called s e k i ∷ actives_of (e i) ss (reverse nested)) in (
@@ -123,7 +123,7 @@ synced_held count ss nested f held x =
     let most : start count p.rest ≤ count = start_most count p.rest up.1 in
     let front : take (f.begins + 1) ss ≡ p.low ++ p.first ∷ []
     = (λ i. take (p.from i + 1) (p.whole i)) ∙ take-append-add p.low (p.first ∷ p.rest) 1 in
-    let turns : AreTurns false count (p.first ∷ []) = (p.turns.0, omega (arith, p.turns.1), tt) in
+    let turns : AreAlternating false count (p.first ∷ []) = (p.turns.0, omega (arith, p.turns.1), tt) in
     let cut : AreCut count (p.low ++ p.first ∷ []) (f ∷ x.last.others) = are-cut count p.low (p.first ∷ []) f x.last.others p.from (omega arith) turns p.cut p.number in
     let old : actives_of count ss (f ∷ x.last.others) ≡ active_of count f.is_called (p.first ∷ p.rest) ∷ actives_of p.first.first p.low x.last.others
     = ap (λ xs. actives_of count xs (f ∷ x.last.others)) p.whole ∙ actives-cut count p.low (p.first ∷ p.rest) f x.last.others p.from in
@@ -232,7 +232,7 @@ moved_held count ss nested ys g d x held is more other first kind =
     let same : x.first ≡ p.first.first = first ∙ p.number in
     let follows : not g.is_called ≡ after false (q.first ∷ q.rest) = not_both (not g.is_called) (after false (q.first ∷ q.rest)) (sym other ∙ before_child count ss g f fs d p q) in
     let grown : AreGrown (not g.is_called) x.first count (q.first ∷ q.rest) ((q.first ∷ q.rest) ++ x ∷ [])
-    = grown_longer (not g.is_called) count (q.first ∷ q.rest) x (subst (λ n. AreTurns false n (q.first ∷ q.rest)) (sym same) q.turns) kind follows (omega (arith, child_below count ss g (f ∷ fs) p)) in record {
+    = grown_longer (not g.is_called) count (q.first ∷ q.rest) x (subst (λ n. AreAlternating false n (q.first ∷ q.rest)) (sym same) q.turns) kind follows (omega (arith, child_below count ss g (f ∷ fs) p)) in record {
       own = (q.first ∷ q.rest) ++ x ∷ [];
       is = ap (λ xs. xs ++ x ∷ []) ((λ i. take (p.from i) (p.whole i)) ∙ take-append_seam p.low (p.first ∷ p.rest) ∙ q.whole) ∙ append_assoc q.low (q.first ∷ q.rest) (x ∷ []);
       some = omega arith;
@@ -332,7 +332,7 @@ pub at_first : (ss : List Stretch) (nested : List Nested) (s : Stretch) (f : Nes
     → AreHeld 1 ss nested × (procedures_of 1 ss nested ≡ at_start)
 at_first ss nested s f is ns first kind begins number is_called =
     let root : AreCut 0 [] [] = (refl, refl) in
-    let turns : AreTurns false 1 (s ∷ []) = (kind, omega arith, tt) in
+    let turns : AreAlternating false 1 (s ∷ []) = (kind, omega arith, tt) in
     let cut : AreCut 1 (s ∷ []) (f ∷ []) = are-cut 1 [] (s ∷ []) f [] begins (omega arith) turns (subst (λ n. AreCut n [] []) (sym first) root) (number ∙ sym first) in
     let active : actives_of 1 (s ∷ []) (f ∷ []) ≡ at_start.active
     = actives-cut 1 [] (s ∷ []) f [] begins ∙ ap (λ a. a ∷ []) (opened_is 0 f.is_called s first kind ∙ ap (λ b. opened b 0) is_called) in (

@@ -10,7 +10,7 @@ use Rattle.std.specs.FinSet as bag
 use Rattle.bags.specs.Procedures.{Bag, opened, synced, adopts}
 use Rattle.bags.specs.Stretch.{Stretch}
 use Rattle.bags.specs.Search.{first_at, IsAscending}
-use Rattle.bags.specs.Held.{run, start, is_of, bag_of, active_of, AreTurns}
+use Rattle.bags.specs.Held.{run, start, is_of, bag_of, active_of, AreAlternating}
 
 any-range : (from len q : ℕ) → list_any (λ y. eqb y q) (range_with_len from len) ≡ (leb from q && ltb q (from + len))
 any-range from zero q = grind (arith, nat_tests)
@@ -40,7 +40,7 @@ abbrev pub Ascends : ℕ → List Stretch → Type 0
 Ascends next [] = ⊤
 Ascends next (s ∷ ss) = (s.first < start next ss) × Ascends next ss
 
-pub turns_ascend : (b : Bool) (next : ℕ) (ss : List Stretch) → AreTurns b next ss → Ascends next ss
+pub turns_ascend : (b : Bool) (next : ℕ) (ss : List Stretch) → AreAlternating b next ss → Ascends next ss
 turns_ascend b next [] h = h
 turns_ascend b next (s ∷ ss) h = (h.1, turns_ascend (not b) next ss h.2)
 
@@ -110,7 +110,7 @@ opened_is count is_called s e f =
     one n = same_bag _ _ (λ q. contains-run n (n + 1) q (omega arith) ∙ eq_between n q ∙ sym (bag.contains-from_list_nat (n ∷ []) q))
 
 -- a sync leaves the first stretch, and all that follows joins it
-pub synced_is : (next : ℕ) (is_called : Bool) (s : Stretch) (ss : List Stretch) → AreTurns false next (s ∷ ss)
+pub synced_is : (next : ℕ) (is_called : Bool) (s : Stretch) (ss : List Stretch) → AreAlternating false next (s ∷ ss)
     → active_of next is_called (s ∷ []) ≡ synced (active_of next is_called (s ∷ ss))
 synced_is next is_called s ss h =
     let up : Ascends next (s ∷ ss) = turns_ascend false next (s ∷ ss) h in
@@ -132,7 +132,7 @@ after b (s ∷ ss) = after (not b) ss
 -- the new stretches of a parent hold what the old ones did, and of one kind a run more
 pub record AreGrown (is_parallel : Bool) (a c : ℕ) (old new : List Stretch) : Type 0 where
   pub same_start : start c new ≡ start a old
-  pub turns : AreTurns false c new
+  pub turns : AreAlternating false c new
   pub held : (k : Bool) (p : ℕ) → any_of k c new p ≡ (any_of k a old p || ((if k then is_parallel else not is_parallel) && (leb a p && ltb p c)))
 
 or_assoc : (a b c : Bool) → (a || (b || c)) ≡ ((a || b) || c)
@@ -142,7 +142,7 @@ kind : Bool → Bool → Bool
 kind k m = if k then m else not m
 
 -- the last stretch grows
-wider : (b m k : Bool) (a c : ℕ) (s : Stretch) (ss : List Stretch) (p : ℕ) → AreTurns b a (s ∷ ss) → a ≤ c → m ≡ not (after b (s ∷ ss))
+wider : (b m k : Bool) (a c : ℕ) (s : Stretch) (ss : List Stretch) (p : ℕ) → AreAlternating b a (s ∷ ss) → a ≤ c → m ≡ not (after b (s ∷ ss))
     → any_of k c (s ∷ ss) p ≡ (any_of k a (s ∷ ss) p || ((if k then m else not m) && (leb a p && ltb p c)))
 wider b m k a c s [] p h l e =
     let same : s.is_parallel ≡ m = h.0 ∙ sym (not_not b) ∙ sym e in
@@ -161,11 +161,11 @@ wider b m k a c s (t ∷ ss) p h l e =
     ap (λ z. (is_of k s && (leb s.first p && ltb p t.first)) || z) (wider (not b) m k a c t ss p h.2 l e)
     ∙ or_assoc (is_of k s && (leb s.first p && ltb p t.first)) (any_of k a (t ∷ ss) p) ((if k then m else not m) && (leb a p && ltb p c))
 
-wider_turns : (b : Bool) (a c : ℕ) (s : Stretch) (ss : List Stretch) → AreTurns b a (s ∷ ss) → a ≤ c → AreTurns b c (s ∷ ss)
+wider_turns : (b : Bool) (a c : ℕ) (s : Stretch) (ss : List Stretch) → AreAlternating b a (s ∷ ss) → a ≤ c → AreAlternating b c (s ∷ ss)
 wider_turns b a c s [] h l = (h.0, omega (arith, h.1), h.2)
 wider_turns b a c s (t ∷ ss) h l = (h.0, h.1, wider_turns (not b) a c t ss h.2 l)
 
-pub grown_wider : (m : Bool) (a c : ℕ) (ss : List Stretch) → 0 < length ss → AreTurns false a ss → a ≤ c → m ≡ not (after false ss) → AreGrown m a c ss ss
+pub grown_wider : (m : Bool) (a c : ℕ) (ss : List Stretch) → 0 < length ss → AreAlternating false a ss → a ≤ c → m ≡ not (after false ss) → AreGrown m a c ss ss
 grown_wider m a c [] some h l e = absurd (omega arith)
 grown_wider m a c (s ∷ ss) some h l e = record {
   same_start = refl;
@@ -184,11 +184,11 @@ longer k c (s ∷ ss) x p =
     (λ i. (is_of k s && (leb s.first p && ltb p (start-append c ss x i))) || longer k c ss x p i)
     ∙ or_assoc (is_of k s && (leb s.first p && ltb p (start x.first ss))) (any_of k x.first ss p) (is_of k x && (leb x.first p && ltb p c))
 
-longer_turns : (b : Bool) (c : ℕ) (ss : List Stretch) (x : Stretch) → AreTurns b x.first ss → x.is_parallel ≡ after b ss → x.first < c → AreTurns b c (ss ++ x ∷ [])
+longer_turns : (b : Bool) (c : ℕ) (ss : List Stretch) (x : Stretch) → AreAlternating b x.first ss → x.is_parallel ≡ after b ss → x.first < c → AreAlternating b c (ss ++ x ∷ [])
 longer_turns b c [] x h e l = (e, l, h)
 longer_turns b c (s ∷ ss) x h e l = (h.0, subst (λ n. s.first < n) (sym (start-append c ss x)) h.1, longer_turns (not b) c ss x h.2 e l)
 
-pub grown_longer : (m : Bool) (c : ℕ) (ss : List Stretch) (x : Stretch) → AreTurns false x.first ss → x.is_parallel ≡ m → m ≡ after false ss → x.first < c
+pub grown_longer : (m : Bool) (c : ℕ) (ss : List Stretch) (x : Stretch) → AreAlternating false x.first ss → x.is_parallel ≡ m → m ≡ after false ss → x.first < c
     → AreGrown m x.first c ss (ss ++ x ∷ [])
 grown_longer m c ss x h e f l = record {
   same_start = start-append c ss x;
@@ -197,7 +197,7 @@ grown_longer m c ss x h e f l = record {
 }
 
 -- the kind of the last stretch
-pub last_kind : (b : Bool) (next : ℕ) (ss : List Stretch) (d : Stretch) → 0 < length ss → AreTurns b next ss → (get_or ss (length ss - 1) d).is_parallel ≡ not (after b ss)
+pub last_kind : (b : Bool) (next : ℕ) (ss : List Stretch) (d : Stretch) → 0 < length ss → AreAlternating b next ss → (get_or ss (length ss - 1) d).is_parallel ≡ not (after b ss)
 last_kind b next [] d some h = absurd (omega arith)
 last_kind b next (s ∷ []) d some h = h.0 ∙ twice b
   where
@@ -228,7 +228,7 @@ kept_bag k m a c old new g up n =
     ∙ (λ i. sym (contains-bag_of k a old q up) i || (n i && (leb a q && ltb q c)))
     ∙ or_none (bag.contains (bag_of k a old) q))
 
-pub adopted : (a c : ℕ) (is_called returns_call : Bool) (old new own : List Stretch) → AreGrown (not returns_call) a c old new → AreTurns false a old → AreTurns false c own → a ≡ start c own
+pub adopted : (a c : ℕ) (is_called returns_call : Bool) (old new own : List Stretch) → AreGrown (not returns_call) a c old new → AreAlternating false a old → AreAlternating false c own → a ≡ start c own
     → active_of c is_called new ≡ adopts (active_of a is_called old) (active_of c returns_call own)
 adopted a c is_called true old new own g h u e = λ i. record {
   own = g.same_start i;

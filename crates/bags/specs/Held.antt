@@ -1,5 +1,7 @@
--- Private: the bags as they are held: a list of stretches, and for each active procedure its number and where its own begin.
-use Rattle.std.specs.Prelude.{◌≡◌, ℕ, ◌+◌, ◌-◌, ◌<◌, ◌≤◌, Bool, true, false, not, if◌then◌else◌, List, [], ◌∷◌, length, take, drop, reverse, ⊤}
+-- Private: the bags as they are held: a list of stretches, and for each active procedure its number and its first
+-- stretch.
+use Rattle.std.specs.Prelude.{◌≡◌, ℕ, ◌+◌, ◌-◌, ◌<◌, ◌≤◌, Bool, true, false, not, if◌then◌else◌, List, [], ◌∷◌}
+use Rattle.std.specs.Prelude.{length, take, drop, reverse, ⊤}
 use Rattle.std.specs.List.{range_with_len}
 use Rattle.std.specs.FinSet as set
 use Rattle.bags.specs.Nested.{Nested}
@@ -24,7 +26,9 @@ is_of parallel s = if parallel then s.is_parallel else not s.is_parallel
 abbrev pub bag_of : Bool → ℕ → List Stretch → Bag
 bag_of parallel next [] = set.empty
 bag_of parallel next (s ∷ ss) =
-    if is_of parallel s then set.union (run s.first (start next ss)) (bag_of parallel next ss) else bag_of parallel next ss
+    if is_of parallel s
+    then set.union (run s.first (start next ss)) (bag_of parallel next ss)
+    else bag_of parallel next ss
 
 -- an active procedure by its stretches
 abbrev pub active_of : ℕ → Bool → List Stretch → Active
@@ -45,14 +49,15 @@ abbrev pub procedures_of : ℕ → List Stretch → List Nested → Procedures
 procedures_of count ss nested = record { count = count; active = actives_of count ss (reverse nested) }
 
 -- the stretches of one procedure: no one is empty, and those of its two bags alternate
-abbrev pub AreTurns : Bool → ℕ → List Stretch → Type 0
-AreTurns parallel next [] = ⊤
-AreTurns parallel next (s ∷ ss) = (s.is_parallel ≡ parallel) × (s.first < start next ss) × AreTurns (not parallel) next ss
+abbrev pub AreAlternating : Bool → ℕ → List Stretch → Type 0
+AreAlternating parallel next [] = ⊤
+AreAlternating parallel next (s ∷ ss) = (s.is_parallel ≡ parallel) × (s.first < start next ss)
+    × AreAlternating (not parallel) next ss
 
 -- each procedure has a stretch, its first one begins with it and is of its S-bag, and the root has the number 0
 abbrev pub AreCut : ℕ → List Stretch → List Nested → Type 0
 AreCut next ss [] = (next ≡ 0) × (ss ≡ [])
-AreCut next ss (f ∷ fs) = (f.begins < length ss) × AreTurns false next (drop f.begins ss)
+AreCut next ss (f ∷ fs) = (f.begins < length ss) × AreAlternating false next (drop f.begins ss)
     × AreCut (start next (drop f.begins ss)) (take f.begins ss) fs × (f.number ≡ start next (drop f.begins ss))
 
 pub record AreHeld (count : ℕ) (ss : List Stretch) (nested : List Nested) : Type 0 where

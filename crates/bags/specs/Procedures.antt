@@ -97,8 +97,11 @@ procedure_at w zero = 0
 procedure_at w (suc t) = current (bags_after (take t (placed w))).active
 
 abbrev pub coded_active : Coded Active
-coded_active = code_by (ℕ × (Bool × (Bag × Bag))) (coded× coded_ℕ (coded× coded_bool (coded× (set.code coded_ℕ) (set.code coded_ℕ))))
-    (λ f. (f.own, (f.is_called, (f.serial, f.parallel)))) (λ c. record { own = c.0; is_called = c.1.0; serial = c.1.1.0; parallel = c.1.1.1 }) (λ _. refl)
+coded_active = code_by (ℕ × (Bool × (Bag × Bag)))
+    (coded× coded_ℕ (coded× coded_bool (coded× (set.code coded_ℕ) (set.code coded_ℕ))))
+    (λ f. (f.own, (f.is_called, (f.serial, f.parallel))))
+    (λ c. record { own = c.0; is_called = c.1.0; serial = c.1.1.0; parallel = c.1.1.1 })
+    (λ _. refl)
 
 abbrev pub coded_procedures : Coded Procedures
 coded_procedures = code_by (ℕ × List Active) (coded× coded_ℕ (coded_list coded_active))

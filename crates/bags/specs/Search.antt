@@ -21,13 +21,14 @@ pub record IsKeeper (stretches : List Stretch) (procedure : ℕ) (keeper : Stret
   pub not_above : first_at stretches index ≤ procedure
   pub next_above : index + 1 < length stretches → procedure < first_at stretches (index + 1)
 
--- where a search begins: the greatest power of two that is not above the number of stretches, and the index of the first
--- comparison
+-- where a search begins: the greatest power of two that is not above the number of stretches, and the index of the
+-- first comparison
 pub record Start : Type 0 where
   pub longest : ℕ
   pub middle : ℕ
 
--- from the middle on there are no more stretches than the longest step; and as many, unless the middle is the second one
+-- from the middle on there are no more stretches than the longest step; and as many, unless the middle is the
+-- second one
 pub record IsStart (len : ℕ) (s : Start) : Type 0 where
   pub long : 2 * s.longest ≡ 2 ^ digits len
   pub within : s.middle < len

@@ -1,7 +1,9 @@
-//! The stretches of the active procedures, and the look-up among them. No number of an active procedure is in its reach.
+//! The stretches of the active procedures, and the look-up among them. It has no number of an active
+//! procedure.
 #![tactic(auto)]
 
-ghost use Rattle.std.specs.Prelude.{◌≡◌, ◌≢◌, ◌+◌, ◌-◌, ◌<◌, ◌≤◌, false, [], ◌∷◌, ◌++◌, length, take, get_or, IfOk, OnOk, OnErr};
+ghost use Rattle.std.specs.Prelude.{◌≡◌, ◌≢◌, ◌+◌, ◌-◌, ◌<◌, ◌≤◌, false, [], ◌∷◌, ◌++◌};
+ghost use Rattle.std.specs.Prelude.{length, take, get_or, IfOk, OnOk, OnErr};
 ghost use Rattle.dag.specs.Bounds.{most_records};
 ghost use Rattle.bags.specs.Numbers.{digits};
 ghost use Rattle.bags.specs.Search.{first_at, IsAscending, IsKeeper};

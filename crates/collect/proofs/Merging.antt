@@ -11,7 +11,7 @@ use Rattle.dag.specs.Races.{IsReport}
 use Rattle.dag.specs.Parts.{races_of_part}
 use Rattle.dag.proofs.Once.{In, In_from, Contains_from}
 use Rattle.collect.specs.Collected.{races_of, race_on, best, IsFirstLeast, IsCollected}
-use Rattle.collect.specs.Merged.{given_by, reports_of_parts, PartsMakeWhole, PartsMakeTrace, MergesWithItself, OrderIsFree}
+use Rattle.collect.specs.Merged.{backs_of_reports, reports_of_parts, PartsMakeWhole, PartsMakeTrace, MergesWithItself, OrderIsFree}
 use Rattle.collect.proofs.Ascending.{Ascends, Ascends-from_increasing}
 use Rattle.collect.proofs.Sorted.{NoneOn-above, same_races, AreApart, best-apart}
 use Rattle.collect.proofs.FirstLeast.{Later, NoSooner, all_round, all_map, all_in, in_round, KeptOf, kept_best, race_on_in}
@@ -73,14 +73,14 @@ races_of-given : (rs : List RaceAt) (g : List Back) → races_of (map Race rs ++
 races_of-given [] g = refl
 races_of-given (r ∷ rs) g = ap (λ l. r ∷ l) (races_of-given rs g)
 
-in_given : (reports : List (List RaceAt)) (rs : List RaceAt) (r : RaceAt) → In rs reports → In r rs → In r (races_of (given_by reports))
+in_given : (reports : List (List RaceAt)) (rs : List RaceAt) (r : RaceAt) → In rs reports → In r rs → In r (races_of (backs_of_reports reports))
 in_given [] rs r i h = absurd i
-in_given (ss ∷ reports) rs r (inl e) h = subst (In r) (sym (races_of-given ss (given_by reports))) (in_left r ss (races_of (given_by reports)) (subst (In r) (sym e) h))
-in_given (ss ∷ reports) rs r (inr i) h = subst (In r) (sym (races_of-given ss (given_by reports))) (in_right r ss (races_of (given_by reports)) (in_given reports rs r i h))
+in_given (ss ∷ reports) rs r (inl e) h = subst (In r) (sym (races_of-given ss (backs_of_reports reports))) (in_left r ss (races_of (backs_of_reports reports)) (subst (In r) (sym e) h))
+in_given (ss ∷ reports) rs r (inr i) h = subst (In r) (sym (races_of-given ss (backs_of_reports reports))) (in_right r ss (races_of (backs_of_reports reports)) (in_given reports rs r i h))
 
-from_given : (reports : List (List RaceAt)) (r : RaceAt) → In r (races_of (given_by reports)) → (rs : List RaceAt) × In rs reports × In r rs
+from_given : (reports : List (List RaceAt)) (r : RaceAt) → In r (races_of (backs_of_reports reports)) → (rs : List RaceAt) × In rs reports × In r rs
 from_given [] r h = absurd h
-from_given (ss ∷ reports) r h = elim (in_either r ss (races_of (given_by reports)) (subst (In r) (races_of-given ss (given_by reports)) h)) [
+from_given (ss ∷ reports) r h = elim (in_either r ss (races_of (backs_of_reports reports)) (subst (In r) (races_of-given ss (backs_of_reports reports)) h)) [
   | inl i ↦ (ss, inl refl, i)
   | inr i ↦ let p = from_given reports r i in (p.0, inr p.1, p.2)
 ]
@@ -135,7 +135,7 @@ collected_is g races merged a f h c =
 -- ---- the law
 
 pub parts_make_whole : PartsMakeWhole
-parts_make_whole n parts races merged some all asc m = collected_is (given_by reports) races merged (Ascends-from_increasing races asc) from to m
+parts_make_whole n parts races merged some all asc m = collected_is (backs_of_reports reports) races merged (Ascends-from_increasing races asc) from to m
   where
     reports : List (List RaceAt)
     reports = reports_of_parts parts races
@@ -143,13 +143,13 @@ parts_make_whole n parts races merged some all asc m = collected_is (given_by re
     of_part : Part → List RaceAt
     of_part part = races_of_part part races
 
-    from : (r : RaceAt) → In r (races_of (given_by reports)) → In r races
+    from : (r : RaceAt) → In r (races_of (backs_of_reports reports)) → In r races
     from r h =
         let p = from_given reports r h in
         let q = from_map of_part parts p.0 p.1 in
         from_filter (λ s. eqb (s.location % q.0.count) q.0.index) races r (subst (In r) (sym q.2) p.2)
 
-    to : (r : RaceAt) → In r races → In r (races_of (given_by reports))
+    to : (r : RaceAt) → In r races → In r (races_of (backs_of_reports reports))
     to r h =
         let p = all (r.location % n) (mod-lt r.location some) in
         let own : eqb (r.location % p.0.count) p.0.index ≡ true = eq-eqb (r.location % p.0.count) p.0.index (ap (λ c. r.location % c) p.2 ∙ sym p.3) in
@@ -159,7 +159,7 @@ pub parts_make_trace : PartsMakeTrace
 parts_make_trace w n parts races merged some all h m = subst (IsReport w) (sym (parts_make_whole n parts races merged some all h.ascending m)) h
 
 pub merges_with_itself : MergesWithItself
-merges_with_itself races merged asc m = collected_is (given_by two) races merged (Ascends-from_increasing races asc) from (λ r h. in_given two races r (inl refl) h) m
+merges_with_itself races merged asc m = collected_is (backs_of_reports two) races merged (Ascends-from_increasing races asc) from (λ r h. in_given two races r (inl refl) h) m
   where
     two : List (List RaceAt)
     two = races ∷ races ∷ []
@@ -169,21 +169,21 @@ merges_with_itself races merged asc m = collected_is (given_by two) races merged
     one_of rs (inr (inl e)) = e
     one_of rs (inr (inr i)) = absurd i
 
-    from : (r : RaceAt) → In r (races_of (given_by two)) → In r races
+    from : (r : RaceAt) → In r (races_of (backs_of_reports two)) → In r races
     from r h = let p = from_given two r h in subst (In r) (sym (one_of p.0 p.1)) p.2
 
 pub order_is_free : OrderIsFree
 order_is_free reports others merged also same distinct m k =
     same_races merged also (Ascends-from_increasing merged m.is_report.ascending) (Ascends-from_increasing also k.is_report.ascending)
-    (λ l. m.best_on l ∙ best_agree l (races_of (given_by reports)) (races_of (given_by others)) to from apart_places ∙ sym (k.best_on l))
+    (λ l. m.best_on l ∙ best_agree l (races_of (backs_of_reports reports)) (races_of (backs_of_reports others)) to from apart_places ∙ sym (k.best_on l))
   where
-    to : (r : RaceAt) → In r (races_of (given_by reports)) → In r (races_of (given_by others))
+    to : (r : RaceAt) → In r (races_of (backs_of_reports reports)) → In r (races_of (backs_of_reports others))
     to r h = let p = from_given reports r h in in_given others p.0 r (In_from others p.0 ((same p.0).0 (Contains_from reports p.0 p.1))) p.2
 
-    from : (r : RaceAt) → In r (races_of (given_by others)) → In r (races_of (given_by reports))
+    from : (r : RaceAt) → In r (races_of (backs_of_reports others)) → In r (races_of (backs_of_reports reports))
     from r h = let p = from_given others r h in in_given reports p.0 r (In_from reports p.0 ((same p.0).1 (Contains_from others p.0 p.1))) p.2
 
-    apart_places : AreDistinct (races_of (given_by reports))
+    apart_places : AreDistinct (races_of (backs_of_reports reports))
     apart_places r s i j e q =
         let p = from_given reports r i in
         let t = from_given reports s j in

@@ -13,12 +13,12 @@ use Rattle.collect.specs.Collected.{IsCollected}
 use Rattle.collect.specs.Reports.{locations}
 
 -- what reports give to a collector that takes one after another
-abbrev pub given_by : List (List RaceAt) → List Back
-given_by reports = flat_map (map Race) reports
+abbrev pub backs_of_reports : List (List RaceAt) → List Back
+backs_of_reports reports = flat_map (map Race) reports
 
 -- the one report out of these: of each location the race that a collector keeps
 abbrev pub IsMerged : List (List RaceAt) → List RaceAt → Type 0
-IsMerged reports merged = IsCollected (given_by reports) merged
+IsMerged reports merged = IsCollected (backs_of_reports reports) merged
 
 -- each of the n parts is among these, in any order, and maybe more than once
 abbrev pub AreAllParts : ℕ → List Part → Type 0

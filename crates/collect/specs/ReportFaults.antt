@@ -11,9 +11,12 @@ use Rattle.collect.specs.ReportText.{head, race_line, race_lines, rtext}
 -- or follows the last race.
 pub data IsFirstBadLine (bytes : List ℕ) : ℕ → Type 0 where
   no_head : ((n : ℕ) (more : List ℕ) → n < 2 ^ 64 → bytes ≢ head n ++ more) → IsFirstBadLine bytes 1
-  no_race : (n : ℕ) (rs : List RaceAt) (rest : List ℕ) → n < 2 ^ 64 → length rs < n → IsReportList rs → bytes ≡ head n ++ (race_lines rs ++ rest)
-      → ((r : RaceAt) (more : List ℕ) → IsReportList (rs ++ r ∷ []) → rest ≢ race_line r ++ more) → IsFirstBadLine bytes (length rs + 2)
-  no_end : (rs : List RaceAt) (rest : List ℕ) → length rs < 2 ^ 64 → IsReportList rs → bytes ≡ rtext rs ++ rest → rest ≢ []
+  no_race : (n : ℕ) (rs : List RaceAt) (rest : List ℕ) → n < 2 ^ 64 → length rs < n → IsReportList rs
+      → bytes ≡ head n ++ (race_lines rs ++ rest)
+      → ((r : RaceAt) (more : List ℕ) → IsReportList (rs ++ r ∷ []) → rest ≢ race_line r ++ more)
+      → IsFirstBadLine bytes (length rs + 2)
+  no_end : (rs : List RaceAt) (rest : List ℕ) → length rs < 2 ^ 64 → IsReportList rs → bytes ≡ rtext rs ++ rest
+      → rest ≢ []
       → IsFirstBadLine bytes (length rs + 2)
 
 -- a fault is the first faulty line, or a refused growth
@@ -23,7 +26,8 @@ IsReportFault bytes NoMemory = Unit {0}
 
 -- one text belongs to one list
 abbrev pub OneList : Type 0
-OneList = (rs ss : List RaceAt) → IsReportList rs → IsReportList ss → length rs < 2 ^ 64 → length ss < 2 ^ 64 → rtext rs ≡ rtext ss → rs ≡ ss
+OneList = (rs ss : List RaceAt) → IsReportList rs → IsReportList ss → length rs < 2 ^ 64 → length ss < 2 ^ 64
+    → rtext rs ≡ rtext ss → rs ≡ ss
 
 -- bytes have one first faulty line at most
 abbrev pub OneFault : Type 0

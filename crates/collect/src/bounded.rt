@@ -1,5 +1,6 @@
 //! How a report of bounded size is read: all its bytes first, and then its entries.
-ghost use Rattle.std.specs.Prelude.{◌≡◌, ℕ, ◌+◌, ◌<◌, ◌≤◌, List, ◌++◌, length, Ok, true, false, ◌⊎◌, IfErr, OnOk, MatchResult};
+ghost use Rattle.std.specs.Prelude.{◌≡◌, ℕ, ◌+◌, ◌<◌, ◌≤◌, List, ◌++◌, length, Ok};
+ghost use Rattle.std.specs.Prelude.{true, false, ◌⊎◌, IfErr, OnOk, MatchResult};
 ghost use Rattle.std.specs.Io.KnownBytes.{Keeps};
 ghost use Rattle.trace.specs.Devices.{◌⇝◌, Gave, IsUsedUp, IsSteady, HasFailed};
 ghost use Rattle.collect.specs.declared.bounded.ReportRefusal.TheVariants as refusals;

@@ -1,7 +1,8 @@
 //! The races of all shards, by location.
 ghost use Rattle.std.specs.Prelude.{◌≡◌, List, [], ◌∷◌, ◌++◌, map, true, IsTrue, OnOk, OnErr, IfOk, IsErr};
 ghost use Rattle.dag.specs.declared.back.Back.{Back};
-ghost use Rattle.collect.specs.Collected.{AreFirstLeast, KeepsBest, IsCollected, IsFirstOnLocation, IsTakenInPart, fails, has_better};
+ghost use Rattle.collect.specs.Collected.{AreFirstLeast, KeepsBest, IsCollected, IsFirstOnLocation, IsTakenInPart};
+ghost use Rattle.collect.specs.Collected.{fails, has_better};
 
 use crate::reports::Report;
 use std::alloc::Global;

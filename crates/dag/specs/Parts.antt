@@ -7,7 +7,8 @@ use Rattle.dag.specs.declared.part.Part.{Part}
 use Rattle.dag.specs.Accesses.{RaceAt}
 use Rattle.dag.specs.Shares.{share}
 
--- Part k of n has the locations l with l mod n = k, and numbers them from 0 in their order: so l has the number l div n.
+-- Part k of n has the locations l with l mod n = k, and numbers them from 0 in their order: location l has
+-- the number l div n.
 abbrev pub numbered : ℕ → Record → Record
 numbered n Spawn = Spawn
 numbered n Call = Call

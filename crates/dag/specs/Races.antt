@@ -36,6 +36,10 @@ pub record IsRace (w : List Record) (l i j : ℕ) : Type 0 where
   pub one_writes : IsWrite w l i ⊎ IsWrite w l j
   pub parallel : IsParallel w i j
 
+-- two accesses of the location race
+abbrev pub HasRace : List Record → ℕ → Type 0
+HasRace w l = (i : ℕ) × (j : ℕ) × IsRace w l i j
+
 -- the least second place of a race on l
 pub record IsSecond (w : List Record) (l j : ℕ) : Type 0 where
   pub race : (i : ℕ) × IsRace w l i j
@@ -60,7 +64,8 @@ pub data IsKeptReader (w : List Record) (l : ℕ) : ℕ → Option ℕ → Type 
 -- to j, otherwise the kept reader before j.
 pub data IsFirst (w : List Record) (l j : ℕ) : ℕ → Type 0 where
   last_write : {i : ℕ} → IsLastWrite w l j i → IsParallel w i j → IsFirst w l j i
-  kept_reader : {i : ℕ} → ((k : ℕ) → IsLastWrite w l j k → IsParallel w k j → ⊥) → IsKeptReader w l j (Some i) → IsFirst w l j i
+  kept_reader : {i : ℕ} → ((k : ℕ) → IsLastWrite w l j k → IsParallel w k j → ⊥) → IsKeptReader w l j (Some i)
+      → IsFirst w l j i
 
 -- the race that is reported of its location, with the kinds of its accesses
 pub record IsReported (w : List Record) (r : RaceAt) : Type 0 where

@@ -4,7 +4,8 @@ use Rattle.dag.specs.declared.records.Record.{Record}
 use Rattle.dag.specs.declared.records.Record.TheVariants.{Spawn, Call, Return, Sync, Read, Write}
 use Rattle.dag.specs.declared.records.Placed.{Placed}
 
--- whether shard k of n gets a record: each gets the spawns, calls, returns and syncs, and location l is of shard l mod n
+-- whether shard k of n gets a record: each gets the spawns, calls, returns and syncs, and shard l mod n
+-- gets location l
 abbrev pub goes : ℕ → ℕ → Record → Bool
 goes k n Spawn = true
 goes k n Call = true

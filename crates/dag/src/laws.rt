@@ -11,9 +11,9 @@ ghost use Rattle.dag.specs.Shares.{goes};
 ghost use Rattle.dag.specs.Meeting.{ExactlyOne, Holds, InOneBlock, IsMeeting, IsStand};
 
 /// Two places meet in one procedure, the deepest whose part of the trace holds both. A place has one stand in each
-/// procedure that holds it: the place itself, or the spawn or call of the child that holds it. Two accesses are parallel
-/// if and only if the first lies inside a child that their meeting procedure spawned, and the meeting procedure doesn't
-/// sync from there to the stand of the second.
+/// procedure that holds it: the place itself, or the spawn or call of the child that holds it. Two accesses are
+/// parallel if and only if the first lies inside a child that their meeting procedure spawned, and the meeting
+/// procedure doesn't sync from there to the stand of the second.
 pub fn meeting()
     ensures meets { (w : List Record) (records depths i j : ℕ) → IsWellNested w records depths
         → IsPlace w i → i < j → ExactlyOne (IsMeeting w i j) }

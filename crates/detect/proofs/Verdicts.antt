@@ -9,7 +9,7 @@ use Rattle.lane.specs.declared.item.Item.{Item}
 use Rattle.dag.specs.declared.records.Placed.{Placed}
 use Rattle.dag.specs.Accesses.{RaceAt}
 use Rattle.dag.specs.Shares.{share}
-use Rattle.shadow.specs.Found.{start, found, put_in, by_location}
+use Rattle.shadow.specs.Found.{state_at_start, found, put_in, by_location}
 use Rattle.shadow.proofs.FoundLaws.{found_from-apart}
 use Rattle.shadow.proofs.Sharing.{of_shard, found-share}
 use Rattle.collect.specs.Collected.{Collection, KeepsBest, IsCollected, races_of, kept_after, best}
@@ -60,6 +60,6 @@ verdict_of_shares n lists w c rs some len each gathers good collected =
     let home : AreAtHome lists = subst P (sym len) (home-shares n 0 lists (found w) (λ k lt. let e : k ≡ 0 + k = omega arith in portions k (omega (arith, lt, len)) ∙ ap (λ m. filter (of_shard m n) (found w)) e)) in
     let holds = gathers.holds good home in
     collected_is_sorted put_in by_location (λ r. refl) (λ r s ss. refl) refl (λ r ss. refl) (all_given lists) rs (found w) (collected (all_given lists) holds)
-    (apart (found w) (found_from-apart start w))
+    (apart (found w) (found_from-apart state_at_start w))
     (λ l. best_of_lane l lists home ∙ ap (λ m. best l (races_of (on_lane lists (l % m)))) len
     ∙ ap (best l) (portions (l % n) (mod-lt l some)) ∙ best_filtered l n None (found w))

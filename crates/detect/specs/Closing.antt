@@ -46,4 +46,5 @@ pub record IsSettled {T : Type 0} (taken put : List (List (Item T))) (k : ℕ) :
 
 -- a taker that took the mark of lane k knows that nothing waits there
 abbrev pub IsEmptied : List (Taker Placed) → ℕ → Type 0
-IsEmptied takers k = has_mark (slice_index_or (map taken_of takers) k []) ≡ true → slice_index_or (map waiting_of takers) k [] ≡ []
+IsEmptied takers k = has_mark (slice_index_or (map taken_of takers) k []) ≡ true
+    → slice_index_or (map waiting_of takers) k [] ≡ []

@@ -37,13 +37,16 @@ module _ {S H : Type 0} where
     pub to_shards : IsBeginning (taker_lanes done.workers.items) (lanes_of done.sending.router)
     pub from_shards : IsBeginning (given_lanes done.workers.items) (back_lanes done.sending.gathering)
 
-  -- the receipts were compared: what each of n workers took with what was put on its lane, and what came of its lane back
+  -- the receipts were compared: what each of n workers took with what was put on its lane, and what came back on its
+  -- lane
   -- with what it put there
   pub record IsCompared (n : ℕ) (done : Done S H) : Type 0 where
     pub to_shards : (k : ℕ) → k < n → IsSettled (taken_by done.workers.items) (puts_of done.sending.router) k
-    pub from_shards : (k : ℕ) → k < n → IsSettled (given_by done.sending.gathering.backs.items) (given_back done.workers.items) k
+    pub from_shards : (k : ℕ) → k < n
+        → IsSettled (given_by done.sending.gathering.backs.items) (given_back done.workers.items) k
 
   -- reading ended well, what the part has of the trace was sent, and all n workers ended; or the fault is why it didn't
   abbrev pub IsDone : Part → ℕ → ℕ → ℕ → Change → Done S H → Type 0
   IsDone part n records depths change done =
-      EndsReading IsWantOfMemoryOrThread records depths change (λ _ w. IsFinished n done (records_of part (placed w))) done.outcome
+      EndsReading IsWantOfMemoryOrThread records depths change
+      (λ _ w. IsFinished n done (records_of part (placed w))) done.outcome

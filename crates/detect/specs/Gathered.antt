@@ -24,7 +24,8 @@ with_items lists k xs = slice_set lists k (slice_index_or lists k [] ++ xs)
 -- of n lanes these stand from lane k on, and each gave races of its own locations alone
 abbrev pub AreAtHomeFrom : ℕ → ℕ → List (List (Item Back)) → Type 0
 AreAtHomeFrom n k [] = ⊤
-AreAtHomeFrom n k (items ∷ lists) = AllByRecursion (λ r. r.location % n ≡ k) (races_of (records items)) × AreAtHomeFrom n (k + 1) lists
+AreAtHomeFrom n k (items ∷ lists) = AllByRecursion (λ r. r.location % n ≡ k) (races_of (records items))
+    × AreAtHomeFrom n (k + 1) lists
 
 abbrev pub AreAtHome : List (List (Item Back)) → Type 0
 AreAtHome lists = AreAtHomeFrom (length lists) 0 lists

@@ -16,7 +16,8 @@ use Rattle.serial.specs.Reported.{IsReportOf, IsPartReportOf}
 pub record TookSharesOf (n : ℕ) (u : List Placed) (run : Run) : Type 0 where
   pub lanes : length run.lanes.items ≡ n
   pub counts : length run.taken.items ≡ n
-  pub shares : (k : ℕ) → k < n → slice_index_or (map taken_of run.lanes.items) k [] ≡ map One (share k n u) ++ Finish ∷ []
+  pub shares : (k : ℕ) → k < n
+      → slice_index_or (map taken_of run.lanes.items) k [] ≡ map One (share k n u) ++ Finish ∷ []
   pub taken : (k : ℕ) → k < n → slice_index run.taken.items k ≡ length (share k n u)
   pub settled : (k : ℕ) → k < n → slice_index_or (map waiting_of run.lanes.items) k [] ≡ []
 

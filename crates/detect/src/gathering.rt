@@ -1,5 +1,6 @@
 //! The lanes back from the shards, and the races that came over them.
-ghost use Rattle.std.specs.Prelude.{◌≡◌, ◌<◌, ◌≤◌, ◌++◌, ℕ, ◌∷◌, Err, IfErr, OnOk, vec_len, length, List, [], IsTrue, IsFalse};
+ghost use Rattle.std.specs.Prelude.{◌≡◌, ◌<◌, ◌≤◌, ◌++◌, ℕ, ◌∷◌, Err, IfErr, OnOk};
+ghost use Rattle.std.specs.Prelude.{vec_len, length, List, [], IsTrue, IsFalse};
 ghost use Rattle.lane.specs.declared.item.Item.{Item};
 ghost use Rattle.dag.specs.declared.back.Back.{Back};
 ghost use Rattle.dag.specs.declared.back.Back.TheVariants.{NoMemory};
@@ -156,8 +157,8 @@ impl Gathering {
         }
     }
 
-    /// Want of memory, if a growth was refused here or in a shard. It comes before a refused start and before a fault of
-    /// the trace.
+    /// Want of memory, if a growth was refused here or in a shard. It comes before a refused start and before a
+    /// fault of the trace.
     pub(crate) fn first_trouble(&self, outcome: Result<(), Fault>) -> Result<(), Fault>
         ensures refused { IsTrue self.now.collector.refused → result ≡ Err faults.NoMemory }
         ensures none_refused { IsFalse self.now.collector.refused → result ≡ outcome }

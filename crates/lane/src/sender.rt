@@ -45,7 +45,8 @@ pub struct End<T> {
 }
 
 impl<T: Copy + Send> Sender<T> {
-    ghost use Rattle.lane.specs.Lanes.{lane_of, end_lane, put_of, shown_of, staged_of, all_put, all_shown, capacity_of, room_of};
+    ghost use Rattle.lane.specs.Lanes.{lane_of, end_lane, put_of, shown_of, staged_of, all_put};
+    ghost use Rattle.lane.specs.Lanes.{all_shown, capacity_of, room_of};
     ghost use Rattle.lane.specs.Lanes.{refusals_of, one_more};
 
     /// Puts the value behind those put before, or hands it back if the lane is full, when the taker is shown all items

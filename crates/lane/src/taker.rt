@@ -1,5 +1,6 @@
 //! The end of a lane that takes.
-ghost use Rattle.std.specs.Prelude.{◌≡◌, ◌<◌, ◌≤◌, min, true, false, [], ◌∷◌, ◌++◌, length, take, IfSome, IfNone, IsSome};
+ghost use Rattle.std.specs.Prelude.{◌≡◌, ◌<◌, ◌≤◌, min, true, false, [], ◌∷◌, ◌++◌};
+ghost use Rattle.std.specs.Prelude.{length, take, IfSome, IfNone, IsSome};
 ghost use Rattle.rtrb.specs.Ring.{received};
 ghost use Rattle.lane.specs.Items.{has_mark, mark_last, IsBeginning};
 
@@ -18,7 +19,8 @@ pub struct Taker<T> {
 }
 
 impl<T: Copy + Send> Taker<T> {
-    ghost use Rattle.lane.specs.Lanes.{lane_of, taker_lane, end_lane, put_of, all_put, taken_of, waiting_of, taker_capacity};
+    ghost use Rattle.lane.specs.Lanes.{lane_of, taker_lane, end_lane, put_of, all_put, taken_of};
+    ghost use Rattle.lane.specs.Lanes.{waiting_of, taker_capacity};
 
     /// The next item, or `None` if the lane is empty; after the mark always `None`.
     #[tactic(auto, using(crate::proofs::Marks::has_mark_more, crate::proofs::Marks::mark_last_more))]

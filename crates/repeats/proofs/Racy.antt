@@ -3,10 +3,10 @@ use Rattle.std.proofs.Common.{◌≡◌, ℕ, zero, suc, ◌-◌, ◌<◌, ◌�
 use Rattle.std.proofs.lemmas.Bool.{cases_Bool, cases_lt}
 use Rattle.dag.specs.declared.records.Record.{Record}
 use Rattle.dag.specs.Traces.{at, IsWellNested}
-use Rattle.dag.specs.Races.{IsAccessPlace, IsRead, IsWrite, IsRace, IsSecond}
+use Rattle.dag.specs.Races.{IsAccessPlace, IsRead, IsWrite, IsRace, HasRace, IsSecond}
 use Rattle.dag.proofs.Paths.{access-place}
 use Rattle.bags.specs.Procedures.{at_start}
-use Rattle.repeats.specs.Repeats.{IsRepeat, RepeatsGo, rest, place_in_rest, HasRace}
+use Rattle.repeats.specs.Repeats.{IsRepeat, RepeatsGo, rest, place_in_rest}
 use Rattle.repeats.proofs.Lists.{passed, passed-le, passed-lt, passed-next, rest-at, rest-bags}
 use Rattle.repeats.proofs.Strands.{bags_at, OneStrand, same_bags, strand_leads, parallel-moved}
 use Rattle.repeats.proofs.Nested.{CameFrom, came_from, repeats_still, rest-nested}

@@ -2,7 +2,7 @@
 use Rattle.std.specs.Prelude.{◌≡◌, ℕ, suc, ◌<◌, ◌⊎◌, Bool, false, if◌then◌else◌, List, [], ◌∷◌, length, take}
 use Rattle.dag.specs.declared.records.Record.{Record}
 use Rattle.dag.specs.Traces.{IsPlace}
-use Rattle.dag.specs.Races.{IsAccessPlace, IsRead, IsWrite, IsRace}
+use Rattle.dag.specs.Races.{IsAccessPlace, IsRead, IsWrite}
 
 -- Record k is a repeat: an earlier record accesses the same location, only accesses stand between the two, and the
 -- earlier one writes or k reads.
@@ -31,7 +31,3 @@ rest stays w = rest_from stays 1 w
 -- the place in the rest of the record at a place that stays
 abbrev pub place_in_rest : (ℕ → Bool) → List Record → ℕ → ℕ
 place_in_rest stays w k = length (rest stays (take k w))
-
--- two accesses of the location race
-abbrev pub HasRace : List Record → ℕ → Type 0
-HasRace w l = (i : ℕ) × (j : ℕ) × IsRace w l i j

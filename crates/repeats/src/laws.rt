@@ -3,8 +3,8 @@
 ghost use Rattle.std.specs.Prelude.{◌≡◌, ℕ, ◌↔◌, Bool, true, List};
 ghost use Rattle.dag.specs.declared.records.Record.{Record};
 ghost use Rattle.dag.specs.Traces.{IsWellNested};
-ghost use Rattle.dag.specs.Races.{IsSecond};
-ghost use Rattle.repeats.specs.Repeats.{rest, place_in_rest, RepeatsGo, HasRace};
+ghost use Rattle.dag.specs.Races.{IsSecond, HasRace};
+ghost use Rattle.repeats.specs.Repeats.{rest, place_in_rest, RepeatsGo};
 
 /// For every well nested trace, and every choice of places that stay, if each other place is a repeat: the records at
 /// the places that stay are well nested, and have races on the same locations. For each racy location the least

@@ -7,7 +7,7 @@ use Rattle.dag.specs.declared.back.Back.TheVariants.{Race}
 use Rattle.dag.specs.Accesses.{RaceAt}
 use Rattle.collect.specs.declared.bounded.ReportRefusal.{ReportRefusal}
 use Rattle.collect.specs.Collected.{Collection, KeepsBest}
-use Rattle.collect.specs.Merged.{given_by}
+use Rattle.collect.specs.Merged.{backs_of_reports}
 use Rattle.replies.specs.declared.input.Input.{Input}
 use Rattle.replies.specs.Merges.{report_status, HasReadReport, IsRefusedReport, HaveReadReports, IsFirstRefused}
 use Rattle.replies.specs.Merging.{HasTaken, HaveTaken}
@@ -39,7 +39,7 @@ module _ {F E : Type 0} (Gives : List ℕ → Result F E → Type 0) (known : In
       record {
         reports = before.reports ++ one.entries ∷ [];
         read = subst P (sym all) (read_more (take i names) name before.reports one.entries before.read one.read);
-        kept = subst Q (flat_map_more (map Race) [] before.reports one.entries) (one.took (given_by before.reports) before.kept);
+        kept = subst Q (flat_map_more (map Race) [] before.reports one.entries) (one.took (backs_of_reports before.reports) before.kept);
       }
 
   -- the reports before this one were taken, and it wasn't

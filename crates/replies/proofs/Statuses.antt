@@ -9,13 +9,13 @@ use Rattle.dag.specs.Accesses.{RaceAt}
 use Rattle.dag.specs.declared.records.Kind.{Kind}
 use Rattle.dag.specs.declared.records.Kind.TheVariants.{Read, Write}
 use Rattle.dag.specs.declared.records.Access.{Access}
-use Rattle.dag.specs.Races.{IsAccess, IsRead, IsWrite, IsRace}
+use Rattle.dag.specs.Races.{IsAccess, IsRead, IsWrite, IsRace, HasRace}
 use Rattle.dag.proofs.Lists.{Contains-nil}
 use Rattle.audit.specs.declared.answers.Explained.{Explained}
 use Rattle.audit.specs.Pairs.{IsPair, ArePairs}
 use Rattle.audit.specs.Explanations.{Explains}
 use Rattle.collect.specs.ReportText.{rtext}
-use Rattle.serial.specs.Racy.{HasRace, HasLocation}
+use Rattle.serial.specs.Racy.{HasLocation}
 use Rattle.detect.specs.declared.sharded.Run.{Run}
 use Rattle.detect.specs.RunReports.{RunAnswers, RunAnswersPart}
 use Rattle.detect.proofs.PartReports.{whole_answers}

@@ -22,7 +22,8 @@ module _ {F E : Type 0} (Gives : List ℕ → Result F E → Type 0) (known : In
     pub trace : Input F
     pub stands : StandsFor Gives (trace_name question) trace
     pub left : Device
-    pub answered : IsAnswered (IsWant question) most_records (depth_of question) (Answers question) (untried (known trace) ⇝ left) out err status
+    pub answered : IsAnswered (IsWant question) most_records (depth_of question) (Answers question)
+        (untried (known trace) ⇝ left) out err status
 
   -- The same of the report and the trace that their names stand for. Both are closed before the call ends, and then
   -- nothing says what they have left: that a trace isn't read without a report is a clause of `answer_confirm` alone.
@@ -38,7 +39,8 @@ module _ {F E : Type 0} (Gives : List ℕ → Result F E → Type 0) (known : In
 
   -- the trace's name can't be opened, or the question was answered of what it stands for
   abbrev pub HasAnsweredOf : Question → Change → Change → ℕ → Type 0
-  HasAnsweredOf question out err status = HasNotOpened Gives (trace_name question) out err status ⊎ HasAnsweredOpened question out err status
+  HasAnsweredOf question out err status = HasNotOpened Gives (trace_name question) out err status
+      ⊎ HasAnsweredOpened question out err status
 
   -- one of the two names can't be opened, or it was confirmed of what they stand for
   abbrev pub HasConfirmedOf : ConfirmWords → Change → Change → ℕ → Type 0

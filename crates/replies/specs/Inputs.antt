@@ -18,7 +18,8 @@ IsOpened Gives (File f) = Gives (Ok f)
 IsOpened Gives (Standard s) = ⊤
 
 -- what the name stands for: standard input exactly if it is `-`, otherwise the file that opening this name gave
-pub record StandsFor {F E : Type 0} (Gives : List ℕ → Result F E → Type 0) (name : List ℕ) (input : Input F) : Type 0 where
+pub record StandsFor {F E : Type 0} (Gives : List ℕ → Result F E → Type 0) (name : List ℕ) (input : Input F)
+    : Type 0 where
   pub standard : IsStandard input ↔ (name ≡ codes "-")
   pub opened : IsOpened (Gives name) input
 
@@ -30,7 +31,8 @@ pub record CannotOpen {F E : Type 0} (Gives : List ℕ → Result F E → Type 0
 
 -- A name that can't be opened counts as a failed read: standard error has the line for that, and nothing of an answer
 -- was written.
-pub record HasNotOpened {F E : Type 0} (Gives : List ℕ → Result F E → Type 0) (name : List ℕ) (out err : Change) (status : ℕ) : Type 0 where
+pub record HasNotOpened {F E : Type 0} (Gives : List ℕ → Result F E → Type 0) (name : List ℕ) (out err : Change)
+    (status : ℕ) : Type 0 where
   pub cannot : CannotOpen Gives name
   pub untouched : IsUntouched out
   pub said : WasGiven (message Read) err

@@ -23,7 +23,8 @@ report_status (r ∷ rs) = 1
 -- The one report of these was written whole, with its status, or writing it failed; or there was no memory for it,
 -- standard error has the line for that, and nothing was written.
 abbrev pub HasWrittenMerged : List (List RaceAt) → Change → Change → ℕ → Type 0
-HasWrittenMerged reports out err status = ((races : List RaceAt) × IsMerged reports races × EndsAnswer status (report_status races) (rtext races) out err)
+HasWrittenMerged reports out err status =
+    ((races : List RaceAt) × IsMerged reports races × EndsAnswer status (report_status races) (rtext races) out err)
     ⊎ ((status ≡ 2) × IsUntouched out × WasGiven (message NoMemory) err)
 
 module _ {F E : Type 0} (Gives : List ℕ → Result F E → Type 0) (known : Input F → Option (List ℕ)) where
@@ -50,7 +51,8 @@ module _ {F E : Type 0} (Gives : List ℕ → Result F E → Type 0) (known : In
   HaveReadReports [] [] = Unit {0}
   HaveReadReports [] (entries ∷ reports) = ⊥
   HaveReadReports (name ∷ names) [] = ⊥
-  HaveReadReports (name ∷ names) (entries ∷ reports) = HasReadReport (string_bytes name) entries × HaveReadReports names reports
+  HaveReadReports (name ∷ names) (entries ∷ reports) = HasReadReport (string_bytes name) entries
+      × HaveReadReports names reports
 
   -- of the reports that the names stand for that of this number, counted from 1, is the first that wasn't taken
   pub record IsFirstRefused {A : Type 0} (names : List (String A)) (number : ℕ) (refusal : ReportRefusal) : Type 0 where
@@ -80,4 +82,5 @@ module _ {F E : Type 0} (Gives : List ℕ → Result F E → Type 0) (known : In
   -- Status 0 or 1 is that of the one report of all the named reports, which was written whole. So reports from
   -- sources that hold them and don't fail have status 2 only for lack of memory, or if standard output failed.
   abbrev pub HasMergedOf : MergeWords → Change → Change → ℕ → Type 0
-  HasMergedOf merge out err status = HasMerged merge.reports.items out err status ⊎ HasNotMerged merge.reports.items out err status
+  HasMergedOf merge out err status = HasMerged merge.reports.items out err status
+      ⊎ HasNotMerged merge.reports.items out err status

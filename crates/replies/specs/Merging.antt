@@ -4,7 +4,7 @@ use Rattle.dag.specs.declared.back.Back.{Back}
 use Rattle.dag.specs.declared.back.Back.TheVariants.{Race}
 use Rattle.dag.specs.Accesses.{RaceAt}
 use Rattle.collect.specs.Collected.{Collection, KeepsBest}
-use Rattle.collect.specs.Merged.{given_by}
+use Rattle.collect.specs.Merged.{backs_of_reports}
 use Rattle.replies.specs.declared.input.Input.{Input}
 use Rattle.replies.specs.Merges.{HasReadReport, HaveReadReports}
 
@@ -19,4 +19,4 @@ module _ {F E : Type 0} (Gives : List ℕ → Result F E → Type 0) (known : In
   pub record HaveTaken {A : Type 0} (names : List (String A)) (c : Collection) : Type 0 where
     pub reports : List (List RaceAt)
     pub read : HaveReadReports Gives known names reports
-    pub kept : KeepsBest (given_by reports) c
+    pub kept : KeepsBest (backs_of_reports reports) c

@@ -7,7 +7,7 @@ use Rattle.trace.specs.declared.faults.Fault.{Fault}
 use Rattle.trace.specs.Endings.{IsWantOfMemory, IsWantOfMemoryOrThread}
 use Rattle.dag.specs.Accesses.{RaceAt}
 use Rattle.collect.specs.ReportText.{rtext}
-use Rattle.serial.specs.Racy.{HasRace}
+use Rattle.dag.specs.Races.{HasRace}
 use Rattle.serial.specs.Reported.{IsReportOf, IsPartReportOf}
 use Rattle.audit.specs.declared.answers.Measure.{Measure}
 use Rattle.audit.specs.declared.answers.Explained.{Explained}

@@ -4,7 +4,7 @@ ghost use Rattle.std.specs.Fn.{FnReturnsAt};
 ghost use Rattle.dag.specs.Accesses.{RaceAt};
 ghost use Rattle.trace.specs.Devices.{◌⇝◌};
 ghost use Rattle.collect.specs.Collected.{KeepsBest};
-ghost use Rattle.collect.specs.Merged.{given_by};
+ghost use Rattle.collect.specs.Merged.{backs_of_reports};
 ghost use Rattle.replies.specs.Inputs.{known_bytes};
 ghost use Rattle.replies.specs.Merges.{HasMergedOf, HasWrittenMerged, IsFirstRefused, IsRefusedReport};
 ghost use Rattle.replies.specs.Merging.{HasTaken, HaveTaken};
@@ -107,7 +107,7 @@ where
 
 // Writes the report of what a collector was given.
 fn answer_merged<W: Sink, E: Sink>(collector: Collector, out: &mut W, err: &mut E) -> u8
-    ensures { (reports : List (List RaceAt)) → KeepsBest (given_by reports) collector
+    ensures { (reports : List (List RaceAt)) → KeepsBest (backs_of_reports reports) collector
         → HasWrittenMerged reports (W.state out.old ⇝ W.state out.new) (E.state err.old ⇝ E.state err.new) result }
 {
     match collector.finish() {

@@ -31,7 +31,8 @@ pub record IsBeingSent (n : ℕ) (on : ℕ → List (Item Placed)) (p : Placed) 
 
 -- lane k has its share of u, or lacks the last record of it, which is then the one being sent
 abbrev pub HasShare : ℕ → (ℕ → List (Item Placed)) → List Placed → ℕ → Type 0
-HasShare n on u k = (records (on k) ≡ share k n u) ⊎ ((p : Placed) × (records (on k) ++ p ∷ [] ≡ share k n u) × IsBeingSent n on p)
+HasShare n on u k = (records (on k) ≡ share k n u)
+    ⊎ ((p : Placed) × (records (on k) ++ p ∷ [] ≡ share k n u) × IsBeingSent n on p)
 
 -- a lane with the mark has its whole share, and then the mark, and no record is being sent
 pub record HasWholeShare (n : ℕ) (on : ℕ → List (Item Placed)) (u : List Placed) (k : ℕ) : Type 0 where

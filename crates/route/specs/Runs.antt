@@ -37,17 +37,17 @@ abbrev pub taken_list : List Event → ℕ → List (Item Placed)
 taken_list es k = of_lane k (takes_in es)
 
 -- what lane k holds: a put adds at the end, and a take takes the oldest item
-abbrev pub held_after : ℕ → List (Item Placed) → Event → List (Item Placed)
-held_after k held (put j x) = if j == k then held ++ x ∷ [] else held
-held_after k held (take j x) = if j == k then drop 1 held else held
+abbrev pub on_lane_after : ℕ → List (Item Placed) → Event → List (Item Placed)
+on_lane_after k items (put j x) = if j == k then items ++ x ∷ [] else items
+on_lane_after k items (take j x) = if j == k then drop 1 items else items
 
-abbrev pub held : List Event → ℕ → List (Item Placed)
-held es k = fold (held_after k) [] es
+abbrev pub on_lane : List Event → ℕ → List (Item Placed)
+on_lane es k = fold (on_lane_after k) [] es
 
 -- after these events a put is allowed if the lane isn't marked, and a take if it gives the oldest item
 abbrev pub IsAllowed : List Event → Event → Type 0
 IsAllowed es (put k x) = has_mark (put_list es k) ≡ false
-IsAllowed es (take k x) = (rest : List (Item Placed)) × (held es k ≡ x ∷ rest)
+IsAllowed es (take k x) = (rest : List (Item Placed)) × (on_lane es k ≡ x ∷ rest)
 
 -- the lanes that a record is sent to, in their order
 abbrev pub lanes_for : ℕ → Record → List ℕ
@@ -61,8 +61,8 @@ lanes_for n (Write l) = l % n ∷ []
 abbrev pub sending_of : ℕ → Placed → List (ℕ × Item Placed)
 sending_of n p = map (λ k. (k, One p)) (lanes_for n p.what)
 
--- all that is sent of w, put by put: record after record, and then a mark on each lane; that the marks come in the order of the
--- lanes is this product's choice
+-- all that is sent of w, put by put: record after record, and then a mark on each lane; that the marks come in the
+-- order of the lanes is this product's choice
 abbrev pub sending : ℕ → List Placed → List (ℕ × Item Placed)
 sending n w = flat_map (sending_of n) w ++ map (λ k. (k, Finish)) (range_with_len 0 n)
 

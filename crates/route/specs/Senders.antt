@@ -1,5 +1,5 @@
--- Promised: of a list of senders: their lanes, what was put on each and what its taker is shown, how many items each lane
--- holds at most, for how many its sender knows to have room, and how often it refused.
+-- Promised: of a list of senders: their lanes, what was put on each and what its taker is shown, how many items each
+-- lane holds at most, for how many its sender knows to have room, and how often it refused.
 use Rattle.std.specs.Prelude.{ℕ, List, map, slice_index_or, slice_set}
 use Rattle.lane.specs.declared.item.Item.{Item}
 use Rattle.lane.specs.declared.sender.Sender.{Sender}

@@ -1,5 +1,6 @@
 -- Promised: the items on each lane while records are sent, and the lanes that a record goes to.
-use Rattle.std.specs.Prelude.{◌≡◌, ℕ, ◌<◌, ◌%◌, ◌&&◌, nat_lt, if◌then◌else◌, List, [], ◌∷◌, ◌++◌, length, map, slice_index_or, slice_set, Option, Some, None}
+use Rattle.std.specs.Prelude.{◌≡◌, ℕ, ◌<◌, ◌%◌, ◌&&◌, nat_lt, if◌then◌else◌, List, [], ◌∷◌, ◌++◌, length, map}
+use Rattle.std.specs.Prelude.{slice_index_or, slice_set, Option, Some, None}
 use Rattle.lane.specs.declared.item.Item.{Item}
 use Rattle.lane.specs.declared.item.Item.TheVariants.{One, Finish}
 use Rattle.lane.specs.Items.{has_mark}
@@ -37,7 +38,8 @@ mark_of k marked = if nat_lt k marked then Finish ∷ [] else []
 -- of n lanes, with `on k` put on lane k: each has its share of w, what it has of the pending record,
 -- and its mark
 abbrev pub AllSent : ℕ → List Placed → ℕ → Option Placed → ℕ → (ℕ → List (Item Placed)) → Type 0
-AllSent n w next pending marked on = (k : ℕ) → k < n → on k ≡ map One (share k n w ++ portion k n next pending) ++ mark_of k marked
+AllSent n w next pending marked on = (k : ℕ) → k < n
+    → on k ≡ map One (share k n w ++ portion k n next pending) ++ mark_of k marked
 
 -- the records that were sent whole, after a step that may have sent the pending one
 abbrev pub sent_whole : List Placed → Option Placed → Option Placed → List Placed

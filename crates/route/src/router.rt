@@ -1,5 +1,6 @@
 //! The router: its state, and how it sends records and marks to the lanes.
-ghost use Rattle.std.specs.Prelude.{◌≡◌, ◌<◌, ◌≤◌, ◌+◌, ◌↔◌, ◌≢◌, ℕ, List, [], ◌∷◌, ◌++◌, length, map, All, true, false};
+ghost use Rattle.std.specs.Prelude.{◌≡◌, ◌<◌, ◌≤◌, ◌+◌, ◌↔◌, ◌≢◌, ℕ, List, [], ◌∷◌};
+ghost use Rattle.std.specs.Prelude.{◌++◌, length, map, All, true, false};
 ghost use Rattle.std.specs.Prelude.{IfOk, IsFalse, is_some, if◌then◌else◌, slice_index_or, vec_len, vec_capacity};
 ghost use Rattle.std.specs.Option.{ForSome};
 ghost use Rattle.dag.specs.declared.records.Placed.{Placed};

@@ -11,16 +11,16 @@ use Rattle.dag.specs.Accesses.{RaceAt}
 use Rattle.dag.specs.Traces.{placed, placed_from, IsWellNested}
 use Rattle.trace.specs.Watching.{ComesAfter}
 use Rattle.dag.specs.Parts.{records_of}
-use Rattle.dag.specs.Races.{IsReport}
+use Rattle.dag.specs.Races.{HasRace, IsReport}
 use Rattle.bags.specs.Procedures.{Procedures}
 use Rattle.shadow.specs.Memory.{Memory, HaveSeen, AreReadyFor}
-use Rattle.shadow.specs.Found.{start, found, put_in, by_location}
+use Rattle.shadow.specs.Found.{state_at_start, found, put_in, by_location}
 use Rattle.shadow.proofs.FoundLaws.{Apart, found_from-apart}
 use Rattle.shadow.proofs.Headlines.{verdict_is_report, racy}
 use Rattle.collect.specs.Collected.{Collection, KeepsBest, IsCollected, best}
 use Rattle.collect.proofs.Best.{races_of-append, fails-push_race}
 use Rattle.collect.proofs.Sorted.{AreApart, NoneOn, collected_is_sorted}
-use Rattle.serial.specs.Racy.{HasRace, HasLocation}
+use Rattle.serial.specs.Racy.{HasLocation}
 use Rattle.serial.specs.Reported.{IsReportOf}
 use Rattle.serial.specs.Detected.{HasDetected, HasFollowed, HasFollowedPart}
 use Rattle.serial.proofs.PartRecords.{records_of-none, records_of-some}
@@ -61,7 +61,7 @@ apart (r ∷ rs) h = (none_on r.location rs h.0, apart rs h.1)
 -- the report is the list of the races found, by location
 pub reported : (u : List Placed) (bags : Procedures) (m : Memory) (c : Collection) (rs : List RaceAt) → HasDetected u bags m c → ((g : List Back) → KeepsBest g c → IsCollected g rs) → rs ≡ by_location (found u)
 reported u bags m c rs h collected =
-    collected_is_sorted put_in by_location (λ r. refl) (λ r s ss. refl) refl (λ r ss. refl) h.given rs (found u) (collected h.given h.holds) (apart (found u) (found_from-apart start u)) (λ l. ap (best l) h.races)
+    collected_is_sorted put_in by_location (λ r. refl) (λ r s ss. refl) refl (λ r ss. refl) h.given rs (found u) (collected h.given h.holds) (apart (found u) (found_from-apart state_at_start u)) (λ l. ap (best l) h.races)
 
 -- the report of a trace by the races found in it
 pub report_of : (w : List Record) {records depths : ℕ} (rs : List RaceAt) → IsWellNested w records depths → rs ≡ by_location (found (placed w)) → IsReportOf w rs

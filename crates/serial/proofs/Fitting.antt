@@ -11,7 +11,7 @@ use Rattle.dag.specs.Accesses.{RaceAt}
 use Rattle.dag.specs.Traces.{placed_from}
 use Rattle.trace.specs.Text.{Fits, AllFit}
 use Rattle.shadow.specs.Cells.{race_with}
-use Rattle.shadow.specs.Found.{State, start, after_record, race_of, found_from, found}
+use Rattle.shadow.specs.Found.{State, state_at_start, after_record, race_of, found_from, found}
 use Rattle.shadow.proofs.FoundLaws.{race_with-is}
 
 -- the location of the race fits 64 bits
@@ -39,4 +39,4 @@ fit_found v s i (r ∷ w) h = fit_next _ _ (λ x e. fit_race v s i r x h.0 e) (f
 
 -- the races found in a trace whose locations fit 64 bits
 pub fit-found : (v : Version) (w : List Record) → AllFit v w → AllByRecursion HasFit (found (placed_from 1 w))
-fit-found v w h = fit_found v start 1 w h
+fit-found v w h = fit_found v state_at_start 1 w h

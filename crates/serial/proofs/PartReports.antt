@@ -10,7 +10,7 @@ use Rattle.dag.specs.Traces.{placed, IsWellNested}
 use Rattle.trace.specs.Text.{AllFit}
 use Rattle.dag.specs.Parts.{records_of, races_of_part}
 use Rattle.dag.proofs.Once.{In, In_from, Contains_from}
-use Rattle.shadow.specs.Found.{start, found, by_location, verdict}
+use Rattle.shadow.specs.Found.{state_at_start, found, by_location, verdict}
 use Rattle.shadow.proofs.FoundLaws.{found_from-apart}
 use Rattle.shadow.proofs.Listed.{All-by_location}
 use Rattle.shadow.proofs.Headlines.{racy}
@@ -18,7 +18,8 @@ use Rattle.shadow.proofs.Parted.{found-part}
 use Rattle.shadow.proofs.PartListed.{located-by_location, filter-by_location}
 use Rattle.collect.specs.Located.{located_at, HaveLocations}
 use Rattle.serial.proofs.Fitting.{HasFit, fit-found}
-use Rattle.serial.specs.Racy.{HasRace, HasLocation}
+use Rattle.dag.specs.Races.{HasRace}
+use Rattle.serial.specs.Racy.{HasLocation}
 use Rattle.serial.specs.Reported.{IsPartReportOf}
 
 abbrev is_own : Part → RaceAt → Bool
@@ -72,7 +73,7 @@ at_locations part w rs is =
     ap (map (located_at part)) is
     ∙ located-by_location part (found (records_of part (placed w)))
     ∙ ap by_location (found-part part (placed w))
-    ∙ sym (filter-by_location (is_own part) (found (placed w)) (found_from-apart start (placed w)))
+    ∙ sym (filter-by_location (is_own part) (found (placed w)) (found_from-apart state_at_start (placed w)))
 
 have_locations : (part : Part) (rs : List RaceAt) → AllByRecursion HasFit (map (located_at part) rs) → HaveLocations part rs
 have_locations part [] a = tt

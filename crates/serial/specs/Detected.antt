@@ -25,6 +25,7 @@ pub record HasFollowed (u : List Record) (bags : Procedures) (memory : Memory) (
   pub ready : AreReadyFor bags memory (length u + 1)
 
 -- so what a part has of the first records of a trace was detected, and the next one may come
-pub record HasFollowedPart (part : Part) (u : List Record) (bags : Procedures) (memory : Memory) (collector : Collection) : Type 0 where
+pub record HasFollowedPart (part : Part) (u : List Record) (bags : Procedures) (memory : Memory)
+    (collector : Collection) : Type 0 where
   pub detected : HasDetected (records_of part (placed u)) bags memory collector
   pub ready : AreReadyFor bags memory (length u + 1)

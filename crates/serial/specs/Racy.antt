@@ -5,7 +5,7 @@ use Rattle.dag.specs.declared.records.Record.{Record}
 use Rattle.dag.specs.Traces.{IsWellNested}
 use Rattle.dag.specs.Dag.{Leads, IsParallel}
 use Rattle.dag.specs.Accesses.{RaceAt}
-use Rattle.dag.specs.Races.{IsAccessPlace, IsRead, IsRace, IsKeptReader, IsReported}
+use Rattle.dag.specs.Races.{IsAccessPlace, IsRead, IsKeptReader, IsReported}
 
 -- of every trace that is well nested within some limits
 abbrev pub OfWellNested : (List Record → Type 0) → Type 0
@@ -32,10 +32,6 @@ KeepsParallelReader w = (l i j : ℕ) → i < j → IsRead w l i → IsAccessPla
 pub record AreEarlyRaces (w : List Record) (t : ℕ) (rs : List RaceAt) : Type 0 where
   pub ascending : IsStrictlyIncreasing (map (λ r. r.second.place) rs)
   pub exactly : (r : RaceAt) → Contains rs r ↔ (IsReported w r × (r.second.place ≤ t))
-
--- two accesses of the location race
-abbrev pub HasRace : List Record → ℕ → Type 0
-HasRace w l = (i : ℕ) × (j : ℕ) × IsRace w l i j
 
 -- a race of the list is of this location
 abbrev pub HasLocation : List RaceAt → ℕ → Type 0

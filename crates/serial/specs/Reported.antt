@@ -3,10 +3,10 @@ use Rattle.std.specs.Prelude.{◌≡◌, ℕ, ◌%◌, List, ◌↔◌}
 use Rattle.dag.specs.declared.records.Record.{Record}
 use Rattle.dag.specs.declared.part.Part.{Part}
 use Rattle.dag.specs.Accesses.{RaceAt}
-use Rattle.dag.specs.Races.{IsReport}
+use Rattle.dag.specs.Races.{HasRace, IsReport}
 use Rattle.dag.specs.Parts.{races_of_part}
 use Rattle.shadow.specs.Found.{verdict}
-use Rattle.serial.specs.Racy.{HasRace, HasLocation}
+use Rattle.serial.specs.Racy.{HasLocation}
 
 -- The races are the verdict on the trace, which is its report by the dag. So the locations reported are exactly
 -- those with two accesses, one a write, that no path joins.

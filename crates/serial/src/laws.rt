@@ -7,10 +7,11 @@ ghost use Rattle.dag.specs.Parts.{records_of, races_of_part};
 ghost use Rattle.dag.specs.declared.records.Placed.{Placed};
 ghost use Rattle.dag.specs.declared.part.Part.{Part};
 ghost use Rattle.dag.specs.Accesses.{RaceAt};
-ghost use Rattle.dag.specs.Races.{IsReport};
+ghost use Rattle.dag.specs.Races.{HasRace, IsReport};
 ghost use Rattle.shadow.specs.Found.{found, verdict};
 ghost use Rattle.collect.specs.Located.{located_at};
-ghost use Rattle.serial.specs.Racy.{OfWellNested, IsParallelThrough, IsParallelAfter, KeepsParallelReader, AreEarlyRaces, HasRace, HasLocation};
+ghost use Rattle.serial.specs.Racy.{OfWellNested, IsParallelThrough, IsParallelAfter, KeepsParallelReader, AreEarlyRaces};
+ghost use Rattle.serial.specs.Racy.{HasLocation};
 
 /// For every well nested trace: what parallel accesses say of a third access; the kept reader represents all reads
 /// before an access; and the races found are those of the dag, up to every place and in all.

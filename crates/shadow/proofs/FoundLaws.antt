@@ -16,7 +16,7 @@ use Rattle.dag.specs.Accesses.{RaceAt}
 use Rattle.bags.specs.Procedures.{Active, Procedures, event, bags_from, bags_after}
 use Rattle.shadow.specs.Cells.{Cell, touched, race_at, race_with}
 use Rattle.dag.proofs.Once.{Rises, AllAbove, AllAbove-lower, increasing-from_rises}
-use Rattle.shadow.specs.Found.{State, start, after_access, after_record, race_of, state_from, state_after, found_from, found}
+use Rattle.shadow.specs.Found.{State, state_at_start, after_access, after_record, race_of, state_from, state_after, found_from, found}
 
 pub state_from-append : (s : State) (u v : List Placed) → state_from s (u ++ v) ≡ state_from (state_from s u) v
 state_from-append s [] v = refl
@@ -29,10 +29,10 @@ found_from-append s (p ∷ u) v =
     rw (e, append_assoc) refl
 
 pub state_after-push : (u : List Placed) (p : Placed) → state_after (u ++ p ∷ []) ≡ after_record (state_after u) p.place p.what
-state_after-push u p = state_from-append start u (p ∷ [])
+state_after-push u p = state_from-append state_at_start u (p ∷ [])
 
 pub found-push : (u : List Placed) (p : Placed) → found (u ++ p ∷ []) ≡ found u ++ option_to_list (race_of (state_after u) p.place p.what)
-found-push u p = found_from-append start u (p ∷ []) ∙ ap (λ (z : List RaceAt). found u ++ z) (append-nil _)
+found-push u p = found_from-append state_at_start u (p ∷ []) ∙ ap (λ (z : List RaceAt). found u ++ z) (append-nil _)
 
 bags-after_record : (s : State) (place : ℕ) (r : Record) → (after_record s place r).bags ≡ event s.bags r
 bags-after_record s place records.Spawn = refl
@@ -48,7 +48,7 @@ bags-state_from s (p ∷ u) = bags-state_from (after_record s p.place p.what) u 
 
 -- the bags of a state are those of its records
 pub bags-state_after : (u : List Placed) → (state_after u).bags ≡ bags_after u
-bags-state_after u = bags-state_from start u
+bags-state_after u = bags-state_from state_at_start u
 
 -- the records with their places, up to one of them
 pub placed_from-push : (i t : ℕ) (w : List Record) (r : Record) (m : ℕ) → m ≡ i + t → slice_get w t ≡ Some r → take (suc t) (placed_from i w) ≡ take t (placed_from i w) ++ record { place = m; what = r } ∷ []
@@ -122,7 +122,7 @@ found-rises s m (p ∷ u) h = rises_next p.place _ _ (λ x e. (race_of-is s p.pl
 
 -- where the places rise, so do the second places of the races
 pub found-increasing : (m : ℕ) (u : List Placed) → Rising m u → IsStrictlyIncreasing (map second_place (found u))
-found-increasing m u h = increasing-from_rises second_place (found u) (found-rises start m u h)
+found-increasing m u h = increasing-from_rises second_place (found u) (found-rises state_at_start m u h)
 
 -- Once: a location is reported at most once.
 

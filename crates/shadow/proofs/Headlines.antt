@@ -5,7 +5,7 @@ use Rattle.dag.specs.declared.records.Record.{Record}
 use Rattle.dag.specs.Traces.{IsWellNested, placed}
 use Rattle.dag.specs.Accesses.{RaceAt}
 use Rattle.dag.specs.Races.{IsRace, IsReported, IsReport}
-use Rattle.shadow.specs.Found.{start, found, verdict}
+use Rattle.shadow.specs.Found.{state_at_start, found, verdict}
 use Rattle.dag.proofs.Once.{In, In_from, Contains_from, report_once}
 use Rattle.shadow.proofs.FoundLaws.{Rising-placed_from, Rising-take, found-increasing, found_from-apart}
 use Rattle.shadow.proofs.Listed.{increasing-by_location, In-by_location, In-from_by_location}
@@ -23,7 +23,7 @@ early-exactly w v t r =
 
 pub verdict_is_report : (w : List Record) {n d : ℕ} → IsWellNested w n d → IsReport w (verdict w)
 verdict_is_report w v = record {
-  ascending = increasing-by_location (found (placed w)) (found_from-apart start (placed w));
+  ascending = increasing-by_location (found (placed w)) (found_from-apart state_at_start (placed w));
   exactly = λ r. ((λ h. (early-all w v r).0 (In-from_by_location r _ (In_from _ r h))), (λ h. Contains_from _ r (In-by_location r _ ((early-all w v r).1 h))));
 }
 

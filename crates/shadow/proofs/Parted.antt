@@ -16,7 +16,7 @@ use Rattle.dag.specs.Shares.{goes, goes_placed, share}
 use Rattle.dag.specs.Parts.{numbered, numbered_at, records_of, location_at, races_of_part}
 use Rattle.bags.specs.Procedures.{Procedures, event}
 use Rattle.shadow.specs.Cells.{Cell, touched, race_at, race_with, rival}
-use Rattle.shadow.specs.Found.{State, start, after_access, after_record, race_of, found_from, found}
+use Rattle.shadow.specs.Found.{State, state_at_start, after_access, after_record, race_of, found_from, found}
 use Rattle.shadow.proofs.FoundLaws.{kept-same, kept-other}
 use Rattle.shadow.proofs.Sharing.{found-share}
 
@@ -111,5 +111,5 @@ all_pass {X = X} p (x ∷ xs) =
 -- what is found in a part's records, each at its location again, are the races of the part's locations
 pub found-part : (part : Part) (u : List Placed) → map (located part) (found (records_of part u)) ≡ races_of_part part (found u)
 found-part part u =
-    moved_from part (share part.index part.count u) (all_pass (goes_placed part.index part.count) u) start start (record { bags = refl; kept = λ m. refl })
+    moved_from part (share part.index part.count u) (all_pass (goes_placed part.index part.count) u) state_at_start state_at_start (record { bags = refl; kept = λ m. refl })
     ∙ found-share part.index part.count u

@@ -12,7 +12,7 @@ use Rattle.dag.specs.Accesses.{RaceAt}
 use Rattle.dag.specs.Shares.{goes, share}
 use Rattle.bags.specs.Procedures.{Procedures, event}
 use Rattle.shadow.specs.Cells.{Cell, touched, race_at, race_with}
-use Rattle.shadow.specs.Found.{State, start, after_access, after_record, race_of, found_from, found}
+use Rattle.shadow.specs.Found.{State, state_at_start, after_access, after_record, race_of, found_from, found}
 use Rattle.shadow.proofs.FoundLaws.{kept-same, kept-other, race_with-is}
 
 -- whether a location is of shard k of n
@@ -105,4 +105,4 @@ share_from k n (p ∷ u) s z a = share_step k n p.place p.what u (share_from k n
 
 -- what a shard finds in its share: the races of its locations
 pub found-share : (k n : ℕ) (u : List Placed) → found (share k n u) ≡ filter (λ r. r.location % n == k) (found u)
-found-share k n u = share_from k n u start start (record { bags = refl; kept = λ l h. refl })
+found-share k n u = share_from k n u state_at_start state_at_start (record { bags = refl; kept = λ l h. refl })

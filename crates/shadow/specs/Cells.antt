@@ -46,14 +46,20 @@ reader_after fs place kept = if stands_in_p fs kept then kept else name_of fs pl
 
 -- what is kept of the location after an access of it
 abbrev pub touched : List Active → Kind → ℕ → Cell → Cell
-touched fs Read place c = record { writer = c.writer; reader = reader_after fs place c.reader; reported = c.reported || is_some (rival fs Read c) }
-touched fs Write place c = record { writer = name_of fs place; reader = c.reader; reported = c.reported || is_some (rival fs Write c) }
+touched fs Read place c = record {
+  writer = c.writer;
+  reader = reader_after fs place c.reader;
+  reported = c.reported || is_some (rival fs Read c);
+}
+touched fs Write place c =
+    record { writer = name_of fs place; reader = c.reader; reported = c.reported || is_some (rival fs Write c) }
 
 -- the race that is reported at an access: the first of its location
 abbrev pub race_with : ℕ → Kind → ℕ → Bool → Option Access → Option RaceAt
 race_with l k place reported None = None
 race_with l k place true (Some first) = None
-race_with l k place false (Some first) = Some (record { location = l; first = first; second = record { kind = k; place = place } })
+race_with l k place false (Some first) =
+    Some (record { location = l; first = first; second = record { kind = k; place = place } })
 
 abbrev pub race_at : List Active → ℕ → Kind → ℕ → Cell → Option RaceAt
 race_at fs l k place c = race_with l k place c.reported (rival fs k c)

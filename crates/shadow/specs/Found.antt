@@ -16,8 +16,8 @@ pub record State : Type 0 where
   pub bags : Procedures
   pub kept : ℕ → Cell
 
-abbrev pub start : State
-start = record { bags = at_start; kept = λ _. untouched }
+abbrev pub state_at_start : State
+state_at_start = record { bags = at_start; kept = λ _. untouched }
 
 -- the cells with one of them changed
 abbrev pub with_cell : ℕ → Cell → (ℕ → Cell) → ℕ → Cell
@@ -25,7 +25,8 @@ with_cell l c kept m = if m == l then c else kept m
 
 -- an access touches its location, by the bags as they are; every other record moves the bags
 abbrev pub after_access : State → ℕ → Kind → ℕ → State
-after_access s l k place = record { bags = s.bags; kept = with_cell l (touched s.bags.active k place (s.kept l)) s.kept }
+after_access s l k place =
+    record { bags = s.bags; kept = with_cell l (touched s.bags.active k place (s.kept l)) s.kept }
 
 abbrev pub after_record : State → ℕ → Record → State
 after_record s place (records.Read l) = after_access s l Read place
@@ -50,7 +51,7 @@ state_from s [] = s
 state_from s (p ∷ u) = state_from (after_record s p.place p.what) u
 
 abbrev pub state_after : List Placed → State
-state_after u = state_from start u
+state_after u = state_from state_at_start u
 
 -- the reported races, by their second places
 abbrev pub found_from : State → List Placed → List RaceAt
@@ -58,7 +59,7 @@ found_from s [] = []
 found_from s (p ∷ u) = option_to_list (race_of s p.place p.what) ++ found_from (after_record s p.place p.what) u
 
 abbrev pub found : List Placed → List RaceAt
-found u = found_from start u
+found u = found_from state_at_start u
 
 -- a race put into a list of races by ascending location
 abbrev pub put_in : RaceAt → List RaceAt → List RaceAt

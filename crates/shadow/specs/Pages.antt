@@ -1,5 +1,6 @@
 -- Promised: the cells of the locations: a page has eight of them.
-use Rattle.std.specs.Prelude.{◌≡◌, ℕ, ◌+◌, ◌*◌, ◌/◌, ◌%◌, ◌==◌, ◌&&◌, if◌then◌else◌, Bool, false, List, [], Option, Some, None, nat_eq, slice_get, slice_index_or, unwrap_or}
+use Rattle.std.specs.Prelude.{◌≡◌, ℕ, ◌+◌, ◌*◌, ◌/◌, ◌%◌, ◌==◌, ◌&&◌, if◌then◌else◌, Bool, false, List, [], Option}
+use Rattle.std.specs.Prelude.{Some, None, nat_eq, slice_get, slice_index_or, unwrap_or}
 use Rattle.std.specs.Map.{lookup}
 use Rattle.shadow.specs.Cells.{Named, Cell}
 use Rattle.shadow.specs.declared.spot.Layout.{Layout}
@@ -39,11 +40,13 @@ abbrev pub apart_of : Layout → ℕ
 apart_of Program = 2
 apart_of (Shards n) = 8
 
--- the number of a shard's page, by the number of one of its locations among those of the shard, where the page's are a apart
+-- the number of a shard's page, by the number of one of its locations among those of the shard, where those of the
+-- page are a apart
 abbrev pub own_page_of : ℕ → ℕ → ℕ
 own_page_of a number = number / a / 8 * a + number % a
 
--- The number of a location's page. With n shards a shard's locations are n apart, and location l is the (l / n)th of them.
+-- The number of a location's page. With n shards a shard's locations are n apart, and the index of location l
+-- among them is l / n.
 abbrev pub page_of : Layout → ℕ → ℕ
 page_of y l = own_page_of (apart_of y) (l / shards_of y) * shards_of y + l % shards_of y
 

@@ -14,7 +14,8 @@ pub record MayTouch (s : Procedures) (place : ℕ) (kept : Cell) : Type 0 where
   pub to_limit : place ≤ most_records
 
 -- it did so: this is the race that the access reports, if any, and what is kept from then on
-pub record HasTouched (s : Procedures) (location : ℕ) (kind : Kind) (place : ℕ) (old new : Cell) (race : Option RaceAt) : Type 0 where
+pub record HasTouched (s : Procedures) (location : ℕ) (kind : Kind) (place : ℕ) (old new : Cell)
+    (race : Option RaceAt) : Type 0 where
   pub race_is : race ≡ race_at s.active location kind place old
   pub kept : new ≡ touched s.active kind place old
   pub earlier : IsCellBefore (place + 1) s.count new

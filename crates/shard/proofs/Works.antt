@@ -5,7 +5,7 @@ use Rattle.std.specs.Option.{option_to_list}
 use Rattle.std.proofs.lemmas.Bool.{cases_Bool}
 use Rattle.dag.specs.declared.records.Placed.{Placed}
 use Rattle.dag.specs.Accesses.{RaceAt}
-use Rattle.shadow.specs.Found.{start, state_from, found_from, found}
+use Rattle.shadow.specs.Found.{state_at_start, state_from, found_from, found}
 use Rattle.shadow.proofs.FoundLaws.{found_from-append}
 use Rattle.lane.specs.declared.item.Item.{Item}
 use Rattle.lane.specs.declared.item.Item.TheVariants.{One, Finish}
@@ -88,7 +88,7 @@ answers u s put stopped h = ⊎_elim (λ t. inr (h.at_end t)) (λ f. let g = h.g
 
 -- the races found in a beginning
 found_front : (v u : List Placed) → IsBeginning v u → IsBeginning (found v) (found u)
-found_front v u (rest, is) = (found_from (state_from start v) rest, ap found is ∙ found_from-append start v rest)
+found_front v u (rest, is) = (found_from (state_from state_at_start v) rest, ap found is ∙ found_from-append state_at_start v rest)
 
 puts_found : (u : List Placed) (put : List (Item Back)) → AreInOrder u → HasHandedBack u put → PutsFound u (put ++ Finish ∷ [])
 puts_found u put fine (inl (o, e)) = inl (ap (λ (x : List (Item Back)). x ++ Finish ∷ []) e)

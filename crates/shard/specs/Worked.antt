@@ -18,9 +18,11 @@ pub record DidWork {S H : Type 0} (taker : Taker Placed) (back : Sender Back) (w
   pub same_back : end_lane worked.back ≡ lane_of back
   pub to_mark : taken_of worked.taker ≡ map One (records (taken_of worked.taker)) ++ Finish ∷ []
   pub count : worked.shard.taken ≡ capped_count (length (records (taken_of worked.taker)))
-  pub answers : (put : List (Item Back)) × (all_put worked.back ≡ put ++ Finish ∷ []) × HasHandedBack (records (taken_of worked.taker)) put
+  pub answers : (put : List (Item Back)) × (all_put worked.back ≡ put ++ Finish ∷ [])
+      × HasHandedBack (records (taken_of worked.taker)) put
   -- all that it put is shown to the taker of its lane
   pub shown : all_shown worked.back ≡ all_put worked.back
   -- of a share of a well nested trace: the count is their number, and the answers are the races found
-  pub of_share : IsOfShare (records (taken_of worked.taker)) → (worked.shard.taken ≡ length (records (taken_of worked.taker)))
+  pub of_share : IsOfShare (records (taken_of worked.taker))
+      → (worked.shard.taken ≡ length (records (taken_of worked.taker)))
       × PutsFound (records (taken_of worked.taker)) (all_put worked.back)

@@ -39,7 +39,8 @@ report_message reports.NoMemory = codes "spbags: out of memory\n"
 
 -- the line for one refused report of many; only the line for a faulty line says which report it is
 abbrev pub merge_message : ℕ → ReportRefusal → List ℕ
-merge_message number (reports.Bad line) = codes "spbags: report " ++ decimal number ++ codes " line " ++ decimal line ++ codes ": bad\n"
+merge_message number (reports.Bad line) = codes "spbags: report " ++ decimal number ++ codes " line " ++ decimal line
+    ++ codes ": bad\n"
 merge_message number reports.Read = report_message reports.Read
 merge_message number reports.TooLarge = report_message reports.TooLarge
 merge_message number reports.NoMemory = report_message reports.NoMemory

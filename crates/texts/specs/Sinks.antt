@@ -7,4 +7,5 @@ use Rattle.texts.specs.Messages.{cannot_write}
 -- The end of an answer with this status: it was written whole and this is the status; or writing it failed, the
 -- status is 2, and standard error has the line for that.
 abbrev pub EndsAnswer : ℕ → ℕ → List ℕ → Change → Change → Type 0
-EndsAnswer result status text out err = ((result ≡ status) × Took text out × IsUntouched err) ⊎ ((result ≡ 2) × TookFront text out × WasGiven cannot_write err)
+EndsAnswer result status text out err = ((result ≡ status) × Took text out × IsUntouched err)
+    ⊎ ((result ≡ 2) × TookFront text out × WasGiven cannot_write err)

@@ -6,6 +6,7 @@ use Rattle.trace.specs.Text.{newline, IsUnended}
 use Rattle.dag.specs.Bounds.{longest_line}
 
 abbrev pub IsCut : ℕ → List ℕ → Cut → Type 0
-IsCut held piece (LineEnd k) = (k < length piece) × (slice_index piece k ≡ newline) × IsUnended (take k piece) × (held + k ≤ longest_line)
+IsCut held piece (LineEnd k) = (k < length piece) × (slice_index piece k ≡ newline) × IsUnended (take k piece)
+    × (held + k ≤ longest_line)
 IsCut held piece Long = (longest_line < held + length piece) × IsUnended (take (longest_line + 1 - held) piece)
 IsCut held piece Open = IsUnended piece × (held + length piece ≤ longest_line)

@@ -46,5 +46,7 @@ pub record IsRefused (IsWant : Fault → Type 0) (records depths : ℕ) (c : Cha
   pub honest : (w : List Record) → HoldsTrace records depths c w → IsWant f
 
 -- the answer is one to the trace that was read, or the fault is why there is none
-abbrev pub EndsReading : {T : Type 0} → (Fault → Type 0) → ℕ → ℕ → Change → (T → List Record → Type 0) → Result T Fault → Type 0
-EndsReading IsWant records depths c Says r = MatchResult r (λ answer. OfTrace records depths c (Says answer)) (IsRefused IsWant records depths c)
+abbrev pub EndsReading : {T : Type 0} → (Fault → Type 0) → ℕ → ℕ → Change → (T → List Record → Type 0)
+    → Result T Fault → Type 0
+EndsReading IsWant records depths c Says r =
+    MatchResult r (λ answer. OfTrace records depths c (Says answer)) (IsRefused IsWant records depths c)

@@ -29,8 +29,10 @@ IsNoRecord v body = (r : Record) → Fits v r → body ≢ spell r
 -- The first faulty line among those that are judged. The lines before it are the header of a version v and w,
 -- at most as many records as the limit. A line that is both bad and past the limit is bad.
 pub data IsBadLine (records : ℕ) (bytes : List ℕ) : TextFault → Type 0 where
-  bad_header : (body : List ℕ) → IsJudged bytes body → IsNoHeader body → IsBadLine records bytes (record { line = 1; kind = Header })
-  bad_line : (v : Version) (w : List Record) (rest body : List ℕ) → AllFit v w → length w ≤ records → bytes ≡ text v w ++ rest
+  bad_header : (body : List ℕ) → IsJudged bytes body → IsNoHeader body
+      → IsBadLine records bytes (record { line = 1; kind = Header })
+  bad_line : (v : Version) (w : List Record) (rest body : List ℕ) → AllFit v w → length w ≤ records
+      → bytes ≡ text v w ++ rest
       → IsJudged rest body → IsNoRecord v body
       → IsBadLine records bytes (record { line = length w + 2; kind = Line })
   too_many : (v : Version) (w : List Record) (r : Record) (more : List ℕ) → AllFit v w → length w ≡ records → Fits v r
@@ -40,7 +42,8 @@ pub data IsBadLine (records : ℕ) (bytes : List ℕ) : TextFault → Type 0 whe
 -- at the end of the bytes: a rest without a line end, or no header line
 pub data IsTruncated (records : ℕ) (bytes : List ℕ) : TextFault → Type 0 where
   no_header : IsOpen bytes → IsTruncated records bytes (record { line = 1; kind = Truncated })
-  no_line_end : (v : Version) (w : List Record) (rest : List ℕ) → AllFit v w → length w ≤ records → bytes ≡ text v w ++ rest
+  no_line_end : (v : Version) (w : List Record) (rest : List ℕ) → AllFit v w → length w ≤ records
+      → bytes ≡ text v w ++ rest
       → IsOpen rest → rest ≢ []
       → IsTruncated records bytes (record { line = length w + 2; kind = Truncated })
 
@@ -82,5 +85,6 @@ pub data IsFaultOfAll (records depths : ℕ) (bytes : List ℕ) : Fault → Type
   before_end : (f : Fault) → IsFirstFault records depths bytes f → IsFaultOfAll records depths bytes f
   truncated : (f : TextFault) → IsTruncated records bytes f → ((g : Fault) → IsFirstFault records depths bytes g → ⊥)
       → IsFaultOfAll records depths bytes (Text f)
-  unfinished : (v : Version) (w : List Record) → AllFit v w → length w ≤ records → bytes ≡ text v w → AreNested depths w → (HasEnded w → ⊥)
+  unfinished : (v : Version) (w : List Record) → AllFit v w → length w ≤ records → bytes ≡ text v w
+      → AreNested depths w → (HasEnded w → ⊥)
       → IsFaultOfAll records depths bytes (Nest (record { place = length w + 1; kind = Unfinished }))

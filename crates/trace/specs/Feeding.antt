@@ -22,7 +22,8 @@ pub record Feeding : Type 0 where
   pub ending : Ending
 
 abbrev pub before_all : ℕ → ℕ → Feeding
-before_all records depths = record { reading = at_first_byte records; nesting = at_first_place depths; coming = []; ending = Running }
+before_all records depths =
+    record { reading = at_first_byte records; nesting = at_first_place depths; coming = []; ending = Running }
 
 -- of the bytes that have come those in front were used, and gave the records w
 pub record HasUsed (w : List Record) (bytes : List ℕ) (s : Feeding) : Type 0 where
@@ -39,7 +40,8 @@ pub record HasFed (w : List Record) (bytes : List ℕ) (s : Feeding) : Type 0 wh
 -- a fault of the text or the nesting is the first fault of the bytes so far, or at the end of the input
 -- that of all bytes
 abbrev pub IsFaultThen : ℕ → ℕ → List ℕ → Change → Fault → Type 0
-IsFaultThen records depths bytes c f = IsFirstFault records depths bytes f ⊎ (IsUsedUp c.new × IsFaultOfAll records depths bytes f)
+IsFaultThen records depths bytes c f = IsFirstFault records depths bytes f
+    ⊎ (IsUsedUp c.new × IsFaultOfAll records depths bytes f)
 
 -- What a fault says of the bytes that have come, and of what their source went through. `Read` comes only if the
 -- source failed, and the bytes before that hold no fault.
@@ -60,7 +62,8 @@ pub record IsWhole (records depths : ℕ) (w : List Record) (bytes : List ℕ) (
 
 -- What a feed's answer says that had given the records w: the next record in its place, the end, or a fault.
 abbrev pub IsFed : ℕ → ℕ → List Record → List ℕ → Change → Feeding → Result (Option Placed) Fault → Type 0
-IsFed records depths w bytes c new (Ok (Some p)) = (p.place ≡ length w + 1) × HasFed (w ++ p.what ∷ []) bytes new × IsSteady c
+IsFed records depths w bytes c new (Ok (Some p)) = (p.place ≡ length w + 1) × HasFed (w ++ p.what ∷ []) bytes new
+    × IsSteady c
 IsFed records depths w bytes c new (Ok None) = IsWhole records depths w bytes c.new × (new.ending ≡ Good) × IsSteady c
 IsFed records depths w bytes c new (Err f) = IsFaultFed records depths bytes c f × (new.ending ≡ Bad f)
 

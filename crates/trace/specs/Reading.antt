@@ -1,5 +1,6 @@
 -- Promised: what a reader of a trace's text has read: whole records, and an unfinished line.
-use Rattle.std.specs.Prelude.{◌≡◌, ℕ, ◌+◌, ◌≤◌, List, [], ◌++◌, length, Option, None, Some, is_some, IsTrue, Result, IfOk, IfErr}
+use Rattle.std.specs.Prelude.{◌≡◌, ℕ, ◌+◌, ◌≤◌, List, [], ◌++◌, length, Option, None}
+use Rattle.std.specs.Prelude.{Some, is_some, IsTrue, Result, IfOk, IfErr}
 use Rattle.std.specs.Option.{option_to_list}
 use Rattle.dag.specs.declared.records.Version.{Version}
 use Rattle.dag.specs.declared.records.Record.{Record}
@@ -60,7 +61,7 @@ held_back s = header_length s.version + length s.rest
 -- What a step of a reader makes of a piece. It uses a front of the piece, all of it if it gives no record. It holds
 -- back the bytes that aren't a record's, never more than a line, and counts the records that it gives. It keeps a
 -- fault; the fault is of a line that has begun.
-pub record HasStepped (old new : Reading) (piece : List ℕ) (result : Result Taken TextFault) : Type 0 where
+pub record HasReadPiece (old new : Reading) (piece : List ℕ) (result : Result Taken TextFault) : Type 0 where
   pub used : IfOk result (λ t. t.used ≤ length piece)
   pub whole : IfOk result (λ t. t.what ≡ None → t.used ≡ length piece)
   pub held_back : IfOk result (λ t. t.what ≡ None → held_back new ≡ held_back old + t.used)

@@ -61,7 +61,8 @@ impl Model for Intake {
 }
 
 impl Intake {
-    ghost use Rattle.trace.specs.Feeding.{before_all, HasUsed, HasFed, IsFed, GivesNext, ReadsOnlyFailed, HasSameLimits};
+    ghost use Rattle.trace.specs.Feeding.{before_all, HasUsed, HasFed, IsFed, GivesNext};
+    ghost use Rattle.trace.specs.Feeding.{ReadsOnlyFailed, HasSameLimits};
     ghost use Rattle.trace.specs.Nesting.{HasNested};
     ghost use Rattle.trace.specs.declared.feeding.Ending.TheVariants.{Running, Good, Bad};
 

@@ -136,7 +136,7 @@ impl Model for Reader {
 }
 
 impl Reader {
-    ghost use Rattle.trace.specs.Reading.{at_first_byte, HasRead, AreText, HasStepped, IsBetweenLines, held_back};
+    ghost use Rattle.trace.specs.Reading.{at_first_byte, HasRead, AreText, HasReadPiece, IsBetweenLines, held_back};
 
     /// A reader of a text of at most `max_records` records. It has read nothing.
     pub fn new(max_records: u64) -> Self
@@ -155,7 +155,7 @@ impl Reader {
     /// Reads from the front of the piece, up to the end of the next record's line. If that line doesn't end in the
     /// piece, it takes the whole piece and gives no record. After a fault every call returns that fault.
     pub fn step(&mut self, piece: &[u8]) -> Result<Taken, TextFault>
-        ensures stepped { HasStepped self.old self.new piece.now result }
+        ensures stepped { HasReadPiece self.old self.new piece.now result }
         ensures taken { (w : List Record) (bytes : List ℕ) → HasRead w bytes self.old →
             IfOk result (λ t. HasRead (w ++ option_to_list t.what) (bytes ++ take t.used piece.now) self.new) }
         // where a record is given, the bytes used end with its line
@@ -266,7 +266,7 @@ impl Reader {
     fn next(&mut self, version: Version, piece: &[u8]) -> Result<Taken, TextFault>
         requires begun { self.old.version ≡ Some version }
         requires no_fault { self.old.fault ≡ None }
-        ensures stepped { HasStepped self.old self.new piece.now result }
+        ensures stepped { HasReadPiece self.old self.new piece.now result }
         ensures taken { (w : List Record) (bytes : List ℕ) → HasRead w bytes self.old →
             IfOk result (λ t. HasRead (w ++ option_to_list t.what) (bytes ++ take t.used piece.now) self.new) }
         ensures at_line { IfOk result (λ t. IfSome t.what (λ _. IsBetweenLines self.new)) }

@@ -1,5 +1,5 @@
-//! Three traces of `examples/` with their answers. No answer comes from the program's own output. `examples/check` asks the
-//! built program about all of them.
+//! Three traces of `examples/` with their answers. No answer comes from the program's own output. `examples/check`
+//! asks the built program about all of them.
 mod traces;
 
 use super::{assert_left, run, run_with_report};

@@ -1,6 +1,6 @@
 use Rattle.std.proofs.Common.{suc, length, sym, subst}
 use Rattle.audit.specs.declared.confirms.Standing.{Standing}
-use Rattle.audit.specs.Entries.{Stands, entry_race}
+use Rattle.audit.specs.Entries.{HasStanding, entry_race}
 use Rattle.audit.proofs.ConfirmLemmas.{begins, confirmed, not_confirmed, begun_stays, access-true, access-false}
 use Rattle.audit.proofs.confirms.next_standing.Goals as goal
 
@@ -10,13 +10,13 @@ returns-in-Missing c u met shape is w rest b n d h p s =
 
 pub returns-in-Begun : goal.returns-in-Begun
 returns-in-Begun c u met shape is w rest b n d h p s =
-    let P : Standing → Type 0 = Stands w (length u) (entry_race c.args.entry) in
+    let P : Standing → Type 0 = HasStanding w (length u) (entry_race c.args.entry) in
     confirmed c.args.meetings.now u (entry_race c.args.entry) c.args.access c.in-Begun.depth met shape (access-true _ _ c.if-eq-2.ensures) is (c.if-is_parallel.ensures u met) w rest b n d h p (subst P c.in-Begun.is s)
 
 pub returns-in_default-2 : goal.returns-in_default-2
 returns-in_default-2 c u met shape is w rest b n d h p s =
-    let P : Standing → Type 0 = Stands w (length u) (entry_race c.args.entry) in
-    let Q : Standing → Type 0 = Stands w (suc (length u)) (entry_race c.args.entry) in
+    let P : Standing → Type 0 = HasStanding w (length u) (entry_race c.args.entry) in
+    let Q : Standing → Type 0 = HasStanding w (suc (length u)) (entry_race c.args.entry) in
     subst Q (sym c.in-Begun.is)
     (not_confirmed c.args.meetings.now u (entry_race c.args.entry) c.args.access c.in-Begun.depth met shape (access-true _ _ c.if-eq-2.ensures) is (c.if-is_parallel.ensures u met) w rest b n d h p (subst P c.in-Begun.is s))
 

@@ -2,7 +2,7 @@ use Rattle.std.proofs.Common.{◌≡◌, ◌<◌, ℕ, List, length, refl, subst
 use Rattle.std.proofs.lemmas.Option.{slice_get_read}
 use Rattle.audit.specs.declared.confirms.Entry.{Entry}
 use Rattle.audit.specs.Entries.{AreAscending}
-use Rattle.audit.proofs.ConfirmLemmas.{seen_at, unseen, races_of-set}
+use Rattle.audit.proofs.ConfirmLemmas.{seen_at, unseen, entry_races-set}
 use Rattle.audit.proofs.confirms.Confirming.see_access.Goals as goal
 
 pub returns-in-Some-clause-entries : goal.returns-in-Some-clause-entries
@@ -19,7 +19,7 @@ pub returns-in-Some-clause-same_races : goal.returns-in-Some-clause-same_races
 returns-in-Some-clause-same_races c =
     let es : List Entry = c.args.self.now.entries.items in
     let within : c.in-Some.index < length es = rw c.deref.ensures.value at c.in-Some.ensures.within in
-    races_of-set es c.in-Some.index c.index_mut.result.now _ (slice_get_read es _ _ _ refl within c.index_mut.ensures.value) refl
+    entry_races-set es c.in-Some.index c.index_mut.result.now _ (slice_get_read es _ _ _ refl within c.index_mut.ensures.value) refl
 
 pub returns-in_default-clause-entries : goal.returns-in_default-clause-entries
 returns-in_default-clause-entries c =
