@@ -133,9 +133,20 @@ def is_plain(tokens, first, last):
                for at, token in enumerate(tokens[:-1]) if token.kind == "word")
 
 
+def is_of_library(tokens, at):
+    """Whether this is `std::max` or `std::min`, or a part of that."""
+    if tokens[at].text == "std":
+        return tokens[at + 1].text == "::"
+    return tokens[at].text in ("max", "min") and [token.text for token in tokens[at - 2:at]] == ["std", "::"]
+
+
 def is_plain_body(tokens, opening):
     """Of the function whose parameters these brackets hold."""
     body = tokens[opening].partner + 1
+    if tokens[body].text == "->":
+        body += 1
+        while tokens[body].text in SCALARS:
+            body += 1
     if tokens[body].text != "{":
         return False
     known = {tokens[last].text for _, last in arguments_of(tokens, opening)} | PLAIN_WORDS
@@ -143,7 +154,7 @@ def is_plain_body(tokens, opening):
         token = tokens[at]
         if token.kind in ("string", "raw"):
             return False
-        if token.kind != "word" or tokens[at - 1].text in (".", "->"):
+        if token.kind != "word" or tokens[at - 1].text in (".", "->") or is_of_library(tokens, at):
             continue
         if tokens[at + 1].text == "(" and token.text not in STATEMENTS:
             return False

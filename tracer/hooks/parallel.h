@@ -25,25 +25,40 @@ unsigned long __spbags_child_number(void) {
 
 /* ---- Lines of the report ---- */
 
-/* Each place of the source is told once for one reason. */
-enum { MOST_TOLD = 64 };
+/* Each place of the source is told once for one reason. To ask for a line takes long, so each code asks once. */
+enum { MOST_TOLD = 1000 };
 static struct told {
     const char *what;
+    uintptr_t code;
     char line[400];
 } told[MOST_TOLD];
 static unsigned told_count;
 
-static void tell_at(uintptr_t code, const char *what) {
-    char line[sizeof told->line];
-    source_line(code, line, sizeof line);
+static bool is_told(uintptr_t code, const char *what) {
+    for (unsigned at = 0; at < told_count; at++)
+        if (told[at].code == code && strcmp(told[at].what, what) == 0)
+            return true;
+    return false;
+}
+
+static bool is_line_told(const char *line, const char *what) {
     for (unsigned at = 0; at < told_count; at++)
         if (strcmp(told[at].what, what) == 0 && strcmp(told[at].line, line) == 0)
-            return;
-    if (told_count < MOST_TOLD) {
-        told[told_count].what = what;
-        strcpy(told[told_count++].line, line);
-    }
-    tell_incomplete("%s: %s", line, what);
+            return true;
+    return false;
+}
+
+static void tell_at(uintptr_t code, const char *what) {
+    if (told_count == MOST_TOLD || is_told(code, what))
+        return;
+    struct told *this = &told[told_count];
+    source_line(code, this->line, sizeof this->line);
+    if (!is_line_told(this->line, what))
+        tell_incomplete("%s: %s", this->line, what);
+    this->what = what;
+    this->code = code;
+    if (++told_count == MOST_TOLD)
+        tell_incomplete("more places like these %d aren't listed", MOST_TOLD);
 }
 
 /* Something isn't modelled here, or at this code of the program's. */

@@ -1,5 +1,5 @@
 // The parallel algorithms of C++17. With the word clean there is no race; with racy each has one, and a tag says how many
-// bytes race, and on which lines. It prints the same both times.
+// bytes race, and on which lines. It prints the same both times. The tag told is where a line says what isn't run.
 #include <algorithm>
 #include <cstdio>
 #include <cstring>
@@ -68,7 +68,7 @@ int added, squared, scanned;
 
 static void sums() {
     std::vector<int> numbers{5, 1, 4, 2, 3};
-    print(std::reduce(par, numbers.begin(), numbers.end(), 0, [](int one, int other) {
+    print(std::reduce(par, numbers.begin(), numbers.end(), 0, [](int one, int other) { // [told]
         if (is_racy)
             added++; // [4 added first] [4 added second]
         return one + other;
@@ -79,15 +79,16 @@ static void sums() {
         return number * number;
     }));
     print(std::transform_reduce(par, numbers.begin(), numbers.end(), numbers.begin(), 0));
+    print(std::reduce(par, numbers.begin(), numbers.end(), 0, [](auto one, auto other) { return std::max(one, other); }));
     // Each sum has memory of its own.
     std::vector<std::vector<int>> lists{{1}, {2}, {3}};
-    print_all(std::reduce(par, lists.begin(), lists.end(), std::vector<int>{0}, [](std::vector<int> one,
+    print_all(std::reduce(par, lists.begin(), lists.end(), std::vector<int>{0}, [](std::vector<int> one, // [told]
                                                                                    const std::vector<int> &other) {
         one.insert(one.end(), other.begin(), other.end());
         return one;
     }));
     // An output may be the input.
-    std::inclusive_scan(par, numbers.begin(), numbers.end(), numbers.begin(), [](int one, int other) {
+    std::inclusive_scan(par, numbers.begin(), numbers.end(), numbers.begin(), [](int one, int other) { // [told]
         if (is_racy)
             scanned++; // [4 scanned first] [4 scanned second]
         return one + other;
@@ -117,18 +118,21 @@ static void questions() {
     print(std::all_of(par, numbers.begin(), numbers.end(), is_small) +
           2 * std::any_of(par, numbers.begin(), numbers.end(), is_small) +
           4 * std::none_of(par, numbers.begin(), numbers.end(), is_small));
-    auto end = std::unique(par, numbers.begin(), numbers.end(), [](int one, int other) {
+    auto end = std::unique(par, numbers.begin(), numbers.end(), [](int one, int other) { // [told]
         if (is_racy)
             doubled++; // [4 doubled first] [4 doubled second]
         return one == other;
     });
-    end = std::remove_if(par, numbers.begin(), end, [](int number) {
+    end = std::remove_if(par, numbers.begin(), end, [](int number) { // [told]
         if (is_racy)
             removed++; // [4 removed first] [4 removed second]
         return number == 2;
     });
+    end = std::remove_if(par, numbers.begin(), end, [](const int &number) -> bool { return number == 7; });
+    end = std::remove_if(par, numbers.begin(), end, [](const int &number) { return *(&number + 0) == 8; }); // [told]
+    end = std::remove(par, numbers.begin(), end, 9);
     numbers.erase(end, numbers.end());
-    std::partition(par, numbers.begin(), numbers.end(), [](int number) {
+    std::partition(par, numbers.begin(), numbers.end(), [](int number) { // [told]
         if (is_racy)
             parted++; // [4 parted first] [4 parted second]
         return number % 2 == 0;

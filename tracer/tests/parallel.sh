@@ -1,17 +1,21 @@
 # shellcheck shell=bash disable=SC2154
 # The checks of oneTBB and of C++'s parallel algorithms. tracer/check reads this, and has what is called here besides.
 
-# A program of tests/ whose tags say what races. It prints the same with races and without.
+# A program of tests/ whose tags say what races, and where a line says what isn't run. It prints the same with races and
+# without.
 check_parallel_program() {
-    local name=$1 source=tracer/tests/$1.cpp
+    local name=$1 source=tracer/tests/$1.cpp told
     "$here/spbags-c++" "$level" -o "$name" "$source"
     count $? "$source $level: compile"
     SPBAGS_UNIT=1 found_by_run "./$name" racy | sed "s,$source:,,g" | sort >found
     same "$(tagged_races "$source")" "$(cat found)"
     count $? "$source $level: races"
-    ends_with 0 "" "$here/spbags-run" -- "./$name" clean && grep -q '^races 0' output
-    count $? "$source $level: no race, and all is seen"
-    same "$(grep -v '^races' output)" "$("$here/spbags-run" --output report -- "./$name" racy)"
+    told=$(line_of "$source" '// [told]')
+    ends_with 3 "" env COLUMNS=200 "$here/spbags-run" --output report -- "./$name" clean && grep -q '^races 0' report
+    count $? "$source $level: no race"
+    same "$told" "$(grep -v '^races 0' report | sed -E "s,^.*$source:([0-9]+): .* which isn't run$,\\1," | sort -n)"
+    count $? "$source $level: what isn't run"
+    same "$(cat output)" "$("$here/spbags-run" --output report -- "./$name" racy)"
     count $? "$source $level: the same output"
 }
 

@@ -145,7 +145,7 @@ static void sums() {
         return sum;
     };
     tbb::blocked_range<size_t> all(0, numbers.size());
-    print(tbb::parallel_reduce(all, 0L, add, [](long one, long other) {
+    print(tbb::parallel_reduce(all, 0L, add, [](long one, long other) { // [told]
         if (is_racy)
             by_join++; // [4 join first] [4 join second]
         return one + other;
@@ -153,9 +153,14 @@ static void sums() {
     print(tbb::parallel_deterministic_reduce(all, 0L, [&](const tbb::blocked_range<size_t> &range, long sum) {
         return sum + numbers[range.begin()];
     }, std::plus<long>(), tbb::simple_partitioner()));
+    // This one has one grouping, and with a static partitioner several.
+    auto join = [](long one, long other) { return one + other; };
+    print(tbb::parallel_deterministic_reduce(all, 0L, add, join));
+    print(tbb::parallel_deterministic_reduce(all, 0L, add, join, tbb::static_partitioner())); // [told]
+    print(tbb::parallel_reduce(all, 0L, add, [](long one, long other) { return one + other; }));
     // Two leaves: their bodies are this one and one that is split off it.
     Largest largest(numbers);
-    tbb::parallel_reduce(tbb::blocked_range<size_t>(0, 6, 3), largest);
+    tbb::parallel_reduce(tbb::blocked_range<size_t>(0, 6, 3), largest); // [told]
     print(largest.largest);
 }
 

@@ -178,7 +178,27 @@ static void own_values() {
 
 // ---- The other algorithms ----
 
-int in_scan, in_sort;
+int in_scan, in_body, in_sort;
+
+// A part is summed up by one body and scanned by another one.
+struct Sums {
+    const std::vector<int> &numbers;
+    std::vector<int> &sums;
+    int sum = 0;
+    Sums(const std::vector<int> &of, std::vector<int> &to) : numbers(of), sums(to) {}
+    Sums(Sums &other, tbb::split) : numbers(other.numbers), sums(other.sums) {}
+    template <class Tag> void operator()(const tbb::blocked_range<size_t> &range, Tag) {
+        for (size_t i = range.begin(); i != range.end(); ++i) {
+            sum += numbers[i];
+            if (Tag::is_final_scan())
+                sums[i] = sum;
+            else if (is_racy)
+                in_body++; // [4 body first] [4 body second]
+        }
+    }
+    void reverse_join(Sums &before) { sum = before.sum + sum; }
+    void assign(Sums &other) { sum = other.sum; }
+};
 
 static void others() {
     std::vector<int> numbers{5, 3, 8, 1, 9, 2}, sums(numbers.size());
@@ -200,6 +220,10 @@ static void others() {
     });
     print(total);
     print(sums[3]);
+    std::fill(sums.begin(), sums.end(), 0);
+    Sums body(numbers, sums);
+    tbb::parallel_scan(tbb::blocked_range<size_t>(0, numbers.size()), body); // [told]
+    print(body.sum + sums[3]);
     tbb::parallel_sort(numbers.begin(), numbers.end(), [](int one, int other) {
         if (is_racy)
             in_sort++; // [4 sort first] [4 sort second]

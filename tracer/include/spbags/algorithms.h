@@ -121,6 +121,8 @@ Value combined(long count, Leaf leaf, Combine combine, long shift, const void *c
 /* The sum of an initial value and of what the function gives of each number. */
 template <class Value, class Operation, class Function>
 Value sum(long count, Value &initial, Operation &operation, Function function, const void *code) {
+    if (count > 1)
+        tell_join<Operation, Value, decltype(function(0))>(code);
     auto leaf = [&](long number) -> Value {
         return number == 0 ? Value(std::move(initial)) : Value(function(number - 1));
     };
@@ -283,6 +285,8 @@ namespace spbags {
 template <bool includes, class Value, class I, class O, class F, class G>
 SPBAGS_INLINE O scan(I first, I last, O to, F &f, G &g, std::optional<Value> before) {
     std::vector<Slot<Value>> elements(std::distance(first, last)), sums(elements.size());
+    if (elements.size() > 1)
+        tell_join<F, Value, decltype(g(*first))>(here());
     each([&g](I at, Slot<Value> *slot) { slot->value.emplace(g(*at)); }, first, last, elements.data());
     for (std::size_t at = 0; at < elements.size(); at++) {
         sums[at].value = before;

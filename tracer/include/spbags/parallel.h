@@ -6,6 +6,7 @@
 #pragma GCC system_header
 
 #include <cstddef>
+#include <functional>
 #include <iterator>
 #include <list>
 #include <new>
@@ -50,6 +51,57 @@ template <class Object> union alignas(8) Box {
     template <class... Arguments> Box(Arguments &&...arguments) : object(std::forward<Arguments>(arguments)...) {}
     ~Box() {}
 };
+
+/* ---- Functions that another schedule calls with other values, or beside something else ---- */
+
+template <class Value>
+using Is_number = std::integral_constant<bool, std::is_arithmetic<Value>::value || std::is_void<Value>::value>;
+
+/* A lambda of the program's that touches nothing but its parameters: spbags-c++ finds that in its text. */
+template <class Function> struct Plain : Function {
+    explicit Plain(const Function &function) : Function(function) {}
+};
+template <class Function> Plain<Function> plain(const Function &function) { return Plain<Function>(function); }
+
+/* Whether a call of this function with numbers does nothing but compute. */
+template <class Function> struct Computes : std::false_type {};
+template <class Function> struct Computes<Plain<Function>> : std::true_type {};
+#define SPBAGS_COMPUTES(NAME) template <class Type> struct Computes<std::NAME<Type>> : Is_number<Type> {};
+SPBAGS_COMPUTES(plus)
+SPBAGS_COMPUTES(minus)
+SPBAGS_COMPUTES(multiplies)
+SPBAGS_COMPUTES(divides)
+SPBAGS_COMPUTES(modulus)
+SPBAGS_COMPUTES(bit_and)
+SPBAGS_COMPUTES(bit_or)
+SPBAGS_COMPUTES(bit_xor)
+SPBAGS_COMPUTES(logical_and)
+SPBAGS_COMPUTES(logical_or)
+SPBAGS_COMPUTES(equal_to)
+SPBAGS_COMPUTES(not_equal_to)
+SPBAGS_COMPUTES(less)
+SPBAGS_COMPUTES(less_equal)
+SPBAGS_COMPUTES(greater)
+SPBAGS_COMPUTES(greater_equal)
+#undef SPBAGS_COMPUTES
+
+/* Whether the function only computes with values of these types, and so does the same beside anything. */
+template <class Function, class One, class Other>
+using Is_known = std::integral_constant<bool, Computes<typename std::decay<Function>::type>::value &&
+                                                  Is_number<typename std::decay<One>::type>::value &&
+                                                  Is_number<typename std::decay<Other>::type>::value>;
+
+template <class Join, class One, class Other = One> void tell_join(const void *code) {
+    if (!Is_known<Join, One, Other>::value)
+        __spbags_tell("what joins parts here may access or compute something else in another grouping, which isn't run",
+                      code);
+}
+
+template <class Function, class Iterator> void tell_moves(const void *code) {
+    typedef typename std::iterator_traits<Iterator>::value_type Element;
+    if (!Is_known<Function, Element, Element>::value)
+        __spbags_tell("elements may be moved or copied here while the function looks at others, which isn't run", code);
+}
 
 /* ---- Ranges ---- */
 

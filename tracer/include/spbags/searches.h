@@ -43,6 +43,12 @@ SPBAGS_INLINE Output copy_with(const Answers &answers, Iterator first, Iterator 
     return to;
 }
 
+template <class Value> struct Equals {
+    const Value &value;
+    template <class Element> bool operator()(const Element &element) const { return element == value; }
+};
+template <class Value> struct Computes<Equals<Value>> : Is_number<Value> {};
+
 /* Of each element but the last: what the function says of it and of the next. */
 template <class Iterator, class Function>
 SPBAGS_INLINE Answers of_neighbours(Iterator first, Iterator last, Function function) {
@@ -85,35 +91,43 @@ SPBAGS_RESULT(typename iterator_traits<I>::difference_type) count(Policy &&polic
     return count_if(policy, first, last, [&value](const auto &element) { return element == value; });
 }
 SPBAGS_POLICY(class I, class F) SPBAGS_RESULT(I) remove_if(Policy &&, I first, I last, F f) {
-    SPBAGS_SERIAL(std::remove_if(first, last, f))
+    SPBAGS_SERIAL(std::remove_if(first, last, f)) {
+        spbags::tell_moves<F, I>(spbags::here());
         return spbags::without(spbags::answers(std::ref(f), first, last), first, last, 1);
+    }
 }
 SPBAGS_POLICY(class I, class T) SPBAGS_RESULT(I) remove(Policy &&policy, I first, I last, const T &value) {
     const T own(value);
-    return remove_if(policy, first, last, [&own](const auto &element) { return element == own; });
+    return remove_if(policy, first, last, spbags::Equals<T>{own});
 }
 SPBAGS_POLICY(class I, class O, class F) SPBAGS_RESULT(O) copy_if(Policy &&, I first, I last, O to, F f) {
-    SPBAGS_SERIAL(std::copy_if(first, last, to, f))
+    SPBAGS_SERIAL(std::copy_if(first, last, to, f)) {
+        spbags::tell_moves<F, I>(spbags::here());
         return spbags::copy_with(spbags::answers(std::ref(f), first, last), first, last, to, 1);
+    }
 }
 SPBAGS_POLICY(class I, class O, class F) SPBAGS_RESULT(O) remove_copy_if(Policy &&, I first, I last, O to, F f) {
-    SPBAGS_SERIAL(std::remove_copy_if(first, last, to, f))
+    SPBAGS_SERIAL(std::remove_copy_if(first, last, to, f)) {
+        spbags::tell_moves<F, I>(spbags::here());
         return spbags::copy_with(spbags::answers(std::ref(f), first, last), first, last, to, 0);
+    }
 }
 SPBAGS_POLICY(class I, class O, class T)
 SPBAGS_RESULT(O) remove_copy(Policy &&policy, I first, I last, O to, const T &value) {
-    return remove_copy_if(policy, first, last, to, [&value](const auto &element) { return element == value; });
+    return remove_copy_if(policy, first, last, to, spbags::Equals<T>{value});
 }
 SPBAGS_POLICY(class I, class O, class P, class F)
 SPBAGS_RESULT(pair<O, P>) partition_copy(Policy &&, I first, I last, O to, P other, F f) {
     SPBAGS_SERIAL(std::partition_copy(first, last, to, other, f)) {
         spbags::Answers found = spbags::answers(std::ref(f), first, last);
+        spbags::tell_moves<F, I>(spbags::here());
         O end = spbags::copy_with(found, first, last, to, 1);
         return pair<O, P>(end, spbags::copy_with(found, first, last, other, 0));
     }
 }
 SPBAGS_POLICY(class I, class F) SPBAGS_RESULT(I) stable_partition(Policy &&, I first, I last, F f) {
     SPBAGS_SERIAL(std::stable_partition(first, last, f)) {
+        spbags::tell_moves<F, I>(spbags::here());
         spbags::Answers found = spbags::answers(std::ref(f), first, last);
         const long *answer = found.get();
         return std::stable_partition(first, last, [&answer](const auto &) { return *answer++ != 0; });
@@ -147,6 +161,7 @@ SPBAGS_POLICY(class I, class F = equal_to<>) SPBAGS_RESULT(I) unique(Policy &&, 
     SPBAGS_SERIAL(std::unique(first, last, f)) {
         if (first == last)
             return last;
+        spbags::tell_moves<F, I>(spbags::here());
         return spbags::without(spbags::of_neighbours(first, last, std::ref(f)), std::next(first), last, 1);
     }
 }
@@ -155,6 +170,7 @@ SPBAGS_RESULT(O) unique_copy(Policy &&policy, I first, I last, O to, F f = F()) 
     SPBAGS_SERIAL(std::unique_copy(first, last, to, f)) {
         if (first == last)
             return to;
+        spbags::tell_moves<F, I>(spbags::here());
         spbags::Answers found = spbags::of_neighbours(first, last, std::ref(f));
         return spbags::copy_with(found, std::next(first), last, copy(policy, first, std::next(first), to), 0);
     }

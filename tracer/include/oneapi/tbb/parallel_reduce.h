@@ -83,6 +83,13 @@ Value sum(const Range &range, const Value &identity, const Function &function, c
     return body.result();
 }
 
+/* Another partitioner than the static one leaves a deterministic sum one grouping: that which is run. */
+template <class... Settings> struct Is_fixed : std::true_type {};
+template <class First, class... More>
+struct Is_fixed<First, More...>
+    : std::integral_constant<bool, !std::is_same<typename std::decay<First>::type, static_partitioner>::value &&
+                                       Is_fixed<More...>::value> {};
+
 } // namespace spbags_detail
 
 inline namespace v1 {
@@ -90,23 +97,29 @@ inline namespace v1 {
 /* Two halves of a range are two children, down to the parts that can't be split any more. */
 template <class Range, class Body, class... Settings, spbags_detail::If_settings<Settings...> = 0>
 SPBAGS_INLINE void parallel_reduce(const Range &range, Body &body, Settings &&...) {
+    spbags_detail::tell_join<Body, Body>(range, spbags::here());
     spbags_detail::reduce(range, body, spbags::here());
 }
 template <class Range, class Value, class Function, class Join, class... Settings,
           spbags_detail::If_settings<Settings...> = 0>
 SPBAGS_INLINE Value parallel_reduce(const Range &range, const Value &identity, const Function &function,
                                     const Join &join, Settings &&...) {
+    spbags_detail::tell_join<Join, Value>(range, spbags::here());
     return spbags_detail::sum(range, identity, function, join, spbags::here());
 }
 
 template <class Range, class Body, class... Settings, spbags_detail::If_settings<Settings...> = 0>
 SPBAGS_INLINE void parallel_deterministic_reduce(const Range &range, Body &body, Settings &&...) {
+    if (!spbags_detail::Is_fixed<Settings...>::value)
+        spbags_detail::tell_join<Body, Body>(range, spbags::here());
     spbags_detail::reduce(range, body, spbags::here());
 }
 template <class Range, class Value, class Function, class Join, class... Settings,
           spbags_detail::If_settings<Settings...> = 0>
 SPBAGS_INLINE Value parallel_deterministic_reduce(const Range &range, const Value &identity, const Function &function,
                                                   const Join &join, Settings &&...) {
+    if (!spbags_detail::Is_fixed<Settings...>::value)
+        spbags_detail::tell_join<Join, Value>(range, spbags::here());
     return spbags_detail::sum(range, identity, function, join, spbags::here());
 }
 

@@ -114,12 +114,14 @@ inline namespace v1 {
 
 template <class Range, class Body, class... Settings, spbags_detail::If_settings<Settings...> = 0>
 SPBAGS_INLINE void parallel_scan(const Range &range, Body &body, Settings &&...) {
+    spbags_detail::tell_join<Body, Body>(range, ::spbags::here());
     spbags_detail::scan(range, body, ::spbags::here());
 }
 template <class Range, class Value, class Function, class Join, class... Settings,
           spbags_detail::If_settings<Settings...> = 0>
 SPBAGS_INLINE Value parallel_scan(const Range &range, const Value &identity, const Function &function,
                                   const Join &reverse, Settings &&...) {
+    spbags_detail::tell_join<Join, Value>(range, ::spbags::here());
     return spbags_detail::scan(range, identity, function, reverse, ::spbags::here());
 }
 

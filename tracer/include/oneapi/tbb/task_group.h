@@ -158,6 +158,12 @@ template <class... Settings> using If_settings = typename std::enable_if<are_set
 /* A type that can be split in two. */
 template <class Range> using If_range = decltype(static_cast<bool>(std::declval<const Range &>().is_divisible()), 0);
 
+/* Of what isn't split nothing is joined. */
+template <class Join, class Value, class Range> void tell_join(const Range &range, const void *code) {
+    if (!range.empty() && range.is_divisible())
+        ::spbags::tell_join<Join, Value>(code);
+}
+
 } // namespace spbags_detail
 } // namespace tbb
 
