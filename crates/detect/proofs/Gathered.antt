@@ -1,5 +1,5 @@
 -- What a collector was given, lane by lane: an item more of one lane, and the best race of a location.
-use Rattle.std.proofs.Common.{◌≡◌, ℕ, zero, suc, ◌+◌, ◌%◌, ◌<◌, Bool, true, false, eqb, fold, List, [], ◌∷◌, ◌++◌, length, set, get_or, slice_index_or, Option, None, ⊎_elim, length-set, refl, sym, ap, subst, ◌∙◌, arith}
+use Rattle.std.proofs.Common.{◌≡◌, ℕ, zero, suc, ◌+◌, ◌%◌, ◌<◌, true, false, eqb, fold, List, [], ◌∷◌, ◌++◌, length, set, get_or, slice_index_or, Option, None, ⊎_elim, length-set, refl, sym, ap, subst, ◌∙◌, arith}
 use Rattle.std.specs.List.{AllByRecursion}
 use Rattle.std.proofs.lemmas.Bool.{cases_eq, cases_Bool, cond-false, eqb-true}
 use Rattle.std.proofs.lemmas.List.Sums.{fold-append}

@@ -1,5 +1,5 @@
 -- One item more of one lane back.
-use Rattle.std.proofs.Common.{◌≡◌, ℕ, zero, suc, ◌+◌, ◌<◌, true, false, IsFalse, List, [], ◌∷◌, ◌++◌, length, take, set, get_or, slice_index_or, append_assoc, length-set, ⊎_elim, arith, refl, sym, ap, subst, ◌∙◌}
+use Rattle.std.proofs.Common.{◌≡◌, ℕ, zero, suc, ◌+◌, ◌<◌, true, IsFalse, List, [], ◌∷◌, ◌++◌, length, take, set, get_or, slice_index_or, append_assoc, length-set, ⊎_elim, arith, refl, sym, ap, subst, ◌∙◌}
 use Rattle.std.proofs.lemmas.Bool.{cases_eq, cases_Bool}
 use Rattle.std.specs.Prelude.{Vec}
 use Rattle.std.specs.Vec.{with_item}
@@ -7,7 +7,6 @@ use Rattle.std.proofs.lemmas.List.{append-nil, map-set, get_or-map, get_or-set_s
 use Rattle.std.proofs.Math.Seq.{map-set_same, take-suc}
 use Rattle.dag.specs.declared.back.Back.{Back}
 use Rattle.dag.specs.declared.back.Back.TheVariants.{Race, NoMemory}
-use Rattle.lane.specs.declared.waiting.Waiting.{Waiting}
 use Rattle.lane.specs.declared.item.Item.{Item}
 use Rattle.lane.specs.declared.item.Item.TheVariants.{One, Finish}
 use Rattle.lane.specs.declared.taker.Taker.{Taker}
@@ -38,10 +37,10 @@ marks_stay (xs ∷ lists) (suc k) zero ys h = h
 marks_stay (xs ∷ lists) (suc k) (suc j) ys h = marks_stay lists k j ys h
 
 -- items were taken, and perhaps given to the collector
-further_some : (old : Gathering) (k : ℕ) (s t : Taker Back) (xs : List (Item Back)) (collector : Collection) (waiting : Waiting) → k < length old.backs.items → s ≡ get_or old.backs.items k s → taker_lane t ≡ taker_lane s → taken_of t ≡ taken_of s ++ xs
+further_some : (old : Gathering) (k : ℕ) (s t : Taker Back) (xs : List (Item Back)) (collector : Collection) → k < length old.backs.items → s ≡ get_or old.backs.items k s → taker_lane t ≡ taker_lane s → taken_of t ≡ taken_of s ++ xs
     → (IsGathered old → Gathers (with_items (given_by old.backs.items) k xs) collector)
-    → IsFurther old (record { backs = with_item old.backs k t; collector = collector; waiting = waiting })
-further_some old k s t xs collector waiting lt at lane more gathers =
+    → IsFurther old (record { backs = with_item old.backs k t; collector = collector })
+further_some old k s t xs collector lt at lane more gathers =
     let lists : List (List (Item Back)) = given_by old.backs.items in
     let given : given_by (set old.backs.items k t) ≡ with_items lists k xs =
     map-set taken_of old.backs.items k t ∙ ap (set lists k) (more ∙ ap (λ (l : List (Item Back)). l ++ xs) (ap taken_of at ∙ sym (get_or-map taken_of old.backs.items k s [] lt))) in
@@ -55,12 +54,12 @@ further_some old k s t xs collector waiting lt at lane more gathers =
 
 -- nothing was taken of a lane
 pub further_none : (old : Gathering) (k : ℕ) (s t : Taker Back) → k < length old.backs.items → s ≡ get_or old.backs.items k s → taker_lane t ≡ taker_lane s → taken_of t ≡ taken_of s
-    → IsFurther old (record { backs = with_item old.backs k t; collector = old.collector; waiting = old.waiting })
+    → IsFurther old (record { backs = with_item old.backs k t; collector = old.collector })
 further_none old k s t lt at lane same =
     let lists : List (List (Item Back)) = given_by old.backs.items in
     let still : with_items lists k [] ≡ lists = ap (set lists k) (append-nil (get_or lists k [])) ∙ set-get_or lists k [] in
     let P : List (List (Item Back)) → Type 0 = λ ls. Gathers ls old.collector in
-    further_some old k s t [] old.collector old.waiting lt at lane (same ∙ sym (append-nil (taken_of s))) (subst P (sym still))
+    further_some old k s t [] old.collector lt at lane (same ∙ sym (append-nil (taken_of s))) (subst P (sym still))
 
 -- a race or the news of a refused growth came
 pub gathers_one : (lists : List (List (Item Back))) (k : ℕ) (back : Back) (c c' : Collection) → k < length lists
@@ -89,8 +88,8 @@ gathers_mark lists k x c is h =
 pub further_kept : (old new : Gathering) (k : ℕ) (s t : Taker Back) (xs : List (Item Back)) → new.backs ≡ with_item old.backs k t → k < length old.backs.items → s ≡ get_or old.backs.items k s → taker_lane t ≡ taker_lane s → taken_of t ≡ taken_of s ++ xs
     → (IsGathered old → Gathers (with_items (given_by old.backs.items) k xs) new.collector) → IsFurther old new
 further_kept old new k s t xs is lt at lane more gathers =
-    let P : Vec (Taker Back) _ → Type 0 = λ b. IsFurther old (record { backs = b; collector = new.collector; waiting = new.waiting }) in
-    subst P (sym is) (further_some old k s t xs new.collector new.waiting lt at lane more gathers)
+    let P : Vec (Taker Back) _ → Type 0 = λ b. IsFurther old (record { backs = b; collector = new.collector }) in
+    subst P (sym is) (further_some old k s t xs new.collector lt at lane more gathers)
 
 -- items of a lane, and one more
 with_next : (lists : List (List (Item Back))) (k i : ℕ) (items : List (Item Back)) (d : Item Back) → k < length lists → i < length items

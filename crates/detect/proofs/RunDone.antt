@@ -27,7 +27,7 @@ use Rattle.detect.specs.Workers.{job_lanes, handle_lanes, AllDid}
 use Rattle.detect.specs.Readiness.{IsReady}
 use Rattle.detect.specs.Finished.{IsFinished, IsClosed, IsDone}
 use Rattle.detect.specs.declared.gathering.Gathering.{Gathering}
-use Rattle.detect.specs.declared.sending.Sending.{Sending}
+use Rattle.detect.specs.declared.reading_thread.ReadingThread.{ReadingThread}
 use Rattle.detect.specs.Sent.{GoesOn}
 use Rattle.detect.proofs.Receipts.{front_same, front_map}
 use Rattle.detect.proofs.Endings.{ends_with}
@@ -37,9 +37,9 @@ use Rattle.detect.proofs.RunEnds.{did_count, did_taker_lanes, did_given_lanes}
 
 module _ {S H : Type 0} where
   pub finished : (n : ℕ) (made : Made S H) (done : Done S H) (router : Router) (hs : List (PromisedHandle (Worked S H) WorkOf)) (u : List Placed)
-      → IsReady n made → map handle_lanes hs ≡ map job_lanes made.jobs.items → HasSent u router → ((v : List Placed) → HasSent v router → HasSent v done.sending.router)
-      → pending_of done.sending.router ≡ None → marked_of done.sending.router ≡ lane_count done.sending.router → IsOnLanes made.sending.router done.sending.router → IsFurther made.sending.gathering done.sending.gathering
-      → ((k : ℕ) → k < length hs → HasBackMark done.sending.gathering k) → AllDid (map handle_lanes hs) done.workers.items → IsFinished n done u
+      → IsReady n made → map handle_lanes hs ≡ map job_lanes made.jobs.items → HasSent u router → ((v : List Placed) → HasSent v router → HasSent v done.reading.router)
+      → pending_of done.reading.router ≡ None → marked_of done.reading.router ≡ lane_count done.reading.router → IsOnLanes made.reading.router done.reading.router → IsFurther made.reading.gathering done.reading.gathering
+      → ((k : ℕ) → k < length hs → HasBackMark done.reading.gathering k) → AllDid (map handle_lanes hs) done.workers.items → IsFinished n done u
   finished n made done router hs u ready started sent marks idle marked on further ended did =
       let P : List (LaneId × LaneId) → Type 0 = λ ls. AllDid ls done.workers.items in
       let all : AllDid (map job_lanes made.jobs.items) done.workers.items = subst P started did in
@@ -55,13 +55,13 @@ module _ {S H : Type 0} where
         did = all;
         workers = did_count (map job_lanes made.jobs.items) done.workers.items all ∙ length-map made.jobs.items job_lanes ∙ ready.jobs;
         ended = λ k lt. ended k (omega (arith, lt, handles));
-        backs = length-map done.sending.gathering.backs.items taken_of ∙ sym (length-map done.sending.gathering.backs.items taker_lane) ∙ ap length further.lanes ∙ length-map made.sending.gathering.backs.items taker_lane ∙ ready.backs;
+        backs = length-map done.reading.gathering.backs.items taken_of ∙ sym (length-map done.reading.gathering.backs.items taker_lane) ∙ ap length further.lanes ∙ length-map made.reading.gathering.backs.items taker_lane ∙ ready.backs;
         gathered = further.gathers ready.gathered;
       }
 
   -- the receipts may be compared
   pub closed : (n : ℕ) (made : Made S H) (done : Done S H) (hs : List (PromisedHandle (Worked S H) WorkOf)) → IsReady n made → IsBeginning (map handle_lanes hs) (map job_lanes made.jobs.items)
-      → marked_of done.sending.router ≡ lane_count done.sending.router → IsOnLanes made.sending.router done.sending.router → IsFurther made.sending.gathering done.sending.gathering
+      → marked_of done.reading.router ≡ lane_count done.reading.router → IsOnLanes made.reading.router done.reading.router → IsFurther made.reading.gathering done.reading.gathering
       → AllDid (map handle_lanes hs) done.workers.items → IsClosed done
   closed n made done hs ready first marked on further did =
       let to_shard : LaneId × LaneId → LaneId = λ l. l.0 in
@@ -80,24 +80,24 @@ module _ {S H : Type 0} where
 
   -- the workers were started, the trace was read, and all ended
   pub done_started : {X : Type 0} (part : Part) (state : X → Device) (n records depths : ℕ) (before : Device) (made : Made S H) (done : Done S H) (hs : List (PromisedHandle (Worked S H) WorkOf))
-      (x x' : X) (s s' : Sending) (g : Gathering) (o : Result (Unit {0}) Fault) → x' ≡ x → s' ≡ s → done.outcome ≡ o
+      (x x' : X) (s s' : ReadingThread) (g : Gathering) (o : Result (Unit {0}) Fault) → x' ≡ x → s' ≡ s → done.outcome ≡ o
       → IsReady n made → map handle_lanes hs ≡ map job_lanes made.jobs.items
-      → EndsReading IsWantOfMemory records depths (before ⇝ state x) (λ _ w. HasSent (records_of part (placed w)) s.router) o → GoesOn made.sending s
-      → ((w : List Placed) → HasSent w s'.router → HasSent w done.sending.router) → pending_of done.sending.router ≡ None → marked_of done.sending.router ≡ lane_count done.sending.router
-      → IsOnLanes s'.router done.sending.router → IsFurther s'.gathering g → IsFurther g done.sending.gathering
-      → ((k : ℕ) → k < length hs → HasBackMark done.sending.gathering k) → AllDid (map handle_lanes hs) done.workers.items
+      → EndsReading IsWantOfMemory records depths (before ⇝ state x) (λ _ w. HasSent (records_of part (placed w)) s.router) o → GoesOn made.reading s
+      → ((w : List Placed) → HasSent w s'.router → HasSent w done.reading.router) → pending_of done.reading.router ≡ None → marked_of done.reading.router ≡ lane_count done.reading.router
+      → IsOnLanes s'.router done.reading.router → IsFurther s'.gathering g → IsFurther g done.reading.gathering
+      → ((k : ℕ) → k < length hs → HasBackMark done.reading.gathering k) → AllDid (map handle_lanes hs) done.workers.items
       → IsDone part n records depths (before ⇝ state x') done
   done_started {X = X} part state n records depths before made done hs x x' s s' g o same_x same_s outcome ready started ends on marks idle marked on' further further' ended did =
       let P : X → Type 0 = λ y. IsDone part n records depths (before ⇝ state y) done in
-      let Q : Sending → Type 0 = λ q. (w : List Placed) → HasSent w q.router → HasSent w done.sending.router in
-      let R : Sending → Type 0 = λ q. IsOnLanes q.router done.sending.router in
-      let G : Sending → Type 0 = λ q. IsFurther q.gathering g in
+      let Q : ReadingThread → Type 0 = λ q. (w : List Placed) → HasSent w q.router → HasSent w done.reading.router in
+      let R : ReadingThread → Type 0 = λ q. IsOnLanes q.router done.reading.router in
+      let G : ReadingThread → Type 0 = λ q. IsFurther q.gathering g in
       let O : Result (Unit {0}) Fault → Type 0 = EndsReading IsWantOfMemory records depths (before ⇝ state x) (λ _ w. HasSent (records_of part (placed w)) s.router) in
       subst P (sym same_x)
       (ends_with IsWantOfMemory IsWantOfMemoryOrThread records depths (before ⇝ state x) (λ _ w. HasSent (records_of part (placed w)) s.router) (λ _ w. IsFinished n done (records_of part (placed w))) done.outcome (λ f want. inl want)
       (λ v w sent. finished n made done s.router hs (records_of part (placed w)) ready started sent (subst Q same_s marks) idle marked
-      (on_lanes_trans made.sending.router s.router done.sending.router on.lanes (subst R same_s on'))
-      (further_trans made.sending.gathering s.gathering done.sending.gathering on.further (further_trans s.gathering g done.sending.gathering (subst G same_s further) further')) ended did)
+      (on_lanes_trans made.reading.router s.router done.reading.router on.lanes (subst R same_s on'))
+      (further_trans made.reading.gathering s.gathering done.reading.gathering on.further (further_trans s.gathering g done.reading.gathering (subst G same_s further) further')) ended did)
       (subst O (sym outcome) ends))
 
   -- there is room for what the workers answer

@@ -1,5 +1,5 @@
 -- What a run has found, from what was compared at its end.
-use Rattle.std.proofs.Common.{◌≡◌, ℕ, ◌<◌, ◌≤◌, Bool, true, false, List, [], ◌∷◌, ◌++◌, length, map, get_or, refl, sym, ap, subst, ◌∙◌, append-nil, arith}
+use Rattle.std.proofs.Common.{◌≡◌, ℕ, ◌<◌, ◌≤◌, true, false, List, [], ◌∷◌, ◌++◌, length, map, get_or, sym, ap, subst, ◌∙◌, append-nil, arith}
 use Rattle.dag.specs.declared.records.Placed.{Placed}
 use Rattle.dag.specs.Shares.{share}
 use Rattle.dag.proofs.Once.{AllAbove, Rises, increasing-from_rises}
@@ -18,11 +18,10 @@ use Rattle.route.specs.Runs.{Event, IsRun, taken_list}
 use Rattle.route.specs.RouterRuns.{IsTakenFrom}
 use Rattle.dag.specs.declared.back.Back.{Back}
 use Rattle.shard.specs.Working.{RiseFrom}
-use Rattle.shard.specs.declared.working.Worked.{Worked}
 use Rattle.collect.specs.Collected.{KeepsBest, IsCollected}
 use Rattle.detect.specs.declared.closing.Done.{Done}
 use Rattle.detect.specs.declared.sharded.Run.{Run}
-use Rattle.detect.specs.Gathered.{given_by, Gathers}
+use Rattle.detect.specs.Gathered.{given_by}
 use Rattle.detect.specs.Closing.{taken_by, given_back, counts_of, IsEmptied}
 use Rattle.detect.specs.Finished.{IsFinished, IsCompared}
 use Rattle.detect.specs.RunReports.{TookSharesOf}
@@ -60,21 +59,21 @@ module _ {S H : Type 0} where
   -- a run of the lanes, by the law of routers, in which the takers took what they took
   pub run_of_takers : (n : ℕ) (done : Done S H) (u : List Placed) → IsRising u → IsFinished n done u → IsCompared n done
       → ((r : Router) (w : List Placed) (taken : ℕ → List (Item Placed)) → HasSent w r → IsRising (in_hand w (pending_of r)) → ((k : ℕ) → k < lane_count r → IsBeginning (taken k) (put_on (puts_of r) k)) → IsTakenFrom r (in_hand w (pending_of r)) taken)
-      → IsTakenFrom done.sending.router u (taken_at done)
+      → IsTakenFrom done.reading.router u (taken_at done)
   run_of_takers n done u rising f h law =
-      let r = done.sending.router in
+      let r = done.reading.router in
       let at_rest : in_hand u (pending_of r) ≡ u = ap (in_hand u) f.idle ∙ append-nil u in
       let P : List Placed → Type 0 = λ w. IsTakenFrom r w (taken_at done) in
       subst P at_rest (law r u (taken_at done) f.sent (subst IsRising (sym at_rest) rising) (λ k lt. (h.to_shards k (omega (arith, lt, f.count))).prefix))
 
   -- each worker took its share, by the law of runs
-  pub took_shares : (n : ℕ) (done : Done S H) (u : List Placed) → IsFinished n done u → IsTakenFrom done.sending.router u (taken_at done)
+  pub took_shares : (n : ℕ) (done : Done S H) (u : List Placed) → IsFinished n done u → IsTakenFrom done.reading.router u (taken_at done)
       → ((n k : ℕ) (w : List Placed) (es : List Event) → IsRun n w es → k < n → has_mark (taken_list es k) ≡ true → taken_list es k ≡ map One (share k n w) ++ Finish ∷ [])
       → (k : ℕ) → k < n → taken_at done k ≡ map One (share k n u) ++ Finish ∷ []
   took_shares n done u f from law =
       let OfCount : ℕ → Type 0 = λ m. (k : ℕ) → k < m → taken_at done k ≡ map One (share k m u) ++ Finish ∷ [] in
-      let marked : (k : ℕ) → k < lane_count done.sending.router → has_mark (taken_at done k) ≡ true = λ k lt. marked_work _ _ _ (did_at f.lanes done.workers.items k f.did (omega (arith, lt, f.count, f.workers))) in
-      subst OfCount f.count (shares_of done.sending.router u (taken_at done) from marked law)
+      let marked : (k : ℕ) → k < lane_count done.reading.router → has_mark (taken_at done k) ≡ true = λ k lt. marked_work _ _ _ (did_at f.lanes done.workers.items k f.did (omega (arith, lt, f.count, f.workers))) in
+      subst OfCount f.count (shares_of done.reading.router u (taken_at done) from marked law)
 
   -- of what the takers of the shards' lanes know, nothing waits
   pub record IsClosing (n : ℕ) (done : Done S H) (u : List Placed) (run : Run) : Type 0 where
@@ -88,7 +87,7 @@ module _ {S H : Type 0} where
     pub lane_count_is : length run.lanes.items ≡ n
 
   ends : (n : ℕ) (done : Done S H) (u : List Placed) (run : Run) → IsFinished n done u → IsClosing n done u run
-      → IsEnd n u (taken_by done.workers.items) (given_by done.sending.gathering.backs.items) (given_back done.workers.items) (counts_of done.workers.items)
+      → IsEnd n u (taken_by done.workers.items) (given_by done.reading.gathering.backs.items) (given_back done.workers.items) (counts_of done.workers.items)
   ends n done u run f h = record {
     works = λ k lt. did_at f.lanes done.workers.items k f.did (omega (arith, lt, f.workers));
     share_taken = h.share_taken;
@@ -114,10 +113,10 @@ module _ {S H : Type 0} where
 
   -- what the run has found
   pub run_finds : (n : ℕ) (done : Done S H) (u : List Placed) (run : Run) → 1 ≤ n → OrderlyShares n u → IsFinished n done u → IsClosing n done u run
-      → done.sending.gathering.collector.refused ≡ false → ((g : List Back) → KeepsBest g done.sending.gathering.collector → IsCollected g run.report) → RunFinds n run u
+      → done.reading.gathering.collector.refused ≡ false → ((g : List Back) → KeepsBest g done.reading.gathering.collector → IsCollected g run.report) → RunFinds n run u
   run_finds n done u run some orders f h good collected =
       let e = ends n done u run f h in
       let is : run.report ≡ by_location (found u) =
-      verdict_of_shares n (given_by done.sending.gathering.backs.items) u done.sending.gathering.collector run.report some f.backs
+      verdict_of_shares n (given_by done.reading.gathering.backs.items) u done.reading.gathering.collector run.report some f.backs
       (λ k lt. given_share n u _ _ _ _ orders e (f.gathered.none_failed good) k lt) f.gathered good collected in
       record { races = is; took = took n done u run f orders h }

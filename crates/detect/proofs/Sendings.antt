@@ -1,4 +1,4 @@
--- Sending one record, step by step.
+-- ReadingThread one record, step by step.
 use Rattle.std.proofs.Common.{◌≡◌, ◌+◌, length, List, [], ◌∷◌, ◌++◌, Option, Some, None, refl, sym, subst, ◌∙◌}
 use Rattle.dag.specs.declared.records.Placed.{Placed}
 use Rattle.dag.specs.declared.records.Record.{Record}
@@ -11,7 +11,7 @@ use Rattle.route.specs.Sending.{sent_whole}
 use Rattle.route.specs.Routers.{HasSent, IsOnLanes}
 use Rattle.detect.specs.declared.gathering.Gathering.{Gathering}
 use Rattle.detect.specs.LanesBack.{IsFurther}
-use Rattle.detect.specs.declared.sending.Sending.{Sending}
+use Rattle.detect.specs.declared.reading_thread.ReadingThread.{ReadingThread}
 use Rattle.detect.specs.Sent.{GoesOn}
 use Rattle.detect.proofs.LanesBack.{further_refl, further_trans}
 
@@ -21,10 +21,10 @@ on_lanes_refl r = record { lanes = refl; capacities = refl; count = refl }
 pub on_lanes_trans : (a b c : Router) → IsOnLanes a b → IsOnLanes b c → IsOnLanes a c
 on_lanes_trans a b c h k = record { lanes = k.lanes ∙ h.lanes; capacities = k.capacities ∙ h.capacities; count = k.count ∙ h.count }
 
-pub goes_on_refl : (s : Sending) → GoesOn s s
+pub goes_on_refl : (s : ReadingThread) → GoesOn s s
 goes_on_refl s = record { part = refl; lanes = on_lanes_refl s.router; further = further_refl s.gathering }
 
-pub goes_on_trans : (a b c : Sending) → GoesOn a b → GoesOn b c → GoesOn a c
+pub goes_on_trans : (a b c : ReadingThread) → GoesOn a b → GoesOn b c → GoesOn a c
 goes_on_trans a b c h k = record {
   part = k.part ∙ h.part;
   lanes = on_lanes_trans a.router b.router c.router h.lanes k.lanes;
@@ -32,11 +32,11 @@ goes_on_trans a b c h k = record {
 }
 
 -- the router alone did something
-pub goes_on_router : (s : Sending) (r : Router) → IsOnLanes s.router r → GoesOn s (record s { router = r })
+pub goes_on_router : (s : ReadingThread) (r : Router) → IsOnLanes s.router r → GoesOn s (record s { router = r })
 goes_on_router s r on = record { part = refl; lanes = on; further = further_refl s.gathering }
 
 -- the router did something, and more was taken of the lanes back
-pub goes_on_both : (s : Sending) (r : Router) (g : Gathering) → IsOnLanes s.router r → IsFurther s.gathering g → GoesOn s (record s { router = r; gathering = g })
+pub goes_on_both : (s : ReadingThread) (r : Router) (g : Gathering) → IsOnLanes s.router r → IsFurther s.gathering g → GoesOn s (record s { router = r; gathering = g })
 goes_on_both s r g on further = record { part = refl; lanes = on; further = further }
 
 -- while the record is pending, a step more sends it whole or leaves it pending
@@ -53,15 +53,8 @@ pub sent_idle : (p : Placed) (w : List Placed) (before after : Option Placed) (r
 sent_idle p w None after r idle h = h
 sent_idle p w (Some q) after r idle h = absurd cc
 
--- the record was sent whole, or is pending still
-pub sent_whole-all : (w : List Placed) (p : Placed) (after : Option Placed) (r : Router) → after ≡ None → HasSent (sent_whole w (Some p) after) r → HasSent (w ++ p ∷ []) r
-sent_whole-all w p after r none h = let P : Option Placed → Type 0 = λ o. HasSent (sent_whole w (Some p) o) r in subst P none h
-
-pub sent_whole-none : (w : List Placed) (p : Placed) (after : Option Placed) (r : Router) → after ≡ Some p → HasSent (sent_whole w (Some p) after) r → HasSent w r
-sent_whole-none w p after r some h = let P : Option Placed → Type 0 = λ o. HasSent (sent_whole w (Some p) o) r in subst P some h
-
 -- a record more of the part, which is the same
-pub sent_more : (old before after : Sending) (w : List Record) (p : Placed) → p.place ≡ length w + 1 → GoesOn old before
+pub sent_more : (old before after : ReadingThread) (w : List Record) (p : Placed) → p.place ≡ length w + 1 → GoesOn old before
     → (HasSent (records_of before.part (placed w)) before.router → HasSent (records_of before.part (placed w ++ p ∷ [])) after.router) → HasSent (records_of old.part (placed w)) before.router
     → HasSent (records_of old.part (placed (w ++ p.what ∷ []))) after.router
 sent_more old before after w p at on sent h =

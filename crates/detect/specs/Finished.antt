@@ -18,32 +18,32 @@ use Rattle.detect.specs.Closing.{taken_by, given_back, taker_lanes, given_lanes,
 module _ {S H : Type 0} where
   -- the records u were sent and the marks after them; n workers have done their work, and all they gave back came
   pub record IsFinished (n : ℕ) (done : Done S H) (u : List Placed) : Type 0 where
-    pub sent : HasSent u done.sending.router
-    pub count : lane_count done.sending.router ≡ n
-    pub idle : pending_of done.sending.router ≡ None
-    pub marked : marked_of done.sending.router ≡ n
+    pub sent : HasSent u done.reading.router
+    pub count : lane_count done.reading.router ≡ n
+    pub idle : pending_of done.reading.router ≡ None
+    pub marked : marked_of done.reading.router ≡ n
     pub lanes : List (LaneId × LaneId)
-    pub to_shards : map (λ l. l.0) lanes ≡ lanes_of done.sending.router
-    pub from_shards : map (λ l. l.1) lanes ≡ back_lanes done.sending.gathering
+    pub to_shards : map (λ l. l.0) lanes ≡ lanes_of done.reading.router
+    pub from_shards : map (λ l. l.1) lanes ≡ back_lanes done.reading.gathering
     pub did : AllDid lanes done.workers.items
     pub workers : length done.workers.items ≡ n
-    pub ended : (k : ℕ) → k < n → HasBackMark done.sending.gathering k
-    pub backs : length (given_by done.sending.gathering.backs.items) ≡ n
-    pub gathered : IsGathered done.sending.gathering
+    pub ended : (k : ℕ) → k < n → HasBackMark done.reading.gathering k
+    pub backs : length (given_by done.reading.gathering.backs.items) ≡ n
+    pub gathered : IsGathered done.reading.gathering
 
   -- the receipts may be compared: all lanes have their marks, and the workers' ends are those of the first lanes
   pub record IsClosed (done : Done S H) : Type 0 where
-    pub marked : marked_of done.sending.router ≡ lane_count done.sending.router
-    pub to_shards : IsBeginning (taker_lanes done.workers.items) (lanes_of done.sending.router)
-    pub from_shards : IsBeginning (given_lanes done.workers.items) (back_lanes done.sending.gathering)
+    pub marked : marked_of done.reading.router ≡ lane_count done.reading.router
+    pub to_shards : IsBeginning (taker_lanes done.workers.items) (lanes_of done.reading.router)
+    pub from_shards : IsBeginning (given_lanes done.workers.items) (back_lanes done.reading.gathering)
 
   -- the receipts were compared: what each of n workers took with what was put on its lane, and what came back on its
   -- lane
   -- with what it put there
   pub record IsCompared (n : ℕ) (done : Done S H) : Type 0 where
-    pub to_shards : (k : ℕ) → k < n → IsSettled (taken_by done.workers.items) (puts_of done.sending.router) k
+    pub to_shards : (k : ℕ) → k < n → IsSettled (taken_by done.workers.items) (puts_of done.reading.router) k
     pub from_shards : (k : ℕ) → k < n
-        → IsSettled (given_by done.sending.gathering.backs.items) (given_back done.workers.items) k
+        → IsSettled (given_by done.reading.gathering.backs.items) (given_back done.workers.items) k
 
   -- reading ended well, what the part has of the trace was sent, and all n workers ended; or the fault is why it didn't
   abbrev pub IsDone : Part → ℕ → ℕ → ℕ → Change → Done S H → Type 0

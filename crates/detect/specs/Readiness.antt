@@ -35,17 +35,17 @@ module _ {S H : Type 0} where
 
   -- a router and n workers on its lanes, before the first record, and room for what comes of the workers
   pub record IsReady (n : ℕ) (made : Made S H) : Type 0 where
-    pub count : lane_count made.sending.router ≡ n
+    pub count : lane_count made.reading.router ≡ n
     pub jobs : length made.jobs.items ≡ n
-    pub backs : length made.sending.gathering.backs.items ≡ n
-    pub idle : pending_of made.sending.router ≡ None
-    pub unmarked : marked_of made.sending.router ≡ 0
-    pub none_refused : IsFalse made.sending.gathering.collector.refused
-    pub none_sent : HasSent [] made.sending.router
-    pub to_shards_are : to_shards made.jobs.items ≡ lanes_of made.sending.router
-    pub from_shards_are : from_shards made.jobs.items ≡ back_lanes made.sending.gathering
+    pub backs : length made.reading.gathering.backs.items ≡ n
+    pub idle : pending_of made.reading.router ≡ None
+    pub unmarked : marked_of made.reading.router ≡ 0
+    pub none_refused : IsFalse made.reading.gathering.collector.refused
+    pub none_sent : HasSent [] made.reading.router
+    pub to_shards_are : to_shards made.jobs.items ≡ lanes_of made.reading.router
+    pub from_shards_are : from_shards made.jobs.items ≡ back_lanes made.reading.gathering
     pub new : AllFresh made.jobs.items
-    pub gathered : IsGathered made.sending.gathering
+    pub gathered : IsGathered made.reading.gathering
     pub no_handles : vec_len made.handles ≡ 0
     pub handle_room : n ≤ vec_capacity made.handles
     pub no_workers : vec_len made.workers ≡ 0

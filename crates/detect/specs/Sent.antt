@@ -3,11 +3,11 @@ use Rattle.std.specs.Prelude.{◌≡◌, IsFalse, List, [], ◌∷◌, ◌++◌,
 use Rattle.dag.specs.declared.records.Placed.{Placed}
 use Rattle.route.specs.declared.router.Router.{Router}
 use Rattle.route.specs.Routers.{pending_of, marked_of, HasSent, IsOnLanes}
-use Rattle.detect.specs.declared.sending.Sending.{Sending}
+use Rattle.detect.specs.declared.reading_thread.ReadingThread.{ReadingThread}
 use Rattle.detect.specs.LanesBack.{IsFurther}
 
 -- a record may be sent: none is pending, no lane has its mark, and no refused growth is known
-pub record MaySend (s : Sending) : Type 0 where
+pub record MaySend (s : ReadingThread) : Type 0 where
   pub idle : pending_of s.router ≡ None
   pub unmarked : marked_of s.router ≡ 0
   pub none_refused : IsFalse s.gathering.collector.refused
@@ -21,7 +21,7 @@ pub record LacksLast (w : List Placed) (r : Router) : Type 0 where
   pub sent : HasSent before r
 
 -- the same part is sent on the same lanes, and more was taken of the lanes back
-pub record GoesOn (old new : Sending) : Type 0 where
+pub record GoesOn (old new : ReadingThread) : Type 0 where
   pub part : new.part ≡ old.part
   pub lanes : IsOnLanes old.router new.router
   pub further : IsFurther old.gathering new.gathering

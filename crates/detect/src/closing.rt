@@ -14,7 +14,7 @@ ghost use Rattle.detect.specs.RunFinds.{RunFindsPart};
 ghost use Rattle.detect.specs.Rooms.{HasRoom};
 
 use crate::gathering::Gathering;
-use crate::sending::Sending;
+use crate::reading_thread::ReadingThread;
 use crate::setup::Lists;
 use crate::sharded::Run;
 use collect::Report;
@@ -28,7 +28,7 @@ use trace::{Fault, Placed};
 #[derive(Drop)]
 pub(crate) struct Done<S: BuildHasher + Drop> {
     pub(crate) outcome: Result<(), Fault>,
-    pub(crate) sending: Sending,
+    pub(crate) reading: ReadingThread,
     pub(crate) workers: Vec<Worked<S>>,
 }
 
@@ -71,18 +71,19 @@ fn settle<S: BuildHasher + Drop>(done: Done<S>) -> Settled<S>
     ensures emptied { (k : ℕ) → k < vec_len done.workers → IsEmptied (takers_of result.workers.items) k }
     ensures same { IsSameWork done.workers.items result.workers.items }
     ensures outcome { result.outcome ≡ done.outcome }
-    ensures collector { result.gathering.collector ≡ done.sending.gathering.collector }
+    ensures collector { result.gathering.collector ≡ done.reading.gathering.collector }
 {
     let Done {
         outcome,
-        sending,
+        reading,
         mut workers,
     } = done;
-    let Sending {
+    let ReadingThread {
         part: _,
         router,
         mut gathering,
-    } = sending;
+        waiting: _,
+    } = reading;
     let mut ends = router.into_ends();
     settle_shards(&mut workers, &mut ends);
     settle_backs(&mut workers, &mut gathering.backs);

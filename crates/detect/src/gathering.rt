@@ -10,20 +10,18 @@ ghost use Rattle.detect.specs.Gathered.{Gathers, with_items};
 ghost use Rattle.detect.specs.LanesBack.{IsFurther, HasBackMark};
 
 use collect::Collector;
-use lane::{BLOCK, Item, Taker, Waiting};
-use route::Router;
+use lane::{BLOCK, Item, Taker};
 use shard::Back;
 use std::sync::Wait;
 use std::time::Clock;
 use trace::Fault;
+use waiting::Waiting;
 
 /// The lanes back from the shards, and the races that came over them.
 #[derive(Drop)]
 pub(crate) struct Gathering {
     pub(crate) backs: Vec<Taker<Back>>,
     pub(crate) collector: Collector,
-    /// How the reading thread waits at its lanes.
-    pub(crate) waiting: Waiting,
 }
 
 impl Gathering {
@@ -46,23 +44,6 @@ impl Gathering {
         self.first_trouble(Ok(()))
     }
 
-    /// Waits at a full lane. Its shard may be waiting for room on its lane back.
-    pub(crate) fn wait<R: Wait + Clock>(&mut self, rt: &R)
-        ensures { IsFurther self.old self.new }
-    {
-        self.take_from_all();
-        self.waiting.wait(rt);
-    }
-
-    /// Learns from how much room there is on the lane that was full.
-    #[cold]
-    #[inline(never)]
-    pub(crate) fn learn(&mut self, router: &Router, lane: usize)
-        ensures { IsFurther self.old self.new }
-    {
-        self.waiting.learn(router.room(lane), router.capacity(lane));
-    }
-
     /// Takes from the first `count` lanes until each has given its mark.
     pub(crate) fn finish_lanes<R: Wait + Clock>(&mut self, rt: &R, count: usize)
         requires { count ≤ vec_len self.old.backs }
@@ -79,12 +60,13 @@ impl Gathering {
         ensures further { IsFurther self.old self.new }
         ensures ended { HasBackMark self.new shard }
     {
+        let mut waiting = Waiting::new();
         for _ in rt.forever() {
             if self.backs[shard].ended() {
                 return;
             }
             if !self.take_from(shard) {
-                self.waiting.wait(rt);
+                waiting.wait(rt);
             }
         }
         unreachable!()

@@ -3,7 +3,7 @@
 
 mod closing;
 mod gathering;
-mod sending;
+mod reading_thread;
 mod setup;
 mod sharded;
 mod workers;

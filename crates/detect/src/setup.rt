@@ -6,16 +6,17 @@ ghost use Rattle.detect.specs.Readiness.{IsBetween, IsReady, IsTied};
 ghost use Rattle.detect.specs.Rooms.{HasRoom};
 
 use crate::gathering::Gathering;
-use crate::sending::Sending;
+use crate::reading_thread::ReadingThread;
 use crate::workers::{Job, WorkOf};
 use collect::Collector;
-use lane::{Sender, Taker, Waiting, lane};
+use lane::{Sender, Taker, lane};
 use route::Router;
 use shard::{Back, Shard, Worked};
 use std::alloc::Global;
 use std::hash::BuildHasher;
 use std::thread::PromisedHandle;
 use trace::{Limits, NoMemory, Part, Placed};
+use waiting::Waiting;
 
 /// The number of shards, the maximum number of items in each lane, and the limits of the trace.
 #[derive(Clone, Copy, Debug, PartialEq, Eq)]
@@ -55,7 +56,7 @@ pub(crate) struct LaneEnds<S: BuildHasher + Drop> {
 /// The state of a run at its start. There is room for a handle and for an answer of each worker.
 #[derive(Drop)]
 pub(crate) struct Made<S: BuildHasher + Drop> {
-    pub(crate) sending: Sending,
+    pub(crate) reading: ReadingThread,
     pub(crate) jobs: Vec<Job<S>>,
     pub(crate) handles: Vec<PromisedHandle<Worked<S>, WorkOf>>,
     pub(crate) workers: Vec<Worked<S>>,
@@ -78,7 +79,7 @@ pub(crate) fn make<S: BuildHasher + Drop>(
     requires capacity { IsCapacity capacity }
     requires shards { IsShardCount (vec_len hashers) }
     ensures ready { IfOk result (IsReady (vec_len hashers)) }
-    ensures part { IfOk result (λ made. made.sending.part ≡ part) }
+    ensures part { IfOk result (λ made. made.reading.part ≡ part) }
 {
     let count = hashers.len();
     let ends = make_ends(alloc, capacity as usize, hashers)?;
@@ -88,14 +89,14 @@ pub(crate) fn make<S: BuildHasher + Drop>(
         backs,
     } = ends;
     Ok(Made {
-        sending: Sending {
+        reading: ReadingThread {
             part,
             router: Router::new(alloc, senders)?,
             gathering: Gathering {
                 backs,
                 collector: Collector::new(alloc),
-                waiting: Waiting::new(),
             },
+            waiting: Waiting::new(),
         },
         jobs,
         handles: with_room(alloc, count)?,

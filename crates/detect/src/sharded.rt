@@ -111,7 +111,7 @@ where
         rt,
         move |scope| -> (Done<S>, &mut R)
             requires { IsReady (vec_len made.jobs) made }
-            ensures done { IsDone made.sending.part (vec_len made.jobs) plan.limits.records plan.limits.depth
+            ensures done { IsDone made.reading.part (vec_len made.jobs) plan.limits.records plan.limits.depth
                 (R.state source.entry.now ⇝ R.state result.1.now) result.0 }
             ensures closed { IsClosed result.0 }
             ensures source { result.1.ghost_name ≡ source.entry.ghost_name }
@@ -148,27 +148,27 @@ fn run_workers<
 where
     S::Hasher: Send,
     requires { IsReady (vec_len made.jobs) made }
-    ensures done { IsDone made.sending.part (vec_len made.jobs) limits.records limits.depth
+    ensures done { IsDone made.reading.part (vec_len made.jobs) limits.records limits.depth
         (R.state source.old ⇝ R.state source.new) result }
     ensures closed { IsClosed result }
     ensures unread { result.outcome ≡ Err NoThread → source.new ≡ source.old }
 {
     let Made {
-        mut sending,
+        mut reading,
         jobs,
         mut handles,
         mut workers,
     } = made;
     let outcome = match start_all(rt, scope, gate, jobs, &mut handles) {
-        Ok(()) => sending.send_all(rt, limits, source),
+        Ok(()) => reading.send_all(rt, limits, source),
         Err(refused) => Err(refused),
     };
-    sending.mark_all(rt);
-    sending.gathering.finish_lanes(rt, handles.len());
+    reading.mark_all(rt);
+    reading.gathering.finish_lanes(rt, handles.len());
     join_all(rt, handles, &mut workers);
     Done {
         outcome,
-        sending,
+        reading,
         workers,
     }
 }

@@ -1,5 +1,5 @@
 -- Promised: what the ends of a lane say: which lane they are of, what was put, and what was taken.
-use Rattle.std.specs.Prelude.{ℕ, ◌+◌, ◌-◌, ◌%◌, ◌^◌, List, ◌++◌, length}
+use Rattle.std.specs.Prelude.{◌≡◌, ℕ, ◌+◌, ◌-◌, ◌%◌, ◌^◌, List, ◌++◌, length}
 use Rattle.std.specs.declared.alloc.Global.{Global}
 use Rattle.rtrb.specs.Shared.{Names}
 use Rattle.rtrb.specs.Ring.{sent, received, producer_capacity, consumer_capacity, known_free, known_items}
@@ -70,3 +70,7 @@ module _ {T : Type 0} where
   -- the same, as the taker knows it
   abbrev pub taker_capacity : Taker T → ℕ
   taker_capacity t = consumer_capacity t.ring
+
+  -- the same lane, which holds as many items at most
+  abbrev pub SameSender : Sender T → Sender T → Type 0
+  SameSender old new = (lane_of new ≡ lane_of old) × (capacity_of new ≡ capacity_of old)

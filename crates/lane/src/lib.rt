@@ -5,10 +5,8 @@ mod item;
 mod making;
 mod sender;
 mod taker;
-mod waiting;
 
 pub use item::Item;
 pub use making::lane;
 pub use sender::{BLOCK, End, Sender};
 pub use taker::Taker;
-pub use waiting::Waiting;

@@ -46,8 +46,7 @@ pub struct End<T> {
 
 impl<T: Copy + Send> Sender<T> {
     ghost use Rattle.lane.specs.Lanes.{lane_of, end_lane, put_of, shown_of, staged_of, all_put};
-    ghost use Rattle.lane.specs.Lanes.{all_shown, capacity_of, room_of};
-    ghost use Rattle.lane.specs.Lanes.{refusals_of, one_more};
+    ghost use Rattle.lane.specs.Lanes.{all_shown, capacity_of, room_of, refusals_of, one_more, SameSender};
 
     /// Puts the value behind those put before, or hands it back if the lane is full, when the taker is shown all items
     /// put. It shows values to the taker together: at the latest when `most_staged` of them are staged, or in `flush`.
@@ -55,7 +54,7 @@ impl<T: Copy + Send> Sender<T> {
     #[tactic(auto, using(crate::proofs::Marks::has_mark_staged, crate::proofs::Marks::mark_last_staged, crate::proofs::Marks::none_staged))]
     pub fn put(&mut self, value: T) -> Result<(), T>
         requires { has_mark (put_of self.old) ≡ false }
-        ensures lane { (lane_of self.new ≡ lane_of self.old) × (capacity_of self.new ≡ capacity_of self.old) }
+        ensures lane { SameSender self.old self.new }
         ensures ok { OnOk result (put_of self.new ≡ put_of self.old ++ One value ∷ []) }
         ensures full { IfErr result (λ x. (x ≡ value) × (put_of self.new ≡ put_of self.old)
             × (capacity_of self.old ≤ length (put_of self.old))) }
@@ -85,7 +84,7 @@ impl<T: Copy + Send> Sender<T> {
 
     /// Shows the taker all items put.
     pub fn flush(&mut self)
-        ensures lane { (lane_of self.new ≡ lane_of self.old) × (capacity_of self.new ≡ capacity_of self.old) }
+        ensures lane { SameSender self.old self.new }
         ensures put { put_of self.new ≡ put_of self.old }
         ensures shown { shown_of self.new ≡ put_of self.old }
         ensures none_staged { staged_of self.new ≡ [] }
@@ -103,7 +102,7 @@ impl<T: Copy + Send> Sender<T> {
     pub fn put_block(&mut self, values: &[T]) -> bool
         requires unmarked { has_mark (put_of self.old) ≡ false }
         requires most { length values.now ≤ BLOCK }
-        ensures lane { (lane_of self.new ≡ lane_of self.old) × (capacity_of self.new ≡ capacity_of self.old) }
+        ensures lane { SameSender self.old self.new }
         ensures put { IsTrue result → put_of self.new ≡ put_of self.old ++ map One values.now }
         ensures full { IsFalse result → (put_of self.new ≡ put_of self.old) × (room_of self.new < length values.now) }
         ensures succeeds { length values.now ≤ room_of self.old → IsTrue result }
@@ -127,7 +126,7 @@ impl<T: Copy + Send> Sender<T> {
     #[tactic(auto, using(crate::proofs::Marks::has_mark_more, crate::proofs::Marks::mark_last_more, crate::proofs::Marks::none_staged))]
     pub fn mark(&mut self) -> bool
         requires { has_mark (put_of self.old) ≡ false }
-        ensures lane { (lane_of self.new ≡ lane_of self.old) × (capacity_of self.new ≡ capacity_of self.old) }
+        ensures lane { SameSender self.old self.new }
         ensures put { IsTrue result → put_of self.new ≡ put_of self.old ++ Finish ∷ [] }
         ensures full { IsFalse result → (put_of self.new ≡ put_of self.old)
             × (capacity_of self.old ≤ length (put_of self.old)) }

@@ -10,7 +10,7 @@ use Rattle.collect.specs.Collected.{Collection, KeepsBest}
 use Rattle.collect.specs.Merged.{backs_of_reports}
 use Rattle.replies.specs.declared.input.Input.{Input}
 use Rattle.replies.specs.Merges.{report_status, HasReadReport, IsRefusedReport, HaveReadReports, IsFirstRefused}
-use Rattle.replies.specs.Merging.{HasTaken, HaveTaken}
+use Rattle.replies.specs.Merging.{HasTakenReport, HaveTaken}
 
 -- the status that is 0 exactly for no race is that of the report
 pub is_report_status : (races : List RaceAt) (status : ℕ) → status < 2 → (status ≡ 0) ↔ (races ≡ []) → status ≡ report_status races
@@ -30,7 +30,7 @@ module _ {F E : Type 0} (Gives : List ℕ → Result F E → Type 0) (known : In
   read_more (n ∷ names) name (rs ∷ reports) entries more one = (more.0, read_more names name reports entries more.1 one)
 
   -- one more report was taken
-  pub taken_more : (names : List (String A)) (i : ℕ) (name : String A) (c d : Collection) → i < length names → name ≡ get_or names i name → HaveTaken Gives known (take i names) c → HasTaken Gives known (string_bytes name) c d
+  pub taken_more : (names : List (String A)) (i : ℕ) (name : String A) (c d : Collection) → i < length names → name ≡ get_or names i name → HaveTaken Gives known (take i names) c → HasTakenReport Gives known (string_bytes name) c d
       → HaveTaken Gives known (take (i + 1) names) d
   taken_more names i name c d within is before one =
       let all : take (i + 1) names ≡ take i names ++ name ∷ [] = take_more names i name within ∙ ap (λ n. take i names ++ n ∷ []) (sym is) in

@@ -10,7 +10,7 @@ use Rattle.replies.specs.Merges.{HasReadReport, HaveReadReports}
 
 module _ {F E : Type 0} (Gives : List ℕ → Result F E → Type 0) (known : Input F → Option (List ℕ)) where
   -- the report that the name stands for was read, and the collector took it
-  pub record HasTaken (name : List ℕ) (c d : Collection) : Type 0 where
+  pub record HasTakenReport (name : List ℕ) (c d : Collection) : Type 0 where
     pub entries : List RaceAt
     pub read : HasReadReport Gives known name entries
     pub took : (g : List Back) → KeepsBest g c → KeepsBest (g ++ map Race entries) d

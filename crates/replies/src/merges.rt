@@ -7,7 +7,7 @@ ghost use Rattle.collect.specs.Collected.{KeepsBest};
 ghost use Rattle.collect.specs.Merged.{backs_of_reports};
 ghost use Rattle.replies.specs.Inputs.{known_bytes};
 ghost use Rattle.replies.specs.Merges.{HasMergedOf, HasWrittenMerged, IsFirstRefused, IsRefusedReport};
-ghost use Rattle.replies.specs.Merging.{HasTaken, HaveTaken};
+ghost use Rattle.replies.specs.Merging.{HasTakenReport, HaveTaken};
 
 use crate::checks::{finish, status_of_found};
 use crate::input::Input;
@@ -90,7 +90,7 @@ where
     O: Fn(&str) -> io::Result<F>,
     requires { O.IsAlwaysCallable opener.now }
     ensures { MatchResult result
-        (λ _. HasTaken (FnReturnsAt O.Fn opener.now) (known_bytes F.remaining) name.now
+        (λ _. HasTakenReport (FnReturnsAt O.Fn opener.now) (known_bytes F.remaining) name.now
         collector.old collector.new)
         (IsRefusedReport (FnReturnsAt O.Fn opener.now) (known_bytes F.remaining) name.now) }
 {

@@ -6,9 +6,9 @@ use Rattle.std.proofs.lemmas.List.{map-set, get_or-map, get_or-set_same, get_or-
 use Rattle.std.proofs.Math.Seq.{map-set_same}
 use Rattle.lane.specs.declared.item.Item.{Item}
 use Rattle.lane.specs.declared.sender.Sender.{Sender}
-use Rattle.lane.specs.Lanes.{put_of, shown_of, room_of, refusals_of, one_more}
+use Rattle.lane.specs.Lanes.{put_of, shown_of, capacity_of, room_of, refusals_of, one_more}
 use Rattle.dag.specs.declared.records.Placed.{Placed}
-use Rattle.route.specs.Senders.{puts, shown, rooms, refusals, with_refusal}
+use Rattle.route.specs.Senders.{puts, shown, capacities, rooms, refusals, with_refusal}
 use Rattle.route.specs.Sending.{put_on, with_put}
 
 -- a put list for each
@@ -49,6 +49,16 @@ on_false P Q (Err v) b e h f t = f v h
 -- a choice whose test is known
 pub chosen : {X : Type 0} (x y z : X) (b : Bool) → b ≡ true → x ≡ cond b y z → x ≡ y
 chosen x y z b h e = e ∙ ap (λ (t : Bool). cond t y z) h
+
+pub chosen_else : {X : Type 0} (x y z : X) (b : Bool) → b ≡ false → x ≡ cond b y z → x ≡ z
+chosen_else x y z b h e = e ∙ ap (λ (t : Bool). cond t y z) h
+
+-- what was put on the lane of the sender at the place
+pub put_at : (ss : List (Sender Placed)) (k : ℕ) (s : Sender Placed) → k < length ss → s ≡ get_or ss k s → put_on (puts ss) k ≡ put_of s
+put_at ss k s h at = get_or-map put_of ss k s [] h ∙ ap put_of (sym at)
+
+pub capacity_at : (ss : List (Sender Placed)) (k : ℕ) (s : Sender Placed) → k < length ss → s ≡ get_or ss k s → slice_index_or (capacities ss) k 0 ≡ capacity_of s
+capacity_at ss k s h at = get_or-map capacity_of ss k s 0 h ∙ ap capacity_of (sym at)
 
 -- all that was put on the lane is shown
 pub shown_here : (ss : List (Sender Placed)) (k : ℕ) (t : Sender Placed) → k < length ss → shown_of t ≡ put_of t → slice_index_or (shown (set ss k t)) k [] ≡ put_on (puts (set ss k t)) k

@@ -9,7 +9,7 @@ use Rattle.lane.specs.declared.item.Item.TheVariants.{Finish}
 use Rattle.lane.specs.Items.{has_mark, IsBeginning}
 use Rattle.dag.specs.declared.records.Placed.{Placed}
 use Rattle.route.specs.Routed.{IsRising}
-use Rattle.route.specs.Runs.{Event, put, take, puts_in, takes_in, of_lane, put_list, taken_list, on_lane_after, on_lane, IsAllowed, IsRun, put_event, sending_of, sending}
+use Rattle.route.specs.Runs.{Event, put, take, puts_in, takes_in, of_lane, put_list, taken_list, items_after, items_on, IsAllowed, IsRun, put_event, sending_of, sending}
 use Rattle.route.proofs.LaneShares.{Outcome, outcome}
 use Rattle.route.proofs.Rising.{rising_front}
 use Rattle.route.proofs.RunFronts.{Sends, of_lane-append, Front, front}
@@ -31,12 +31,12 @@ put_list-push es e k = ap (of_lane k) (puts_in-append es (e ∷ [])) ∙ of_lane
 taken_list-push : (es : List Event) (e : Event) (k : ℕ) → taken_list (es ++ e ∷ []) k ≡ taken_list es k ++ of_lane k (takes_in (e ∷ []))
 taken_list-push es e k = ap (of_lane k) (takes_in-append es (e ∷ [])) ∙ of_lane-append k (takes_in es) (takes_in (e ∷ []))
 
-on_lane-push : (es : List Event) (e : Event) (k : ℕ) → on_lane (es ++ e ∷ []) k ≡ on_lane_after k (on_lane es k) e
-on_lane-push es e k = fold-append (on_lane_after k) [] es (e ∷ [])
+items_on-push : (es : List Event) (e : Event) (k : ℕ) → items_on (es ++ e ∷ []) k ≡ items_after k (items_on es k) e
+items_on-push es e k = fold-append (items_after k) [] es (e ∷ [])
 
 -- what was put is what was taken and what is on the lane
 abbrev pub Kept : ℕ → List Event → Type 0
-Kept k es = put_list es k ≡ taken_list es k ++ on_lane es k
+Kept k es = put_list es k ≡ taken_list es k ++ items_on es k
 
 after_put : (b : Bool) (p t h : List (Item Placed)) (x : Item Placed) → p ≡ t ++ h → p ++ cond b (x ∷ []) [] ≡ (t ++ []) ++ cond b (h ++ x ∷ []) h
 after_put true p t h x e = ap (λ (l : List (Item Placed)). l ++ x ∷ []) e ∙ append_assoc t h (x ∷ []) ∙ ap (λ (l : List (Item Placed)). l ++ (h ++ x ∷ [])) (sym (append-nil t))
@@ -49,11 +49,11 @@ after_take false p t h rest x oldest e = append-nil p ∙ e ∙ ap (λ (l : List
 
 kept-push : (k : ℕ) (es : List Event) (e : Event) → IsAllowed es e → Kept k es → Kept k (es ++ e ∷ [])
 kept-push k es (put j x) allowed h =
-    put_list-push es (put j x) k ∙ after_put (j == k) (put_list es k) (taken_list es k) (on_lane es k) x h ∙ sym (ap₂ (λ (a b : List (Item Placed)). a ++ b) (taken_list-push es (put j x) k) (on_lane-push es (put j x) k))
+    put_list-push es (put j x) k ∙ after_put (j == k) (put_list es k) (taken_list es k) (items_on es k) x h ∙ sym (ap₂ (λ (a b : List (Item Placed)). a ++ b) (taken_list-push es (put j x) k) (items_on-push es (put j x) k))
 kept-push k es (take j x) allowed h =
     put_list-push es (take j x) k
-    ∙ after_take (j == k) (put_list es k) (taken_list es k) (on_lane es k) allowed.0 x (λ b. let P : ℕ → Type 0 = λ i. on_lane es i ≡ x ∷ allowed.0 in subst P (eqb-true j k b) allowed.1) h
-    ∙ sym (ap₂ (λ (a b : List (Item Placed)). a ++ b) (taken_list-push es (take j x) k) (on_lane-push es (take j x) k))
+    ∙ after_take (j == k) (put_list es k) (taken_list es k) (items_on es k) allowed.0 x (λ b. let P : ℕ → Type 0 = λ i. items_on es i ≡ x ∷ allowed.0 in subst P (eqb-true j k b) allowed.1) h
+    ∙ sym (ap₂ (λ (a b : List (Item Placed)). a ++ b) (taken_list-push es (take j x) k) (items_on-push es (take j x) k))
 
 -- each event is allowed after those before it
 abbrev pub AllAllowed : List Event → Type 0
@@ -64,7 +64,7 @@ kept_along k es before [] allowed split h = subst (Kept k) (sym (split ∙ appen
 kept_along k es before (e ∷ after) allowed split h = kept_along k es (before ++ e ∷ []) after allowed (split ∙ sym (append_assoc before (e ∷ []) after)) (kept-push k before e (allowed before after e split) h)
 
 pub taken_front : (k : ℕ) (es : List Event) → AllAllowed es → IsBeginning (taken_list es k) (put_list es k)
-taken_front k es allowed = (on_lane es k, kept_along k es [] es allowed refl refl)
+taken_front k es allowed = (items_on es k, kept_along k es [] es allowed refl refl)
 
 -- what was taken up to an earlier point
 pub taken_before : (k : ℕ) (before after : List Event) → AllAllowed (before ++ after) → IsBeginning (taken_list before k) (put_list (before ++ after) k)

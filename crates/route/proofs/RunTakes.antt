@@ -11,7 +11,7 @@ use Rattle.route.specs.Sending.{put_on}
 use Rattle.route.specs.Routed.{IsRising, in_hand}
 use Rattle.route.specs.Routers.{puts_of, lane_count, pending_of, next_of, marked_of, HasSent}
 use Rattle.route.specs.RouterRuns.{sent_so_far, run_of, IsTakenFrom}
-use Rattle.route.specs.Runs.{Event, put, take, puts_in, takes_in, of_lane, put_list, taken_list, on_lane, IsAllowed, IsRun}
+use Rattle.route.specs.Runs.{Event, put, take, puts_in, takes_in, of_lane, put_list, taken_list, items_on, IsAllowed, IsRun}
 use Rattle.route.proofs.RunFronts.{Sends, of_lane-append}
 use Rattle.route.proofs.RunLists.{puts_in-append, takes_in-append, takes_in-events, kept_along}
 use Rattle.route.proofs.RouterRuns.{router_run, router_puts}
@@ -29,7 +29,7 @@ last_or_before (b ∷ bs) after (y ∷ es) e last same =
     (λ (h : (rest : List Event) × (es ≡ bs ++ e ∷ rest)). inr (h.0, ap₂ (λ v l. v ∷ l) head h.1)) (last_or_before bs after es e last tail)
 
 -- the oldest item may be taken
-with_take : (n k : ℕ) (w : List Placed) (es : List Event) (x : Item Placed) (rest : List (Item Placed)) → IsRun n w es → on_lane es k ≡ x ∷ rest → IsRun n w (es ++ take k x ∷ [])
+with_take : (n k : ℕ) (w : List Placed) (es : List Event) (x : Item Placed) (rest : List (Item Placed)) → IsRun n w es → items_on es k ≡ x ∷ rest → IsRun n w (es ++ take k x ∷ [])
 with_take n k w es x rest run holds = record {
   some = run.some;
   rising = run.rising;
@@ -50,8 +50,8 @@ one_taken k x xs = ap (λ (b : Bool). cond b (x ∷ xs) xs) (eq-eqb k k refl)
 with_takes : (n k : ℕ) (w : List Placed) (es : List Event) (xs : List (Item Placed)) → IsRun n w es → IsBeginning (taken_list es k ++ xs) (put_list es k) → IsRun n w (es ++ takes_of k xs)
 with_takes n k w es [] run front = subst (IsRun n w) (sym (append-nil es)) run
 with_takes n k w es (x ∷ xs) run (rest, is) =
-    let kept : put_list es k ≡ taken_list es k ++ on_lane es k = kept_along k es [] es run.allowed refl refl in
-    let holds : on_lane es k ≡ x ∷ (xs ++ rest) = append_cancel_left (taken_list es k) (on_lane es k) (x ∷ (xs ++ rest)) (sym kept ∙ is ∙ append_assoc (taken_list es k) (x ∷ xs) rest) in
+    let kept : put_list es k ≡ taken_list es k ++ items_on es k = kept_along k es [] es run.allowed refl refl in
+    let holds : items_on es k ≡ x ∷ (xs ++ rest) = append_cancel_left (taken_list es k) (items_on es k) (x ∷ (xs ++ rest)) (sym kept ∙ is ∙ append_assoc (taken_list es k) (x ∷ xs) rest) in
     let next = with_take n k w es x (xs ++ rest) run holds in
     let put : put_list (es ++ take k x ∷ []) k ≡ put_list es k = ap (of_lane k) (puts_in-append es (take k x ∷ []) ∙ append-nil (puts_in es)) in
     let taken : taken_list (es ++ take k x ∷ []) k ≡ taken_list es k ++ x ∷ [] =

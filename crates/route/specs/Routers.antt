@@ -1,12 +1,13 @@
 -- Promised: what a router says: its lanes, what was put on them, the pending record, and the marks.
 use Rattle.std.specs.Prelude.{◌≡◌, ℕ, ◌<◌, ◌≤◌, false, List, [], length, slice_index_or, Option}
 use Rattle.lane.specs.declared.item.Item.{Item}
+use Rattle.lane.specs.declared.item.Item.TheVariants.{One}
 use Rattle.lane.specs.Lanes.{LaneId}
 use Rattle.dag.specs.declared.records.Placed.{Placed}
 use Rattle.dag.specs.Shares.{goes_placed}
 use Rattle.route.specs.declared.router.Router.{Router}
 use Rattle.route.specs.Senders.{lanes, puts, shown, capacities, rooms, refusals, with_refusal}
-use Rattle.route.specs.Sending.{put_on, AllSent}
+use Rattle.route.specs.Sending.{put_on, with_put, AllSent}
 
 abbrev pub lanes_of : Router → List LaneId
 lanes_of r = lanes r.senders.items
@@ -80,6 +81,14 @@ refusals_in r = refusals r.senders.items
 -- the sender of lane k refused a put, and no other sender refused one
 abbrev pub WasRefused : Router → Router → ℕ → Type 0
 WasRefused old new k = refusals_in new ≡ with_refusal (refusals_in old) k
+
+-- the record was put on lane k, and nothing else has changed
+pub record HasPutRecord (old new : Router) (k : ℕ) (p : Placed) : Type 0 where
+  pub puts : puts_of new ≡ with_put (puts_of old) k (One p)
+  pub refusals : refusals_in new ≡ refusals_in old
+  pub pending : pending_of new ≡ pending_of old
+  pub next : next_of new ≡ next_of old
+  pub marked : marked_of new ≡ marked_of old
 
 -- A put on lane k was blocked: its sender refused it in this call. It knew of no room, and knows of none.
 pub record HasBlocked (old new : Router) (k : ℕ) : Type 0 where

@@ -37,17 +37,17 @@ abbrev pub taken_list : List Event → ℕ → List (Item Placed)
 taken_list es k = of_lane k (takes_in es)
 
 -- what lane k holds: a put adds at the end, and a take takes the oldest item
-abbrev pub on_lane_after : ℕ → List (Item Placed) → Event → List (Item Placed)
-on_lane_after k items (put j x) = if j == k then items ++ x ∷ [] else items
-on_lane_after k items (take j x) = if j == k then drop 1 items else items
+abbrev pub items_after : ℕ → List (Item Placed) → Event → List (Item Placed)
+items_after k items (put j x) = if j == k then items ++ x ∷ [] else items
+items_after k items (take j x) = if j == k then drop 1 items else items
 
-abbrev pub on_lane : List Event → ℕ → List (Item Placed)
-on_lane es k = fold (on_lane_after k) [] es
+abbrev pub items_on : List Event → ℕ → List (Item Placed)
+items_on es k = fold (items_after k) [] es
 
 -- after these events a put is allowed if the lane isn't marked, and a take if it gives the oldest item
 abbrev pub IsAllowed : List Event → Event → Type 0
 IsAllowed es (put k x) = has_mark (put_list es k) ≡ false
-IsAllowed es (take k x) = (rest : List (Item Placed)) × (on_lane es k ≡ x ∷ rest)
+IsAllowed es (take k x) = (rest : List (Item Placed)) × (items_on es k ≡ x ∷ rest)
 
 -- the lanes that a record is sent to, in their order
 abbrev pub lanes_for : ℕ → Record → List ℕ

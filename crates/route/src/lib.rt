@@ -7,5 +7,5 @@ pub mod laws;
 mod progress;
 mod router;
 
-pub use progress::Progress;
+pub use progress::{Full, Progress};
 pub use router::Router;

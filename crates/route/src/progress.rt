@@ -8,3 +8,7 @@ pub enum Progress {
     /// This lane is full, and nothing has changed.
     Blocked(u32),
 }
+
+/// A lane is full.
+#[derive(Clone, Copy, Debug, PartialEq, Eq)]
+pub struct Full;

@@ -1,7 +1,8 @@
 //! The router: its state, and how it sends records and marks to the lanes.
 ghost use Rattle.std.specs.Prelude.{◌≡◌, ◌<◌, ◌≤◌, ◌+◌, ◌↔◌, ◌≢◌, ℕ, List, [], ◌∷◌};
 ghost use Rattle.std.specs.Prelude.{◌++◌, length, map, All, true, false};
-ghost use Rattle.std.specs.Prelude.{IfOk, IsFalse, is_some, if◌then◌else◌, slice_index_or, vec_len, vec_capacity};
+ghost use Rattle.std.specs.Prelude.{IfOk, IsErr, OnOk, IsTrue, IsFalse, is_some, if◌then◌else◌};
+ghost use Rattle.std.specs.Prelude.{slice_index_or, vec_len, vec_capacity};
 ghost use Rattle.std.specs.Option.{ForSome};
 ghost use Rattle.dag.specs.declared.records.Placed.{Placed};
 ghost use Rattle.dag.specs.Bounds.{most_shards};
@@ -15,7 +16,7 @@ ghost use Rattle.route.specs.Progresses.{OnIdle, OnMoved, IfBlocked};
 ghost use Rattle.route.specs.Runs.{put, put_event, sending_of};
 
 use crate::lanes_for::{first_lane, lane_after};
-use crate::progress::Progress;
+use crate::progress::{Full, Progress};
 use dag::{NoMemory, Placed};
 use lane::{End, Sender};
 use std::alloc::Global;
@@ -28,7 +29,7 @@ use std::alloc::Global;
 /// let senders = vec![in rt.alloc(); to_even, to_odd]?;
 /// let mut router = Router::new(rt.alloc(), senders)?;
 /// let (place, what) = (1, Record::Write(5));
-/// assert_eq!(rt; router.send(Placed { place, what }), Progress::Idle);
+/// assert!(rt; router.send(Placed { place, what }).is_ok());
 /// router.flush();
 /// assert_eq!(rt; even.take(), None);
 /// assert_eq!(rt; odd.take(), Some(Item::One(Placed { place, what })));
@@ -55,9 +56,9 @@ pub struct Router {
 }
 
 impl Router {
-    ghost use Rattle.route.specs.Routers.{lanes_of, puts_of, capacities_of, ShowsAll, lane_count, capacity_on, room_on};
+    ghost use Rattle.route.specs.Routers.{lanes_of, puts_of, capacities_of, ShowsAll, lane_count};
     ghost use Rattle.route.specs.Routers.{pending_of, next_of, marked_of, HasSent, IsOnLanes, IsUnchanged, IsLastLane};
-    ghost use Rattle.route.specs.Routers.{HasBlocked, IsStuck, WasRefused, refusals_in};
+    ghost use Rattle.route.specs.Routers.{HasPutRecord, HasBlocked, IsStuck, WasRefused, refusals_in};
     ghost use Rattle.route.specs.RouterRuns.{begun, run_of};
 
     /// A router over lanes without items. It allocates memory for the receipts now, and none later. A refusal drops the
@@ -88,26 +89,6 @@ impl Router {
         ensures { result ≡ is_some (pending_of self.now) }
     {
         self.pending.is_some()
-    }
-
-    /// The number of further records that the lane's sender knows to have room for; 0 if there is no such lane.
-    pub fn room(&self, lane: usize) -> usize
-        ensures { result ≡ room_on self.now lane }
-    {
-        match self.senders.get(lane) {
-            Some(sender) => sender.room(),
-            None => 0,
-        }
-    }
-
-    /// The greatest number of records in the lane; 0 if there is no such lane.
-    pub fn capacity(&self, lane: usize) -> usize
-        ensures { result ≡ capacity_on self.now lane }
-    {
-        match self.senders.get(lane) {
-            Some(sender) => sender.capacity(),
-            None => 0,
-        }
     }
 
     /// Takes a record to send. The next steps put it.
@@ -181,7 +162,7 @@ impl Router {
             ≡ run_of w self.old ++ put (next_of self.old) (One placed) ∷ []) }
         ensures blocked { IfBlocked result (λ k. (k ≡ next_of self.old) × HasBlocked self.old self.new k) }
     {
-        if !put_on(&mut self.senders, self.next, placed) {
+        if !self.put_on_lane(self.next, placed) {
             return Progress::Blocked(self.next as u32);
         }
         match lane_after(placed.what, self.next, self.senders.len()) {
@@ -191,28 +172,24 @@ impl Router {
         Progress::Moved
     }
 
-    /// Offers a record and takes its steps, until it is sent whole or a lane is full. The last of these steps gives
-    /// the answer, `Idle` or `Blocked`.
+    /// Offers a record and takes its steps, until it is sent whole or a lane is full. Then it is pending.
     #[inline(always)]
-    pub fn send(&mut self, placed: Placed) -> Progress
+    pub fn send(&mut self, placed: Placed) -> Result<(), Full>
         requires idle { pending_of self.old ≡ None }
         requires unmarked { marked_of self.old ≡ 0 }
-        // w is what was sent whole before
-        ensures sent { (w : List Placed) → HasSent w self.old
-            → HasSent (sent_whole w (Some placed) (pending_of self.new)) self.new }
         ensures lanes { IsOnLanes self.old self.new }
         ensures marked { marked_of self.new ≡ 0 }
-
-        ensures stopped { result ≢ Progress.Moved }
-        ensures idle { OnIdle result (pending_of self.new ≡ None) }
-        ensures all_events { OnIdle result ((w : List Placed) → run_of (w ++ placed ∷ []) self.new
+        // w is what was sent whole before
+        ensures sent { OnOk result ((w : List Placed) → HasSent w self.old → HasSent (w ++ placed ∷ []) self.new) }
+        ensures idle { OnOk result (pending_of self.new ≡ None) }
+        ensures all_events { OnOk result ((w : List Placed) → run_of (w ++ placed ∷ []) self.new
             ≡ run_of w self.old ++ map put_event (sending_of (lane_count self.old) placed)) }
-
-        ensures pending { IfBlocked result (λ _. pending_of self.new ≡ Some placed) }
-        ensures next { IfBlocked result (λ k. (k ≡ next_of self.new) × IsStuck self.new k) }
-        ensures refused { IfBlocked result (WasRefused self.old self.new) }
-        ensures first_events { IfBlocked result (λ k. (w : List Placed) → run_of w self.new
-            ≡ run_of w self.old ++ map put_event (begun (lane_count self.old) (Some placed) k)) }
+        ensures left { IsErr result → (w : List Placed) → HasSent w self.old → HasSent w self.new }
+        ensures pending { IsErr result → pending_of self.new ≡ Some placed }
+        ensures stuck { IsErr result → IsStuck self.new (next_of self.new) }
+        ensures refused { IsErr result → WasRefused self.old self.new (next_of self.new) }
+        ensures first_events { IsErr result → (w : List Placed) → run_of w self.new
+            ≡ run_of w self.old ++ map put_event (begun (lane_count self.old) (Some placed) (next_of self.new)) }
     {
         let count = self.senders.len();
         let mut lane = first_lane(placed.what, count);
@@ -220,31 +197,25 @@ impl Router {
             if !self.put_on_lane(lane, placed) {
                 self.pending = Some(placed);
                 self.next = lane;
-                return Progress::Blocked(lane as u32);
+                return Err(Full);
             }
             match lane_after(placed.what, lane, count) {
                 Some(next) => lane = next,
-                None => return Progress::Idle,
+                None => return Ok(()),
             }
         }
     }
 
-    // Puts the record on the lane; false if the lane was full.
+    // Puts the record on the lane; false if the lane is full.
     #[inline(always)]
     fn put_on_lane(&mut self, lane: usize, placed: Placed) -> bool
         requires within { lane < lane_count self.old }
         requires unmarked { marked_of self.old ≡ 0 }
-        ensures puts { puts_of self.new
-            ≡ (if result then with_put (puts_of self.old) lane (One placed) else puts_of self.old) }
         ensures lanes { IsOnLanes self.old self.new }
-        ensures pending { pending_of self.new ≡ pending_of self.old }
-        ensures next { next_of self.new ≡ next_of self.old }
-        ensures marked { marked_of self.new ≡ 0 }
-        ensures stuck { IsFalse result → IsStuck self.new lane }
-        ensures refusals { refusals_in self.new
-            ≡ (if result then refusals_in self.old else with_refusal (refusals_in self.old) lane) }
+        ensures put { IsTrue result → HasPutRecord self.old self.new lane placed }
+        ensures blocked { IsFalse result → HasBlocked self.old self.new lane }
     {
-        put_on(&mut self.senders, lane, placed)
+        self.senders[lane].put(placed).is_ok()
     }
 
     /// Shows each taker all items put on its lane.
@@ -298,27 +269,6 @@ impl Router {
         }
         ends
     }
-}
-
-// Puts the record on the lane; false if the lane is full.
-#[inline(always)]
-fn put_on(senders: &mut Vec<Sender<Placed>>, lane: usize, placed: Placed) -> bool
-    requires within { lane < vec_len senders.old }
-    requires unmarked { has_mark (put_on (puts senders.old.items) lane) ≡ false }
-    ensures puts { puts senders.new.items
-        ≡ (if result then with_put (puts senders.old.items) lane (One placed)
-        else puts senders.old.items) }
-    ensures refusals { refusals senders.new.items
-        ≡ (if result then refusals senders.old.items else with_refusal (refusals senders.old.items) lane) }
-    ensures lanes { lanes senders.new.items ≡ lanes senders.old.items }
-    ensures capacities { capacities senders.new.items ≡ capacities senders.old.items }
-    ensures len { vec_len senders.new ≡ vec_len senders.old }
-    ensures full { IsFalse result → slice_index_or (capacities senders.old.items) lane 0
-        ≤ length (put_on (puts senders.old.items) lane) }
-    ensures no_room { IsFalse result → (slice_index_or (rooms senders.old.items) lane 0 ≡ 0)
-        × (slice_index_or (rooms senders.new.items) lane 0 ≡ 0) }
-{
-    senders[lane].put(placed).is_ok()
 }
 
 // Puts the mark on the lane; false if the lane is full.

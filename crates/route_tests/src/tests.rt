@@ -6,7 +6,7 @@ ghost use Rattle.route.specs.Routers.{lanes_of, lane_count, pending_of, marked_o
 
 use lane::{End, Item, Sender, Taker, lane};
 use route::Progress::{self, Blocked, Idle, Moved};
-use route::Router;
+use route::{Full, Router};
 use std::alloc::Global;
 use std::process::Abort;
 use std::sync::Wait;
@@ -103,7 +103,7 @@ fn a_write_goes_to_one_lane(rt: HostRuntime) -> Result<(), Fail> {
     let senders = vec![in rt.alloc(); to_even, to_odd]?;
     let mut router = Router::new(rt.alloc(), senders)?;
     let (place, what) = (1, Record::Write(5));
-    assert_eq!(rt; router.send(Placed { place, what }), Progress::Idle);
+    assert!(rt; router.send(Placed { place, what }).is_ok());
     router.flush();
     assert_eq!(rt; even.take(), None);
     assert_eq!(rt; odd.take(), Some(Item::One(Placed { place, what })));
@@ -181,27 +181,27 @@ fn settle_two(mut ends: Vec<End<Placed>>, mut taker: Taker<Placed>, mut other: T
 }
 
 // What a record's send comes to.
-fn sends<R: Abort>(rt: &R, router: &mut Router, place: u64, what: Record, wanted: Progress)
+fn sends<R: Abort>(rt: &R, router: &mut Router, place: u64, what: Record, wanted: Result<(), Full>)
     requires { marked_of router.old ≡ 0 }
     ensures lanes { lanes_of router.new ≡ lanes_of router.old }
     ensures unmarked { marked_of router.new ≡ 0 }
 {
     assert!(rt; !router.pending());
     assert!(rt; router.send(at(place, what)) == wanted, "{wanted:?}");
-    assert!(rt; router.pending() == (wanted != Idle));
+    assert!(rt; router.pending() == wanted.is_err());
 }
 
 #[test]
 fn sends_up_to_a_full_lane(rt: HostRuntime) -> Result<(), Fail> {
     let (mut router, mut taker, mut other) = over_two(rt.alloc(), 2, 1)?;
-    sends(&rt, &mut router, 1, Record::Spawn, Idle);
+    sends(&rt, &mut router, 1, Record::Spawn, Ok(()));
     gives(&rt, &mut other, one(1, Record::Spawn));
-    sends(&rt, &mut router, 2, Record::Write(5), Idle);
-    sends(&rt, &mut router, 3, Record::Return, Blocked(1));
+    sends(&rt, &mut router, 2, Record::Write(5), Ok(()));
+    sends(&rt, &mut router, 3, Record::Return, Err(Full));
     steps(&rt, &mut router, &[Blocked(1)]);
     gives(&rt, &mut other, one(2, Record::Write(5)));
     steps(&rt, &mut router, &[Moved, Idle]);
-    sends(&rt, &mut router, 4, Record::Read(4), Blocked(0));
+    sends(&rt, &mut router, 4, Record::Read(4), Err(Full));
     gives(&rt, &mut taker, one(1, Record::Spawn));
     gives(&rt, &mut taker, one(3, Record::Return));
     gives(&rt, &mut other, one(3, Record::Return));

@@ -5,9 +5,10 @@ ghost use Rattle.lane.specs.Items.{has_mark};
 ghost use Rattle.lane.specs.Lanes.{lane_of, end_lane, put_of, all_put, all_shown};
 
 use crate::Back;
-use lane::{End, Sender, Waiting};
+use lane::{End, Sender};
 use std::sync::Wait;
 use std::time::Clock;
+use waiting::Waiting;
 
 /// Puts the value, as soon as there is room.
 #[cold]

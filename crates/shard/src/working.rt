@@ -10,10 +10,11 @@ use crate::gate::Gate;
 use crate::state::Shard;
 use crate::worker::Worker;
 use dag::Placed;
-use lane::{BLOCK, End, Item, Sender, Taker, Waiting};
+use lane::{BLOCK, End, Item, Sender, Taker};
 use std::hash::BuildHasher;
 use std::sync::Wait;
 use std::time::Clock;
+use waiting::Waiting;
 
 /// What a worker returns: its taker, the receipt of its lane back, and its shard.
 #[derive(Drop)]
@@ -58,7 +59,7 @@ pub fn work<R: Wait + Clock, S: BuildHasher + Drop, G: Gate>(
     requires none_put { put_of back ≡ [] }
     ensures { DidWork taker back result }
 {
-    let mut waiting = Waiting::beside(shard.shards());
+    let mut waiting = Waiting::new();
     let mut worker = Worker {
         shard,
         back,
@@ -80,7 +81,11 @@ pub fn work<R: Wait + Clock, S: BuildHasher + Drop, G: Gate>(
                 shard,
             };
         }
-        waiting.after_look(rt, count.saturating_add(taker.ready()), taker.capacity());
+        if count == 0 {
+            waiting.wait(rt);
+        } else {
+            waiting.end();
+        }
     }
     unreachable!()
 }

@@ -17,8 +17,8 @@ use Rattle.detect.proofs.closing.close.Goals as goal
 pub returns-in_err-first_trouble-clause-answers : goal.returns-in_err-first_trouble-clause-answers
 returns-in_err-first_trouble-clause-answers g c = λ part n records depths change some most h.
     let done = c.args.done in
-    let reason = trouble_of _ done.sending.gathering.collector.refused _ done.outcome c.first_trouble.result (ap (λ (k : Collection). k.refused) c.settle-outcome.ensures.collector) c.settle-outcome.ensures.outcome c.first_trouble.ensures.refused c.first_trouble.ensures.none_refused in
-    failed_run part n records depths change done done.sending.gathering.collector.refused c.first_trouble.result c.from_residual.result _ c.in_err-first_trouble.was c.from_residual.ensures.1 reason.0 reason.1 h
+    let reason = trouble_of _ done.reading.gathering.collector.refused _ done.outcome c.first_trouble.result (ap (λ (k : Collection). k.refused) c.settle-outcome.ensures.collector) c.settle-outcome.ensures.outcome c.first_trouble.ensures.refused c.first_trouble.ensures.none_refused in
+    failed_run part n records depths change done done.reading.gathering.collector.refused c.first_trouble.result c.from_residual.result _ c.in_err-first_trouble.was c.from_residual.ensures.1 reason.0 reason.1 h
 
 pub returns-in_err-report-clause-answers : goal.returns-in_err-report-clause-answers
 returns-in_err-report-clause-answers g c = λ part n records depths change some most h. ends_refused _ _ _ _ _ _ _ c.from_residual-in_err-report.ensures.1 (refused_for_want _ _ _ _ _ (inl refl))
@@ -27,9 +27,9 @@ pub returns-clause-answers : goal.returns-clause-answers
 returns-clause-answers g c = λ part n records depths change some most h.
     let done = c.args.done in
     let settled = c.settle-outcome in
-    let why = trouble_of _ done.sending.gathering.collector.refused _ done.outcome c.first_trouble.result (ap (λ (k : Collection). k.refused) settled.ensures.collector) settled.ensures.outcome c.first_trouble.ensures.refused c.first_trouble.ensures.none_refused in
-    let good = none_refused done.sending.gathering.collector.refused done.outcome c.first_trouble.result _ c.in_ok-first_trouble.was why.0 why.1 in
-    let ends = finished_of part n records depths change done done.sending.gathering.collector.refused c.first_trouble.result _ c.in_ok-first_trouble.was why.0 why.1 h in
+    let why = trouble_of _ done.reading.gathering.collector.refused _ done.outcome c.first_trouble.result (ap (λ (k : Collection). k.refused) settled.ensures.collector) settled.ensures.outcome c.first_trouble.ensures.refused c.first_trouble.ensures.none_refused in
+    let good = none_refused done.reading.gathering.collector.refused done.outcome c.first_trouble.result _ c.in_ok-first_trouble.was why.0 why.1 in
+    let ends = finished_of part n records depths change done done.reading.gathering.collector.refused c.first_trouble.result _ c.in_ok-first_trouble.was why.0 why.1 h in
     let f = ends.says in
     let same = settled.ensures.same in
     let u = records_of part (placed ends.trace) in
@@ -59,5 +59,5 @@ run_of-requires g c =
     let done = c.args.done in
     let P : ℕ → Type 0 = λ m. HasRoom m c.args.lists in
     let count : vec_len done.workers ≡ vec_len c.settle-outcome.result.workers = omega (arith, done.workers.ok.0, c.settle-outcome.ensures.same.count, c.settle-outcome.result.workers.ok.0) in
-    let cause = trouble_of _ done.sending.gathering.collector.refused _ done.outcome c.first_trouble.result (ap (λ (k : Collection). k.refused) c.settle-outcome.ensures.collector) c.settle-outcome.ensures.outcome c.first_trouble.ensures.refused c.first_trouble.ensures.none_refused in
-    record { room = subst P count (of_good _ done.sending.gathering.collector.refused done.outcome c.first_trouble.result _ c.in_ok-first_trouble.was cause.0 cause.1 c.requires.room) }
+    let cause = trouble_of _ done.reading.gathering.collector.refused _ done.outcome c.first_trouble.result (ap (λ (k : Collection). k.refused) c.settle-outcome.ensures.collector) c.settle-outcome.ensures.outcome c.first_trouble.ensures.refused c.first_trouble.ensures.none_refused in
+    record { room = subst P count (of_good _ done.reading.gathering.collector.refused done.outcome c.first_trouble.result _ c.in_ok-first_trouble.was cause.0 cause.1 c.requires.room) }

@@ -21,7 +21,7 @@ returns g c =
     let done = c.args.done in
     let same = c.settle_shards.ensures.same in
     let P : List (List (Item Placed)) → Type 0 = λ puts. (k : ℕ) → k < vec_len done.workers → IsSettled (taken_by done.workers.items) puts k in
-    let Q : List (List (Item Back)) → Type 0 = λ backs. (k : ℕ) → k < vec_len done.workers → IsSettled (given_by done.sending.gathering.backs.items) backs k in
+    let Q : List (List (Item Back)) → Type 0 = λ backs. (k : ℕ) → k < vec_len done.workers → IsSettled (given_by done.reading.gathering.backs.items) backs k in
     record {
       compared = record {
         to_shards = subst P c.into_ends-ends.ensures.puts c.settle_shards.ensures.settled;

@@ -1,6 +1,6 @@
 use Rattle.std.proofs.Common.{vec_len, ap, subst, sym, ◌∙◌, arith}
 use Rattle.route.specs.Routers.{pending_of}
-use Rattle.detect.specs.declared.sending.Sending.{Sending}
+use Rattle.detect.specs.declared.reading_thread.ReadingThread.{ReadingThread}
 use Rattle.detect.specs.Sent.{GoesOn}
 use Rattle.detect.proofs.Endings.{lacks_no_thread}
 use Rattle.detect.proofs.LanesBack.{further_trans}
@@ -11,31 +11,31 @@ use Rattle.detect.proofs.sharded.run_workers.Goals as goal
 
 pub mark_all-requires : goal.mark_all-requires
 mark_all-requires g c = elim c.match-start_all.branch [
-  | in-Ok w ↦ ap (λ (s : Sending). pending_of s.router) w.sending-is ∙ w.send_all-outcome.ensures.idle
-  | in-Err w ↦ ap (λ (s : Sending). pending_of s.router) w.sending-is ∙ c.requires.idle
+  | in-Ok w ↦ ap (λ (s : ReadingThread). pending_of s.router) w.reading-is ∙ w.send_all-outcome.ensures.idle
+  | in-Err w ↦ ap (λ (s : ReadingThread). pending_of s.router) w.reading-is ∙ c.requires.idle
 ]
 
 pub finish_lanes-requires : goal.finish_lanes-requires
 finish_lanes-requires g c = elim c.match-start_all.branch [
-  | in-Ok w ↦ omega (arith, c.len.ensures, c.start_all.ensures.most, c.mark_all.ensures.goes_on.further.count, ap (λ (s : Sending). vec_len s.gathering.backs) w.sending-is, w.send_all-outcome.ensures.goes_on.further.count, c.args.made.sending.gathering.backs.ok.0, c.requires.backs)
-  | in-Err w ↦ omega (arith, c.len.ensures, c.start_all.ensures.most, c.mark_all.ensures.goes_on.further.count, ap (λ (s : Sending). vec_len s.gathering.backs) w.sending-is, c.args.made.sending.gathering.backs.ok.0, c.requires.backs)
+  | in-Ok w ↦ omega (arith, c.len.ensures, c.start_all.ensures.most, c.mark_all.ensures.goes_on.further.count, ap (λ (s : ReadingThread). vec_len s.gathering.backs) w.reading-is, w.send_all-outcome.ensures.goes_on.further.count, c.args.made.reading.gathering.backs.ok.0, c.requires.backs)
+  | in-Err w ↦ omega (arith, c.len.ensures, c.start_all.ensures.most, c.mark_all.ensures.goes_on.further.count, ap (λ (s : ReadingThread). vec_len s.gathering.backs) w.reading-is, c.args.made.reading.gathering.backs.ok.0, c.requires.backs)
 ]
 
 pub returns-clause-done : goal.returns-clause-done
 returns-clause-done g c = elim c.match-start_all.branch [
-  | in-Ok w ↦ done_started c.args.made.sending.part g.R.Source.state _ _ _ _ c.args.made _ c.start_all.new.handles.items _ _ _ _ _ _ w.source-is w.sending-is w.outcome-is
+  | in-Ok w ↦ done_started c.args.made.reading.part g.R.Source.state _ _ _ _ c.args.made _ c.start_all.new.handles.items _ _ _ _ _ _ w.source-is w.reading-is w.outcome-is
       c.requires w.in-Ok.ensures.started w.send_all-outcome.ensures.sent w.send_all-outcome.ensures.goes_on
       c.mark_all.ensures.sent c.mark_all.ensures.idle c.mark_all.ensures.marked c.mark_all.ensures.goes_on.lanes c.mark_all.ensures.goes_on.further c.finish_lanes.ensures.further
       (λ k h. c.finish_lanes.ensures.ended k (omega (arith, h, c.len.ensures, c.start_all.new.handles.ok.0))) c.join_all.ensures
-  | in-Err w ↦ done_refused c.args.made.sending.part _ _ _ _ _ _ w.outcome-is w.in-Err.ensures.refused
+  | in-Err w ↦ done_refused c.args.made.reading.part _ _ _ _ _ _ w.outcome-is w.in-Err.ensures.refused
 ]
 
 pub returns-clause-closed : goal.returns-clause-closed
 returns-clause-closed g c =
-    let P : Sending → Type 0 = GoesOn c.args.made.sending in
-    let on : GoesOn c.args.made.sending c.mark_all.new.self = goes_on_trans _ _ _ (elim c.match-start_all.branch [
-      | in-Ok w ↦ subst P (sym w.sending-is) w.send_all-outcome.ensures.goes_on
-      | in-Err w ↦ subst P (sym w.sending-is) (goes_on_refl c.args.made.sending)
+    let P : ReadingThread → Type 0 = GoesOn c.args.made.reading in
+    let on : GoesOn c.args.made.reading c.mark_all.new.self = goes_on_trans _ _ _ (elim c.match-start_all.branch [
+      | in-Ok w ↦ subst P (sym w.reading-is) w.send_all-outcome.ensures.goes_on
+      | in-Err w ↦ subst P (sym w.reading-is) (goes_on_refl c.args.made.reading)
     ]) c.mark_all.ensures.goes_on in
     closed _ c.args.made _ c.start_all.new.handles.items c.requires c.start_all.ensures.first_ones c.mark_all.ensures.marked on.lanes (further_trans _ _ _ on.further c.finish_lanes.ensures.further) c.join_all.ensures
 

@@ -1,62 +1,75 @@
-use Rattle.std.proofs.Common.{◌≡◌, ℕ, ◌<◌, true, false, length, vec_len, sym, subst, arith}
+use Rattle.std.proofs.Common.{◌≡◌, ℕ, ◌+◌, ◌<◌, false, true, [], ◌∷◌, ◌++◌, Option, None, length, sym, ap, subst, ◌∙◌, arith}
 use Rattle.lane.specs.declared.item.Item.TheVariants.{One}
-use Rattle.lane.specs.Items.{has_mark}
+use Rattle.dag.specs.declared.records.Placed.{Placed}
 use Rattle.dag.specs.Shares.{goes_placed}
-use Rattle.route.specs.Senders.{puts}
-use Rattle.route.specs.Sending.{put_on, with_put, HaveMarks}
-use Rattle.route.proofs.Lists.{chosen, puts_counted}
-use Rattle.route.proofs.Sent.{step-next, step-last, marks-one, unmarked_at}
-use Rattle.route.proofs.SentSoFar.{step_event-next, step_event-last}
+use Rattle.route.specs.Sending.{sent_whole}
+use Rattle.route.specs.Routers.{puts_of}
+use Rattle.route.specs.RouterRuns.{run_of}
+use Rattle.route.specs.Runs.{put}
+use Rattle.route.proofs.Lists.{puts_counted}
+use Rattle.route.proofs.Sent.{OnPuts, step-next, step-last}
+use Rattle.route.proofs.SentSoFar.{events_so_far, step_event-next, step_event-last}
 use Rattle.route.proofs.router.Router.put_pending.Goals as goal
 
-pub invariant_of-self-in-Some-clause-marks : goal.invariant_of-self-in-Some-clause-marks
-invariant_of-self-in-Some-clause-marks c =
-    let s = c.args.self.now in
-    let e : puts c.put_on.new.senders.items ≡ with_put (puts s.senders.items) s.next (One c.args.placed) = chosen _ _ _ c.put_on.result c.if-not-put_on.false c.put_on.ensures.puts in
-    let within : s.next < length (puts s.senders.items) = omega (arith, puts_counted s.senders, s.next_within) in
-    let none : has_mark (put_on (puts s.senders.items) s.next) ≡ false = unmarked_at (puts s.senders.items) s.marked s.next (omega (arith, s.unmarked c.args.placed c.requires)) within s.marks in
-    subst (HaveMarks s.marked) (sym e) (marks-one (puts s.senders.items) s.next c.args.placed s.marked within none s.marks)
-
-pub invariant_of-self-in-None-clause-marks : goal.invariant_of-self-in-None-clause-marks
-invariant_of-self-in-None-clause-marks c =
-    let s = c.args.self.now in
-    let e : puts c.put_on.new.senders.items ≡ with_put (puts s.senders.items) s.next (One c.args.placed) = chosen _ _ _ c.put_on.result c.if-not-put_on.false c.put_on.ensures.puts in
-    let within : s.next < length (puts s.senders.items) = omega (arith, puts_counted s.senders, s.next_within) in
-    let none : has_mark (put_on (puts s.senders.items) s.next) ≡ false = unmarked_at (puts s.senders.items) s.marked s.next (omega (arith, s.unmarked c.args.placed c.requires)) within s.marks in
-    subst (HaveMarks s.marked) (sym e) (marks-one (puts s.senders.items) s.next c.args.placed s.marked within none s.marks)
-
 pub returns-in-Some-clause-sent : goal.returns-in-Some-clause-sent
-returns-in-Some-clause-sent c =
+returns-in-Some-clause-sent c w h =
     let s = c.args.self.now in
-    let e : puts c.put_on.new.senders.items ≡ with_put (puts s.senders.items) s.next (One c.args.placed) = chosen _ _ _ c.put_on.result c.if-not-put_on.false c.put_on.ensures.puts in
-    let count : vec_len s.senders ≡ length (puts s.senders.items) = sym (puts_counted s.senders) in
-    λ w h. step-next (puts s.senders.items) (puts c.put_on.new.senders.items) w s.pending c.args.placed (vec_len s.senders) s.next c.in-Some.lane s.marked
-    c.requires e count c.in-Some.ensures.some.0 (s.unmarked c.args.placed c.requires) s.next_within (s.aimed c.args.placed c.requires) h
+    let new = c.put_on_lane.new.self in
+    let was = c.put_on_lane.ensures.put c.if-not-put_on_lane.false in
+    let count : c.len.result ≡ length (puts_of s) = omega (arith, c.len.ensures, puts_counted new.senders, c.put_on_lane.ensures.lanes.count) in
+    let within : s.next < c.len.result = omega (arith, count, puts_counted s.senders, s.next_within) in
+    let Goes : ℕ → Type 0 = λ n. goes_placed s.next n c.args.placed ≡ true in
+    let goes = subst Goes (sym (puts_counted s.senders) ∙ sym count) (s.aimed c.args.placed c.requires) in
+    let next : c.in-Some.lane ≡ s.next + 1 = c.in-Some.ensures.some.0 ∙ ap (λ (i : ℕ). i + 1) was.next in
+    let sent = step-next (puts_of s) (puts_of new) w s.pending c.args.placed c.len.result s.next c.in-Some.lane s.marked c.requires was.puts count next (s.unmarked c.args.placed c.requires) within goes h in
+    let OfMarked : ℕ → Type 0 = λ m. OnPuts (sent_whole w s.pending s.pending) c.in-Some.lane s.pending m (puts_of new) in
+    let OfPending : Option Placed → Type 0 = λ o. OnPuts (sent_whole w s.pending o) c.in-Some.lane o new.marked (puts_of new) in
+    subst OfPending (sym was.pending) (subst OfMarked (sym was.marked) sent)
 
 pub returns-in-None-clause-sent : goal.returns-in-None-clause-sent
-returns-in-None-clause-sent c =
+returns-in-None-clause-sent c w h =
     let s = c.args.self.now in
-    let e : puts c.put_on.new.senders.items ≡ with_put (puts s.senders.items) s.next (One c.args.placed) = chosen _ _ _ c.put_on.result c.if-not-put_on.false c.put_on.ensures.puts in
-    let count : vec_len s.senders ≡ length (puts s.senders.items) = sym (puts_counted s.senders) in
-    let same : c.len.result ≡ vec_len s.senders = omega (arith, c.len.ensures, c.put_on.ensures.len) in
-    let NoneLater : ℕ → Type 0 = λ x. (k : ℕ) → s.next < k → k < x → goes_placed k x c.args.placed ≡ false in
-    λ w h. step-last (puts s.senders.items) (puts c.put_on.new.senders.items) w s.pending c.args.placed (vec_len s.senders) s.next s.marked
-    c.requires e count (s.unmarked c.args.placed c.requires) s.next_within (s.aimed c.args.placed c.requires) (subst NoneLater same c.in-None.ensures.none) h
+    let new = c.put_on_lane.new.self in
+    let was = c.put_on_lane.ensures.put c.if-not-put_on_lane.false in
+    let count : c.len.result ≡ length (puts_of s) = omega (arith, c.len.ensures, puts_counted new.senders, c.put_on_lane.ensures.lanes.count) in
+    let within : s.next < c.len.result = omega (arith, count, puts_counted s.senders, s.next_within) in
+    let Goes : ℕ → Type 0 = λ n. goes_placed s.next n c.args.placed ≡ true in
+    let goes = subst Goes (sym (puts_counted s.senders) ∙ sym count) (s.aimed c.args.placed c.requires) in
+    let NoneLater : ℕ → Type 0 = λ i. (k : ℕ) → i < k → k < c.len.result → goes_placed k c.len.result c.args.placed ≡ false in
+    let sent = step-last (puts_of s) (puts_of new) w s.pending c.args.placed c.len.result s.next s.marked c.requires was.puts count (s.unmarked c.args.placed c.requires) within goes (subst NoneLater was.next c.in-None.ensures.none) h in
+    let OfMarked : ℕ → Type 0 = λ m. OnPuts (sent_whole w s.pending None) s.next None m (puts_of new) in
+    let OfNext : ℕ → Type 0 = λ i. OnPuts (sent_whole w s.pending None) i None new.marked (puts_of new) in
+    subst OfNext (sym was.next) (subst OfMarked (sym was.marked) sent)
 
 pub returns-in-Some-clause-event : goal.returns-in-Some-clause-event
-returns-in-Some-clause-event c =
+returns-in-Some-clause-event c w =
     let s = c.args.self.now in
-    let after : length (puts c.put_on.new.senders.items) ≡ vec_len s.senders = omega (arith, puts_counted c.put_on.new.senders, c.put_on.ensures.len) in
-    let same : c.len.result ≡ vec_len s.senders = omega (arith, c.len.ensures, c.put_on.ensures.len) in
-    let Goes : ℕ → Type 0 = λ x. goes_placed c.in-Some.lane x c.args.placed ≡ true in
-    λ w. step_event-next (length (puts s.senders.items)) (length (puts c.put_on.new.senders.items)) (vec_len s.senders) w s.pending c.args.placed s.next c.in-Some.lane s.marked
-    c.requires after (puts_counted s.senders) c.in-Some.ensures.some.0 (s.unmarked c.args.placed c.requires) (omega (arith, c.in-Some.ensures.some.1, same)) (s.aimed c.args.placed c.requires) (subst Goes same c.in-Some.ensures.some.2)
+    let new = c.put_on_lane.new.self in
+    let was = c.put_on_lane.ensures.put c.if-not-put_on_lane.false in
+    let after : length (puts_of new) ≡ c.len.result = omega (arith, c.len.ensures, puts_counted new.senders) in
+    let before : length (puts_of s) ≡ c.len.result = omega (arith, after, c.put_on_lane.ensures.lanes.count) in
+    let Goes : ℕ → Type 0 = λ n. goes_placed s.next n c.args.placed ≡ true in
+    let goes = subst Goes (sym (puts_counted s.senders) ∙ before) (s.aimed c.args.placed c.requires) in
+    let next : c.in-Some.lane ≡ s.next + 1 = c.in-Some.ensures.some.0 ∙ ap (λ (i : ℕ). i + 1) was.next in
+    let event = step_event-next (length (puts_of s)) (length (puts_of new)) c.len.result w s.pending c.args.placed s.next c.in-Some.lane s.marked
+    c.requires after before next (s.unmarked c.args.placed c.requires) c.in-Some.ensures.some.1 goes c.in-Some.ensures.some.2 in
+    let OfMarked : ℕ → Type 0 = λ m. events_so_far (length (puts_of new)) (sent_whole w s.pending s.pending) s.pending c.in-Some.lane m ≡ run_of w s ++ put s.next (One c.args.placed) ∷ [] in
+    let OfPending : Option Placed → Type 0 = λ o. events_so_far (length (puts_of new)) (sent_whole w s.pending o) o c.in-Some.lane new.marked ≡ run_of w s ++ put s.next (One c.args.placed) ∷ [] in
+    subst OfPending (sym was.pending) (subst OfMarked (sym was.marked) event)
 
 pub returns-in-None-clause-event : goal.returns-in-None-clause-event
-returns-in-None-clause-event c =
+returns-in-None-clause-event c w =
     let s = c.args.self.now in
-    let after : length (puts c.put_on.new.senders.items) ≡ vec_len s.senders = omega (arith, puts_counted c.put_on.new.senders, c.put_on.ensures.len) in
-    let same : c.len.result ≡ vec_len s.senders = omega (arith, c.len.ensures, c.put_on.ensures.len) in
-    let NoneLater : ℕ → Type 0 = λ x. (k : ℕ) → s.next < k → k < x → goes_placed k x c.args.placed ≡ false in
-    λ w. step_event-last (length (puts s.senders.items)) (length (puts c.put_on.new.senders.items)) (vec_len s.senders) w s.pending c.args.placed s.next s.marked
-    c.requires after (puts_counted s.senders) (s.unmarked c.args.placed c.requires) s.next_within (s.aimed c.args.placed c.requires) (subst NoneLater same c.in-None.ensures.none)
+    let new = c.put_on_lane.new.self in
+    let was = c.put_on_lane.ensures.put c.if-not-put_on_lane.false in
+    let after : length (puts_of new) ≡ c.len.result = omega (arith, c.len.ensures, puts_counted new.senders) in
+    let before : length (puts_of s) ≡ c.len.result = omega (arith, after, c.put_on_lane.ensures.lanes.count) in
+    let within : s.next < c.len.result = omega (arith, before, puts_counted s.senders, s.next_within) in
+    let Goes : ℕ → Type 0 = λ n. goes_placed s.next n c.args.placed ≡ true in
+    let goes = subst Goes (sym (puts_counted s.senders) ∙ before) (s.aimed c.args.placed c.requires) in
+    let NoneLater : ℕ → Type 0 = λ i. (k : ℕ) → i < k → k < c.len.result → goes_placed k c.len.result c.args.placed ≡ false in
+    let event = step_event-last (length (puts_of s)) (length (puts_of new)) c.len.result w s.pending c.args.placed s.next s.marked
+    c.requires after before (s.unmarked c.args.placed c.requires) within goes (subst NoneLater was.next c.in-None.ensures.none) in
+    let OfMarked : ℕ → Type 0 = λ m. events_so_far (length (puts_of new)) (sent_whole w s.pending None) None s.next m ≡ run_of w s ++ put s.next (One c.args.placed) ∷ [] in
+    let OfNext : ℕ → Type 0 = λ i. events_so_far (length (puts_of new)) (sent_whole w s.pending None) None i new.marked ≡ run_of w s ++ put s.next (One c.args.placed) ∷ [] in
+    subst OfNext (sym was.next) (subst OfMarked (sym was.marked) event)

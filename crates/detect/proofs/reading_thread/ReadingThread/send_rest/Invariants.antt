@@ -3,7 +3,7 @@ use Rattle.dag.specs.declared.records.Placed.{Placed}
 use Rattle.route.specs.Sending.{sent_whole}
 use Rattle.route.specs.Routers.{pending_of, marked_of, HasSent}
 use Rattle.detect.specs.Sent.{GoesOn}
-use Rattle.detect.proofs.sending.Sending.send_rest.Given as goal
+use Rattle.detect.proofs.reading_thread.ReadingThread.send_rest.Given as goal
 
 abbrev pub invariant-loop : goal.invariant-loop
 invariant-loop g l = record {

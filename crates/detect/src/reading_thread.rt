@@ -1,5 +1,5 @@
-//! From the source to the shards: the reading thread sends the records, and at last the marks.
-ghost use Rattle.std.specs.Prelude.{◌≡◌, ◌++◌, ◌∷◌, [], List, IfNone, IfSome, IfErr, OnOk, IsFalse};
+//! The reading thread: it sends the records of the source to the shards, and at last the marks.
+ghost use Rattle.std.specs.Prelude.{◌≡◌, ◌++◌, ◌∷◌, [], List, IfErr, IsErr, OnOk, IsFalse};
 ghost use Rattle.std.specs.Option.{option_to_list};
 ghost use Rattle.dag.specs.declared.records.Placed.{Placed};
 ghost use Rattle.dag.specs.Traces.{placed};
@@ -8,24 +8,28 @@ ghost use Rattle.trace.specs.declared.faults.Fault.TheVariants.{NoMemory};
 ghost use Rattle.trace.specs.Devices.{◌⇝◌};
 ghost use Rattle.trace.specs.Feeding.{GivesNext, HasSameLimits};
 ghost use Rattle.trace.specs.Endings.{EndsReading, IsWantOfMemory};
-ghost use Rattle.route.specs.Routers.{lane_count, pending_of, marked_of, HasSent, IsUnchanged, IsStuck, ShowsAll};
+ghost use Rattle.route.specs.Routers.{lane_count, pending_of, next_of, marked_of};
+ghost use Rattle.route.specs.Routers.{HasSent, IsUnchanged, IsStuck, ShowsAll};
 ghost use Rattle.detect.specs.Sent.{MaySend, LacksLast, GoesOn};
 
 use crate::gathering::Gathering;
-use route::{Progress, Router};
+use route::{Full, Progress, Router};
 use std::sync::Wait;
 use std::time::Clock;
 use trace::{Fault, Intake, Limits, Part, Placed, Source};
+use waiting::Waiting;
 
-/// What the reading thread holds while it sends a part's records and takes the races that come back.
+/// The reading thread: it sends a part's records to the shards, and takes the races that come back.
 #[derive(Drop)]
-pub(crate) struct Sending {
+pub(crate) struct ReadingThread {
     pub(crate) part: Part,
     pub(crate) router: Router,
     pub(crate) gathering: Gathering,
+    /// How it waits at a full lane.
+    pub(crate) waiting: Waiting,
 }
 
-impl Sending {
+impl ReadingThread {
     /// Reads the trace to its end, to its first fault, or until a refused growth is known, and sends what the part has
     /// of its records.
     pub(crate) fn send_all<T: Wait + Clock, R: Source>(
@@ -45,8 +49,8 @@ impl Sending {
         'records: loop {
             match intake.next_known() {
                 Some(placed) => {
-                    if let Some(lane) = self.put(placed) {
-                        self.send_rest(rt, lane)?;
+                    if let Err(Full) = self.put(placed) {
+                        self.send_rest(rt)?;
                     }
                 }
                 None => {
@@ -87,57 +91,36 @@ impl Sending {
         ensures goes_on { GoesOn self.old self.new }
     {
         match self.put(placed) {
-            None => Ok(()),
-            Some(lane) => self.send_rest(rt, lane),
+            Ok(()) => Ok(()),
+            Err(Full) => self.send_rest(rt),
         }
     }
 
-    // Puts what the part has of the record on its lanes. If one of them is full, it is the answer, and the record is
-    // pending.
+    // Puts what the part has of the record on its lanes. If one of them is full, the record is pending.
     #[inline(always)]
-    fn put(&mut self, placed: Placed) -> Option<usize>
+    fn put(&mut self, placed: Placed) -> Result<(), Full>
         requires { MaySend self.old }
-        ensures sent { IfNone result ((w : List Placed) → HasSent (records_of self.old.part w) self.old.router
+        ensures sent { OnOk result ((w : List Placed) → HasSent (records_of self.old.part w) self.old.router
             → HasSent (records_of self.old.part (w ++ placed ∷ [])) self.new.router) }
-        ensures ready { IfNone result (MaySend self.new) }
-        ensures left { IfSome result (λ _. (w : List Placed) → HasSent (records_of self.old.part w) self.old.router
-            → LacksLast (records_of self.old.part (w ++ placed ∷ [])) self.new.router) }
-        ensures full { IfSome result (IsStuck self.new.router) }
+        ensures ready { OnOk result (MaySend self.new) }
+        ensures left { IsErr result → (w : List Placed) → HasSent (records_of self.old.part w) self.old.router
+            → LacksLast (records_of self.old.part (w ++ placed ∷ [])) self.new.router }
+        ensures full { IsErr result → IsStuck self.new.router (next_of self.new.router) }
         ensures unmarked { marked_of self.new.router ≡ 0 }
         ensures goes_on { GoesOn self.old self.new }
     {
         match taken_by(self.part, placed) {
-            Some(own) => self.put_own(own),
-            None => None,
+            Some(own) => self.router.send(own),
+            None => Ok(()),
         }
     }
 
-    // Puts the record on the lanes that it goes to, with the answer of `put`.
-    #[inline(always)]
-    fn put_own(&mut self, placed: Placed) -> Option<usize>
-        requires { MaySend self.old }
-        ensures sent { IfNone result ((w : List Placed) → HasSent w self.old.router
-            → HasSent (w ++ placed ∷ []) self.new.router) }
-        ensures ready { IfNone result (MaySend self.new) }
-        ensures left { IfSome result (λ _. (w : List Placed) → HasSent w self.old.router
-            → LacksLast (w ++ placed ∷ []) self.new.router) }
-        ensures full { IfSome result (IsStuck self.new.router) }
-        ensures unmarked { marked_of self.new.router ≡ 0 }
-        ensures goes_on { GoesOn self.old self.new }
-    {
-        match self.router.send(placed) {
-            Progress::Idle => None,
-            Progress::Moved => unreachable!(),
-            Progress::Blocked(lane) => Some(lane as usize),
-        }
-    }
-
-    // Puts the pending record on the lanes that lack it; this lane was full.
+    // Puts the pending record on the lanes that lack it; the next of them was full.
     #[cold]
     #[inline(never)]
-    fn send_rest<T: Wait + Clock>(&mut self, rt: &T, lane: usize) -> Result<(), Fault>
+    fn send_rest<T: Wait + Clock>(&mut self, rt: &T) -> Result<(), Fault>
         requires unmarked { marked_of self.old.router ≡ 0 }
-        requires full { IsStuck self.old.router lane }
+        requires full { IsStuck self.old.router (next_of self.old.router) }
         ensures sent { (w : List Placed) → LacksLast w self.old.router → HasSent w self.new.router }
         ensures ready { OnOk result (MaySend self.new) }
         ensures refused { IfErr result (λ fault. fault ≡ NoMemory) }
@@ -145,20 +128,11 @@ impl Sending {
         ensures goes_on { GoesOn self.old self.new }
     {
         self.wait(rt);
-        // the lane that was full last
-        let mut full = Some(lane);
         for _ in rt.forever() {
             match self.router.step() {
                 Progress::Idle => return self.gathering.first_trouble(Ok(())),
-                Progress::Moved => {
-                    if let Some(lane) = full.take() {
-                        self.gathering.learn(&self.router, lane);
-                    }
-                }
-                Progress::Blocked(lane) => {
-                    full = Some(lane as usize);
-                    self.wait(rt);
-                }
+                Progress::Moved => self.waiting.end(),
+                Progress::Blocked(_) => self.wait(rt),
             }
         }
         unreachable!()
@@ -192,7 +166,8 @@ impl Sending {
         ensures goes_on { GoesOn self.old self.new }
     {
         self.router.flush();
-        self.gathering.wait(rt);
+        self.gathering.take_from_all();
+        self.waiting.wait(rt);
     }
 }
 

@@ -6,9 +6,9 @@ use Rattle.trace.specs.Endings.{IsWantOfMemory}
 use Rattle.trace.specs.Feeding.{Feeding, HasFed, IsWhole}
 use Rattle.trace.proofs.Feedings.{consumes_none, consumes_more, fed_none, at_limits}
 use Rattle.trace.proofs.Endings.{ends_refused, refused_by_fault, given_next, given_end}
-use Rattle.detect.specs.declared.sending.Sending.{Sending}
+use Rattle.detect.specs.declared.reading_thread.ReadingThread.{ReadingThread}
 use Rattle.detect.proofs.Sendings.{goes_on_refl, goes_on_trans, goes_on_both, sent_more}
-use Rattle.detect.proofs.sending.Sending.send_all.Goals as goal
+use Rattle.detect.proofs.reading_thread.ReadingThread.send_all.Goals as goal
 
 pub records-init : goal.records-init
 records-init g c =
@@ -64,7 +64,7 @@ records-preserved-in-Continue-1 g c =
       came = i.came;
       gave = i.gave;
       fed = next.1;
-      sent = sent_more c.args.self.now c.records.self c.send_rest.new.self i.trace c.in-Some.placed next.0 i.goes_on (λ h. c.send_rest.ensures.sent _ (c.in-Some-put.ensures.left (placed i.trace) h)) i.sent;
+      sent = sent_more c.args.self.now c.records.self c.send_rest.new.self i.trace c.in-Some.placed next.0 i.goes_on (λ h. c.send_rest.ensures.sent _ (c.in-Err.ensures.left refl (placed i.trace) h)) i.sent;
       ready = c.in_ok-send_rest-in-Some.ensures.ready;
       goes_on = goes_on_trans _ _ _ i.goes_on (goes_on_trans _ _ _ c.put.ensures.goes_on c.send_rest.ensures.goes_on);
       steady = i.steady;
@@ -118,7 +118,7 @@ records-preserved g c =
     let fed = c.in_ok-read_on-in-None.ensures.fed i.trace i.came kept in
     let change : Change = g.R.Source.state c.records.source ⇝ g.R.Source.state c.read_on.new.source in
     let next = given_next _ _ _ _ change _ _ _ c.in-Some-2.is fed.2 in
-    let taken : Sending = record c.records.self { router = c.flush.new.self; gathering = c.take_backs.new.self } in
+    let taken : ReadingThread = record c.records.self { router = c.flush.new.self; gathering = c.take_backs.new.self } in
     let goes_on = goes_on_trans _ _ _ i.goes_on (goes_on_both c.records.self c.flush.new.self c.take_backs.new.self c.flush.ensures.lanes c.take_backs.ensures.further) in
     let before = c.flush.ensures.sent (records_of c.args.self.now.part (placed i.trace)) i.sent in
     record {

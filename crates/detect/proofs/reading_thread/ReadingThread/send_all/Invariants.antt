@@ -6,7 +6,7 @@ use Rattle.trace.specs.Devices.{◌⇝◌, Gave, IsSteady}
 use Rattle.trace.specs.Feeding.{HasFed}
 use Rattle.route.specs.Routers.{HasSent}
 use Rattle.detect.specs.Sent.{MaySend, GoesOn}
-use Rattle.detect.proofs.sending.Sending.send_all.Given as goal
+use Rattle.detect.proofs.reading_thread.ReadingThread.send_all.Given as goal
 
 abbrev pub invariant-records : goal.invariant-records
 invariant-records g l = record {

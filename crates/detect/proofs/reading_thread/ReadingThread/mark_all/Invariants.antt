@@ -2,7 +2,7 @@ use Rattle.std.proofs.Common.{◌≡◌, List, None}
 use Rattle.dag.specs.declared.records.Placed.{Placed}
 use Rattle.route.specs.Routers.{pending_of, HasSent}
 use Rattle.detect.specs.Sent.{GoesOn}
-use Rattle.detect.proofs.sending.Sending.mark_all.Given as goal
+use Rattle.detect.proofs.reading_thread.ReadingThread.mark_all.Given as goal
 
 abbrev pub invariant-loop : goal.invariant-loop
 invariant-loop g l = record {

@@ -2,9 +2,10 @@ use Rattle.std.proofs.Common.{rules, List, Option, Some, refl, sym, subst, ◌�
 use Rattle.dag.specs.declared.records.Placed.{Placed}
 use Rattle.route.specs.Sending.{sent_whole}
 use Rattle.route.specs.Routers.{HasSent}
-use Rattle.detect.proofs.Sendings.{goes_on_router, goes_on_trans, sent_step, sent_idle}
+use Rattle.detect.proofs.LanesBack.{further_refl}
+use Rattle.detect.proofs.Sendings.{goes_on_trans, sent_step, sent_idle}
 use Rattle.detect.proofs.Troubles.{if_good, only_memory}
-use Rattle.detect.proofs.sending.Sending.send_rest.Goals as goal
+use Rattle.detect.proofs.reading_thread.ReadingThread.send_rest.Goals as goal
 
 pub loop-init : goal.loop-init
 loop-init g c = record {
@@ -27,22 +28,12 @@ returns-in-Idle-clause-ready g c = if_good _ _ _ _ c.first_trouble.ensures.refus
 pub returns-in-Idle-clause-refused : goal.returns-in-Idle-clause-refused
 returns-in-Idle-clause-refused g c = only_memory _ _ _ c.first_trouble.ensures.refused c.first_trouble.ensures.none_refused
 
-pub loop-preserved-in_default : goal.loop-preserved-in_default
-loop-preserved-in_default g c =
+pub loop-preserved-in-Moved : goal.loop-preserved-in-Moved
+loop-preserved-in-Moved g c =
     let i = c.loop.invariant in
     record {
       sent = λ w p is h. sent_step p w _ _ _ c.step.new.self is i.pending (λ e. let same = c.in-Moved.ensures.idle.1 e in absurd cc) (c.step.ensures.sent _ (i.sent w p is h));
       pending = λ p e. i.pending p (c.in-Moved.ensures.next p e).0;
       unmarked = c.step.ensures.marked ∙ i.unmarked;
-      goes_on = goes_on_trans _ _ _ i.goes_on (goes_on_router c.loop.self c.step.new.self c.step.ensures.lanes);
-    }
-
-pub loop-preserved-in-Some-take : goal.loop-preserved-in-Some-take
-loop-preserved-in-Some-take g c =
-    let i = c.loop.invariant in
-    record {
-      sent = λ w p is h. sent_step p w _ _ _ c.step.new.self is i.pending (λ e. let same = c.in-Moved.ensures.idle.1 e in absurd cc) (c.step.ensures.sent _ (i.sent w p is h));
-      pending = λ p e. i.pending p (c.in-Moved.ensures.next p e).0;
-      unmarked = c.step.ensures.marked ∙ i.unmarked;
-      goes_on = goes_on_trans _ _ _ i.goes_on (record { part = refl; lanes = c.step.ensures.lanes; further = c.learn.ensures });
+      goes_on = goes_on_trans _ _ _ i.goes_on (record { part = refl; lanes = c.step.ensures.lanes; further = further_refl c.loop.self.gathering });
     }

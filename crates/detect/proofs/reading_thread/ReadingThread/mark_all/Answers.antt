@@ -1,6 +1,6 @@
 use Rattle.std.proofs.Common.{◌∙◌}
 use Rattle.detect.proofs.Sendings.{goes_on_refl, goes_on_trans, goes_on_router}
-use Rattle.detect.proofs.sending.Sending.mark_all.Goals as goal
+use Rattle.detect.proofs.reading_thread.ReadingThread.mark_all.Goals as goal
 
 pub loop-init : goal.loop-init
 loop-init g c = record { sent = λ w h. h; idle = c.requires; goes_on = goes_on_refl _ }
