@@ -1,5 +1,5 @@
 -- A run goes on by takes: of each lane what its taker took.
-use Rattle.std.proofs.Common.{◌≡◌, ℕ, zero, suc, ◌+◌, ◌<◌, ◌≤◌, ◌==◌, ◌⊎◌, inl, inr, ⊎_elim, Bool, true, false, cond, nat_lt, ◌≢◌, List, [], ◌∷◌, ◌++◌, length, map, refl, sym, ap, ap₂, subst, ◌∙◌, append_assoc, append-nil, arith}
+use Rattle.std.proofs.Common.{◌≡◌, ℕ, zero, suc, ◌<◌, ◌≤◌, ◌==◌, ◌⊎◌, inl, inr, ⊎_elim, Bool, true, false, cond, nat_lt, ◌≢◌, List, [], ◌∷◌, ◌++◌, length, map, refl, sym, ap, ap₂, subst, ◌∙◌, append_assoc, append-nil, arith}
 use Rattle.std.proofs.lemmas.Bool.{eq-eqb, lt-ltb, le-ltb, cond-true, cond-false}
 use Rattle.std.proofs.lemmas.Bool.Decides.{nat_tests, eqb_tells}
 use Rattle.std.proofs.lemmas.List.{length-append, append_cancel_left}
@@ -11,7 +11,7 @@ use Rattle.route.specs.Sending.{put_on}
 use Rattle.route.specs.Routed.{IsRising, in_hand}
 use Rattle.route.specs.Routers.{puts_of, lane_count, pending_of, next_of, marked_of, HasSent}
 use Rattle.route.specs.RouterRuns.{sent_so_far, run_of, IsTakenFrom}
-use Rattle.route.specs.Runs.{Event, put, take, puts_in, takes_in, of_lane, put_list, taken_list, items_on, IsAllowed, IsRun}
+use Rattle.route.specs.Runs.{Event, take, puts_in, takes_in, of_lane, put_list, taken_list, items_on, IsAllowed, IsRun}
 use Rattle.route.proofs.RunFronts.{Sends, of_lane-append}
 use Rattle.route.proofs.RunLists.{puts_in-append, takes_in-append, takes_in-events, kept_along}
 use Rattle.route.proofs.RouterRuns.{router_run, router_puts}

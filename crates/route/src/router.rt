@@ -137,31 +137,9 @@ impl Router {
 
         ensures blocked { IfBlocked result (λ k. (k ≡ next_of self.old) × HasBlocked self.old self.new k) }
     {
-        match self.pending {
-            Some(placed) => self.put_pending(placed),
-            None => Progress::Idle,
-        }
-    }
-
-    #[inline(always)]
-    fn put_pending(&mut self, placed: Placed) -> Progress
-        requires { pending_of self.old ≡ Some placed }
-        ensures sent { (w : List Placed) → HasSent w self.old
-            → HasSent (sent_whole w (pending_of self.old) (pending_of self.new)) self.new }
-        ensures lanes { IsOnLanes self.old self.new }
-        ensures marked { marked_of self.new ≡ marked_of self.old }
-        ensures some { result ≢ Progress.Idle }
-        ensures put { OnMoved result (puts_of self.new
-            ≡ with_put (puts_of self.old) (next_of self.old) (One placed)) }
-        ensures next { OnMoved result ((p : Placed) → pending_of self.new ≡ Some p
-            → (placed ≡ p) × (next_of self.new ≡ next_of self.old + 1)) }
-        ensures last { OnMoved result ((pending_of self.new ≡ None)
-            ↔ IsLastLane (lane_count self.old) (next_of self.old) placed) }
-        ensures event { OnMoved result ((w : List Placed)
-            → run_of (sent_whole w (pending_of self.old) (pending_of self.new)) self.new
-            ≡ run_of w self.old ++ put (next_of self.old) (One placed) ∷ []) }
-        ensures blocked { IfBlocked result (λ k. (k ≡ next_of self.old) × HasBlocked self.old self.new k) }
-    {
+        let Some(placed) = self.pending else {
+            return Progress::Idle;
+        };
         if !self.put_on_lane(self.next, placed) {
             return Progress::Blocked(self.next as u32);
         }

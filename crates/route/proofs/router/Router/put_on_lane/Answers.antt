@@ -1,10 +1,10 @@
-use Rattle.std.proofs.Common.{rules, ◌≡◌, ℕ, ◌<◌, ◌≤◌, Bool, true, false, cond, length, slice_index_or, set, refl, sym, subst, ap, is_ok, ◌∙◌, arith, length-set}
+use Rattle.std.proofs.Common.{◌≡◌, ◌<◌, ◌≤◌, Bool, false, cond, length, refl, sym, ap, is_ok, ◌∙◌, arith, length-set}
 use Rattle.std.proofs.lemmas.List.{length-map}
 use Rattle.lane.specs.declared.item.Item.TheVariants.{One}
 use Rattle.lane.specs.Items.{has_mark}
 use Rattle.lane.specs.Lanes.{lane_of, put_of, capacity_of, refusals_of, one_more}
-use Rattle.route.specs.Senders.{puts, refusals, with_refusal}
-use Rattle.route.specs.Sending.{put_on, with_put}
+use Rattle.route.specs.Senders.{puts}
+use Rattle.route.specs.Sending.{put_on}
 use Rattle.route.proofs.Lists.{map-set_like, puts_after, no_room, refusals_after, on_true, on_false, chosen, chosen_else, put_at, capacity_at, puts_counted}
 use Rattle.route.proofs.Sent.{marks_either, unmarked_at}
 use Rattle.route.proofs.router.Router.put_on_lane.Goals as goal

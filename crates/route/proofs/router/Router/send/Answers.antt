@@ -1,7 +1,7 @@
 use Rattle.std.proofs.Common.{◌≡◌, ℕ, [], ◌∷◌, ◌++◌, Option, Some, None, refl, sym, subst, ◌∙◌}
 use Rattle.lane.specs.declared.item.Item.TheVariants.{One}
 use Rattle.dag.specs.declared.records.Placed.{Placed}
-use Rattle.route.specs.Sending.{put_on, with_put, sent_whole, AllSent}
+use Rattle.route.specs.Sending.{put_on, with_put, AllSent}
 use Rattle.route.specs.Routers.{puts_of, lane_count, next_of}
 use Rattle.route.proofs.Sent.{step-last}
 use Rattle.route.proofs.router.Router.send.Goals as goal
