@@ -1,5 +1,5 @@
-"""The lambdas of a preprocessed source in C++ that oneTBB's and C++'s parallel algorithms get, and that touch nothing but
-their parameters: `spbags::plain(..)` around each says so to the headers, which name all other functions in a report."""
+"""The lambdas of a preprocessed source in C++ that oneTBB's and C++'s parallel algorithms get, and that touch nothing
+but their parameters: `spbags::plain(..)` around each says so to the headers, which name other functions in a report."""
 import re
 
 from reducers import is_plain, is_scalar

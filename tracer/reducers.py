@@ -8,6 +8,7 @@ reads or sets the value."""
 import re
 
 from loops import statement_end
+from members import bodies_of, is_call, note_of, operand_start, owner_of, spelled
 from tokens import (CONTROLS, Refused, after_postfixes, arguments_of, is_in_block, statement_start, tokens_of)
 
 KEYWORD = "_Hyperobject"
@@ -50,6 +51,14 @@ def is_global(tokens, at):
     return around is None
 
 
+def outermost_end(tokens, brace):
+    """The end of the declaration of a struct, or of the one around it."""
+    while tokens[brace].around is not None and is_of(tokens, tokens[brace].around, CLASSES):
+        brace = tokens[brace].around
+    return next(at for at in range(tokens[brace].partner, len(tokens))
+                if tokens[at].text == ";" and tokens[at].around == tokens[brace].around)
+
+
 def is_scalar(words):
     return bool(words) and all(word in SCALARS or SCALAR.fullmatch(word) for word in words)
 
@@ -68,36 +77,56 @@ class Reducer:
         around = token.around
         if around is not None and tokens[around].text != "{":
             raise Refused(token, "a reducer can't be traced here: declare it as a variable, in a statement of its own")
-        if around is not None and is_of(tokens, around, CLASSES):
-            raise Refused(token, "a reducer that is a member of a struct can't be traced: declare it as a variable")
+        self.is_member = around is not None and is_of(tokens, around, CLASSES)
+        self.owner = owner_of(tokens, around, at) if self.is_member and language != "c++" else None
+        self.struct_end = outermost_end(tokens, around) if self.is_member else None
         self.first = statement_start(tokens, at)
         self.monoid_end = tokens[at + 1].partner if tokens[at + 1].text == "(" else at
+        words = self.declarator()
+        self.is_global = is_global(tokens, at)
+        is_static = bool({"static", "extern"} & set(words))
+        if self.is_member and is_static:
+            raise Refused(token, "a static member that is a reducer can't be traced: declare it as a variable")
+        self.is_automatic = not self.is_global and not self.is_member and not is_static
+        self.is_scalar = is_scalar([word for word in words if word not in STORAGE])
+        self.end = len(tokens) if self.is_global else tokens[around].partner
+        self.given = arguments_of(tokens, at + 1) if self.monoid_end > at else []
+        given = {tokens[first].text for first, _ in self.given}
+        self.is_older = language != "c++" and given in (set(), {"0"})
+        self.note = self.noted(text)
+
+    def declarator(self):
+        """Finds the name and the end of the declaration; gives the words of its type."""
+        tokens, at = self.tokens, self.keyword
+        token, around = tokens[at], tokens[at].around
         stop = next(after for after in range(self.monoid_end + 1, len(tokens))
                     if tokens[after].text in ("=", ";", ",", "{", "[", "(") and tokens[after].around == around)
         before = [other.text for other in tokens[self.first:at]]
         after = [other.text for other in tokens[self.monoid_end + 1:stop]]
         self.name_at = stop - 1
         self.name = tokens[self.name_at].text
-        if {"typedef", "using"} & set(before) or tokens[stop].text in ("[", ",") or "*" in after or "&" in after or \
-                tokens[self.name_at].kind != "word" or (tokens[stop].text == "(" and language != "c++"):
+        if {"typedef", "using"} & set(before) or tokens[stop].text == "," or "*" in after or "&" in after or \
+                tokens[self.name_at].kind != "word" or (tokens[stop].text == "(" and self.language != "c++"):
             raise Refused(token, "this reducer can't be traced: declare one variable `type cilk_reducer(identity, "
-                                 "reduce) name', neither an array nor a pointer nor a type")
+                                 "reduce) name', neither a pointer nor a type")
         if {"thread_local", "_Thread_local", "__thread"} & set(before + after):
             raise Refused(token, "a reducer that is local to a thread can't be traced")
+        # An array has so many subscripts.
+        self.subscripts = 0
+        while tokens[stop].text == "[":
+            self.subscripts += 1
+            stop = tokens[stop].partner + 1
         self.last = next(after for after in range(stop, len(tokens))
                          if tokens[after].text == ";" and tokens[after].around == around)
         if any(tokens[other].text == "," and tokens[other].around == around for other in range(stop, self.last)):
             raise Refused(token, "this reducer can't be traced: declare one variable in a declaration")
         if any(other.text.startswith("_Cilk_") for other in tokens[self.first:self.last]):
             raise Refused(token, "a spawn can't be traced in the declaration of a reducer")
-        self.is_global = is_global(tokens, at)
-        self.is_automatic = not self.is_global and not {"static", "extern"} & set(before + after)
-        self.is_scalar = is_scalar([word for word in before + after[:-1] if word not in STORAGE])
-        self.end = len(tokens) if self.is_global else tokens[around].partner
-        self.given = arguments_of(tokens, at + 1) if self.monoid_end > at else []
-        given = {tokens[first].text for first, _ in self.given}
-        self.is_older = language != "c++" and given in (set(), {"0"})
-        self.note = self.noted(text)
+        return before + after[:-1]
+
+    def element(self):
+        """The first one."""
+        return self.name + "[0]" * self.subscripts
 
     def functions(self):
         """The names of the functions that are given."""
@@ -238,13 +267,21 @@ def scope_end(tokens, at):
 class Use:
     """A use of a reducer's name, from its first token to its last, and the expression in which it stands."""
 
-    def __init__(self, reducer, tokens, at):
+    def __init__(self, reducer, tokens, at, operand=None):
         self.reducer, self.tokens = reducer, tokens
         self.first = self.last = self.name_at = at
+        self.operand = operand  # where the operand of `.` or `->` begins
         while tokens[self.first - 1].text == "::" and tokens[self.first - 2].kind == "word":
             self.first -= 2
         if tokens[self.first - 1].text == "::":
             self.first -= 1
+        if operand is not None:
+            self.first = operand
+        for _ in range(reducer.subscripts):
+            if tokens[self.last + 1].text != "[":
+                raise Refused(tokens[at], f"this can't be traced: name one element of the reducers {reducer.name}")
+            self.last = tokens[self.last + 1].partner
+        self.name_end = self.last
         # The older library's reducers are structs in C.
         if reducer.is_older and tokens[at + 1].text == "." and tokens[at + 2].text == "value":
             self.last = at + 2
@@ -258,6 +295,12 @@ class Use:
         self.outer = first, last
         self.region = region_of(tokens, first)
         self.changes = self.way()
+
+    def key(self):
+        """What uses of one view in one expression have in common."""
+        if self.operand is None and self.reducer.subscripts == 0:
+            return self.region, self.reducer.name
+        return self.region, spelled(self.tokens, self.first, self.name_end)
 
     def way(self):
         """How this use changes the view: `update`, `hand` or `keep` its address, `call` a member, `set`; or None."""
@@ -368,7 +411,11 @@ class Rewriting:
         for reducer in found:
             self.declare(reducer)
         for reducer in found:
-            uses += self.uses_of(reducer, found)
+            if not reducer.is_member:
+                uses += self.uses_of(reducer, found, reducer.last + 1, reducer.end)
+        members = [reducer for reducer in found if reducer.is_member]
+        for name in sorted({member.name for member in members}):
+            uses += self.member_uses([member for member in members if member.name == name], found)
         self.rewrite(uses)
         return self.applied(0, len(self.text)), self.faults
 
@@ -388,23 +435,60 @@ class Rewriting:
         cleanup = "__attribute__((cleanup(__spbags_reducer_end))) " if reducer.is_automatic else ""
         self.edit(tokens[reducer.keyword].start, tokens[reducer.monoid_end].end, cleanup)
         name, end = reducer.name, tokens[reducer.last].end
+        used = "".join(f" (void){function};" for function in reducer.functions())
         if reducer.is_automatic:
-            used = "".join(f" (void){function};" for function in reducer.functions())
-            self.edit(end, end, f"{used} __spbags_reducer(&{name}, sizeof {name}, {reducer.note});")
+            self.edit(end, end, f"{used} __spbags_reducers(&{name}, sizeof {name}, sizeof {reducer.element()}, "
+                                f"{reducer.note});")
+        elif reducer.is_member and self.language == "c++":
+            self.edit(end, end, f" static const char *__spbags_note_{name}() {{{used} return {reducer.note}; }}")
+        elif reducer.is_member:
+            end = tokens[reducer.struct_end].end
+            self.edit(end, end, self.table(f"{name}_{reducer.keyword}", reducer.functions()))
         elif reducer.is_global and (tokens[reducer.name_at].around, name) not in self.aliases:
             # So another variable of this name is told from the reducer.
             self.aliases.add((tokens[reducer.name_at].around, name))
-            named = ", ".join(f"(void *){word}" for word in [f"&{name}", *reducer.functions()])
-            self.edit(end, end, f" static void *const __spbags_of_{name}[] __attribute__((unused)) = {{{named}}};")
+            self.edit(end, end, self.table(name, [f"&{name}", *reducer.functions()]))
+
+    @staticmethod
+    def table(name, addresses):
+        """What uses these addresses."""
+        named = ", ".join(f"(void *){address}" for address in [*addresses, "0"])
+        return f" static void *const __spbags_of_{name}[] __attribute__((unused)) = {{{named}}};"
 
     # ---- Uses ----
 
-    def uses_of(self, reducer, reducers):
-        """Those of this name that aren't of another variable."""
-        tokens, at = self.tokens, reducer.last + 1
-        others = {other.name_at: other for other in reducers if other.name == reducer.name and other is not reducer}
-        while at < reducer.end:
+    def member_uses(self, members, reducers):
+        """Those of this name behind `.` and `->`, and in C++ the name alone in functions of its class."""
+        tokens = self.tokens
+        for at in range(members[0].last + 1, len(tokens)):
+            if tokens[at].text != members[0].name or tokens[at - 1].text not in (".", "->"):
+                continue
+            operand = operand_start(tokens, at - 2)
+            has_address = tokens[at - 1].text == "->" or not is_call(tokens, at - 2)
+            if operand is not None and has_address and not self.is_unevaluated(operand):
+                yield from self.use(members, at, operand)
+        for member in members if self.language == "c++" else []:
+            around = tokens[member.keyword].around
+            for first, last in [(around, tokens[around].partner), *bodies_of(tokens, around)]:
+                yield from self.uses_of(member, reducers, first, last)
+
+    def use(self, members, at, operand=None):
+        try:
+            use = Use(members[0], self.tokens, at, operand)
+            use.members = members
+            yield use
+        except Refused as refused:
+            self.faults.append(f"{refused.token.place()}: error: {refused}")
+
+    def uses_of(self, reducer, reducers, at, end):
+        """Those of this name from here on that aren't of another variable."""
+        tokens = self.tokens
+        others = {other.name_at: other for other in reducers if other.name == reducer.name}
+        while at < end:
             if tokens[at].text != reducer.name or tokens[at].kind != "word":
+                at += 1
+                continue
+            if at == reducer.name_at:
                 at += 1
                 continue
             if at in others:
@@ -421,7 +505,7 @@ class Rewriting:
             elif before != "::" and declares(tokens, at, self.types):
                 at = scope_end(tokens, at) + 1
             else:
-                yield Use(reducer, tokens, at)
+                yield from self.use([reducer], at)
                 at += 1
 
     def refuse(self, at, why):
@@ -446,7 +530,7 @@ class Rewriting:
     def rewrite(self, uses):
         by_region = {}
         for use in uses:
-            by_region.setdefault((use.region, use.reducer.name), []).append(use)
+            by_region.setdefault(use.key(), []).append(use)
         updated = {key for key, several in by_region.items() if self.is_update(key, several, by_region)}
         for key, several in by_region.items():
             for use in several:
@@ -486,18 +570,27 @@ class Rewriting:
 
     def put(self, use, updates):
         tokens, reducer = self.tokens, use.reducer
-        name = self.text[tokens[use.first].start:tokens[use.name_at].end]
-        kind = "decltype" if self.language == "c++" else "__typeof__"
-        hook = "__spbags_update" if updates else "__spbags_value"
-        at, more = f"&{name}", ""
+        name = spelled(tokens, use.first, use.name_end)
+        # In C++ a class may have an operator `&` of its own.
+        address = "__builtin_addressof(" if self.language == "c++" else "&("
+        kind = f"decltype({address}{name}))" if self.language == "c++" else f"__typeof__({name}) *"
+        hook, note, more = "__spbags_update" if updates else "__spbags_value", reducer.note, ""
         if reducer.is_global:
-            hook, more = hook + "_of", f", *{name[:len(name) - len(reducer.name)]}__spbags_of_{reducer.name}"
-        call = f"{hook}({at}, sizeof({name}), {reducer.note}{more})"
+            whole = spelled(tokens, use.first, use.name_at)
+            hook += "_of"
+            more = f", *{whole[:len(whole) - len(reducer.name)]}__spbags_of_{reducer.name}, sizeof {whole}"
+        if use.operand is not None:
+            owners = [(member.owner, member.note) for member in use.members]
+            note = note_of(owners, spelled(tokens, use.operand, use.name_at - 2), tokens[use.name_at - 1].text == "->",
+                           reducer.name, self.language)
+        before, after = f"{hook}({address}", f"), sizeof({name}), {note}{more})"
         if use.changes == "keep":
-            note = f"{tokens[use.first].place()}: what is done by this address of the reducer {reducer.name} counts as " \
-                   "an update"
-            call = f"(__spbags_not_seen({quoted(note)}), {call})"
-        self.edit(tokens[use.first].start, tokens[use.last].end, f"(*({kind}({name}) *){call})")
+            kept = f"{tokens[use.first].place()}: what is done by this address of the reducer {reducer.name} counts " \
+                   "as an update"
+            before, after = f"(__spbags_not_seen({quoted(kept)}), {before}", f"{after})"
+        start = tokens[use.first].start
+        self.edit(start, start, f"(*({kind}){before}")
+        self.edit(tokens[use.name_end].end, tokens[use.last].end, f"{after})")
 
     # ---- Updates by functions ----
 

@@ -33,12 +33,18 @@ long __spbags_counter(void);
 /* A reducer's view, of so many bytes, begins; is updated; has its value read or set; or ends. If what another schedule
    would do beside isn't known, the note says so. Between the last two an update accesses what else the view has. */
 void __spbags_reducer(const volatile void *view, unsigned long size, const char *note);
+/* Several one behind another begin, each of so many bytes; they end with the first one. */
+void __spbags_reducers(const volatile void *views, unsigned long size, unsigned long each, const char *note);
 void *__spbags_update(const volatile void *view, unsigned long size, const char *note);
 void *__spbags_value(const volatile void *view, unsigned long size, const char *note);
 void __spbags_reducer_end(const volatile void *view);
-/* The same of a global view, unless the address is that of another variable. */
-void *__spbags_update_of(const volatile void *at, unsigned long size, const char *note, const void *view);
-void *__spbags_value_of(const volatile void *at, unsigned long size, const char *note, const void *view);
+/* The note of a member that is no reducer. */
+extern const char __spbags_no_reducer[];
+/* The same of a global view, or one of several that have so many bytes, unless the address is another variable's. */
+void *__spbags_update_of(const volatile void *at, unsigned long size, const char *note, const void *view,
+                         unsigned long whole);
+void *__spbags_value_of(const volatile void *at, unsigned long size, const char *note, const void *view,
+                        unsigned long whole);
 void __spbags_not_seen(const char *note);
 void __spbags_hide(void);
 void __spbags_show(void);
@@ -79,6 +85,17 @@ struct __spbags_hidden {
     __spbags_hidden() { __spbags_hide(); }
     ~__spbags_hidden() { __spbags_show(); }
 };
+
+#if __cplusplus >= 201402L
+/* The note of a member, which a function of its class gives. */
+template <class Function, class Object>
+static inline auto __spbags_note(Function function, Object *object, int) -> decltype(function(object)) {
+    return function(object);
+}
+template <class Function, class Object> static inline const char *__spbags_note(Function, Object *, long) {
+    return __spbags_no_reducer;
+}
+#endif
 
 #if __cplusplus >= 201103L
 /* An argument that is evaluated before the call: what isn't of a class is read then. */

@@ -8,6 +8,8 @@ struct view {
     uint64_t number;
     /* The mark of the strand that wrote the view last; or that no access has been an update yet. */
     uint32_t wrote;
+    /* How many end with it: itself, and those that stand behind it as the elements of one array. */
+    uint32_t count;
 };
 enum { MOST_VIEWS = 1 << 24, BEGINS = 0 };
 /* By their addresses. */
@@ -128,7 +130,7 @@ static struct view *add_view(uintptr_t first, size_t size, const char *note) {
     while (at < views_count && views[at].first < first + size)
         remove_view(at);
     memmove(views + at + 1, views + at, (views_count - at) * sizeof *views);
-    views[at] = (struct view){.first = first, .end = first + size};
+    views[at] = (struct view){.first = first, .end = first + size, .count = 1};
     views_count++;
     has_views = true;
     uint32_t *mark = mark_of(first & ~unit_mask, unit_shift);
@@ -152,20 +154,34 @@ static unsigned hidden_updates;
 
 static bool records_views(void) { return tracing && initialising == hidden_updates; }
 
-/* The reducer begins. */
-void __spbags_reducer(const volatile void *at, unsigned long size, const char *note) {
+/* Some begin, one behind another. */
+static void begin_views(uintptr_t first, size_t size, size_t count, const char *note, uintptr_t stack_pointer,
+                        uintptr_t code) {
     if (!tracing || size == 0)
         return;
-    leave_jumped(STACK_POINTER, CODE);
-    struct view *view = add_view((uintptr_t)at, size, note);
-    if (records_views())
-        write_view(view, CODE);
+    leave_jumped(stack_pointer, code);
+    for (size_t at = 0; at < count; at++) {
+        struct view *view = add_view(first + at * size, size, note);
+        view->count = at == 0 ? (uint32_t)count : 1;
+        if (records_views())
+            write_view(view, code);
+    }
 }
+
+void __spbags_reducer(const volatile void *at, unsigned long size, const char *note) {
+    begin_views((uintptr_t)at, size, 1, note, STACK_POINTER, CODE);
+}
+
+void __spbags_reducers(const volatile void *at, unsigned long size, unsigned long each, const char *note) {
+    begin_views((uintptr_t)at, each, each > 0 ? size / each : 0, note, STACK_POINTER, CODE);
+}
+
+const char __spbags_no_reducer[] = "";
 
 /* One that never began, as a global one, begins now. */
 static void *update(uintptr_t at, size_t size, const char *note, uintptr_t stack_pointer, uintptr_t code) {
     enum { FIRST_BYTES = 8 };
-    if (records_views() && size > 0) {
+    if (records_views() && size > 0 && note != __spbags_no_reducer) {
         leave_jumped(stack_pointer, code);
         known_view(at, size, note);
         touch(false, at, size < FIRST_BYTES ? size : FIRST_BYTES, code);
@@ -174,7 +190,7 @@ static void *update(uintptr_t at, size_t size, const char *note, uintptr_t stack
 }
 
 static void *value(uintptr_t at, size_t size, const char *note, uintptr_t stack_pointer, uintptr_t code) {
-    if (records_views() && size > 0) {
+    if (records_views() && size > 0 && note != __spbags_no_reducer) {
         leave_jumped(stack_pointer, code);
         write_view(known_view(at, size, note), code);
     }
@@ -189,12 +205,22 @@ void *__spbags_value(const volatile void *at, unsigned long size, const char *no
     return value((uintptr_t)at, size, note, STACK_POINTER, CODE);
 }
 
-void *__spbags_update_of(const volatile void *at, unsigned long size, const char *note, const void *view) {
-    return at == view ? update((uintptr_t)at, size, note, STACK_POINTER, CODE) : (void *)at;
+static bool is_in(const volatile void *at, const void *first, size_t size) { return (uintptr_t)at - (uintptr_t)first < size; }
+
+void *__spbags_update_of(const volatile void *at, unsigned long size, const char *note, const void *first,
+                         unsigned long whole) {
+    return is_in(at, first, whole) ? update((uintptr_t)at, size, note, STACK_POINTER, CODE) : (void *)at;
 }
 
-void *__spbags_value_of(const volatile void *at, unsigned long size, const char *note, const void *view) {
-    return at == view ? value((uintptr_t)at, size, note, STACK_POINTER, CODE) : (void *)at;
+void *__spbags_value_of(const volatile void *at, unsigned long size, const char *note, const void *first,
+                        unsigned long whole) {
+    return is_in(at, first, whole) ? value((uintptr_t)at, size, note, STACK_POINTER, CODE) : (void *)at;
+}
+
+static void end_view(struct view *view, uintptr_t code) {
+    if (records_views())
+        write_view(view, code);
+    remove_view((size_t)(view - views));
 }
 
 void __spbags_reducer_end(const volatile void *at) {
@@ -202,9 +228,12 @@ void __spbags_reducer_end(const volatile void *at) {
     if (!view)
         return;
     leave_jumped(STACK_POINTER, CODE);
-    if (records_views())
-        write_view(view, CODE);
-    remove_view((size_t)(view - views));
+    size_t size = view->end - view->first, count = view->count;
+    for (size_t number = 0; number < count; number++) {
+        view = view_at((uintptr_t)at + number * size);
+        if (view)
+            end_view(view, CODE);
+    }
 }
 
 void __spbags_not_seen(const char *note) {

@@ -1,8 +1,9 @@
-/* Reducers in C, of OpenCilk and of the older library. Iterations update each at once, which is no race; with the
-   word `racy` at the end one of them reads or sets the value instead, on a line with a tag, two above the update's. The words
+/* Reducers in C, of OpenCilk and of the older library. Iterations update each at once, which is no race; with the word
+   `racy` at the end one of them reads or sets the value instead, on a line with a tag, two above the update's. The words
    `list` and `arguments` are for a view that has more memory elsewhere, and `kept` for an address that is kept. */
 #include <cilk/cilk.h>
 #include <cilk/reducer_max.h>
+#include <cilk/reducer_min.h>
 #include <cilk/reducer_opadd.h>
 #include <stdio.h>
 #include <stdlib.h>
@@ -85,6 +86,74 @@ static int shadowed(void) {
     return total;
 }
 
+/* Members, and another struct with a member of that name. */
+struct tally {
+    int cilk_reducer(zero, add) sum;
+    int cilk_reducer(zero, add) of[3];
+};
+typedef struct {
+    int cilk_reducer(zero, add) sum;
+    struct tally inner;
+} nested;
+
+static void members(void) {
+    struct plain {
+        int sum;
+    } plain = {0};
+    struct tally one = {0}, *two = calloc(2, sizeof *two);
+    nested outer = {0};
+    cilk_for (int i = 0; i < 4; i++)
+        if (racy && i == 2)
+            kept = one.sum; /* [value] */
+        else
+            one.sum += i;
+    cilk_for (int i = 0; i < 4; i++)
+        if (racy && i == 2)
+            two[1].sum = 3; /* [value] */
+        else
+            (two + 1)->sum++;
+    cilk_for (int i = 0; i < 4; i++)
+        if (racy && i == 2)
+            kept = two->of[1]; /* [value] */
+        else
+            two->of[i % 2] = two->of[i % 2] + i;
+    cilk_for (int i = 0; i < 4; i++)
+        if (racy && i == 2)
+            kept = outer.inner.sum + outer.sum; /* [value] */
+        else
+            outer.inner.sum -= 1;
+    if (racy)
+        cilk_for (int i = 0; i < 4; i++)
+            plain.sum += i; /* [other struct] */
+    printf("%d %d %d %d\n", one.sum, two[1].sum, two->of[1], outer.inner.sum);
+    free(two);
+}
+
+static int cilk_reducer(zero, add) table[2][3];
+
+/* Each element is a reducer of its own. */
+static void arrays(void) {
+    int cilk_reducer(zero, add) local[2] = {1, 2};
+    cilk_for (int i = 0; i < 4; i++)
+        if (racy && i == 2)
+            table[1][0] = table[1][1]; /* [value] */
+        else
+            table[1][i % 2] += i;
+    cilk_for (int i = 0; i < 4; i++)
+        if (racy && i == 2)
+            kept = local[1]; /* [value] */
+        else
+            local[i / 2] += i;
+    cilk_for (int i = 0; i < 4; i++)
+        if (i == 2)
+            kept = local[0];
+        else
+            local[1] += i;
+    { int cilk_reducer(zero, add) inner[2] = {0}; cilk_spawn add_to(&inner[1], 2); if (!racy) cilk_sync; } /* [array ends] */
+    cilk_sync;
+    printf("%d %d %d\n", table[1][0], table[1][1], local[0] + local[1]);
+}
+
 static void structs(void) {
     struct counts cilk_reducer(no_counts, add_counts) counts = {.all = 1};
     cilk_for (int i = 0; i < 4; i++)
@@ -111,6 +180,20 @@ static void older(void) {
             CILK_C_REDUCER_MAX_CALC(most, i);
     CILK_C_UNREGISTER_REDUCER(sum);
     printf("%g %d\n", sum.value, REDUCER_VIEW(most));
+    CILK_C_REDUCER_MAX_INDEX(last, int, -1);
+    CILK_C_REDUCER_MIN_INDEX(first, double, 10);
+    cilk_for (int i = 0; i < 4; i++)
+        if (racy && i == 2)
+            kept = (int)REDUCER_VIEW(last).index; /* [value] */
+        else
+            CILK_C_REDUCER_MAX_INDEX_CALC(last, i + 10, i % 3);
+    cilk_for (int i = 0; i < 4; i++)
+        if (racy && i == 2)
+            kept = (int)first.value.value; /* [value] */
+        else
+            CILK_C_REDUCER_MIN_INDEX_CALC(first, i, 5 - i);
+    printf("%d %d %d %g\n", (int)REDUCER_VIEW(last).index, last.value.value, (int)first.value.index,
+           REDUCER_VIEW(first).value);
 }
 
 struct node {
@@ -166,6 +249,8 @@ int main(int count, char **words) {
     } else {
         scalars();
         addresses();
+        members();
+        arrays();
         older();
         if (racy)
             printf("%d\n", shadowed());

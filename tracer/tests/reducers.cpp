@@ -39,6 +39,25 @@ struct Totals {
     cilk::reducer_opadd<double> older;
 };
 
+template <class T> struct Tally {
+    long cilk_reducer(zero, plus) sum = 1;
+    void add(T more) { sum += more; }
+    T get() const;
+};
+template <class T> T Tally<T>::get() const { return sum; }
+
+class Counts {
+    long cilk_reducer(zero, plus) of_[2] = {0, 0};
+
+public:
+    void add(int number);
+    long get() { return of_[1]; }
+};
+void Counts::add(int number) { of_[number % 2] += number; }
+struct More : Counts {
+    long sum = 0;
+};
+
 static void opencilk() {
     long cilk_reducer(zero, plus) local = 5;
     cilk::opadd_reducer<long> library = 0;
@@ -55,6 +74,16 @@ static void opencilk() {
     both([&](int i) { totals.older += i; }, /* [update] */
          [&] { totals.older.get_value(); });
     out << "out " << 7;
+    Tally<long> tally;
+    More more;
+    static long cilk_reducer(zero, plus) table[2][2];
+    both([&](int i) { tally.sum += i; }, /* [update] */
+         [&] { (void)(tally.sum + more.sum); });
+    both([&](int i) { table[1][i % 2] += i; }, /* [update] */
+         [&] { table[1][0] = table[0][0] + 3; });
+    tally.add(1);
+    more.add(3);
+    std::printf(" %ld %ld %ld\n", tally.get(), more.get(), table[1][1]);
     std::printf("%ld %ld %ld %d %g\n", everywhere, local, static_cast<long>(library), static_cast<int>(totals.sum),
                 totals.older.get_value());
 }

@@ -23,13 +23,16 @@ check_reducers() {
     local source=tracer/tests/reducers.c
     "$here/spbags-cc" "$level" -Wall -Wextra -Werror -o reducers "$source"
     count $? "$CC $level: $source"
-    reports 0 "" -- ./reducers clean && same $'6 8 4 3 4\n6\n6 3' "$(grep -v '^races' output)"
+    reports 0 "" -- ./reducers clean && same $'6 8 4 3 4\n6\n6 4 4 -4\n2 4 13\n6 3\n12 2 3 2' "$(grep -v '^races' output)"
     count $? "$CC $level: $source, clean"
     same "$( (grep -nF '[value]' "$source" | cut -d: -f1 | awk -v struct="$(line_of "$source" 'counts.all; /*')" \
         '$1 != struct { print $1, $1 + 2 }'
         echo "$(line_of "$source" '[added]') $(line_of "$source" '[before sync]')"
         echo "$(line_of "$source" '[added]') $(line_of "$source" '[ends]')"
-        echo "$(line_of "$source" '[shadowed]') $(line_of "$source" '[shadowed]')") | sort)" "$(racy_lines ./reducers racy)"
+        echo "$(line_of "$source" '[added]') $(line_of "$source" '[array ends]')"
+        for line in shadowed 'other struct'; do
+            echo "$(line_of "$source" "[$line]") $(line_of "$source" "[$line]")"
+        done) | sort)" "$(racy_lines ./reducers racy)"
     count $? "$CC $level: $source, racy"
     reports 3 'what add_counts does for the reducer counts in another schedule' -- ./reducers struct
     count $? "$CC $level: $source, a struct"
@@ -41,6 +44,9 @@ check_reducers() {
     count $? "$CC $level: $source, an argument that is evaluated before"
     reports 3 "$(line_of "$source" '[kept]'): what is done by this address of the reducer total" -- ./reducers kept
     count $? "$CC $level: $source, an address that is kept"
+    printf '#include <cilk/cilk.h>\nstatic int cilk_reducer(0, 0) of[2];\nint main(void) {\nreturn *of;\n}\n' >element.c
+    ends_with 1 '^element.c:4: error: .*name one element of the reducers of' "$here/spbags-cc" element.c
+    count $? "$CC $level: an array of reducers without a subscript"
     if [ "$has_inside" ]; then
         "$here/spbags-cc" "$level" --inside --inline-checks -o inside "$source" && has_same_report ./inside
         count $? "$CC $level: $source, the report of the detector inside"
@@ -73,7 +79,7 @@ check_reducers_cplusplus() {
     "$here/spbags-c++" "$level" -Wall -Wextra -Werror -o reducers "$source"
     count $? "$source $level"
     reports 0 "" --unseen-ok 'std::allocator*' -- ./reducers clean &&
-        same $'out 710 15 10 4 10\n11 24 f0 7 4 4 1 1 6 4\n and 8\n4 eeeeeeeeeeeeeeeeeeee tbbbbbbbbbbccccccccccddddddddddeeeeeeeeee' \
+        same $'out 7 12 3 4\n10 15 10 4 10\n11 24 f0 7 4 4 1 1 6 4\n and 8\n4 eeeeeeeeeeeeeeeeeeee tbbbbbbbbbbccccccccccddddddddddeeeeeeeeee' \
             "$(grep -v -e '^races' -e '^not seen' output)"
     count $? "$source $level, clean"
     same "$(grep -nF '[update]' "$source" | cut -d: -f1 | awk '{ print $1, $1 + 1 }' | sort)" "$(racy_lines ./reducers racy)"

@@ -40,7 +40,7 @@ int refused(int n, int *p) {
         y++;
     if (cilk_spawn f(0)) /* [refused] */
         y++;
-    int cilk_reducer(zero, add) array[2]; /* [refused] */
+    static _Thread_local int cilk_reducer(zero, add) own; /* [refused] */
     int cilk_reducer(zero, add) *pointer; /* [refused] */
     int cilk_reducer(zero, add) one, other; /* [refused] */
     for (int cilk_reducer(zero, add) i = 0; i < n; i++) /* [refused] */

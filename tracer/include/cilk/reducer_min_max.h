@@ -95,5 +95,28 @@ __SPBAGS_BEST(min, <)
             (name) = __spbags_other; \
     } while (0)
 
+/* A value and its index. */
+#define __SPBAGS_INDEXED(type) \
+    typedef struct { \
+        __PTRDIFF_TYPE__ index; \
+        __spbags_##type value; \
+    } __spbags_indexed_##type;
+__SPBAGS_INDEXED(char) __SPBAGS_INDEXED(uchar) __SPBAGS_INDEXED(schar) __SPBAGS_INDEXED(short) __SPBAGS_INDEXED(ushort)
+__SPBAGS_INDEXED(int) __SPBAGS_INDEXED(uint) __SPBAGS_INDEXED(unsigned) __SPBAGS_INDEXED(long) __SPBAGS_INDEXED(ulong)
+__SPBAGS_INDEXED(longlong) __SPBAGS_INDEXED(ulonglong) __SPBAGS_INDEXED(float) __SPBAGS_INDEXED(double)
+__SPBAGS_INDEXED(longdouble)
+#undef __SPBAGS_INDEXED
+
+#define CILK_C_REDUCER_MAX_INDEX(name, type, value) __spbags_indexed_##type _Hyperobject(0, 0) name = {0, (value)}
+#define CILK_C_REDUCER_MIN_INDEX(name, type, value) __spbags_indexed_##type _Hyperobject(0, 0) name = {0, (value)}
+#define CILK_C_REDUCER_MAX_INDEX_CALC(name, index, other) __SPBAGS_BEST_INDEX(name, index, other, >)
+#define CILK_C_REDUCER_MIN_INDEX_CALC(name, index, other) __SPBAGS_BEST_INDEX(name, index, other, <)
+#define __SPBAGS_BEST_INDEX(name, index, other, SIGN) \
+    do { \
+        __typeof__(other) __spbags_other = (other); \
+        if (__spbags_other SIGN (name).value) \
+            (name) = (__typeof__(name)){(index), __spbags_other}; \
+    } while (0)
+
 #endif
 #endif
