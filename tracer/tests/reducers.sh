@@ -70,6 +70,9 @@ check_cilk_cplusplus_examples() {
 queens_for 10 boards, the first 0 2
 search_for 6 after 32 looks
 cholesky_for 17.5914
+fft_for 336.0
+knapsack_for 13 in 10
+strassen_for 30
 END
 }
 
