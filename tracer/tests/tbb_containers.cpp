@@ -13,7 +13,7 @@ static void print(long number) { printed[print_at++] = number; }
 
 // ---- Locks ----
 
-int under_lock, under_readers, beside_readers, read_only = 1, seen[8];
+int under_lock, under_readers, beside_readers, read_only = 1, seen[10];
 static tbb::spin_mutex lock;
 static tbb::spin_rw_mutex rw_lock;
 
@@ -159,6 +159,33 @@ static void sets() {
     print(squares.size() * 10 + beside.contains(3));
 }
 
+// Keys that may be there several times.
+static void multisets() {
+    tbb::concurrent_multimap<int, int> pairs{{1, 4}};
+    tbb::concurrent_multiset<int> numbers{2};
+    tbb::concurrent_unordered_multimap<int, int> hashed;
+    tbb::concurrent_unordered_multiset<int> all;
+    tbb::parallel_for(0, 3, [&](int i) {
+        pairs.insert({i, 10 * i});
+        numbers.insert(i);
+        hashed.emplace(i, i);
+        all.insert(i);
+    });
+    print(pairs.count(1) * 100 + numbers.count(2) * 10 + hashed.size() + all.count(2));
+    // The order of those with one key depends on the schedule.
+    if (is_racy)
+        tbb::parallel_for(0, 2, [&](int i) { pairs.insert({7, i}); }); // [8 heldpair first] [8 heldpair second]
+    if (is_racy)
+        tbb::parallel_invoke([&] { numbers.insert(8); }, // [8 heldnumber first]
+                             [&] { seen[7] = static_cast<int>(numbers.count(8)); }); // [8 heldnumber second]
+    if (is_racy)
+        tbb::parallel_invoke([&] { hashed.insert({8, 1}); }, // [8 heldhashed first]
+                             [&] { seen[8] = hashed.find(8) != hashed.end(); }); // [8 heldhashed second]
+    if (is_racy)
+        tbb::parallel_invoke([&] { all.insert(8); }, // [8 heldall first]
+                             [&] { seen[9] = all.contains(8); }); // [8 heldall second]
+}
+
 // ---- What threads have of their own ----
 
 static void own_values() {
@@ -241,6 +268,7 @@ int main(int, char **words) {
     queues();
     counts();
     sets();
+    multisets();
     own_values();
     others();
     for (int at = 0; at < print_at; at++)
