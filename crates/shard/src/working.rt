@@ -59,7 +59,7 @@ pub fn work<R: Wait + Clock, S: BuildHasher + Drop, G: Gate>(
     requires none_put { put_of back ≡ [] }
     ensures { DidWork taker back result }
 {
-    let mut waiting = Waiting::new();
+    let mut waiting = Waiting::beside(shard.shards());
     let mut worker = Worker {
         shard,
         back,

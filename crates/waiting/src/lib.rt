@@ -13,11 +13,17 @@ use std::time::{Clock, Duration, Instant};
 /// programs use the processor, a thread that gives way gets it back only after a time slice; a thread that slept gets
 /// it when it wakes. So after a thread got the processor back late, some waits are naps from the start: the more, the
 /// more often that happens.
+///
+/// Threads that wait side by side share the processors. So each of n looks n times less often, and naps n times as
+/// long.
 #[derive(Drop)]
 pub struct Waiting {
     parker: Parker,
-    // how often it looked, and how long the next nap takes in microseconds, since it last found what it waited for
-    looks: u32,
+    // how many threads wait side by side
+    threads: u64,
+    // how often these looked, and how long the next nap takes in microseconds, since this one last found what it waited
+    // for
+    looks: u64,
     nap: u64,
     // how many of the next waits are naps, and how many will be when the processor comes back late again
     naps: u32,
@@ -27,7 +33,8 @@ pub struct Waiting {
 // How often the processor pauses before other threads run and the next look comes.
 const PAUSES: u32 = 16;
 
-const MOST_LOOKS: u32 = 256;
+// Of all threads that wait side by side.
+const MOST_LOOKS: u64 = 64;
 
 // In microseconds. The system adds some fifty.
 const SHORTEST_NAP: u64 = 3;
@@ -45,10 +52,16 @@ const MOST_NAPS: u32 = 1024;
 impl Waiting {
     /// A thread that hasn't waited yet.
     pub fn new() -> Waiting {
+        Waiting::beside(1)
+    }
+
+    /// A thread that hasn't waited yet, one of so many.
+    pub fn beside(threads: u64) -> Waiting {
         Waiting {
             parker: Parker::new(),
+            threads,
             looks: 0,
-            nap: SHORTEST_NAP,
+            nap: SHORTEST_NAP.saturating_mul(threads),
             naps: 0,
             next_naps: FEWEST_NAPS,
         }
@@ -57,7 +70,7 @@ impl Waiting {
     /// Waits a little, since what the thread waits for isn't there.
     pub fn wait<R: Wait + Clock>(&mut self, rt: &R) {
         if self.naps == 0 && self.looks < MOST_LOOKS {
-            self.looks += 1;
+            self.looks = self.looks.saturating_add(self.threads);
             self.give_way(rt);
         } else {
             self.naps = self.naps.saturating_sub(1);
@@ -81,7 +94,7 @@ impl Waiting {
     #[inline(always)]
     pub fn end(&mut self) {
         self.looks = 0;
-        self.nap = SHORTEST_NAP;
+        self.nap = SHORTEST_NAP.saturating_mul(self.threads);
     }
 }
 
