@@ -149,7 +149,7 @@ def rewritten_store(text, tokens, sign):
     return first, last, f"{{ __auto_type __spbags_t = ({call});{target}{store}"
 
 
-def edits_of(text, tokens, at, stores, language):
+def edits_of(text, tokens, at, stores, language, waiting):
     """What has to be rewritten here: the indexes of the first and the last token, and their new text; and later edits,
     each of this form, or the index of a token and what comes behind it. Or None."""
     token = tokens[at]
@@ -157,7 +157,7 @@ def edits_of(text, tokens, at, stores, language):
         raise Refused(token, REFUSED[token.text])
     if token.text == "_Cilk_spawn":
         if language == "c++":
-            return spawns_cplusplus.Spawn(text, tokens, at).edits()
+            return spawns_cplusplus.Spawn(text, tokens, at, waiting).edits()
         found = Spawn(text, tokens, at)
         return (found.first, found.last, found.rewritten()), []
     if token.text == "_Cilk_for":
@@ -167,9 +167,11 @@ def edits_of(text, tokens, at, stores, language):
         edit, later = loops.scope_edits(tokens, at)
         return edit, [later]
     if token.text == "_Cilk_sync":
-        return (at, at, "__spbags_sync()"), []
+        return (at, at, spawns_cplusplus.sync(tokens, at, waiting) if waiting else "__spbags_sync()"), []
     if token.text == "try" and language == "c++" and not token.system:
-        return spawns_cplusplus.try_edits(tokens, at)
+        return spawns_cplusplus.try_edits(tokens, at, waiting)
+    if at in waiting:
+        return (at, at, "{" + spawns_cplusplus.keeper(token)), []
     if token.text in INLINED and not token.system:
         return (at, at, "__unused__"), []
     found = rewritten_store(text, tokens, at) if stores and token.text == "=" and not token.system else None
@@ -182,11 +184,13 @@ class Rewriting:
     def __init__(self, text, language):
         self.text, self.language, self.stores = text, language, language == "gcc"
         self.tokens = tokens_of(text)
+        self.waiting = spawns_cplusplus.waiting_in(text, self.tokens) if language == "c++" else set()
         self.made, self.done, self.faults, self.behind, self.planned = [], 0, [], {}, {}
 
     def rewrite(self, at):
         try:
-            edits = self.planned.pop(at, None) or edits_of(self.text, self.tokens, at, self.stores, self.language)
+            edits = self.planned.pop(at, None) or edits_of(self.text, self.tokens, at, self.stores, self.language,
+                                                           self.waiting)
         except Refused as refused:
             self.faults.append(f"{refused.token.place()}: error: {refused}")
             return

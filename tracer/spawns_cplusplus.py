@@ -5,7 +5,7 @@ a part of the parent. include/spbags/spawn.h then makes a child of it, which cal
 the program stays where it is, in one full expression, and the compiler chooses the function."""
 import re
 
-from loops import entered, is_in_inner
+from loops import begins_function, entered, is_in_inner
 from tokens import CONTROLS, Refused, arguments_of, is_in_block, statement_start
 
 SHAPES = ("write `cilk_spawn f(..);', `x = cilk_spawn f(..);', `x += cilk_spawn f(..);' or "
@@ -76,6 +76,42 @@ def after_primary(tokens, at):
     return tokens[end].partner + 1 if end and tokens[end].text == "{" and tokens[end].partner else end
 
 
+# ---- What children throw ----
+
+KEEPER = "class __spbags_frame"
+
+
+def waits_at(tokens, at):
+    """The brace of the function, scope or `try` block around this that waits for its children; or None where an iteration
+    of a loop does, from which no exception can be kept."""
+    while at is not None and tokens[at].text != "}":
+        before = tokens[statement_start(tokens, at) - 1]
+        if before.text == ")" and tokens[before.partner - 1].text == "_Cilk_for":
+            return None
+        at = tokens[at].around
+        if at is not None and (begins_function(tokens, at) or tokens[at - 1].text in ("try", "_Cilk_scope")):
+            return at
+    return None
+
+
+def waiting_in(text, tokens):
+    """The braces of all that waits for children whose exceptions it keeps."""
+    if KEEPER not in text:
+        return set()
+    return {waits_at(tokens, at) for at, token in enumerate(tokens) if token.text == "_Cilk_spawn"} - {None}
+
+
+def keeper(token):
+    return f"{token.marker(' 3')}__spbags_frame __spbags_here;{token.marker()}"
+
+
+def sync(tokens, at, waiting):
+    brace = waits_at(tokens, at)
+    while brace is not None and brace not in waiting:
+        brace = None if begins_function(tokens, brace) else waits_at(tokens, brace)
+    return "__spbags_sync()" if brace is None else "(__spbags_sync(), __spbags_here.throw_again())"
+
+
 class Postfix:
     """An expression from a token on: its end, where its last call begins, and where the member that this calls does."""
 
@@ -97,8 +133,9 @@ class Postfix:
 class Spawn:
     """One spawn, and the pieces of what stands for its statement."""
 
-    def __init__(self, text, tokens, spawn):
+    def __init__(self, text, tokens, spawn, waiting):
         self.text, self.tokens, self.spawn = text, tokens, spawn
+        self.keeps = waits_at(tokens, spawn) in waiting
         self.here = tokens[spawn].marker(" 3")
         self.callee = Postfix(tokens, spawn + 1)
         self.opening = self.callee.call
@@ -229,6 +266,9 @@ class Spawn:
             name = self.tokens[self.spawn - 2].text
             ends += (f"{declared} = {made}({{}}); __spbags_check_local<decltype({name})>(); "
                      f"__spbags_ended{number}.end(__builtin_addressof({name}), sizeof {name});")
+        elif self.keeps:
+            ends += (f"try {{ {made}({{}}); __spbags_ended.end(0, 0); }} "
+                     "catch (...) { __spbags_here.keep(__spbags_ended); } }")
         else:
             ends += f"{made}({{}}); __spbags_ended.end(0, 0); }}"
         if self.is_braced and not kind:
@@ -237,7 +277,7 @@ class Spawn:
         return (self.first, self.spawn, self.here + made_by + self.tokens[self.spawn].marker()), later
 
 
-def try_edits(tokens, at):
+def try_edits(tokens, at, waiting):
     """A block whose exceptions are handled waits at its end for its own children; None where it spawns none."""
     first = at + 1
     while tokens[first].text not in ("{", ";", "}"):
@@ -249,4 +289,5 @@ def try_edits(tokens, at):
     if first != at + 1:
         raise Refused(tokens[at], "a spawn can't be traced in a constructor's function try block")
     here = tokens[first].marker(" 3")
-    return (first, first, f"{{{here}{entered(tokens[at])}{tokens[first].marker()}"), []
+    keeps = keeper(tokens[first]) if first in waiting else ""
+    return (first, first, f"{{{here}{entered(tokens[at])}{tokens[first].marker()}{keeps}"), []

@@ -63,6 +63,10 @@ void __spbags_end_child(const volatile void *function, unsigned long size, const
         end_child(function, size, STACK_POINTER, (uintptr_t)code);
 }
 
+int __spbags_left_child(const volatile void *function, unsigned long size, const void *code) {
+    return !tracing || end_child(function, size, STACK_POINTER, (uintptr_t)code);
+}
+
 void __spbags_leave_child(const volatile void *function, unsigned long size, const char *place, const void *code) {
     if (tracing && end_child(function, size, STACK_POINTER, (uintptr_t)code))
         tell_incomplete("%s: an exception leaves a child here, and what comes until it is waited for isn't run", place);

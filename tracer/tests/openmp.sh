@@ -260,7 +260,7 @@ check_cilk_cplusplus() {
 check_spawns_cplusplus() {
     local source=tracer/tests/spawns.cpp version
     "$here/spbags-c++" "$level" -Wall -Wextra -Werror -o spawns "$source" &&
-        g++ -w -D_Cilk_spawn= -D_Cilk_sync= -I"$here/include" -o plain "$source"
+        g++ -w -D_Cilk_spawn= -D_Cilk_sync= -D_Cilk_scope= -I"$here/include" -o plain "$source"
     count $? "$source, $level: compile without a warning"
     for version in 1 2; do
         SPBAGS_VERSION=$version SPBAGS_UNIT=1 SPBAGS_TRACE=run.trace ./spawns clean >output 2>/dev/null &&
@@ -275,6 +275,8 @@ check_spawns_cplusplus() {
     ends_with 3 "" "$here/spbags-run" -- ./spawns thrown &&
         grep -q "$source:$(line_of "$source" '[thrown]'): an exception leaves a child here" output
     count $? "$source, $level: an exception"
+    ends_with 0 "" "$here/spbags-run" -- ./spawns kept && same $'15 7 1 8 10\n1' "$(grep -v '^races' output)"
+    count $? "$source, $level: exceptions that a sync throws again"
     if [ "$has_inside" ]; then
         "$here/spbags-c++" "$level" --inside -o inside "$source" && SPBAGS_UNIT=1 has_same_report ./inside racy
         count $? "$source, $level: the report of the detector inside"

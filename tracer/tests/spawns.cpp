@@ -1,5 +1,5 @@
 // Spawns of C++. With the word clean there is no race; with racy those of the tags, which say how many bytes race and
-// on which lines. With thrown an exception leaves a child.
+// on which lines. With thrown an exception leaves a child that is to make a variable; with kept the others do.
 #include <cilk/cilk.h>
 #include <cstdio>
 #include <cstring>
@@ -275,17 +275,78 @@ static int thrower(int number) {
 
 // In the end the handler has waited for the other child.
 static int caught() {
-    int at = 0, result = 0;
+    int at = 0;
     std::string kept(30, 'k');
     try {
         cilk_spawn [&] { at = 1; }();
-        result = cilk_spawn thrower(2); // [thrown]
-        result = 3;
+        int result = cilk_spawn thrower(2); // [thrown]
+        at = result;
     } catch (int number) {
-        result += number + at;
+        at += number;
     }
-    at = 2;
+    return at;
+}
+
+// What a child throws its parent throws at its sync, and goes on until there.
+static void store_and_throw(int &to) {
+    to = 1; // [4 thrower first]
+    throw 1;
+}
+static void beside_thrower() {
+    int at = 0;
+    try {
+        cilk_spawn store_and_throw(at);
+        WAIT;
+        keep(at); // [4 thrower second]
+    } catch (int) {
+    }
+    keep(at);
+}
+
+static int first_of_two() {
+    int result = 0;
+    try {
+        result = cilk_spawn thrower(5);
+        cilk_spawn thrower(6);
+        result += 10;
+        cilk_sync;
+        result += 100;
+    } catch (int number) {
+        result += number;
+    }
     return result;
+}
+
+static int ended;
+static void throw_at_end() {
+    cilk_spawn thrower(7);
+    ended++;
+}
+template <class Function> static int thrown_by(Function function) {
+    try {
+        function();
+    } catch (int number) {
+        return number;
+    }
+    return 0;
+}
+
+static void exceptions() {
+    std::printf("%d ", first_of_two());
+    std::printf("%d ", thrown_by(throw_at_end));
+    std::printf("%d ", ended);
+    std::printf("%d ", thrown_by([] {
+        int at = 0;
+        cilk_scope {
+            cilk_spawn thrower(8);
+            at = cilk_spawn thrower(1);
+        }
+        ended += at;
+    }));
+    std::printf("%d\n", thrown_by([] {
+        cilk_spawn thrower(9);
+        throw 10;
+    }));
 }
 
 // Arguments that throw are the parent's.
@@ -304,11 +365,17 @@ int main(int, char **words) {
         std::printf("%d\n", caught());
         return 0;
     }
+    if (std::strcmp(words[1], "kept") == 0) {
+        exceptions();
+        std::printf("%d\n", ended);
+        return 0;
+    }
     results();
     classes();
     arguments();
     members();
     callees();
     blocks();
+    beside_thrower();
     std::printf("%d\n", before_the_child());
 }

@@ -8,4 +8,8 @@
 #define cilk_scope _Cilk_scope
 #define cilk_reducer _Hyperobject
 
+#if defined __cplusplus && defined SPBAGS_SPAWN_H
+#include <spbags/exceptions.h>
+#endif
+
 #endif

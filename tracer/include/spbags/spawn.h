@@ -15,6 +15,8 @@ void __spbags_passed(const volatile void *at, unsigned long size, const void *co
 void __spbags_end_child(const volatile void *function, unsigned long size, const void *code);
 void __spbags_stored_by(const volatile void *at, unsigned long size, const void *code);
 void __spbags_leave_child(const volatile void *function, unsigned long size, const char *place, const void *code);
+/* The same of an exception that is kept, and so is no reason for a line; gives 0 if there was no child yet. */
+int __spbags_left_child(const volatile void *function, unsigned long size, const void *code);
 }
 
 #if __cplusplus >= 201402L
@@ -39,6 +41,10 @@ struct __spbags_ending {
         if (result_size > 0)
             __spbags_stored_by(result, result_size, __SPBAGS_CODE);
         __spbags_end_child(function, size, __SPBAGS_CODE);
+    }
+    __SPBAGS_OUTSIDE bool leaves() {
+        place = nullptr;
+        return __spbags_left_child(function, size, __SPBAGS_CODE);
     }
 };
 
