@@ -82,6 +82,29 @@ static void ranges_of_more() {
     print(table[2][3] + cube[1][1][1]);
 }
 
+// A range that has memory of its own, which a child ends with.
+struct Listed {
+    std::vector<int> numbers;
+    explicit Listed(std::vector<int> all) : numbers(std::move(all)) {}
+    Listed(Listed &other, tbb::split) : numbers(other.numbers.begin() + 2, other.numbers.end()) {
+        other.numbers.resize(2);
+    }
+    bool empty() const { return numbers.empty(); }
+    bool is_divisible() const { return numbers.size() > 2; }
+};
+int by_listed;
+
+static void ranges_with_memory() {
+    std::vector<int> doubled(7);
+    tbb::parallel_for(Listed({1, 2, 3, 4, 5, 6}), [&](const Listed &part) {
+        for (int number : part.numbers)
+            doubled[number] = 2 * number;
+        if (is_racy)
+            by_listed += part.numbers[0]; // [4 listed first] [4 listed second]
+    });
+    print(doubled[1] + doubled[6]);
+}
+
 // ---- parallel_for_each, parallel_invoke ----
 
 int by_item, by_added, by_function, seen[40];
@@ -257,6 +280,7 @@ int main(int, char **words) {
     loops();
     grains();
     ranges_of_more();
+    ranges_with_memory();
     items();
     functions();
     sums();

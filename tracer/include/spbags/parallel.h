@@ -42,15 +42,18 @@ inline SPBAGS_APART const void *here() { return __builtin_return_address(0); }
 template <class Function, class... Arguments>
 SPBAGS_APART void call(Function &function, Arguments... arguments) { function(arguments...); }
 
-template <class Function, class Argument>
-SPBAGS_APART void call_with(Function &function, Argument &argument) { function(argument); }
-
 /* An object that one child uses and ends. No unit of memory is shared with another one. */
 template <class Object> union alignas(8) Box {
     Object object;
     template <class... Arguments> Box(Arguments &&...arguments) : object(std::forward<Arguments>(arguments)...) {}
     ~Box() {}
 };
+
+template <class Function, class Object>
+SPBAGS_APART void call_with_own(Function &function, Box<Object> &own) {
+    function(own.object);
+    own.object.~Object();
+}
 
 /* ---- Functions that another schedule calls with other values, or beside something else ---- */
 

@@ -19,9 +19,8 @@ SPBAGS_INLINE void parallel_for(const Range &range, const Body &body, Settings &
         spbags::Box<Range> leaf(leaves.front());
         __spbags_part("parallel_for", nullptr, spbags::first_of(leaf.object, range, number, 0),
                       spbags::last_of(leaf.object, range, number, 0));
-        spbags::call_with(body, leaf.object);
+        spbags::call_with_own(body, leaf);
         __spbags_return(&leaf, sizeof leaf);
-        leaf.object.~Range();
         leaves.pop();
     }
 }
