@@ -39,10 +39,10 @@ bytes behind the one before. The other words are numbers of bytes, or addresses:
 - `bits` are those of a set of files, `all_options` an array of long options, `net_address` an address of that family,
   and `linked` the neighbour of a list's entry.
 - `state(f)` is what functions such as f keep inside: a variable of the tracer stands for it. `lock of f` is held then.
+- `order of s` is a write of s under its own lock, with `SPBAGS_STREAMS`.
 
 The [tracer](README.md) sees the reads of a comparison function of `qsort` or `bsearch` when they happen. It doesn't
-record what a stream keeps, unless the function takes no lock: the order of two children's output is no race. Nor does
-it record constants, which nothing writes. Every other function of a library that a program calls is one that nothing is
+record constants, which nothing writes. Every other function of a library that a program calls is one that nothing is
 known of: `spbags-run` counts its calls.
 """
 
@@ -114,6 +114,8 @@ def note_of(kind, item, self_name):
         return f"LIBRARY_STRINGS({narrow(words)}, copy, {self_name});"
     if words[0] == "fields":
         return f"LIBRARY_FIELDS({narrow(words)}, copy, result, {self_name});"
+    if words[0] == "order":
+        return f"NOTE_ORDER({words[2]}, {self_name});"
     if words[0] == "pieces":
         return f"LIBRARY_PIECES({kind}, {words[1]}, {words[2]}, {item[1]}, {self_name});"
     if len(item) == 4:

@@ -14,6 +14,9 @@ NO_OPENMP = {"cilk_for", "parallel_for", "parallel_for_each", "parallel_reduce",
              "parallel_sort", "task_group", "algorithm"}
 # The number of the guard that all atomic accesses hold; and the name of the one that isn't known.
 ATOMIC, UNKNOWN_GUARD = 1, "unknown"
+# What the guard of a stream's uses is called, and the bytes there that stand for the stream.
+STREAM_GUARD = re.compile("the lock of (stdin|stdout|stderr|the stream|the descriptor)")
+STREAM_BYTES = 8
 # A position on the stack, and what stands there: `write` or `read`, `spawn`, or `call`. The depth is how many functions
 # stand on the stack up to here.
 Frame = namedtuple("Frame", "role position depth")
@@ -54,6 +57,14 @@ class Noted:
     block: tuple = None
     # Whether it is of a reducer.
     reducer: bool = False
+
+    def is_of_order(self):
+        return self.guard is not None and is_stream(self.guard, self.address)
+
+
+def is_stream(guard, address):
+    """Whether what stands there is the stream that has this guard: only its order isn't determined then."""
+    return STREAM_GUARD.fullmatch(guard[1]) is not None and 0 <= address - guard[0] < STREAM_BYTES
 
 
 # So many units from an address on. Of the stack there is the code of the function whose frame it is in, and how far
@@ -260,7 +271,8 @@ class Program:
         sides = [Side(kind, atomic, self.stack(kind, stack)) for kind, atomic, stack in noted.sides]
         siblings = self.siblings(noted)
         for location, races, variable, borrowed in self.pieces(noted):
-            yield Pair(races, location, sides, variable, self.missing_sync(noted, sides), self.guard(noted.guard),
+            yield Pair(races, location, sides, named_by(noted.guard, variable), self.missing_sync(noted, sides),
+                       self.guard(noted.guard),
                        siblings, self.suggested(noted, siblings, variable), noted.is_narrow, borrowed,
                        noted.reducer)
 
@@ -378,6 +390,13 @@ class Program:
             ("single",) if siblings["construct"] == "region" else ())
 
 
+def named_by(guard, variable):
+    """A stream is named by its lock, unless it is a block of the heap, which is known by its allocation."""
+    if guard is None or not is_stream(guard, variable.get("address", 0)):
+        return variable
+    return {"kind": "stream", "name": STREAM_GUARD.fullmatch(guard[1])[1]}
+
+
 def merged(pairs):
     """One pair for each pair of source positions, what guards it and the variable. Those of one variable stand
     together. The most frequent come first, and the guarded last."""
@@ -419,7 +438,8 @@ class Sites:
             address = answers.address_of(location, program.unit)
             pieces.add(unit, 1, {"kind": "stack"} if unit % 2 == 1 else program.named(address))
         for location, races, variable in pieces.found():
-            yield Pair(races, location, sides, variable, None, program.guard(self.guard), neighbours=self.is_narrow)
+            yield Pair(races, location, sides, named_by(self.guard, variable), None, program.guard(self.guard),
+                       neighbours=self.is_narrow)
 
 
 def common_guard(sites):

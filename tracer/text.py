@@ -281,6 +281,8 @@ def variable_line(variable, unit):
         expression, parts, _ = variable["expression"].partition(".__spbags_")
         rest = not parts and variable["rest"]
         return owned(variable, expression + (byte_of(*rest) if rest and all(rest) else ""))
+    if kind == "stream":
+        return variable["name"]
     if "name" in variable:
         return owned(variable, variable["name"] + (
             "" if variable["size"] <= unit else byte_of(variable["offset"], variable["size"])))

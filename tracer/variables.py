@@ -228,6 +228,8 @@ class Names:
         """The part of a variable; what the tracer puts into a program has no name."""
         name, kind = self.dwarf.name(entry), self.type_of(entry)
         path, rest = self.part(kind, offset)
+        # The size of a class may not be known.
+        rest = rest if rest and rest[1] else None
         return Named(name, offset, self.size(kind), name + path, rest) if name and not OWN.match(name) else None
 
     def part(self, kind, offset):

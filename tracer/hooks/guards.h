@@ -23,6 +23,14 @@ static inline void enter_guard(uintptr_t id, const char *name) {
         guards[guards_held++] = (struct guard){id, name};
 }
 
+/* Before all others, so that it is the one that is told where two accesses hold several. */
+static void enter_first_guard(uintptr_t id, const char *name) {
+    if (!notes_guards || guards_held == MOST_GUARDS)
+        return;
+    memmove(guards + 1, guards, guards_held++ * sizeof *guards);
+    guards[0] = (struct guard){id, name};
+}
+
 /* The last entry of it is left; of what isn't held nothing is. */
 static inline void leave_guard(uintptr_t id) {
     unsigned at = guards_held;

@@ -219,6 +219,7 @@ enum { KIND_READ = false, KIND_WRITE = true };
     note_pieces(KIND_##KIND, AT, (size_t)(COUNT), BYTES, (__spbags_function)SELF, STACK_POINTER, CODE)
 
 #include "library_formats.h"
+#include "streams.h"
 
 /* ---- The functions ---- */
 

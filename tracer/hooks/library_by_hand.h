@@ -158,6 +158,56 @@ BY_HAND(void, setbuf, FILE *stream, char *buffer) {
     __real_setbuf(stream, buffer);
 }
 
+/* ---- Streams and descriptors ---- */
+
+BY_HAND(int, close, int file) {
+    end_file(file);
+    return __real_close(file);
+}
+
+BY_HAND(int, dup2, int from, int to) {
+    if (from != to)
+        end_file(to);
+    return __real_dup2(from, to);
+}
+
+BY_HAND(int, dup3, int from, int to, int flags) {
+    end_file(to);
+    return __real_dup3(from, to, flags);
+}
+
+/* What another child still does with the stream comes before its end, or it fails. */
+BY_HAND(int, fclose, FILE *stream) {
+    if (tracing && judges_order && stream)
+        LIBRARY_WRITE(stream, sizeof(uint64_t), __wrap_fclose);
+    if (stream)
+        end_file(fileno(stream));
+    return __real_fclose(stream);
+}
+
+BY_HAND(void, flockfile, FILE *stream) {
+    __real_flockfile(stream);
+    enter_guard((uintptr_t)stream, lock_of_stream(stream));
+}
+
+BY_HAND(int, ftrylockfile, FILE *stream) {
+    int answer = __real_ftrylockfile(stream);
+    if (answer == 0)
+        enter_guard((uintptr_t)stream, lock_of_stream(stream));
+    return answer;
+}
+
+BY_HAND(void, funlockfile, FILE *stream) {
+    leave_guard((uintptr_t)stream);
+    __real_funlockfile(stream);
+}
+
+/* Of std::ios_base. */
+BY_HAND(bool, _ZNSt8ios_base15sync_with_stdioEb, bool shares) {
+    shares_streams = shares;
+    return __real__ZNSt8ios_base15sync_with_stdioEb(shares);
+}
+
 /* ---- Others ---- */
 
 void *__wrap_reallocarray(void *block, size_t count, size_t size) {

@@ -43,5 +43,12 @@
 #include <wctype.h>
 #include <wordexp.h>
 
+/* Of C++: std::ostream, and what std::string begins with. */
+struct ostream;
+struct string {
+    const char *at;
+    size_t size;
+};
+
 /* Of the mathematical library, which a program may be linked without. */
 extern int signgam __attribute__((weak));

@@ -270,6 +270,7 @@ __attribute__((constructor(101))) static void start(void) {
     unit_mask = ((uintptr_t)1 << unit_shift) - 1;
     writes_repeats = choice("SPBAGS_REPEATS", "01", 0) == 1;
     patience = least(number_from("SPBAGS_PATIENCE", "seconds", 30), SECOND) * SECOND;
+    judges_order = choice("SPBAGS_STREAMS", "01", 0) == 1;
     fill_digits();
     give_streams_buffers();
     claim_threads();

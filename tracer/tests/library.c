@@ -51,7 +51,7 @@ static char **rest, **out, **words;
 static size_t *size, *room;
 static wchar_t *wide, *other_wide, *wide_a, *wide_b, *wide_c, *wide_space, *wide_pair, *wide_digits, *wide_decimals;
 static wchar_t **wide_rest;
-static FILE *text, *nothing, *wide_nothing;
+static FILE *text, *letters, *nothing, *wide_nothing;
 static DIR *folder;
 static volatile int sink;
 static int zeros, sockets[2], events, waiting, terminal, timer_file;
@@ -485,11 +485,16 @@ static int races_of(const struct test *test) {
 }
 
 static void share(const struct shared *both) {
+    FILE *input = stdin, *output = stdout;
     prepare();
     folder = opendir("/");
+    letters = wide_text();
+    stdin = stdout = text;
     cilk_spawn both->call();
     both->other();
     cilk_sync;
+    stdin = input;
+    stdout = output;
 }
 
 int main(int words_given, char **word) {

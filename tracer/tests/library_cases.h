@@ -543,6 +543,21 @@ SHARED(56, NUMBER(localtime(AS(time_t, big))), (void)(gmtime(AS(time_t, big)))) 
 SHARED(2, NUMBER(l64a(5)), (void)(l64a(5))) SHARED(8, (putc_unlocked)('x', text), (getc_unlocked)(text))
 SHARED(8, (fputc_unlocked)('x', text), (fgetc_unlocked)(text)) SHARED(8, clearerr_unlocked(text), (void)(plain_feof(text)))
 SHARED(8, clearerr_unlocked(text), (void)(plain_ferror(text))) SHARED(8, clearerr_unlocked(text), (void)(fileno_unlocked(text)))
+/* The order of a stream or a descriptor is 4 bytes; and what takes no lock, or closes the stream, races with all 8. The
+   text and the letters are other streams for each of these, and the standard streams are the text. */
+int plain_getc(FILE *) __asm__("_IO_getc");
+int plain_putc(int, FILE *) __asm__("_IO_putc");
+SHARED(4, (putc)('x', text), (fputc)('x', text)) SHARED(4, (getc)(text), (fgetc)(text)) SHARED(4, plain_putc('x', text), plain_putc('x', text))
+SHARED(4, plain_getc(text), (ungetc)('x', text)) SHARED(4, (putchar)('x'), puts("x")) SHARED(4, (getchar)(), NUMBER(scanf("x")))
+SHARED(4, (putwc)(L'x', letters), (fputwc)(L'x', letters)) SHARED(4, (getwc)(letters), (fgetwc)(letters)) SHARED(4, (stdin = letters, (getwchar)()), (void)(getwchar)())
+SHARED(4, ungetwc(L'x', letters), (void)(getwc)(letters)) SHARED(4, (stdout = letters, (putwchar)(L'x')), (void)fputws(L"x", letters)) SHARED(4, printf("x"), fputs("x", text))
+SHARED(4, fseek(text, 0, SEEK_SET), rewind(text)) SHARED(4, fseeko(text, 0, SEEK_SET), fseeko64(text, 0, SEEK_SET))
+SHARED(4, NUMBER(lseek(fileno(letters), 0, SEEK_SET)), (void)lseek64(fileno(letters), 0, SEEK_SET))
+SHARED(4, NUMBER(read(fileno(letters), a, 1)), (void)!write(fileno(letters), "x", 1)) SHARED(0, NUMBER(read(fileno(letters), a, 1)), (fgetc)(letters))
+SHARED(0, NUMBER(close(dup2(zeros, 50))), (void)close(dup3(zeros, 50, 0))) SHARED(0, fputs("x", nothing), puts("x"))
+SHARED(8, (fgetc)(text), fclose(text)) SHARED(8, (fgetc)(text), (getc_unlocked)(text)) SHARED(8, (fgetc)(text), clearerr_unlocked(text))
+SHARED(8, (flockfile(text), (getc_unlocked)(text), funlockfile(text)), (getc_unlocked)(text)) SHARED(4, (ftrylockfile(text), (fgetc)(text)), (funlockfile(text), (fgetc)(text)))
+SHARED(8, (fputs_unlocked)("x", text), (void)(fwrite_unlocked)("x", 1, 1, text)) SHARED(8, (void)(fgets_unlocked)(a, 9, text), (void)!(fread_unlocked)(b, 1, 9, text))
 SHARED(8, (putchar_unlocked)('x'), (putchar_unlocked)('x')) SHARED(8, (getchar_unlocked)(), (getchar_unlocked)())
 SHARED(8, NUMBER(readdir(folder)), (void)(telldir(folder))) SHARED(8, NUMBER(readdir64(folder)), seekdir(folder, 0))
 SHARED(8, rewinddir(folder), (void)(telldir(folder)))

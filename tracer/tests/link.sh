@@ -110,7 +110,7 @@ END
     "$here/spbags-c++" -fopenmp -o known known.cpp && ends_with 0 "" "$here/spbags-run" -- ./known
     count $? "a clean answer where streams are used when all else is done"
     not_seen -- ./known word >found
-    line='not seen: std::basic_ostream<char, std::char_traits<char> >::operator<<(int) (libstdc++.so.6), called 2 times'
+    line='not seen: std::__cxx11::basic_ostringstream<char, std::char_traits<char>, std::allocator<char> >::str() const'
     grep -qF "$line" found
     count $? "a function of libstdc++"
     SPBAGS_TRACE=run.trace ./known word 2>&1 | grep -qF "spbags: $line"
