@@ -11,7 +11,7 @@ use Rattle.dag.specs.declared.records.Record.{Record}
 use Rattle.dag.specs.declared.records.Record.TheVariants.{Spawn, Call, Return, Sync, Read, Write}
 use Rattle.shadow.specs.Found.{found, by_location}
 use Rattle.collect.specs.ReportText.{rtext}
-use Rattle.online.specs.Detectors.{IsAfter, MayWant}
+use Rattle.serial.specs.Detected.{IsAfter, MayWant}
 use Rattle.inside.specs.declared.session.Session.{Session}
 use Rattle.inside.specs.declared.session.Session.TheVariants.{Taking, Giving, Stopped}
 

@@ -1,7 +1,7 @@
 //! A session: it takes records, and then gives the text of their report.
 ghost use Rattle.std.specs.Prelude.{◌≡◌, ◌≢◌, ℕ, ◌<◌, List, [], map, IfOk, IfSome};
 ghost use Rattle.dag.specs.declared.records.Record.{Record};
-ghost use Rattle.online.specs.Detectors.{IsAfter};
+ghost use Rattle.serial.specs.Detected.{IsAfter};
 ghost use Rattle.inside.specs.declared.session.Session.{Session};
 ghost use Rattle.inside.specs.Naming.{named_with};
 ghost use Rattle.inside.specs.Sessions.{unpacked, no_memory, IsNamed, HasTaken, report_text};
@@ -9,8 +9,9 @@ ghost use Rattle.inside.specs.Sessions.{HasStepped, HaveStepped, HasReported, Ha
 
 use crate::text::Text;
 use collect::write_report;
-use online::{Detector, Refusal};
+use serial::Refusal;
 use std::alloc::Global;
+use std::hash::{BuildHasherDefault, FoldHasher};
 use trace::{NoMemory, Record};
 
 const TAKEN: u8 = 0;
@@ -32,6 +33,8 @@ const AT_END: u16 = 256;
 
 const NO_TEXT: u16 = 257;
 
+type Detector = serial::Detector<BuildHasherDefault<FoldHasher>>;
+
 /// What lies at a handle.
 #[derive(Drop)]
 pub enum Session {
@@ -48,7 +51,7 @@ impl Session {
     pub(crate) fn new(alloc: Global) -> Session
         ensures { result ≢ Session.Stopped → HasTaken [] result }
     {
-        match Detector::new(alloc) {
+        match Detector::new(alloc, BuildHasherDefault::default()) {
             Ok(detector) => Session::Taking(detector, alloc),
             Err(NoMemory) => Session::Stopped,
         }

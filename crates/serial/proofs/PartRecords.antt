@@ -1,5 +1,5 @@
 -- The records of a part: one record more, and the whole.
-use Rattle.std.proofs.Common.{◌≡◌, ℕ, ◌/◌, ◌%◌, true, List, [], ◌∷◌, ◌++◌, map, get_or, Option, Some, None, option_to_list, ⊎_elim, refl, sym, ap, ap₂, subst, ◌∙◌, arith, append-nil}
+use Rattle.std.proofs.Common.{◌≡◌, ℕ, ◌/◌, ◌%◌, true, List, [], ◌∷◌, ◌++◌, map, get_or, Option, Some, None, option_to_list, ⊎_elim, refl, sym, ap, ap₂, ◌∙◌, arith, append-nil}
 use Rattle.std.proofs.lemmas.Bool.{cases_Bool, cond-true, cond-false, eq-eqb}
 use Rattle.std.proofs.lemmas.List.{map-append}
 use Rattle.dag.specs.declared.records.Record.{Record}

@@ -5,4 +5,5 @@ mod detector;
 pub mod laws;
 mod plain;
 
+pub use detector::{Detector, Refusal};
 pub use plain::{detect_plain, detect_plain_part};

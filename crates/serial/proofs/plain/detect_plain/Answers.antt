@@ -1,7 +1,5 @@
 use Rattle.std.proofs.Common.{refl}
-use Rattle.dag.specs.Traces.{placed}
 use Rattle.trace.proofs.Endings.{ends_refused, refused_for_want}
-use Rattle.serial.proofs.Detected.{report_of}
 use Rattle.serial.proofs.plain.detect_plain.Goals as goal
 
 pub returns-in_err-detector : goal.returns-in_err-detector
@@ -16,4 +14,4 @@ returns-in_err-finish g c = ends_refused _ _ _ _ _ _ _ c.from_residual-in_err-fi
 pub returns : goal.returns
 returns g c =
     let ends = c.in_ok-read_to_end.ensures in
-    record { trace = ends.trace; read = ends.read; says = report_of ends.trace _ ends.read.whole.well_nested (c.in_ok-finish.ensures (placed ends.trace) ends.says.detected) }
+    record { trace = ends.trace; read = ends.read; says = c.in_ok-finish.ensures.report ends.trace _ _ ends.says ends.read.whole.well_nested }

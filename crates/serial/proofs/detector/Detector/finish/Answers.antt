@@ -1,5 +1,13 @@
-use Rattle.serial.proofs.Detected.{reported_if}
+use Rattle.std.proofs.Common.{sym, subst}
+use Rattle.std.proofs.lemmas.Result.{IfOk-weaker}
+use Rattle.serial.specs.Detected.{HasDetected, IsAfter}
+use Rattle.serial.proofs.Detected.{reported, report_of}
 use Rattle.serial.proofs.detector.Detector.finish.Goals as goal
 
-pub returns : goal.returns
-returns g c u h = reported_if u _ _ _ c.finish.result h c.finish.ensures.ok
+pub returns-clause-races : goal.returns-clause-races
+returns-clause-races g c = IfOk-weaker c.finish.result _ _
+    (λ rs collected u h. reported u _ rs (subst (HasDetected u) (sym c.self.view_is) h) collected) c.finish.ensures.ok
+
+pub returns-clause-report : goal.returns-clause-report
+returns-clause-report g c = IfOk-weaker c.finish.result _ _
+    (λ rs collected u records depths h nested. report_of u rs nested (reported _ _ rs (subst (IsAfter u) (sym c.self.view_is) h).detected collected)) c.finish.ensures.ok

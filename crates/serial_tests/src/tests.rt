@@ -1,6 +1,7 @@
 //! Worked traces, taken record by record.
 
-use online::{Detector, Refusal};
+use serial::{Detector, Refusal};
+use std::hash::{BuildHasherDefault, FoldHasher};
 use std::test::Fail;
 use trace::{Access, Kind, Race, Record};
 
@@ -13,7 +14,8 @@ fn write_write(rt: HostRuntime) -> Result<(), Fail> {
         first: Access { kind, place: 2 },
         second: Access { kind, place: 4 },
     };
-    let mut detector = Detector::new(rt.alloc())?;
+    let hasher = BuildHasherDefault::<FoldHasher>::default();
+    let mut detector = Detector::new(rt.alloc(), hasher)?;
     for what in [Record::Spawn, Record::Write(5), Record::Return] {
         assert_eq!(rt; detector.take(what), Ok(None));
     }
@@ -28,7 +30,8 @@ fn write_write(rt: HostRuntime) -> Result<(), Fail> {
 // Here the root waits.
 #[test]
 fn write_sync_write(rt: HostRuntime) -> Result<(), Fail> {
-    let mut detector = Detector::new(rt.alloc())?;
+    let hasher = BuildHasherDefault::<FoldHasher>::default();
+    let mut detector = Detector::new(rt.alloc(), hasher)?;
     for what in [
         Record::Spawn,
         Record::Write(5),
