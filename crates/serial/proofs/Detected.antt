@@ -28,7 +28,7 @@ use Rattle.collect.proofs.Best.{races_of-append, fails-push_race}
 use Rattle.collect.proofs.Sorted.{AreApart, NoneOn, collected_is_sorted}
 use Rattle.serial.specs.Racy.{HasLocation}
 use Rattle.serial.specs.Reported.{IsReportOf}
-use Rattle.serial.specs.Detected.{DetectorState, HasDetected, AreActive, IsAfter, IsAfterPart, IsOpening}
+use Rattle.serial.specs.Detected.{DetectorState, HasDetected, IsActiveCount, IsAfter, IsAfterPart, IsOpening}
 use Rattle.serial.proofs.PartRecords.{records_of-none, records_of-some}
 
 -- the records of a list that is longer by one
@@ -136,7 +136,7 @@ module _ (u : List Record) (p : Placed) (d e : DetectorState) (after : ComesAfte
   are : length e.bags.active ≡ length (after_record (state_after (placed u)) p.place p.what).bags.active
   are = ap (λ (b : Procedures). length b.active) (more.seen.bags_are ∙ ap (λ (s : State). s.bags) (state_after-push (placed u) p))
 
-  active : e.ended ≡ false → AreActive v (length e.bags.active)
+  active : e.ended ≡ false → IsActiveCount v (length e.bags.active)
   active runs =
       let ran : d.ended ≡ false = ⊎_elim (λ t. absurd (let z = ended.1 (inl t) in cc)) (λ f. f) (cases_Bool d.ended) in
       let before = h.active ran in

@@ -39,7 +39,7 @@ pub record HasDetected (u : List Placed) (d : DetectorState) : Type 0 where
   pub races : races_of given ≡ found u
 
 -- as many procedures are active as were opened and not closed, the root among them
-pub record AreActive (u : List Record) (active : ℕ) : Type 0 where
+pub record IsActiveCount (u : List Record) (active : ℕ) : Type 0 where
   pub some : 1 ≤ active
   pub balance : active + sum_by closes u ≡ 1 + sum_by opens u
 
@@ -49,7 +49,7 @@ pub record IsAfter (u : List Record) (d : DetectorState) : Type 0 where
   pub last : d.last_place ≡ length u
   pub within : length u ≤ most_records
   pub ended : (d.ended ≡ true) ↔ HasEnded u
-  pub active : d.ended ≡ false → AreActive u (length d.bags.active)
+  pub active : d.ended ≡ false → IsActiveCount u (length d.bags.active)
   pub going : d.stopped ≡ false
 
 -- it has taken what a part has of the records u
@@ -67,9 +67,9 @@ IsOpening u (Read l) = (state_after u).kept l ≡ untouched
 IsOpening u (Write l) = (state_after u).kept l ≡ untouched
 
 -- the record p after u may need memory: it is of that kind, or it adds a race
-abbrev pub IsWant : List Placed → Placed → Type 0
-IsWant u p = IsOpening u p.what ⊎ ((r : RaceAt) × (found (u ++ p ∷ []) ≡ found u ++ r ∷ []))
+abbrev pub WantsMemory : List Placed → Placed → Type 0
+WantsMemory u p = IsOpening u p.what ⊎ ((r : RaceAt) × (found (u ++ p ∷ []) ≡ found u ++ r ∷ []))
 
 -- the same of the record that follows u
 abbrev pub MayWant : List Record → Record → Type 0
-MayWant u what = IsWant (placed u) (record { place = length u + 1; what = what })
+MayWant u what = WantsMemory (placed u) (record { place = length u + 1; what = what })

@@ -9,7 +9,7 @@ ghost use Rattle.dag.specs.Traces.{placed, IsWellNested};
 ghost use Rattle.trace.specs.Faults.{HasEnded};
 ghost use Rattle.shadow.specs.Memory.{HaveSeen};
 ghost use Rattle.shadow.specs.Found.{by_location, found};
-ghost use Rattle.serial.specs.Detected.{HasDetected, IsAfter, IsStopped, IsWant, MayWant};
+ghost use Rattle.serial.specs.Detected.{HasDetected, IsAfter, IsStopped, WantsMemory, MayWant};
 ghost use Rattle.serial.specs.Reported.{IsReportOf};
 
 use bags::Bags;
@@ -146,7 +146,7 @@ impl<S: BuildHasher + Drop> Detector<S> {
         ensures going { self.new.stopped ≡ self.old.stopped }
 
         ensures want { OnErr result ((u : List Placed) → HaveSeen u self.old.bags self.old.memory
-            → IsWant u placed) }
+            → WantsMemory u placed) }
     {
         if matches!(placed.what, Record::Return) && self.bags.active() == 1 {
             self.ended = true;

@@ -10,7 +10,8 @@ ghost use Rattle.dag.specs.Accesses.{RaceAt};
 ghost use Rattle.dag.specs.Races.{HasRace, IsReport};
 ghost use Rattle.shadow.specs.Found.{found, verdict};
 ghost use Rattle.collect.specs.Located.{located_at};
-ghost use Rattle.serial.specs.Racy.{OfWellNested, IsParallelThrough, IsParallelAfter, KeepsParallelReader, AreEarlyRaces};
+ghost use Rattle.serial.specs.Racy.{OfWellNested, IsParallelThrough, IsParallelAfter};
+ghost use Rattle.serial.specs.Racy.{KeepsParallelReader, AreEarlyRaces};
 ghost use Rattle.serial.specs.Racy.{HasLocation};
 
 /// For every well nested trace: what parallel accesses say of a third access; the kept reader represents all reads
