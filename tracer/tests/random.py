@@ -3,7 +3,7 @@
 tells judge.h what it does, which says by definition which variables race. Their names have to be those of the locations
 that `spbags check` reports of the trace, with repeats and without, and both reports have to name the same locations.
 With --inside the programs have the detector inside, and its report of each run has to be the checker's. With --c++ they
-are of C++, and spawn members, lambdas, templates and what is handed over by reference.
+are of C++, and spawn members, lambdas, templates, what is handed over by reference and what throws.
 
     random.py [--count 200] [--seed 1] [--seconds 60] [--inside] [--c++]
 
@@ -40,6 +40,7 @@ static void add_to(int *sum, int n) { *sum += n; }
 CPLUSPLUS_HEAD = HEAD + """\
 static void by_value(int) {}
 static void by_reference(number &to) { to = 1; }
+static void throwing(number &to) { to = 1; throw 1; }
 static int by_constant(const number &from) { return from; }
 template <class T> static void any(T) {}
 static void over(int, long) {}
@@ -179,7 +180,7 @@ class Function:
         elif kind < 6 and may_call:
             self.call(False)
         elif kind == 6:
-            self.writer.line("cilk_sync;", "sync_children();")
+            self.sync()
         elif kind == 8:
             self.reduce()
         elif kind == 7 and deep < 2:
@@ -191,6 +192,9 @@ class Function:
     def statements(self, deep):
         for _ in range(self.random.randint(1, 3)):
             self.statement(deep)
+
+    def sync(self):
+        self.writer.line("cilk_sync;", "sync_children();")
 
     def loop(self, deep):
         before = self.steps
@@ -228,13 +232,20 @@ class Function:
 class CplusplusFunction(Function):
     """A function with spawns as C++ alone has them."""
     deep = 0
-
-    def reduce(self):
-        self.access()
+    # Where a sync goes to for the judge, if a child of the same block has thrown.
+    handler = ""
 
     def statement(self, deep):
         self.deep = deep
         super().statement(deep)
+
+    def sync(self):
+        self.writer.line("cilk_sync;", f"sync_children(); {self.handler}")
+
+    def parallel_loop(self, deep):
+        outer, self.handler = self.handler, ""
+        super().parallel_loop(deep)
+        self.handler = outer
 
     def call(self, spawns):
         if spawns and self.random.random() < 0.7:
@@ -278,7 +289,7 @@ class CplusplusFunction(Function):
             (f"cilk_spawn Holder({at}).put(1);", wrote + read, ""),
             (f"cilk_spawn made({at}).set(1);", read + wrote + read, ""),
             (f"Other kept({at}); Holder *some = &kept; cilk_spawn some->set(1); cilk_sync;", wrote,
-             f"sync_children(); {read}")))
+             f"sync_children(); {read} {self.handler}")))
         self.writer.line(f"{{ {spawn} }}", f"spawn(); {child} spawned(); {behind}")
 
     def spawn_result(self):
@@ -296,13 +307,18 @@ class CplusplusFunction(Function):
         self.steps += self.writer.steps[callee]
 
     def scope(self, deep):
-        """A block of `try` with a spawn waits before its handler."""
-        at, this, judged = self.variable()
-        throws = self.random.random() < 0.5
-        self.writer.line(f"try {{ cilk_spawn by_reference({this});",
+        """A block of `try` with a spawn waits before its handler, and throws what a child has thrown where it waits."""
+        _, this, judged = self.variable()
+        child_throws = self.random.random() < 0.3
+        throws = not child_throws and self.random.random() < 0.5
+        outer, label = self.handler, f"out_{len(self.writer.cilk)}"
+        self.handler = f"goto {label};" if child_throws else ""
+        self.writer.line(f"try {{ cilk_spawn {'throwing' if child_throws else 'by_reference'}({this});",
                          f"enter(); spawn(); touch({judged}, true); spawned(); {{")
         self.statements(deep)
-        self.writer.line(f"{'throw 1; ' if throws else ''}}} catch (int) {{", f"}} leave(); if ({int(throws)}) {{")
+        self.writer.line(f"{'throw 1; ' if throws else ''}}} catch (int) {{",
+                         f"}} {label}: leave(); if ({int(child_throws or throws)}) {{")
+        self.handler = outer
         self.access()
         self.writer.line("}", "}")
 
