@@ -1,5 +1,5 @@
-"""Has the structs that a preprocessed source in C passes by value copied before, since no hook sees the read of one
-that is an argument. A text alone doesn't say which arguments are structs; the functions' declarations do."""
+"""With clang, has the structs that a preprocessed source in C passes by value copied before, since no hook sees the
+read of one that is an argument. A text alone doesn't say which arguments are structs; the functions' declarations do."""
 import re
 
 import spawns
@@ -12,9 +12,8 @@ KEYWORDS = spawns.CONTROLS | set("return case else do goto sizeof typeof __typeo
                                  "__asm__ _Alignas _Generic _Static_assert __attribute__ __extension__".split())
 KINDS = {"struct", "union"}
 QUALIFIERS = {"const", "volatile", "register", "restrict", "__restrict", "__const"}
-BEFORE, AFTER = "({ __auto_type __spbags_passed = (", "); __spbags_passed; })"
-# clang leaves out the read of parts that the function doesn't use.
-AFTER_KEPT = '); __asm__("" : "+m"(__spbags_passed)); __spbags_passed; })'
+# The read of parts that the function doesn't use stays too.
+BEFORE, AFTER = "({ __auto_type __spbags_passed = (", '); __asm__("" : "+m"(__spbags_passed)); __spbags_passed; })'
 
 
 def types_of(tokens):
@@ -130,7 +129,7 @@ def may_pass(text):
     return any(kind or word in named for kind, word in PARAMETER.findall(text))
 
 
-def rewritten(text, is_clang):
+def rewritten(text):
     """The source with a copy of each struct that it passes."""
     if not may_pass(text):
         return text
@@ -145,7 +144,7 @@ def rewritten(text, is_clang):
         structs = set().union(*(functions.get(name, ()) for name in called(tokens, opening)))
         for number, (first, last) in enumerate(spawns.arguments_of(tokens, opening) if structs else ()):
             if number in structs:
-                added += [(tokens[first].start, 1, BEFORE), (tokens[last].end, 0, AFTER_KEPT if is_clang else AFTER)]
+                added += [(tokens[first].start, 1, BEFORE), (tokens[last].end, 0, AFTER)]
     made, done = [], 0
     for place, _, more in sorted(added):
         made += [text[done:place], more]

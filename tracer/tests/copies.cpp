@@ -5,7 +5,9 @@
 #include <cstdarg>
 #include <cstdio>
 #include <cstdlib>
+#include <exception>
 #include <initializer_list>
+#include <malloc.h>
 #include <new>
 #include <optional>
 #include <string_view>
@@ -184,6 +186,12 @@ static void give_in_ways() {
     WRITES(8, try { shared<Small>() = MADE(Small); may_throw(sink == 0); } catch (int) {})
 }
 
+// The library's own functions, which write where their caller wants it.
+static void give_by_library() {
+    WRITES(sizeof(struct mallinfo2), new (room) struct mallinfo2(mallinfo2()))
+    WRITES(8, new (room) std::exception_ptr(std::current_exception()))
+}
+
 int main() {
 #pragma omp parallel
 #pragma omp single
@@ -192,5 +200,6 @@ int main() {
         take_in_ways();
         give_all();
         give_in_ways();
+        give_by_library();
     }
 }

@@ -529,6 +529,8 @@ CASE((hcreate(4), hsearch((ENTRY){b, NULL}, ENTER), hdestroy()), R(b, 0, 11))
 CASE(insque(big, other), W(big, 0, 16), W(other, 0, 8)) CASE(remque(big), R(big, 0, 16))
 CASE(NUMBER(reallocarray(b, 4, 4)), W(b, 0, 64)) CASE(NUMBER(posix_memalign(AS(void *, big), 16, 16)), W(big, 0, 8))
 
+CASE(*AS(struct mallinfo, big) = mallinfo(), W(big, ONE(struct mallinfo))) CASE(*AS(struct mallinfo2, big) = mallinfo2(), W(big, ONE(struct mallinfo2)))
+
 /* Headers may have these two inline. */
 int plain_feof(FILE *) __asm__("feof_unlocked");
 int plain_ferror(FILE *) __asm__("ferror_unlocked");
