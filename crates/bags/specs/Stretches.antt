@@ -8,7 +8,7 @@ use Rattle.bags.specs.Procedures.{Active, Procedures}
 abbrev pub in_one_bag : List Active → ℕ → ℕ → Bool
 in_one_bag fs p q = list_any
     (λ f. (set.contains f.serial p && set.contains f.serial q)
-        || (set.contains f.parallel p && set.contains f.parallel q))
+    || (set.contains f.parallel p && set.contains f.parallel q))
     fs
 
 -- how many stretches the first n procedures make up: the root begins one, and so does each one that isn't in one
