@@ -512,8 +512,10 @@ class Rewriting:
         self.faults.append(f"{self.tokens[at].place()}: error: {why}")
 
     def is_unevaluated(self, at):
-        tokens = self.tokens
-        if tokens[at - 1].text in UNEVALUATED:
+        tokens, before = self.tokens, at - 1
+        while tokens[before].text == "*":
+            before -= 1
+        if tokens[before].text in UNEVALUATED:
             return True
         around = tokens[at].around
         return around is not None and tokens[around].text == "(" and tokens[around - 1].text in UNEVALUATED

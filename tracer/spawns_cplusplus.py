@@ -82,8 +82,8 @@ KEEPER = "class __spbags_frame"
 
 
 def waits_at(tokens, at):
-    """The brace of the function, scope or `try` block around this that waits for its children; or None where an iteration
-    of a loop does, from which no exception can be kept."""
+    """The brace of the function, scope or `try` block around this that waits for its children; or None where an
+    iteration of a loop does, from which no exception can be kept."""
     while at is not None and tokens[at].text != "}":
         before = tokens[statement_start(tokens, at) - 1]
         if before.text == ")" and tokens[before.partner - 1].text == "_Cilk_for":
@@ -263,8 +263,10 @@ class Spawn:
         place = f"{self.tokens[self.spawn].file[:-1]}:{self.tokens[self.spawn].line}\""
         ends = f" }}; __spbags_ending __spbags_ended{number}{{{place}, &{made}, sizeof {made}}}; "
         if declared:
-            name = self.tokens[self.spawn - 2].text
-            ends += (f"{declared} = {made}({{}}); __spbags_check_local<decltype({name})>(); "
+            name, result = self.tokens[self.spawn - 2].text, f"{made}({{}})"
+            if self.keeps:
+                result = f"__spbags_result<decltype({result})>::of({made}, __spbags_ended{number}, __spbags_here)"
+            ends += (f"{declared} = {result}; __spbags_check_local<decltype({name})>(); "
                      f"__spbags_ended{number}.end(__builtin_addressof({name}), sizeof {name});")
         elif self.keeps:
             ends += (f"try {{ {made}({{}}); __spbags_ended.end(0, 0); }} "

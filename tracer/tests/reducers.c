@@ -149,9 +149,9 @@ static void arrays(void) {
             kept = local[0];
         else
             local[1] += i;
-    { int cilk_reducer(zero, add) inner[2] = {0}; cilk_spawn add_to(&inner[1], 2); if (!racy) cilk_sync; } /* [array ends] */
+    { int cilk_reducer(zero, add) of[2] = {0}; cilk_spawn add_to(&of[1], 2); if (!racy) cilk_sync; } /* [array ends] */
     cilk_sync;
-    printf("%d %d %d\n", table[1][0], table[1][1], local[0] + local[1]);
+    printf("%d %d %d %zu\n", table[1][0], table[1][1], local[0] + local[1], sizeof local / sizeof *local);
 }
 
 static void structs(void) {

@@ -23,7 +23,7 @@ check_reducers() {
     local source=tracer/tests/reducers.c
     "$here/spbags-cc" "$level" -Wall -Wextra -Werror -o reducers "$source"
     count $? "$CC $level: $source"
-    reports 0 "" -- ./reducers clean && same $'6 8 4 3 4\n6\n6 4 4 -4\n2 4 13\n6 3\n12 2 3 2' "$(grep -v '^races' output)"
+    reports 0 "" -- ./reducers clean && same $'6 8 4 3 4\n6\n6 4 4 -4\n2 4 13 2\n6 3\n12 2 3 2' "$(grep -v '^races' output)"
     count $? "$CC $level: $source, clean"
     same "$( (grep -nF '[value]' "$source" | cut -d: -f1 | awk -v struct="$(line_of "$source" 'counts.all; /*')" \
         '$1 != struct { print $1, $1 + 2 }'

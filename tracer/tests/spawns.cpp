@@ -1,5 +1,5 @@
 // Spawns of C++. With the word clean there is no race; with racy those of the tags, which say how many bytes race and
-// on which lines. With thrown an exception leaves a child that is to make a variable; with kept the others do.
+// on which lines. With thrown an exception leaves a child whose variable has no empty value; with kept others do.
 #include <cilk/cilk.h>
 #include <cstdio>
 #include <cstring>
@@ -273,14 +273,20 @@ static int thrower(int number) {
     return number;
 }
 
+struct Full {
+    int number;
+    explicit Full(int from) : number(from) {}
+};
+static Full full(int number) { return Full(thrower(number)); }
+
 // In the end the handler has waited for the other child.
 static int caught() {
     int at = 0;
     std::string kept(30, 'k');
     try {
         cilk_spawn [&] { at = 1; }();
-        int result = cilk_spawn thrower(2); // [thrown]
-        at = result;
+        Full result = cilk_spawn full(2); // [thrown]
+        at = result.number;
     } catch (int number) {
         at += number;
     }
@@ -306,11 +312,13 @@ static void beside_thrower() {
 static int first_of_two() {
     int result = 0;
     try {
-        result = cilk_spawn thrower(5);
-        cilk_spawn thrower(6);
+        auto declared = cilk_spawn thrower(5);
+        std::string text = cilk_spawn [] { return std::string(40, static_cast<char>('a' + thrower(1))); }();
+        std::string none = cilk_spawn [] { return std::string(40, static_cast<char>('a' + thrower(6))); }();
+        result = cilk_spawn thrower(7);
         result += 10;
         cilk_sync;
-        result += 100;
+        result += 100 + declared + static_cast<int>(text.size() + none.size());
     } catch (int number) {
         result += number;
     }

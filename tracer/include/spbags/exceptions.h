@@ -41,5 +41,23 @@ public:
     }
 };
 
+/* What a statement gives to the variable that it declares: if its child throws, an empty value, where there is one. */
+template <class T, bool has_empty = __is_constructible(T)> struct __spbags_result {
+    template <class Statement>
+    __SPBAGS_OUTSIDE static T of(Statement &statement, __spbags_ending &ended, __spbags_frame &frame) {
+        try {
+            return statement({});
+        } catch (...) {
+            frame.keep(ended);
+        }
+        return T();
+    }
+};
+template <class T> struct __spbags_result<T, false> {
+    template <class Statement> __SPBAGS_OUTSIDE static T of(Statement &statement, __spbags_ending &, __spbags_frame &) {
+        return statement({});
+    }
+};
+
 #endif
 #endif

@@ -37,6 +37,8 @@ struct __spbags_ending {
             __spbags_leave_child(function, size, place, __SPBAGS_CODE);
     }
     __SPBAGS_OUTSIDE void end(const volatile void *result, unsigned long result_size) {
+        if (!place)
+            return;
         place = nullptr;
         if (result_size > 0)
             __spbags_stored_by(result, result_size, __SPBAGS_CODE);
