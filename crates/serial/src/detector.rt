@@ -7,7 +7,8 @@ ghost use Rattle.dag.specs.declared.records.Record.{Record};
 ghost use Rattle.dag.specs.declared.records.Placed.{Placed};
 ghost use Rattle.dag.specs.Traces.{placed, IsWellNested};
 ghost use Rattle.trace.specs.Faults.{HasEnded};
-ghost use Rattle.shadow.specs.Memory.{HaveSeen};
+ghost use Rattle.shadow.specs.Cells.{untouched};
+ghost use Rattle.shadow.specs.Memory.{HaveSeen, kept_of, last_place_of, least_count_of};
 ghost use Rattle.shadow.specs.Found.{by_location, found};
 ghost use Rattle.serial.specs.Detected.{HasDetected, IsAfter, IsStopped, WantsMemory, MayWant};
 ghost use Rattle.serial.specs.Reported.{IsReportOf};
@@ -76,9 +77,19 @@ impl<S: BuildHasher + Drop> Detector<S> {
     pub fn new(alloc: Global, hasher: S) -> Result<Detector<S>, NoMemory>
         ensures { IfOk result (IsAfter []) }
     {
+        Detector::over(alloc, Shadow::for_program(alloc, hasher))
+    }
+
+    /// The same with a shadow memory of the caller's, before the first access.
+    pub(crate) fn over(alloc: Global, shadow: Shadow<S>) -> Result<Detector<S>, NoMemory>
+        requires kept { (l : ℕ) → kept_of shadow l ≡ untouched }
+        requires last_place { last_place_of shadow ≡ 0 }
+        requires least_count { least_count_of shadow ≡ 1 }
+        ensures { IfOk result (IsAfter []) }
+    {
         Ok(Detector {
             bags: Bags::new(alloc)?,
-            shadow: Shadow::for_program(alloc, hasher),
+            shadow,
             collector: Collector::new(alloc),
             last_place: 0,
             ended: false,
