@@ -12,6 +12,13 @@ SIDE_EFFECTS = re.compile(r"\+\+|--|(?<![=!<>])=(?!=)|\w\s*\(")
 # In a template: memory that a register points to, and instructions that go to memory without an operand for it.
 BY_REGISTER = re.compile(r"\(\s*%|%a[0-9\[]|\[\s*(?:%|r[a-z0-9]|e[a-z])|\b(?:rep|stos|movs|lods|scas|cmps)[bwlqd]?\b|"
                          r"\b(?:call|syscall|sysenter|int|xsave|fxsave|fsave|xrstor|fxrstor)\w*\b")
+# One whose operand is a name, but for jumps; and what only waits.
+BY_NAME = re.compile(r"(?:^|[;:\n]|\\[nt])\s*(?:lock\s+)?(?!j|loop|lock\b)[a-z]\w*\s+(?:[^;\\\n]*,\s*)?"
+                     r"[A-Za-z_.][\w.$@+-]*\s*(?:[,;\n\\]|$)")
+PAUSE = re.compile(r"\brep\s*;?\s*nop\b")
+# A brace that isn't of a function.
+OUTER = re.compile(r'(?:\bnamespace\b[^;{}()]*|\bextern\s*"C(?:\+\+)?")\s*$')
+NAKED = re.compile(r"\b(?:__)?naked(?:__)?\b[^{}]*$")
 MEMORY, ANYTHING = set("moV<>Q"), set("gX")
 
 
@@ -70,6 +77,29 @@ def parts(text, marks):
     return found + [(first, text[first:])]
 
 
+def goes_to_memory(template):
+    """Whether an instruction there goes to memory without an operand of C."""
+    instructions = PAUSE.sub("", "".join(re.findall(r'"((?:\\.|[^"\\])*)"', template)))
+    return bool(BY_REGISTER.search(instructions) or BY_NAME.search(instructions))
+
+
+def is_in_function(text, at):
+    """Whether a statement may stand here: in a function, other than one whose whole code is assembly."""
+    opened, place = [], 0
+    while place < at:
+        skipped = SKIPPED.match(text, place)
+        if skipped and (text[place] != "#" or place == 0 or text[place - 1] == "\n"):
+            place = skipped.end()
+            continue
+        if text[place] == "{":
+            before = text[max(place - 300, 0):place]
+            opened.append(not OUTER.search(before) and not NAKED.search(before.rpartition(";")[2]))
+        elif text[place] == "}" and opened:
+            opened.pop()
+        place += 1
+    return any(opened)
+
+
 class Statement:
     """One `asm (..)`, and what stands for it."""
 
@@ -108,7 +138,7 @@ class Statement:
 
     def rewritten(self):
         """The text in its place."""
-        before, after, changed, unseen = [], [], [], bool(BY_REGISTER.search(self.template))
+        before, after, changed, unseen = [], [], [], goes_to_memory(self.template)
         if not "".join(re.findall(r'"((?:\\.|[^"\\])*)"', self.template)).strip():
             return None
         for place, operand in self.operands(1):
@@ -142,13 +172,25 @@ class Statement:
 
 def rewritten(text, is_cplusplus):
     """The source with what its statements of the assembler do."""
-    made, done = [], 0
+    made, done, outside = [], 0, []
     for match in ASM.finditer(text):
         end = end_of(text, match.end() - 1) if match.start() >= done else None
-        if end is None or len(parts(text[match.end():end - 1], ":")) < 2:
+        if end is None:
             continue
-        instead = Statement(text, match, end, is_cplusplus).rewritten()
+        statement = Statement(text, match, end, is_cplusplus)
+        if len(statement.sections) < 2 and not goes_to_memory(statement.template):
+            continue
+        if len(statement.sections) < 2 and not is_in_function(text, match.start()):
+            outside.append(statement.where())
+            continue
+        instead = statement.rewritten()
         if instead:
             made += [text[done:match.start()], instead]
             done = end
-    return "".join(made) + text[done:]
+    return "".join(made) + text[done:] + "".join(map(told, range(len(outside)), outside))
+
+
+def told(number, where):
+    """What says where a function of assembly stands, of which no call is known."""
+    return f'\n__attribute__((__constructor__)) static void __spbags_asm_of_{number}(void) {{ ' \
+           f'__spbags_asm_outside("{where}"); }}\n'

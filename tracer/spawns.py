@@ -9,6 +9,7 @@ import re
 
 import loops
 import reducers
+import source
 import spawns_cplusplus
 from tokens import (CONTROLS, Refused, after_postfixes, arguments_of, call_after, is_in_block, is_lvalue, statement_start,
                     tokens_of)
@@ -18,9 +19,12 @@ LITERALS = {"string", "character", "number"}
 
 # A function that spawns and is put into its caller would have no end to sync at.
 INLINED = {"always_inline", "__always_inline__"}
+# By these a function's accesses would have no hooks. The tracer's own headers have functions that need none.
+UNSEEN = {f"{sign}{name}{sign}" for sign in ("", "__")
+          for name in ("no_sanitize", "no_sanitize_thread", "disable_sanitizer_instrumentation")}
 
 # A source without any of these stays as it is.
-TOUCHED = re.compile("_Cilk_|_Hyperobject|always_inline|cilk_(?:spawn|sync|for|scope)")
+TOUCHED = re.compile("_Cilk_|_Hyperobject|always_inline|no_sanitize|disable_sanitizer|cilk_(?:spawn|sync|for|scope)")
 
 # The program's pragmas of OpenMP, which its compiler would ignore.
 IGNORED = re.compile(r"^[ \t]*#[ \t]*pragma[ \t]+omp\b.*", re.MULTILINE)
@@ -149,6 +153,13 @@ def rewritten_store(text, tokens, sign):
     return first, last, f"{{ __auto_type __spbags_t = ({call});{target}{store}"
 
 
+def is_in_attribute(tokens, at):
+    """Whether this stands in `__attribute__((..))` or `[[..]]`."""
+    opening = tokens[at].around
+    return opening is not None and opening > 0 and tokens[opening].text == tokens[opening - 1].text and (
+        tokens[opening].text == "[" or tokens[opening - 2].text in ("__attribute__", "__attribute"))
+
+
 def edits_of(text, tokens, at, stores, language, waiting):
     """What has to be rewritten here: the indexes of the first and the last token, and their new text; and later edits,
     each of this form, or the index of a token and what comes behind it. Or None."""
@@ -174,6 +185,8 @@ def edits_of(text, tokens, at, stores, language, waiting):
         return (at, at, "{" + spawns_cplusplus.keeper(token)), []
     if token.text in INLINED and not token.system:
         return (at, at, "__unused__"), []
+    if token.text in UNSEEN and is_in_attribute(tokens, at) and not source.is_own(token.file[1:-1]):
+        return (at, tokens[at + 1].partner if tokens[at + 1].text == "(" else at, "__unused__"), []
     found = rewritten_store(text, tokens, at) if stores and token.text == "=" and not token.system else None
     return (found, []) if found else None
 

@@ -53,6 +53,7 @@ void __spbags_show(void);
    isn't known, at this place of the source. */
 void __spbags_asm(const volatile void *at, unsigned long size, int writes, int locked);
 void __spbags_asm_unseen(const char *place);
+void __spbags_asm_outside(const char *place);
 
 /* An instruction of the compiler's is about to access memory by a pointer: so many bytes; those elements whose bits the
    mask has, at their places or one behind the other; those at the places of an index, whose numbers have so many bytes;

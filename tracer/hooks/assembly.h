@@ -23,6 +23,12 @@ static bool is_untold(uintptr_t place) {
     return true;
 }
 
+/* One outside of functions, or that is a whole function. */
+void __spbags_asm_outside(const char *place) {
+    if (tracing)
+        tell_incomplete("%s: the assembly here may access memory, and isn't seen", place);
+}
+
 /* One that goes to memory by a register, or calls something. Each tells once, by its place in the source. */
 void __spbags_asm_unseen(const char *place) {
     if (IS_BESIDE_OTHERS && is_untold((uintptr_t)place))

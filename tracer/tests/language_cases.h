@@ -102,6 +102,12 @@ CASE(sink = taken_struct(1, *AS(struct middle, big)), R(big, ONE(struct middle))
 CASE(long many[sink + 4]; many[sink] = *AS(long, big); sink = (int)many[sink], R(big, 0, 8))
 CASE(long *many = __builtin_alloca(64); many[sink] = *AS(long, big); sink = (int)many[sink], R(big, 0, 8))
 
+/* ---- Functions whose own code a compiler is told to leave alone ---- */
+static void unsanitized(int *at); /* on one line with its store */
+CASE(unsanitized(AS(int, big)), W(big, 0, 4)) __attribute__((noinline, no_sanitize_thread)) static void unsanitized(int *at) { *at = 5; }
+static void without_sanitizers(int *at);
+CASE(without_sanitizers(AS(int, big)), W(big, 0, 4)) __attribute__((no_sanitize("thread", "address"))) static void without_sanitizers(int *at) { *at = 5; }
+
 /* ---- Atomic ---- */
 #define ATOMIC_INT AS(_Atomic int, big)
 CASE(*ATOMIC_INT = 3, W(big, 0, 4)) CASE(sink = *ATOMIC_INT, R(big, 0, 4)) CASE(*ATOMIC_INT += 3, W(big, 0, 4))

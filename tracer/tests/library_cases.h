@@ -570,15 +570,10 @@ __attribute__((used)) static void *const not_tried[] = {
     (void *)sigwait, (void *)sigwaitinfo, (void *)pthread_join, (void *)thrd_join};
 
 /* ---- Jumps, whose buffer no hook sees copied ---- */
-#ifdef __clang__
-__attribute__((no_sanitize("thread", "coverage")))
-#else
-__attribute__((no_sanitize("thread")))
-#endif
-static void *
-unseen_copy(void *to, const void *from) {
-    for (size_t at = 0; at < sizeof(jmp_buf); at++)
-        ((char *)to)[at] = ((const char *)from)[at];
+static void *unseen_copy(void *to, const void *from) {
+    void *end = to;
+    size_t bytes = sizeof(jmp_buf);
+    __asm__ volatile("rep movsb" : "+D"(end), "+S"(from), "+c"(bytes) : : "memory");
     return to;
 }
 void __longjmp_chk(jmp_buf from, int value) __attribute__((noreturn));
