@@ -58,7 +58,7 @@ fn router_calls<R: Abort>(rt: &R, alloc: Global, with: bool) -> Result<(), NoMem
         router.flush();
         assert_eq!(rt; taker.take(), Some(Item::One(placed)));
         let next = Placed { place: 2, ..placed };
-        assert_eq!(rt; router.send(next), Progress::Idle);
+        assert!(rt; router.send(next).is_ok());
         assert_eq!(rt; router.mark_all_step(), Progress::Moved);
         assert_eq!(rt; router.mark_all_step(), Progress::Idle);
         assert_eq!(rt; router.into_ends().len(), 1);
