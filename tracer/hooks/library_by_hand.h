@@ -158,6 +158,28 @@ BY_HAND(void, setbuf, FILE *stream, char *buffer) {
     __real_setbuf(stream, buffer);
 }
 
+/* Whatever is written by such a stream goes to the program's memory, or comes from there. */
+#define STREAM_OF_MEMORY(NAME) \
+    static bool told; \
+    if (tracing && !told) \
+        tell_incomplete(NAME " makes a stream of the program's memory, and what it does there later isn't seen"); \
+    told = tracing
+
+BY_HAND(FILE *, fmemopen, void *at, size_t size, const char *mode) {
+    STREAM_OF_MEMORY("fmemopen");
+    return __real_fmemopen(at, size, mode);
+}
+
+BY_HAND(FILE *, open_memstream, char **to, size_t *size) {
+    STREAM_OF_MEMORY("open_memstream");
+    return __real_open_memstream(to, size);
+}
+
+BY_HAND(FILE *, open_wmemstream, wchar_t **to, size_t *size) {
+    STREAM_OF_MEMORY("open_wmemstream");
+    return __real_open_wmemstream(to, size);
+}
+
 /* ---- Streams and descriptors ---- */
 
 BY_HAND(int, close, int file) {

@@ -556,6 +556,7 @@ SHARED(4, ungetwc(L'x', letters), (void)(getwc)(letters)) SHARED(4, (stdout = le
 SHARED(4, fseek(text, 0, SEEK_SET), rewind(text)) SHARED(4, fseeko(text, 0, SEEK_SET), fseeko64(text, 0, SEEK_SET))
 SHARED(4, NUMBER(lseek(fileno(letters), 0, SEEK_SET)), (void)lseek64(fileno(letters), 0, SEEK_SET))
 SHARED(4, NUMBER(read(fileno(letters), a, 1)), (void)!write(fileno(letters), "x", 1)) SHARED(0, NUMBER(read(fileno(letters), a, 1)), (fgetc)(letters))
+SHARED(0, fclose(open_memstream(&big, size)), (void)fclose(open_wmemstream(&wide, room)))
 SHARED(0, NUMBER(close(dup2(zeros, 50))), (void)close(dup3(zeros, 50, 0))) SHARED(0, fputs("x", nothing), puts("x"))
 SHARED(8, (fgetc)(text), fclose(text)) SHARED(8, (fgetc)(text), (getc_unlocked)(text)) SHARED(8, (fgetc)(text), clearerr_unlocked(text))
 SHARED(8, (flockfile(text), (getc_unlocked)(text), funlockfile(text)), (getc_unlocked)(text)) SHARED(4, (ftrylockfile(text), (fgetc)(text)), (funlockfile(text), (fgetc)(text)))

@@ -44,6 +44,10 @@ static void end(int who) {
     else
         fclose(file); /* [fclose] */
 }
+static void use_memory(int who) {
+    if (who == 0)
+        file = fmemopen(read_by, sizeof read_by, "w");
+}
 static void use_own_file(int who) {
     FILE *own = fopen("/dev/null", "w");
     fprintf(own, "%d\n", who);
@@ -63,7 +67,7 @@ static const struct {
 } uses[] = {
     {"printf", use_printf}, {"putchar", use_putchar}, {"file", use_file}, {"fread", use_fread}, {"write", use_write},
     {"unlocked", use_unlocked}, {"flockfile", use_flockfile}, {"global", use_global}, {"mix", mix}, {"fclose", end},
-    {"own file", use_own_file}, {"own descriptor", use_own_descriptor}, {"own streams", use_streams_of_own},
+    {"memory", use_memory}, {"own file", use_own_file}, {"own descriptor", use_own_descriptor}, {"own streams", use_streams_of_own},
 };
 
 int main(int count, char **words) {

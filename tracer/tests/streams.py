@@ -79,6 +79,12 @@ def check_what_takes_no_lock():
         same((0, [], []), found("streams", word, "order"))
 
 
+def check_streams_of_memory():
+    status, report = found_with("./streams", "memory", "order")
+    same((3, ["fmemopen makes a stream of the program's memory, and what it does there later isn't seen"]),
+         (status, report["incomplete"]))
+
+
 def check_streams_of_their_own():
     for word in ("own file", "own descriptor", "own streams"):
         same((0, [], []), found("streams", word, options=("--streams",)))
