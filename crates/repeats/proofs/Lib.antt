@@ -1,4 +1,7 @@
+mod Structure
 mod Lists
 mod Strands
 mod Nested
 mod Racy
+mod Needless
+mod Reordered

@@ -1,47 +1,17 @@
--- Where the records stand of which some go: their places, the records before them, sums and bags.
+-- Where the records stand of which some go: their places, and the records before them.
 use Rattle.std.proofs.Common.{◌≡◌, ℕ, zero, suc, ◌+◌, ◌<◌, ◌≤◌, Bool, true, false, cond, List, [], ◌∷◌, length, take, slice_get, Some, inl, inr, refl, sym, ap, subst, ◌∙◌, arith}
-use Rattle.std.specs.List.{sum_by}
 use Rattle.std.proofs.lemmas.Bool.{cases_Bool}
 use Rattle.std.proofs.Math.Seq.{take-length, take-nil}
-use Rattle.std.proofs.lemmas.List.Sums.{sum_by-append}
 use Rattle.dag.specs.declared.records.Record.{Record}
-use Rattle.dag.specs.Traces.{opens, closes, placed_from}
-use Rattle.bags.specs.Procedures.{Procedures, event, bags_from}
 use Rattle.repeats.specs.Repeats.{rest_from}
+use Rattle.repeats.specs.Strands.{is_structure}
+use Rattle.repeats.proofs.Structure.{structure, get-put, get-first, take-put, take-none, le-put, lt-put, lt-first}
 
 -- how many of the first t records stay
 abbrev pub passed : (ℕ → Bool) → ℕ → ℕ → List Record → ℕ
 passed stays i t w = length (rest_from stays i (take t w))
 
 -- one record in front, which stays or not
-
-get-put : (b : Bool) (x r : Record) (u v : List Record) → slice_get u (length v) ≡ Some r → slice_get (cond b (x ∷ u) u) (length (cond b (x ∷ v) v)) ≡ Some r
-get-put true x r u v h = h
-get-put false x r u v h = h
-
-get-first : (b : Bool) (x : Record) (u : List Record) → b ≡ true → slice_get (cond b (x ∷ u) u) 0 ≡ Some x
-get-first true x u e = refl
-get-first false x u e = absurd (cc)
-
-take-put : (b : Bool) (x : Record) (u v : List Record) → take (length v) u ≡ v → take (length (cond b (x ∷ v) v)) (cond b (x ∷ u) u) ≡ cond b (x ∷ v) v
-take-put true x u v h = ap (λ (z : List Record). x ∷ z) h
-take-put false x u v h = h
-
-take-none : (u : List Record) → take 0 u ≡ []
-take-none [] = refl
-take-none (x ∷ u) = refl
-
-le-put : (b : Bool) (x : Record) (u v : List Record) → length u ≤ length v → length (cond b (x ∷ u) u) ≤ length (cond b (x ∷ v) v)
-le-put true x u v h = omega arith
-le-put false x u v h = h
-
-lt-put : (b : Bool) (x : Record) (u v : List Record) → length u < length v → length (cond b (x ∷ u) u) < length (cond b (x ∷ v) v)
-lt-put true x u v h = omega arith
-lt-put false x u v h = h
-
-lt-first : (b : Bool) (x : Record) (v : List Record) → b ≡ true → 0 < length (cond b (x ∷ v) v)
-lt-first true x v e = omega arith
-lt-first false x v e = absurd (cc)
 
 le-one : (b : Bool) (x : Record) (v : List Record) → length (cond b (x ∷ v) v) ≤ suc (length v)
 le-one true x v = omega arith
@@ -140,67 +110,31 @@ pub rest-shorter : (stays : ℕ → Bool) (i : ℕ) (w : List Record) → length
 rest-shorter stays i [] = omega arith
 rest-shorter stays i (x ∷ w) = omega (arith, le-one (stays i) x (rest_from stays (suc i) w), rest-shorter stays (suc i) w)
 
--- a record that moves no bag and changes no depth
-pub record IsStill (r : Record) : Type 0 where
-  pub opens_none : opens r ≡ 0
-  pub closes_none : closes r ≡ 0
-  pub moves_none : (s : Procedures) → event s r ≡ s
+-- every record that goes is an access
+abbrev pub AccessesGo : (ℕ → Bool) → ℕ → List Record → Type 0
+AccessesGo stays i [] = Unit {0}
+AccessesGo stays i (r ∷ w) = (stays i ≡ false → is_structure r ≡ false) × AccessesGo stays (suc i) w
 
--- every record that goes is still
-abbrev pub StillGo : (ℕ → Bool) → ℕ → List Record → Type 0
-StillGo stays i [] = Unit {0}
-StillGo stays i (r ∷ w) = (stays i ≡ false → IsStill r) × StillGo stays (suc i) w
-
-pub still_go : (stays : ℕ → Bool) (i : ℕ) (w : List Record) → ((t : ℕ) (r : Record) → slice_get w t ≡ Some r → stays (i + t) ≡ false → IsStill r) → StillGo stays i w
-still_go stays i [] f = tt
-still_go stays i (x ∷ w) f = (
+pub accesses_go : (stays : ℕ → Bool) (i : ℕ) (w : List Record) → ((t : ℕ) (r : Record) → slice_get w t ≡ Some r → stays (i + t) ≡ false → is_structure r ≡ false) → AccessesGo stays i w
+accesses_go stays i [] f = tt
+accesses_go stays i (x ∷ w) f = (
   (λ n. let e : i ≡ i + 0 = omega arith in f 0 x refl (subst (λ (z : ℕ). stays z ≡ false) e n)),
-  still_go stays (suc i) w (λ t r g n. let e : suc i + t ≡ i + suc t = omega arith in f (suc t) r g (subst (λ (z : ℕ). stays z ≡ false) e n)),
+  accesses_go stays (suc i) w (λ t r g n. let e : suc i + t ≡ i + suc t = omega arith in f (suc t) r g (subst (λ (z : ℕ). stays z ≡ false) e n)),
 )
 
-pub still-take : (stays : ℕ → Bool) (i t : ℕ) (w : List Record) → StillGo stays i w → StillGo stays i (take t w)
-still-take stays i zero w h = subst (StillGo stays i) (sym (take-none w)) tt
-still-take stays i (suc t) [] h = tt
-still-take stays i (suc t) (x ∷ w) h = (h.0, still-take stays (suc i) t w h.1)
+accesses-take : (stays : ℕ → Bool) (i t : ℕ) (w : List Record) → AccessesGo stays i w → AccessesGo stays i (take t w)
+accesses-take stays i zero w h = subst (AccessesGo stays i) (sym (take-none w)) tt
+accesses-take stays i (suc t) [] h = tt
+accesses-take stays i (suc t) (x ∷ w) h = (h.0, accesses-take stays (suc i) t w h.1)
 
-sum-put : (f : Record → ℕ) (b : Bool) (x : Record) (u v : List Record) → (b ≡ false → f x ≡ 0) → sum_by f u ≡ sum_by f v → sum_by f (cond b (x ∷ u) u) ≡ sum_by f (x ∷ v)
-sum-put f true x u v n h = omega (arith, sum_by-append f (x ∷ []) u, sum_by-append f (x ∷ []) v)
-sum-put f false x u v n h = let e : f x ≡ 0 = n refl in omega (arith, sum_by-append f (x ∷ []) v)
+structure-put : (b : Bool) (x : Record) (u v : List Record) → (b ≡ false → is_structure x ≡ false) → structure u ≡ structure v → structure (cond b (x ∷ u) u) ≡ structure (x ∷ v)
+structure-put true x u v n h = ap (λ (z : List Record). cond (is_structure x) (x ∷ z) z) h
+structure-put false x u v n h = h ∙ sym (ap (λ (c : Bool). cond c (x ∷ structure v) (structure v)) (n refl))
 
-pub rest-opens : (stays : ℕ → Bool) (i : ℕ) (w : List Record) → StillGo stays i w → sum_by opens (rest_from stays i w) ≡ sum_by opens w
-rest-opens stays i [] h = refl
-rest-opens stays i (x ∷ w) h = sum-put opens (stays i) x (rest_from stays (suc i) w) w (λ n. (h.0 n).opens_none) (rest-opens stays (suc i) w h.1)
+rest-structure : (stays : ℕ → Bool) (i : ℕ) (w : List Record) → AccessesGo stays i w → structure (rest_from stays i w) ≡ structure w
+rest-structure stays i [] h = refl
+rest-structure stays i (x ∷ w) h = structure-put (stays i) x (rest_from stays (suc i) w) w h.0 (rest-structure stays (suc i) w h.1)
 
-pub rest-closes : (stays : ℕ → Bool) (i : ℕ) (w : List Record) → StillGo stays i w → sum_by closes (rest_from stays i w) ≡ sum_by closes w
-rest-closes stays i [] h = refl
-rest-closes stays i (x ∷ w) h = sum-put closes (stays i) x (rest_from stays (suc i) w) w (λ n. (h.0 n).closes_none) (rest-closes stays (suc i) w h.1)
-
--- the bags after records, whatever their places
-events : Procedures → List Record → Procedures
-events s [] = s
-events s (r ∷ w) = events (event s r) w
-
-bags-events : (s : Procedures) (i t : ℕ) (w : List Record) → bags_from s (take t (placed_from i w)) ≡ events s (take t w)
-unfolding events
-bags-events s i zero [] = refl
-bags-events s i zero (x ∷ w) = refl
-bags-events s i (suc t) [] = refl
-bags-events s i (suc t) (x ∷ w) = bags-events (event s x) (suc i) t w
-
-events-put : (b : Bool) (s : Procedures) (x : Record) (u v : List Record) → (b ≡ false → event s x ≡ s) → ((z : Procedures) → events z u ≡ events z v) → events s (cond b (x ∷ u) u) ≡ events s (x ∷ v)
-unfolding events
-events-put true s x u v n h = h (event s x)
-events-put false s x u v n h = h s ∙ ap (λ (z : Procedures). events z v) (sym (n refl))
-
-rest-events : (stays : ℕ → Bool) (i : ℕ) (w : List Record) → StillGo stays i w → (s : Procedures) → events s (rest_from stays i w) ≡ events s w
-rest-events stays i [] h s = refl
-rest-events stays i (x ∷ w) h s = events-put (stays i) s x (rest_from stays (suc i) w) w (λ n. (h.0 n).moves_none s) (rest-events stays (suc i) w h.1)
-
--- the bags are the same after the first t records, and after those of them that stay
-pub rest-bags : (s : Procedures) (stays : ℕ → Bool) (i t : ℕ) (w : List Record) → StillGo stays i w
-    → bags_from s (take (passed stays i t w) (placed_from i (rest_from stays i w))) ≡ bags_from s (take t (placed_from i w))
-rest-bags s stays i t w h =
-    bags-events s i (passed stays i t w) (rest_from stays i w)
-    ∙ (ap (events s) (rest-take stays i t w)
-    ∙ (rest-events stays i (take t w) (still-take stays i t w h) s
-    ∙ sym (bags-events s i t w)))
+-- the same structure records stand among the first t records, and among those of them that stay
+pub passed-structure : (stays : ℕ → Bool) (i t : ℕ) (w : List Record) → AccessesGo stays i w → structure (take (passed stays i t w) (rest_from stays i w)) ≡ structure (take t w)
+passed-structure stays i t w h = ap structure (rest-take stays i t w) ∙ rest-structure stays i (take t w) (accesses-take stays i t w h)

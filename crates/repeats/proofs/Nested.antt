@@ -1,39 +1,25 @@
 -- Where only accesses go the rest of a well nested trace is well nested.
-use Rattle.std.proofs.Common.{◌≡◌, ℕ, zero, suc, ◌+◌, ◌-◌, ◌<◌, ◌≤◌, Bool, true, false, List, length, take, Some, inl, inr, refl, sym, ap, subst, ◌∙◌, arith}
-use Rattle.std.specs.List.{sum_by}
+use Rattle.std.proofs.Common.{◌≡◌, ℕ, zero, suc, ◌+◌, ◌-◌, ◌<◌, ◌≤◌, Bool, true, false, List, length, Some, inl, inr, sym, ap, subst, ◌∙◌, arith}
 use Rattle.std.proofs.lemmas.Bool.{cases_Bool, cases_lt}
 use Rattle.dag.specs.declared.records.Record.{Record}
-use Rattle.dag.specs.declared.records.Record.TheVariants.{Return, Read, Write}
-use Rattle.dag.specs.Traces.{at, depth, opens, closes, IsPlace, IsRootReturn, IsWellNested}
+use Rattle.dag.specs.declared.records.Record.TheVariants.{Return}
+use Rattle.dag.specs.Traces.{at, depth, IsPlace, IsRootReturn, IsWellNested}
 use Rattle.dag.specs.Races.{IsAccessPlace}
 use Rattle.dag.proofs.Lists.{element_at}
 use Rattle.dag.proofs.Paths.{IsPlace-at}
-use Rattle.repeats.specs.Repeats.{IsRepeat, RepeatsGo, rest}
-use Rattle.repeats.proofs.Lists.{passed, IsStill, StillGo, still_go, still-take, rest-at, rest-take, rest-opens, rest-closes, rest-shorter, passed-le, passed-next, passed-all, comes_from}
+use Rattle.repeats.specs.Repeats.{rest}
+use Rattle.repeats.proofs.Structure.{same_depth}
+use Rattle.repeats.proofs.Strands.{no_structure}
+use Rattle.repeats.proofs.Lists.{passed, AccessesGo, accesses_go, passed-structure, rest-at, rest-shorter, passed-le, passed-next, passed-all, comes_from}
 
-read_still : (l : ℕ) → IsStill (Read l)
-read_still l = record { opens_none = refl; closes_none = refl; moves_none = λ s. refl }
+-- each place that doesn't stay holds an access
+abbrev pub AccessPlacesGo : List Record → (ℕ → Bool) → Type 0
+AccessPlacesGo w stays = (k : ℕ) → IsPlace w k → stays k ≡ false → IsAccessPlace w k
 
-write_still : (l : ℕ) → IsStill (Write l)
-write_still l = record { opens_none = refl; closes_none = refl; moves_none = λ s. refl }
-
-access_still : (w : List Record) (i : ℕ) (r : Record) → IsAccessPlace w i → at w i ≡ Some r → IsStill r
-access_still w i r (l, inl e) a = let f : Read l ≡ r = cc in subst IsStill f (read_still l)
-access_still w i r (l, inr e) a = let f : Write l ≡ r = cc in subst IsStill f (write_still l)
-
-repeat_still : (w : List Record) (i : ℕ) (r : Record) → IsRepeat w i → at w i ≡ Some r → IsStill r
-repeat_still w i r b a = access_still w i r (b.location, b.second) a
-
-pub repeats_still : (w : List Record) (stays : ℕ → Bool) → RepeatsGo w stays → StillGo stays 1 w
-repeats_still w stays go = still_go stays 1 w (λ t r g n.
+pub access_places_go : (w : List Record) (stays : ℕ → Bool) → AccessPlacesGo w stays → AccessesGo stays 1 w
+access_places_go w stays go = accesses_go stays 1 w (λ t r g n.
     (let e : 1 + t ≡ suc t = omega arith in
-    repeat_still w (suc t) r (go (suc t) (IsPlace-at w (suc t) r g) (subst (λ (z : ℕ). stays z ≡ false) e n)) g))
-
-depth-rest : (w : List Record) (stays : ℕ → Bool) → StillGo stays 1 w → (t : ℕ) → depth (rest stays w) (suc (passed stays 1 t w)) ≡ depth w (suc t)
-depth-rest w stays h t =
-    let k = still-take stays 1 t w h in
-    ap (λ (u : List Record). sum_by opens u - sum_by closes u) (rest-take stays 1 t w)
-    ∙ (λ i. rest-opens stays 1 (take t w) k i - rest-closes stays 1 (take t w) k i)
+    no_structure w (suc t) r (go (suc t) (IsPlace-at w (suc t) r g) (subst (λ (z : ℕ). stays z ≡ false) e n)) g))
 
 -- what stands at a place of the rest
 pub record CameFrom (w : List Record) (stays : ℕ → Bool) (p : ℕ) : Type 0 where
@@ -48,17 +34,14 @@ came_from w stays p h =
     let c = comes_from stays 1 w p q.0 q.1 in
     record { t = c.t; same = c.there ∙ sym q.1; place = IsPlace-at w (suc c.t) q.0 c.there; counts = c.counts }
 
-no_return_still : IsStill Return → ⊥
-no_return_still s = let e = s.closes_none in absurd (omega arith)
-
-module _ (w : List Record) (n d : ℕ) (stays : ℕ → Bool) (h : IsWellNested w n d) (go : RepeatsGo w stays) (t : ℕ) (e : suc t ≡ length w) where
+module _ (w : List Record) (n d : ℕ) (stays : ℕ → Bool) (h : IsWellNested w n d) (go : AccessPlacesGo w stays) (t : ℕ) (e : suc t ≡ length w) where
   last_return : at w (suc t) ≡ Some Return
   last_return = subst (λ (z : ℕ). at w z ≡ Some Return) (sym e) h.last.a_return
 
   last_stays : stays (suc t) ≡ true
   last_stays = elim (cases_Bool (stays (suc t))) [
     | inl y ↦ y
-    | inr f ↦ absurd (no_return_still (repeat_still w (suc t) Return (go (suc t) (IsPlace-at w (suc t) Return last_return) f) last_return))
+    | inr f ↦ (let n : true ≡ false = no_structure w (suc t) Return (go (suc t) (IsPlace-at w (suc t) Return last_return) f) last_return in absurd (cc))
   ]
 
   rest_return : at (rest stays w) (suc (passed stays 1 t w)) ≡ Some Return
@@ -71,7 +54,7 @@ module _ (w : List Record) (n d : ℕ) (stays : ℕ → Bool) (h : IsWellNested 
       omega (arith, a.1, b, passed-next stays 1 t w)
 
   rest_depth : (s : ℕ) → depth (rest stays w) (suc (passed stays 1 s w)) ≡ depth w (suc s)
-  rest_depth s = depth-rest w stays (repeats_still w stays go) s
+  rest_depth s = same_depth (rest stays w) w (passed stays 1 s w) s (passed-structure stays 1 s w (access_places_go w stays go))
 
   rest_last : IsRootReturn (rest stays w) (length (rest stays w))
   rest_last = subst (IsRootReturn (rest stays w)) (sym rest_length) (record { a_return = rest_return; at_zero = rest_depth t ∙ (ap (depth w) e ∙ h.last.at_zero) })
@@ -104,5 +87,5 @@ module _ (w : List Record) (n d : ℕ) (stays : ℕ → Bool) (h : IsWellNested 
     not_too_deep = λ i l. rest_not_too_deep i l;
   }
 
-pub rest-nested : (w : List Record) (n d : ℕ) (stays : ℕ → Bool) → IsWellNested w n d → RepeatsGo w stays → IsWellNested (rest stays w) n d
+pub rest-nested : (w : List Record) (n d : ℕ) (stays : ℕ → Bool) → IsWellNested w n d → AccessPlacesGo w stays → IsWellNested (rest stays w) n d
 rest-nested w n d stays h go = rest_nested w n d stays h go (length w - 1) (omega (arith, h.some))
