@@ -11,6 +11,8 @@ COMPARISONS = {"<": ">", ">": "<", "<=": ">=", ">=": "<=", "!=": "!="}
 LOOSER = {"&&", "||", "?", ":", ",", "&", "^", "|", "==", "!=", "=", "+=", "-=", "*=", "/=", "%=", "&=", "|=", "^=", "<<=",
           ">>="}
 OUTLINES = {"gcc": "#pragma omp task default(shared)", "clang": "#pragma clang __debug captured"}
+# In C++, what keeps the exceptions of children until their parent waits for them.
+KEEPS = "__spbags_frame __spbags_here;"
 # gcc calls its runtime for a task, and here the hooks.
 INSTEAD_OF_TASK = '\n__asm__("GOMP_task = __spbags_task");\n'
 
@@ -129,8 +131,8 @@ def check_exits(tokens, first, last):
 class Loop:
     """A loop: its variable, the end that this is compared with, and the step."""
 
-    def __init__(self, text, tokens, at, language):
-        self.text, self.tokens, self.at, self.language = text, tokens, at, language
+    def __init__(self, text, tokens, at, language, waiting):
+        self.text, self.tokens, self.at, self.language, self.waiting = text, tokens, at, language, waiting
         self.opening = at + 1
         self.closing = tokens[self.opening].partner
         if tokens[self.opening].text != "(" or self.closing is None:
@@ -232,10 +234,13 @@ class Loop:
         if self.step:
             made.append(f"{auto} __spbags_step = {value.format(self.step)};")
         moved = f"{name}{self.operator}{' __spbags_step' if self.step else ''}"
-        made += [f"{entered(self.tokens[self.at])} long __spbags_number = 0;",
+        made += [f"{entered(self.tokens[self.at])} {self.keeps(self.at)} long __spbags_number = 0;",
                  f"for (; {name} {self.comparison} __spbags_end; {moved}, (void)0, __spbags_number++) {{"]
         made += self.lambda_header() if is_cplusplus else self.outlined_header()
         return self.here + " ".join(made) + self.tokens[self.closing].marker()
+
+    def keeps(self, at):
+        return KEEPS if at in self.waiting else ""
 
     def outlined_header(self):
         name = self.name
@@ -247,13 +252,17 @@ class Loop:
                 f"{{ __typeof__({name}) {name} = (__typeof__({name}))__spbags_counter(); do"]
 
     def lambda_header(self):
-        return [f"auto __spbags_body = [&, {self.name}]() mutable __attribute__((noipa)) {{ do"]
+        keeps = self.keeps(self.closing)
+        return [f"auto __spbags_body = [&, {self.name}]() mutable __attribute__((noipa)) {{ {keeps} do"]
 
     def footer(self):
         end = "while (0); } __spbags_return(0, 0); } }"
         if self.language == "c++":
-            end = (f"while (0); }}; __spbags_iteration(0, __spbags_shown({self.name}, __spbags_number)); __spbags_body(); "
-                   "__spbags_return(&__spbags_body, sizeof __spbags_body); } }")
+            run = "__spbags_body(); __spbags_return(&__spbags_body, sizeof __spbags_body);"
+            if self.at in self.waiting:
+                run = (f"try {{ {run} }} catch (...) {{ __spbags_ending __spbags_ended{{\"\", &__spbags_body, "
+                       "sizeof __spbags_body}; __spbags_here.keep(__spbags_ended); }")
+            end = f"while (0); }}; __spbags_iteration(0, __spbags_shown({self.name}, __spbags_number)); {run} }} }}"
         return self.here + end + self.tokens[self.last].marker()
 
     def edits(self):

@@ -1,6 +1,6 @@
 """Reducers that are members of structs: which struct has one, and where an expression names it. Whether an expression
-`x.name` names such a member the compiler finds out: in C by the type of `x`, in C++ by a function that the class has
-beside the member."""
+`x.name` or `X::name` names such a member the compiler finds out: in C by the type of `x`, in C++ by a function that the
+class has beside the member."""
 from tokens import Refused, statement_start
 
 CLASSES = {"struct", "union", "class"}
@@ -43,6 +43,19 @@ def operand_start(tokens, last):
             return at
 
 
+def qualified_start(tokens, at):
+    """The first token of the name that ends here, with what qualifies it."""
+    while tokens[at - 1].text == "::":
+        before, depth = at - 2, 0
+        while tokens[before].text in (">", ">>") or depth > 0:
+            depth += {">": 1, ">>": 2, "<": -1}.get(tokens[before].text, 0)
+            before -= 1
+        if tokens[before].kind != "word" or tokens[before].text in BEFORE_OPERANDS:
+            return at - 1
+        at = before
+    return at
+
+
 def is_call(tokens, last):
     """Whether a call ends here, whose result has no address."""
     if tokens[last].text != ")":
@@ -75,8 +88,12 @@ def note_of(owners, operand, arrow, name, language):
     """An expression for the note of the member with this name, if the operand has such a member that is a reducer."""
     address = f"&*({operand})" if arrow else f"&({operand})"
     if language == "c++":
-        address = f"__builtin_addressof({'*' if arrow else ''}({operand}))"
-        return f"__spbags_note([](auto *at) -> decltype(at->__spbags_note_{name}()) " \
-               f"{{ return at->__spbags_note_{name}(); }}, static_cast<decltype({address})>(nullptr), 0)"
+        return note_of_class(f"decltype(__builtin_addressof({'*' if arrow else ''}({operand})))", name)
     notes = [f"{kind}{owner} *: (const char *){note}" for owner, note in owners for kind in ("", "const ")]
     return f"_Generic({address}, {', '.join(notes)}, default: __spbags_no_reducer)"
+
+
+def note_of_class(pointer, name):
+    """The same of the class to which this type points."""
+    return f"__spbags_note([](auto *at) -> decltype(at->__spbags_note_{name}()) " \
+           f"{{ return at->__spbags_note_{name}(); }}, static_cast<{pointer}>(nullptr), 0)"

@@ -1,6 +1,6 @@
-"""The reducers of OpenCilk in a preprocessed source, `T _Hyperobject(identity, reduce) name = init;`, and what stands
-for each use of their names: the address of the view, by a hook that says whether the use updates the view or reads or
-sets its value.
+"""The reducers of OpenCilk in a preprocessed source, `T _Hyperobject(identity, reduce) name = init;`, pointers and
+references to some, and what stands for each use of their names: the address of the view, by a hook that says whether the
+use updates the view or reads or sets its value.
 
 A statement that changes the name by `+=`, `++` and the like, by `name = ..` with the name on the right too, or that
 hands its address to a function, updates the view, and so does `if (.. name ..) name = ..`. Any other use of the name
@@ -8,7 +8,7 @@ reads or sets the value."""
 import re
 
 from loops import statement_end
-from members import bodies_of, is_call, note_of, operand_start, owner_of, spelled
+from members import bodies_of, is_call, note_of, note_of_class, operand_start, owner_of, qualified_start, spelled
 from tokens import (CONTROLS, Refused, after_postfixes, arguments_of, is_in_block, statement_start, tokens_of)
 
 KEYWORD = "_Hyperobject"
@@ -27,8 +27,27 @@ BEFORE_VALUES = set("return else do case goto sizeof throw new delete co_return 
 UNEVALUATED = {"sizeof", "_Alignof", "alignof", "__alignof__", "typeof", "__typeof__", "__typeof", "decltype"}
 STATEMENTS = {"if", "while", "for", "switch", "return", "static_cast", "const_cast", "reinterpret_cast", "sizeof"}
 CLASSES = {"struct", "union", "class", "enum"}
+# What a pointer to a reducer may have beside it where it is compared, assigned or handed over.
+BEFORE_POINTERS = {"(", ",", ";", "{", "}", "!", "==", "!=", "=", "&&", "||"}
+AFTER_POINTERS = {")", ",", ";", "?", "==", "!=", "=", "&&", "||"}
+ADDRESS_OF = {"__builtin_addressof", "addressof"}
 # What a function may be made of that touches its parameters alone.
 PLAIN_WORDS = SCALARS | {"const", "void", "if", "else", "return", "static_cast", "reinterpret_cast", "auto"}
+
+
+def parameter_start(tokens, at):
+    """The first token of the parameter in which this stands."""
+    around = tokens[at].around
+    while at - 1 > around and (tokens[at - 1].text != "," or tokens[at - 1].around != around):
+        at -= 1
+    return at
+
+
+def place_in_call(tokens, at):
+    """The name of the function in whose brackets the argument or parameter stands that begins here, and its number."""
+    around = tokens[at].around
+    number = sum(token.text == "," and token.around == around for token in tokens[around:at])
+    return tokens[around - 1].text, number
 
 
 def header_start(tokens, brace):
@@ -75,21 +94,22 @@ class Reducer:
         self.tokens, self.keyword, self.language = tokens, at, language
         token = tokens[at]
         around = token.around
-        if around is not None and tokens[around].text != "{":
-            raise Refused(token, "a reducer can't be traced here: declare it as a variable, in a statement of its own")
+        self.is_parameter = around is not None and tokens[around].text == "("
         self.is_member = around is not None and is_of(tokens, around, CLASSES)
         self.owner = owner_of(tokens, around, at) if self.is_member and language != "c++" else None
         self.struct_end = outermost_end(tokens, around) if self.is_member else None
-        self.first = statement_start(tokens, at)
+        self.first = parameter_start(tokens, at) if self.is_parameter else statement_start(tokens, at)
         self.monoid_end = tokens[at + 1].partner if tokens[at + 1].text == "(" else at
         words = self.declarator()
+        if around is not None and tokens[around].text != "{" and (
+                not (self.is_parameter and self.indirect) or tokens[around - 1].text in CONTROLS | {"catch"}):
+            raise Refused(token, "a reducer can't be traced here: declare it as a variable, in a statement of its own")
         self.is_global = is_global(tokens, at)
         is_static = bool({"static", "extern"} & set(words))
-        if self.is_member and is_static:
-            raise Refused(token, "a static member that is a reducer can't be traced: declare it as a variable")
-        self.is_automatic = not self.is_global and not self.is_member and not is_static
-        self.is_scalar = is_scalar([word for word in words if word not in STORAGE])
-        self.end = len(tokens) if self.is_global else tokens[around].partner
+        self.is_static_member = self.is_member and is_static
+        self.is_automatic = not (self.is_global or self.is_member or is_static or self.indirect)
+        self.is_scalar = is_scalar([word for word in words if word not in STORAGE | {self.indirect}])
+        self.end = len(tokens) if self.is_global else scope_end(tokens, at)
         self.given = arguments_of(tokens, at + 1) if self.monoid_end > at else []
         given = {tokens[first].text for first, _ in self.given}
         self.is_older = language != "c++" and given in (set(), {"0"})
@@ -99,16 +119,23 @@ class Reducer:
         """Finds the name and the end of the declaration; gives the words of its type."""
         tokens, at = self.tokens, self.keyword
         token, around = tokens[at], tokens[at].around
-        stop = next(after for after in range(self.monoid_end + 1, len(tokens))
-                    if tokens[after].text in ("=", ";", ",", "{", "[", "(") and tokens[after].around == around)
+        end = tokens[around].partner if self.is_parameter else None
+        stop = next(after for after in range(self.monoid_end + 1, len(tokens)) if after == end or
+                    tokens[after].text in ("=", ";", ",", "{", "[", "(") and tokens[after].around == around)
         before = [other.text for other in tokens[self.first:at]]
         after = [other.text for other in tokens[self.monoid_end + 1:stop]]
         self.name_at = stop - 1
         self.name = tokens[self.name_at].text
-        if {"typedef", "using"} & set(before) or tokens[stop].text == "," or "*" in after or "&" in after or \
-                tokens[self.name_at].kind != "word" or (tokens[stop].text == "(" and self.language != "c++"):
+        # Of a pointer or a reference to a reducer its mark; a parameter, or a type in a cast, may have no name.
+        signs = [text for text in after if text in ("*", "&", "&&")]
+        self.indirect = signs[0] if signs else ""
+        self.is_definition = tokens[self.name_at - 1].text == "::"
+        is_named = tokens[self.name_at].kind == "word" or self.is_parameter and self.indirect == self.name
+        if {"typedef", "using"} & set(before) or not is_named or len(signs) > 1 or self.is_member and signs or \
+                tokens[stop].text == "," and not self.is_parameter or \
+                tokens[stop].text in ("(", "[") and (signs or self.language != "c++" and tokens[stop].text == "("):
             raise Refused(token, "this reducer can't be traced: declare one variable `type cilk_reducer(identity, "
-                                 "reduce) name', neither a pointer nor a type")
+                                 "reduce) name', or a pointer to one that is no member")
         if {"thread_local", "_Thread_local", "__thread"} & set(before + after):
             raise Refused(token, "a reducer that is local to a thread can't be traced")
         # An array has so many subscripts.
@@ -116,6 +143,9 @@ class Reducer:
         while tokens[stop].text == "[":
             self.subscripts += 1
             stop = tokens[stop].partner + 1
+        if self.is_parameter:
+            self.last = self.name_at
+            return before + after[:-1]
         self.last = next(after for after in range(stop, len(tokens))
                          if tokens[after].text == ";" and tokens[after].around == around)
         if any(tokens[other].text == "," and tokens[other].around == around for other in range(stop, self.last)):
@@ -269,14 +299,13 @@ class Use:
 
     def __init__(self, reducer, tokens, at, operand=None):
         self.reducer, self.tokens = reducer, tokens
-        self.first = self.last = self.name_at = at
+        self.first, self.last, self.name_at = qualified_start(tokens, at), at, at
         self.operand = operand  # where the operand of `.` or `->` begins
-        while tokens[self.first - 1].text == "::" and tokens[self.first - 2].kind == "word":
-            self.first -= 2
-        if tokens[self.first - 1].text == "::":
-            self.first -= 1
+        self.arrow = None       # the token behind a pointer to a reducer, where that is `->`
         if operand is not None:
             self.first = operand
+        # Whether this names the reducer and doesn't touch its view.
+        self.is_name = reducer.indirect == "*" and not self.follow()
         for _ in range(reducer.subscripts):
             if tokens[self.last + 1].text != "[":
                 raise Refused(tokens[at], f"this can't be traced: name one element of the reducers {reducer.name}")
@@ -296,9 +325,26 @@ class Use:
         self.region = region_of(tokens, first)
         self.changes = self.way()
 
+    def follow(self):
+        """Whether this names what a pointer points to; then also finds the whole of that."""
+        tokens, at = self.tokens, self.name_at
+        following, before = tokens[at + 1].text, tokens[self.first - 1].text
+        if following == "[":
+            self.last = tokens[at + 1].partner
+        elif following == "->":
+            self.arrow = at + 1
+        elif before == "*" and is_prefix(tokens, self.first - 1) and following not in ("++", "--", "(", "."):
+            self.first -= 1
+        elif following in AFTER_POINTERS and before in BEFORE_POINTERS:
+            return False
+        else:
+            raise Refused(tokens[at], f"this can't be traced: name what the pointer {self.reducer.name} points to by `*', "
+                                      "`[..]' or `->'")
+        return True
+
     def key(self):
         """What uses of one view in one expression have in common."""
-        if self.operand is None and self.reducer.subscripts == 0:
+        if self.operand is None and self.reducer.subscripts == 0 and not self.reducer.indirect:
             return self.region, self.reducer.name
         return self.region, spelled(self.tokens, self.first, self.name_end)
 
@@ -331,12 +377,17 @@ def is_prefix(tokens, at):
     before = tokens[at - 1]
     if before.kind == "word":
         return before.text in BEFORE_VALUES
-    return before.kind == "mark" and before.text not in (")", "]") or before.text == ")" and is_cast(tokens, at - 1)
+    if before.text == ")":
+        return before.partner is not None and (is_cast(tokens, at - 1) or is_control(tokens, before.partner))
+    return before.kind == "mark" and before.text != "]"
 
 
 def is_cast(tokens, closing):
     opening = tokens[closing].partner
-    return opening is not None and tokens[closing - 1].text == "*" and tokens[opening - 1].kind != "word"
+    if opening is None or tokens[opening - 1].kind == "word":
+        return False
+    words = [token.text for token in tokens[opening + 1:closing]]
+    return words[-1:] == ["*"] or words == ["void"] or is_scalar(words)
 
 
 def is_argument(tokens, at):
@@ -392,10 +443,11 @@ class Rewriting:
         self.text, self.language, self.tokens = text, language, tokens_of(text)
         self.edits, self.faults, self.aliases = [], [], set()
         self.types = types_in(self.tokens)
+        self.namespaces = {self.tokens[at + 1].text for at, token in enumerate(self.tokens[:-1]) if token.text == "namespace"}
 
-    def edit(self, first, end, instead):
-        """Puts something in place of the text between these."""
-        self.edits.append((first, end, instead))
+    def edit(self, first, end, instead, before=0):
+        """Puts something in place of the text between these; what comes before others has the lesser number."""
+        self.edits.append((first, end, before, instead))
 
     def rewritten(self):
         found = []
@@ -410,6 +462,12 @@ class Rewriting:
         uses = []
         for reducer in found:
             self.declare(reducer)
+        self.defined = {reducer.name_at for reducer in found if reducer.is_definition}
+        indirect = [reducer for reducer in found if reducer.indirect]
+        self.parameters = {(*place_in_call(self.tokens, reducer.first), reducer.indirect) for reducer in indirect
+                           if reducer.is_parameter}
+        self.names = {(reducer.name, reducer.indirect) for reducer in indirect}
+        found = [reducer for reducer in found if not reducer.is_definition and reducer.name != reducer.indirect]
         for reducer in found:
             if not reducer.is_member:
                 uses += self.uses_of(reducer, found, reducer.last + 1, reducer.end)
@@ -422,7 +480,7 @@ class Rewriting:
     def applied(self, start, stop):
         """This part of the text with its edits."""
         made, done = [], start
-        for first, end, instead in sorted(self.edits):
+        for first, end, _, instead in sorted(self.edits):
             if start <= first and end <= stop and first >= done:
                 made += [self.text[done:first], instead]
                 done = end
@@ -434,6 +492,8 @@ class Rewriting:
         tokens = self.tokens
         cleanup = "__attribute__((cleanup(__spbags_reducer_end))) " if reducer.is_automatic else ""
         self.edit(tokens[reducer.keyword].start, tokens[reducer.monoid_end].end, cleanup)
+        if reducer.indirect or reducer.is_definition:
+            return
         name, end = reducer.name, tokens[reducer.last].end
         used = "".join(f" (void){function};" for function in reducer.functions())
         if reducer.is_automatic:
@@ -458,8 +518,8 @@ class Rewriting:
     # ---- Uses ----
 
     def member_uses(self, members, reducers):
-        """Those of this name behind `.` and `->`, and in C++ the name alone in functions of its class."""
-        tokens = self.tokens
+        """Those of this name behind `.` and `->`, and in C++ behind `::` and the name alone in functions of its class."""
+        tokens, inside = self.tokens, set()
         for at in range(members[0].last + 1, len(tokens)):
             if tokens[at].text != members[0].name or tokens[at - 1].text not in (".", "->"):
                 continue
@@ -470,15 +530,50 @@ class Rewriting:
         for member in members if self.language == "c++" else []:
             around = tokens[member.keyword].around
             for first, last in [(around, tokens[around].partner), *bodies_of(tokens, around)]:
+                inside.update(range(first, last))
                 yield from self.uses_of(member, reducers, first, last)
+        for at in range(members[0].last + 1, len(tokens)):
+            if any(member.is_static_member for member in members) and tokens[at].text == members[0].name and \
+                    at not in inside | self.defined and self.is_of_class(at) and not self.is_unevaluated(at):
+                yield from self.use(members, at)
+
+    def is_of_class(self, at):
+        """Whether the name of a class, and not of a namespace, qualifies the name of a variable here."""
+        tokens, first = self.tokens, qualified_start(self.tokens, at)
+        if tokens[at - 1].text != "::" or first == at - 1 or tokens[at + 1].text == "(":
+            return False
+        return tokens[at - 2].text not in self.namespaces and tokens[first].text != "std" and \
+            tokens[first - 1].text not in ("typename", "using")
 
     def use(self, members, at, operand=None):
         try:
             use = Use(members[0], self.tokens, at, operand)
-            use.members = members
-            yield use
         except Refused as refused:
             self.faults.append(f"{refused.token.place()}: error: {refused}")
+            return
+        use.members = members
+        tokens, (first, last) = self.tokens, use.outer
+        if use.is_name:
+            if tokens[first - 1].text == "=" and not self.is_received(first, last, "*"):
+                self.refuse(at, f"the pointer {use.reducer.name} can't be traced here: what gets it is no pointer to a reducer")
+            return
+        # The address of the reducer, and not that of its view.
+        if tokens[first - 2].text in ADDRESS_OF and tokens[first - 1].text == "(":
+            if self.language != "c++":
+                self.edit(tokens[first - 2].start, tokens[first - 2].end, "&")
+            if self.is_received(qualified_start(tokens, first - 2), last + 1, "*"):
+                return
+            use.changes = "keep"
+        if not self.is_received(first, last, "&"):
+            yield use
+
+    def is_received(self, first, last, sign):
+        """Whether what gets this expression is a pointer or a reference to a reducer."""
+        tokens = self.tokens
+        if tokens[first - 1].text == "=":
+            return (tokens[first - 2].text, sign) in self.names
+        return tokens[first - 1].text in ("(", ",") and tokens[last + 1].text in (",", ")") and \
+            tokens[first].around is not None and (*place_in_call(tokens, first), sign) in self.parameters
 
     def uses_of(self, reducer, reducers, at, end):
         """Those of this name from here on that aren't of another variable."""
@@ -488,7 +583,7 @@ class Rewriting:
             if tokens[at].text != reducer.name or tokens[at].kind != "word":
                 at += 1
                 continue
-            if at == reducer.name_at:
+            if at == reducer.name_at or at in self.defined:
                 at += 1
                 continue
             if at in others:
@@ -499,7 +594,7 @@ class Rewriting:
             before = tokens[at - 1].text
             if before in (".", "->") or self.is_unevaluated(at) or (before == "&" and self.is_capture(at - 1)):
                 at += 1
-            elif self.is_capture(at):
+            elif self.is_capture(at) and reducer.indirect != "*":
                 self.refuse(at, f"a lambda can't be traced that has a copy of the reducer {reducer.name}")
                 at += 1
             elif before != "::" and declares(tokens, at, self.types):
@@ -572,12 +667,13 @@ class Rewriting:
 
     def put(self, use, updates):
         tokens, reducer = self.tokens, use.reducer
-        name = spelled(tokens, use.first, use.name_end)
+        pointed = "*" if use.arrow else ""
+        name = pointed + spelled(tokens, use.first, use.name_end)
         # In C++ a class may have an operator `&` of its own.
         address = "__builtin_addressof(" if self.language == "c++" else "&("
         kind = f"decltype({address}{name}))" if self.language == "c++" else f"__typeof__({name}) *"
         hook, note, more = "__spbags_update" if updates else "__spbags_value", reducer.note, ""
-        if reducer.is_global:
+        if reducer.is_global and not reducer.indirect:
             whole = spelled(tokens, use.first, use.name_at)
             hook += "_of"
             more = f", *{whole[:len(whole) - len(reducer.name)]}__spbags_of_{reducer.name}, sizeof {whole}"
@@ -585,14 +681,19 @@ class Rewriting:
             owners = [(member.owner, member.note) for member in use.members]
             note = note_of(owners, spelled(tokens, use.operand, use.name_at - 2), tokens[use.name_at - 1].text == "->",
                            reducer.name, self.language)
+        elif reducer.is_member and use.first < use.name_at:
+            note = note_of_class(f"{spelled(tokens, use.first, use.name_at - 2)} *", reducer.name)
         before, after = f"{hook}({address}", f"), sizeof({name}), {note}{more})"
         if use.changes == "keep":
             kept = f"{tokens[use.first].place()}: what is done by this address of the reducer {reducer.name} counts " \
                    "as an update"
             before, after = f"(__spbags_not_seen({quoted(kept)}), {before}", f"{after})"
         start = tokens[use.first].start
-        self.edit(start, start, f"(*({kind}){before}")
-        self.edit(tokens[use.name_end].end, tokens[use.last].end, f"{after})")
+        self.edit(start, start, f"(*({kind}){before}{pointed}", -use.last)
+        if use.arrow:
+            self.edit(tokens[use.name_end].end, tokens[use.arrow].end, f"{after}).")
+        else:
+            self.edit(tokens[use.name_end].end, tokens[use.last].end, f"{after})")
 
     # ---- Updates by functions ----
 

@@ -172,7 +172,7 @@ def edits_of(text, tokens, at, stores, language, waiting):
         found = Spawn(text, tokens, at)
         return (found.first, found.last, found.rewritten()), []
     if token.text == "_Cilk_for":
-        edit, later = loops.Loop(text, tokens, at, language).edits()
+        edit, later = loops.Loop(text, tokens, at, language, waiting).edits()
         return edit, [later]
     if token.text == "_Cilk_scope":
         edit, later = loops.scope_edits(tokens, at)

@@ -5,7 +5,7 @@ a part of the parent. include/spbags/spawn.h then makes a child of it, which cal
 the program stays where it is, in one full expression, and the compiler chooses the function."""
 import re
 
-from loops import begins_function, entered, is_in_inner
+from loops import KEEPS, begins_function, entered, is_in_inner
 from tokens import CONTROLS, Refused, arguments_of, is_in_block, statement_start
 
 SHAPES = ("write `cilk_spawn f(..);', `x = cilk_spawn f(..);', `x += cilk_spawn f(..);' or "
@@ -82,12 +82,12 @@ KEEPER = "class __spbags_frame"
 
 
 def waits_at(tokens, at):
-    """The brace of the function, scope or `try` block around this that waits for its children; or None where an
-    iteration of a loop does, from which no exception can be kept."""
+    """Where what is around this and waits for its children begins: the brace of a function, a scope or a `try` block, or
+    the bracket before an iteration of a loop. Or None."""
     while at is not None and tokens[at].text != "}":
-        before = tokens[statement_start(tokens, at) - 1]
-        if before.text == ")" and tokens[before.partner - 1].text == "_Cilk_for":
-            return None
+        before = statement_start(tokens, at) - 1
+        if tokens[before].text == ")" and tokens[tokens[before].partner - 1].text == "_Cilk_for":
+            return before
         at = tokens[at].around
         if at is not None and (begins_function(tokens, at) or tokens[at - 1].text in ("try", "_Cilk_scope")):
             return at
@@ -95,21 +95,23 @@ def waits_at(tokens, at):
 
 
 def waiting_in(text, tokens):
-    """The braces of all that waits for children whose exceptions it keeps."""
+    """Where all begins that waits for children whose exceptions it keeps: also the loops, by their keywords."""
     if KEEPER not in text:
         return set()
-    return {waits_at(tokens, at) for at, token in enumerate(tokens) if token.text == "_Cilk_spawn"} - {None}
+    return {at if token.text == "_Cilk_for" else waits_at(tokens, at) for at, token in enumerate(tokens)
+            if token.text in ("_Cilk_spawn", "_Cilk_for")} - {None}
 
 
 def keeper(token):
-    return f"{token.marker(' 3')}__spbags_frame __spbags_here;{token.marker()}"
+    return f"{token.marker(' 3')}{KEEPS}{token.marker()}"
 
 
 def sync(tokens, at, waiting):
-    brace = waits_at(tokens, at)
-    while brace is not None and brace not in waiting:
-        brace = None if begins_function(tokens, brace) else waits_at(tokens, brace)
-    return "__spbags_sync()" if brace is None else "(__spbags_sync(), __spbags_here.throw_again())"
+    start = waits_at(tokens, at)
+    while start is not None and start not in waiting:
+        is_last = tokens[start].text == ")" or begins_function(tokens, start)
+        start = None if is_last else waits_at(tokens, start)
+    return "__spbags_sync()" if start is None else "(__spbags_sync(), __spbags_here.throw_again())"
 
 
 class Postfix:
@@ -245,29 +247,52 @@ class Spawn:
             self.refuse("a spawn can't be traced in this declaration: declare the variable before it")
         # No hook sees the read of what is declared to be constant.
         behind = max((at for at in range(self.first, sign) if self.tokens[at].text == "*"), default=self.first)
-        declared = self.piece(self.first, sign - 1, [token for token in words if token.text == "const" and
+        declared = self.piece(self.first, sign - 2, [token for token in words if token.text == "const" and
                                                      token.start >= self.tokens[behind].start and
                                                      token.around == self.tokens[self.first].around])
         if "auto" in texts:
-            return "return ", "", declared
+            return "return ", "", f"{'volatile ' if 'volatile' in texts else ''}decltype({self.function(True)}({{}}))"
         plain = f"typename __spbags_plain<{self.piece(self.first, sign - 2)}>::type"
         return f"return {plain + '{' if self.is_braced else ''}", f" -> {plain}", declared
+
+    def function(self, declares):
+        """The statement's."""
+        return f"__spbags_statement_{self.spawn}" if declares else "__spbags_statement"
+
+    def may_be_reference(self, name):
+        """Whether the variable of this name may be a reference as well, since it is neither returned nor thrown."""
+        tokens, end = self.tokens, self.tokens[self.tokens[self.first].around].partner
+        for at in (at for at in range(self.last, end) if tokens[at].text == name and tokens[at + 1].text in (";", ")")):
+            before = tokens[at - 2 if tokens[at - 1].text == "(" else at - 1]
+            if before.text in ("return", "throw", "co_return", "decltype"):
+                return False
+        return True
+
+    def declares(self, kind):
+        """What declares the variable of this type, which gets the result."""
+        name, made, number = self.tokens[self.spawn - 2].text, self.function(True), self.spawn
+        result, room = f"{made}({{}})", ""
+        if self.keeps and self.may_be_reference(name):
+            room = f"__spbags_room<decltype({result})> __spbags_room_{number}; "
+            result = f"__spbags_room_{number}.of({made}, __spbags_ended_{number}, __spbags_here)"
+        elif self.keeps:
+            result = f"__spbags_result<decltype({result})>::of({made}, __spbags_ended_{number}, __spbags_here)"
+        declared = f"__spbags_in_room<{kind}>" if room else kind
+        return (f"{room}{declared} {self.piece(self.spawn - 2, self.spawn - 2)} = {result}; "
+                f"__spbags_check_local<{kind}>(); "
+                f"__spbags_ended_{number}.end(__builtin_addressof({name}), sizeof {name});")
 
     def edits(self):
         """What is put in place of tokens, and later edits: in place of others, or behind one."""
         begins, kind, declared = self.target()
         opens, later = self.called()
         number = f"_{self.spawn}" if declared else ""
-        made = f"__spbags_statement{number}"
+        made = self.function(declared)
         made_by = f"{'' if declared else '{ '}auto {made} = {STATEMENT}{kind} {{ {begins}{opens}"
         place = f"{self.tokens[self.spawn].file[:-1]}:{self.tokens[self.spawn].line}\""
         ends = f" }}; __spbags_ending __spbags_ended{number}{{{place}, &{made}, sizeof {made}}}; "
         if declared:
-            name, result = self.tokens[self.spawn - 2].text, f"{made}({{}})"
-            if self.keeps:
-                result = f"__spbags_result<decltype({result})>::of({made}, __spbags_ended{number}, __spbags_here)"
-            ends += (f"{declared} = {result}; __spbags_check_local<decltype({name})>(); "
-                     f"__spbags_ended{number}.end(__builtin_addressof({name}), sizeof {name});")
+            ends += self.declares(declared)
         elif self.keeps:
             ends += (f"try {{ {made}({{}}); __spbags_ended.end(0, 0); }} "
                      "catch (...) { __spbags_here.keep(__spbags_ended); } }")

@@ -9,8 +9,7 @@ find_inside() {
     elif command -v rt >/dev/null; then
         count 1 "the detector inside can't be built"
     else
-        echo "tracer: skipped: the detector inside" >&2
-        skipped=$((skipped + 1))
+        skip "the detector inside"
     fi
 }
 

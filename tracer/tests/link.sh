@@ -226,7 +226,7 @@ check_shared_libraries() {
 check_cmake() {
     local program
     if ! cmake --version >/dev/null 2>&1; then
-        echo "tracer: skipped: CMake, which isn't here" >&2
+        skip "CMake, which isn't here"
         return
     fi
     cp -r "$here/tests/link/cmake" .
@@ -245,7 +245,7 @@ check_cmake() {
 
 check_meson() {
     if ! meson --version >/dev/null 2>&1; then
-        echo "tracer: skipped: Meson, which isn't here" >&2
+        skip "Meson, which isn't here"
         return
     fi
     cp -r "$here/tests/link/cmake" .

@@ -1,5 +1,5 @@
-/* Loops of Cilk in C++. The first word says which races there are: `clean` none, and `racy` one on each pair of tagged
-   lines. */
+/* Loops of Cilk in C++. The first word says which races there are: `clean` none, and `racy` one on each tagged line.
+   With `thrown` exceptions leave iterations alone. */
 #include <cilk/cilk.h>
 #include <cstdio>
 #include <cstring>
@@ -37,24 +37,77 @@ static long nested(void) {
     return sums[0] + sums[1] + sums[2] + 0 * shared;
 }
 
+static int thrower(int number) {
+    if (number > 1)
+        throw number;
+    return number;
+}
+
+/* The other iterations are run, and then the first exception is thrown again. */
 static int thrown(void) {
-    int done = 0;
+    int done[4] = {}, last = 0, sum = 0;
     try {
-        cilk_for (int i = 0; i < 4; i++)
-            if (i == 2)
-                throw i;
+        cilk_for (int i = 0; i < 4; i++) {
+            done[i] = i + 1;
+            if (racy)
+                last = i; /* [thrower] */
+            thrower(i);
+            done[i] += 4;
+        }
+        sum = 1000;
+    } catch (int number) {
+        sum = 100 * number + last * 0;
+    }
+    for (int number : done)
+        sum += number;
+    return sum;
+}
+
+/* Out of a loop inside of another; of a child, at its iteration's sync and at its end; and of a block in an iteration. */
+static int nested_thrown(void) {
+    int done = 0, handled[3] = {};
+    try {
+        cilk_for (int i = 0; i < 3; i++)
+            cilk_for (int j = 0; j < 3; j++)
+                thrower(10 * i + j);
     } catch (int number) {
         done = number;
     }
-    return done;
+    try {
+        cilk_for (int i = 0; i < 3; i++) {
+            cilk_spawn thrower(i + 1);
+            if (i > 1) {
+                cilk_sync;
+                handled[i] = 1;
+            }
+        }
+    } catch (int number) {
+        done = 10 * done + number;
+    }
+    try {
+        cilk_for (int i = 0; i < 3; i++)
+            cilk_spawn thrower(i);
+    } catch (int number) {
+        done = 10 * done + number;
+    }
+    cilk_for (int i = 0; i < 3; i++)
+        try {
+            cilk_spawn thrower(i);
+        } catch (int number) {
+            handled[i] += number;
+        }
+    return 10 * done + handled[0] + handled[1] + handled[2];
 }
 
 int main(int, char **words) {
     racy = std::strcmp(words[1], "racy") == 0;
+    if (std::strcmp(words[1], "thrown") == 0) {
+        std::printf("%d %d\n", thrown(), nested_thrown());
+        return 0;
+    }
     Sums sums;
     sums.fill(std::vector<int>{1, 2, 3});
     nested();
-    if (std::strcmp(words[1], "thrown") == 0)
-        std::printf("%d\n", thrown());
+    thrown();
     std::printf("%ld %ld %ld\n", sums.found[0], sums.found[1], sums.found[2]);
 }

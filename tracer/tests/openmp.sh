@@ -247,12 +247,17 @@ check_cilk_cplusplus() {
     count $? "$source, $level"
     same "" "$(found_by_run ./loops clean)"
     count $? "$source, clean"
-    same "$(for tag in last shared; do line_of "$source" "[$tag]"; done)" \
+    same "$(for tag in last shared thrower; do line_of "$source" "[$tag]"; done)" \
         "$(found_by_run ./loops racy | sed "s,.* $source:,," | sort -n)"
     count $? "$source, racy"
-    "$here/spbags-run" -- ./loops thrown >output 2>&1
-    [ $? = 3 ] && grep -q "$source:$(line_of "$source" 'i < 4'): an exception leaves a child here" output
-    count $? "$source, an exception"
+    ends_with 0 "" "$here/spbags-run" -- ./loops thrown && same '218 2222' "$(grep -v '^races' output)"
+    count $? "$source, exceptions that loops throw again"
+    printf 'int main() {\ntry {\ncilk_for (int i = 0; i < 2; i++) throw i;\n} catch (int) {}\n}\n' >thrown.cpp
+    "$here/spbags-c++" "$level" -std=c++11 -include cilk/cilk.h -o loops thrown.cpp && "$here/spbags-run" -- ./loops
+    count $? "$level: a loop throws in C++11"
+    "$here/spbags-c++" "$level" -Dcilk_for=_Cilk_for -o loops thrown.cpp
+    ends_with 3 "" "$here/spbags-run" -- ./loops && grep -q 'thrown.cpp:3: an exception leaves a child here' output
+    count $? "$level: a loop throws without Cilk's header"
     check_spawns_cplusplus
 }
 
@@ -275,7 +280,7 @@ check_spawns_cplusplus() {
     ends_with 3 "" "$here/spbags-run" -- ./spawns thrown &&
         grep -q "$source:$(line_of "$source" '[thrown]'): an exception leaves a child here" output
     count $? "$source, $level: an exception"
-    ends_with 0 "" "$here/spbags-run" -- ./spawns kept && same $'15 7 1 8 10\n1' "$(grep -v '^races' output)"
+    ends_with 0 "" "$here/spbags-run" -- ./spawns kept && same $'22 221 221 15 7 1 8 10\n1' "$(grep -v '^races' output)"
     count $? "$source, $level: exceptions that a sync throws again"
     if [ "$has_inside" ]; then
         "$here/spbags-c++" "$level" --inside -o inside "$source" && SPBAGS_UNIT=1 has_same_report ./inside racy
@@ -369,8 +374,7 @@ start_openmp() {
     printf '#include <omp.h>\nint main() { return omp_get_max_threads() == 0; }\n' >openmp_try.c
     for name in gcc g++; do
         if ! "$name" -fopenmp -o openmp_try openmp_try.c 2>/dev/null; then
-            echo "tracer: skipped, since $name isn't here or has no OpenMP: OpenMP and C++" >&2
-            skipped=$((skipped + 1))
+            skip "OpenMP and C++, since $name isn't here or has no OpenMP"
             return
         fi
     done

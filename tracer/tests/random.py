@@ -203,13 +203,13 @@ class Function:
         self.writer.line("}", "}")
         self.steps += self.steps - before
 
-    def parallel_loop(self, deep):
+    def parallel_loop(self, deep, iteration=None):
         """Each iteration is a child, with a function's locals and syncs, and the loop is a function that is called."""
         before, known, known_sums = self.steps, len(self.locals), len(self.sums)
         self.writer.line("cilk_for (int i = 0; i < 2; i++) {",
                          "enter(); for (int i = 0; i < 2; i++) { spawn(); enter();")
         self.declare()
-        self.statements(deep)
+        (iteration or self.statements)(deep)
         self.writer.line("}", self.ends(known_sums) + "leave(); spawned(); } leave();")
         del self.locals[known:]
         self.steps += self.steps - before
@@ -242,10 +242,37 @@ class CplusplusFunction(Function):
     def sync(self):
         self.writer.line("cilk_sync;", f"sync_children(); {self.handler}")
 
-    def parallel_loop(self, deep):
+    def parallel_loop(self, deep, iteration=None):
+        """What leaves an iteration is thrown again behind the loop."""
         outer, self.handler = self.handler, ""
-        super().parallel_loop(deep)
+        iteration = self.random.choice((None, self.throwing_iteration, self.iteration_of_thrower))
+        if not iteration:
+            super().parallel_loop(deep)
+        else:
+            self.writer.line("try {", "{")
+            super().parallel_loop(deep, iteration)
+            self.writer.line("} catch (int) {", "} {")
+            self.handler = outer
+            self.access()
+            self.writer.line("}", "}")
         self.handler = outer
+
+    def throwing_iteration(self, deep):
+        """One of them ends in its middle."""
+        label, number = f"next_{len(self.writer.cilk)}", self.random.randrange(2)
+        self.statements(deep)
+        self.writer.line(f"if (i == {number}) throw 1;", f"if (i == {number}) goto {label};")
+        self.statements(deep)
+        self.writer.line("", f"{label}:;")
+
+    def iteration_of_thrower(self, deep):
+        """A child throws, and so its sync does."""
+        _, this, judged = self.variable()
+        label = f"next_{len(self.writer.cilk)}"
+        self.handler = f"goto {label};"
+        self.writer.line(f"cilk_spawn throwing({this});", f"spawn(); touch({judged}, true); spawned();")
+        self.statements(deep)
+        self.writer.line("", f"{label}:;")
 
     def call(self, spawns):
         if spawns and self.random.random() < 0.7:

@@ -154,6 +154,41 @@ static void arrays(void) {
     printf("%d %d %d %zu\n", table[1][0], table[1][1], local[0] + local[1], sizeof local / sizeof *local);
 }
 
+/* Pointers to reducers. */
+static void count_down(int cilk_reducer(zero, add) *sum, int n) {
+    if (n > 0) {
+        cilk_spawn count_down(sum, n - 1);
+        *sum += n;
+        cilk_sync;
+    }
+}
+
+static void add_one(struct counts cilk_reducer(no_counts, add_counts) *, int, int _Hyperobject *sum);
+static void add_one(struct counts cilk_reducer(no_counts, add_counts) *to, int n, int _Hyperobject *sum) {
+    to->of[0] += n;
+    sum[0] += n;
+}
+
+static void pointers(void) {
+    int cilk_reducer(zero, add) sum = 0;
+    int cilk_reducer(zero, add) of[2] = {0};
+    int cilk_reducer(zero, add) *at = __builtin_addressof(sum);
+    cilk_for (int i = 0; i < 4; i++)
+        if (racy && i == 2)
+            kept = *at; /* [value] */
+        else
+            *at = *at + i;
+    count_down(at, 3);
+    at = __builtin_addressof(of[1]);
+    cilk_for (int i = 0; i < 4; i++)
+        if (racy && i == 2)
+            at[0] = 3; /* [value] */
+        else
+            (*at)++;
+    count_down(at, 2);
+    printf("%d %d\n", sum, of[1]);
+}
+
 static void structs(void) {
     struct counts cilk_reducer(no_counts, add_counts) counts = {.all = 1};
     cilk_for (int i = 0; i < 4; i++)
@@ -161,7 +196,10 @@ static void structs(void) {
             kept = (int)counts.all; /* [value] */
         else
             counts.of[i % 3] += i;
-    printf("%d %g\n", counts.of[1], counts.all);
+    int cilk_reducer(zero, add) sum = 0;
+    cilk_for (int i = 0; i < 4; i++)
+        add_one(__builtin_addressof(counts), 2, __builtin_addressof(sum));
+    printf("%d %g %d %d\n", counts.of[1], counts.all, counts.of[0], sum);
 }
 
 static void older(void) {
@@ -251,6 +289,7 @@ int main(int count, char **words) {
         addresses();
         members();
         arrays();
+        pointers();
         older();
         if (racy)
             printf("%d\n", shadowed());

@@ -46,6 +46,23 @@ template <class T> struct Tally {
 };
 template <class T> T Tally<T>::get() const { return sum; }
 
+/* Static members, and what refers to reducers. */
+struct Shared {
+    static long cilk_reducer(zero, plus) total;
+    inline static long cilk_reducer(zero, plus) of[2];
+    static void add(int more) { total += more; }
+    long get();
+};
+long cilk_reducer(zero, plus) Shared::total = 1;
+long Shared::get() { return total; }
+
+template <class T> struct SharedBy {
+    static long cilk_reducer(zero, plus) total;
+};
+template <class T> long cilk_reducer(zero, plus) SharedBy<T>::total = 2;
+
+static void add_to(long cilk_reducer(zero, plus) &to, int more) { to += more; }
+
 class Counts {
     long cilk_reducer(zero, plus) of_[2] = {0, 0};
 
@@ -86,6 +103,25 @@ static void opencilk() {
     std::printf(" %ld %ld %ld\n", tally.get(), more.get(), table[1][1]);
     std::printf("%ld %ld %ld %d %g\n", everywhere, local, static_cast<long>(library), static_cast<int>(totals.sum),
                 totals.older.get_value());
+}
+
+static void shared() {
+    long cilk_reducer(zero, plus) local = 0;
+    long cilk_reducer(zero, plus) &reference = local;
+    long cilk_reducer(zero, plus) *at = __builtin_addressof(Shared::of[0]);
+    Shared one;
+    both([&](int i) { Shared::total += i; }, /* [update] */
+         [&] { (void)one.total; });
+    both([&](int i) { Shared::of[1] += i; }, /* [update] */
+         [&] { one.of[1] = 2; });
+    both([&](int i) { SharedBy<int>::total += i; }, /* [update] */
+         [&] { SharedBy<int>::total = 2; });
+    both([&](int i) { *at += i; }, /* [update] */
+         [&] { (void)*at; });
+    both([&](int i) { reference += i; }, /* [update] */
+         [&] { (void)reference; });
+    both([&](int i) { Shared::add(i); add_to(local, i); }, [] {});
+    std::printf("%ld %ld %ld %ld\n", one.get(), Shared::of[1] + *at, SharedBy<int>::total, local);
 }
 
 static void scalars() {
@@ -159,6 +195,7 @@ int main(int, char **words) {
         return 0;
     }
     opencilk();
+    shared();
     scalars();
     owners();
 }

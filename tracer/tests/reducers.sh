@@ -23,7 +23,7 @@ check_reducers() {
     local source=tracer/tests/reducers.c
     "$here/spbags-cc" "$level" -Wall -Wextra -Werror -o reducers "$source"
     count $? "$CC $level: $source"
-    reports 0 "" -- ./reducers clean && same $'6 8 4 3 4\n6\n6 4 4 -4\n2 4 13 2\n6 3\n12 2 3 2' "$(grep -v '^races' output)"
+    reports 0 "" -- ./reducers clean && same $'6 8 4 3 4\n6\n6 4 4 -4\n2 4 13 2\n12 7\n6 3\n12 2 3 2' "$(grep -v '^races' output)"
     count $? "$CC $level: $source, clean"
     same "$( (grep -nF '[value]' "$source" | cut -d: -f1 | awk -v struct="$(line_of "$source" 'counts.all; /*')" \
         '$1 != struct { print $1, $1 + 2 }'
@@ -47,6 +47,12 @@ check_reducers() {
     printf '#include <cilk/cilk.h>\nstatic int cilk_reducer(0, 0) of[2];\nint main(void) {\nreturn *of;\n}\n' >element.c
     ends_with 1 '^element.c:4: error: .*name one element of the reducers of' "$here/spbags-cc" element.c
     count $? "$CC $level: an array of reducers without a subscript"
+    sed -i 's/\*of/of++/; s/ of.2./ *of/' element.c
+    ends_with 1 '^element.c:4: error: .*name what the pointer of points to' "$here/spbags-cc" element.c
+    count $? "$CC $level: a pointer to reducers that moves"
+    sed -i 's/of++/int *at = of/' element.c
+    ends_with 1 '^element.c:4: error: .*what gets it is no pointer to a reducer' "$here/spbags-cc" element.c
+    count $? "$CC $level: a pointer to reducers that another one gets"
     if [ "$has_inside" ]; then
         "$here/spbags-cc" "$level" --inside --inline-checks -o inside "$source" && has_same_report ./inside
         count $? "$CC $level: $source, the report of the detector inside"
@@ -82,7 +88,7 @@ check_reducers_cplusplus() {
     "$here/spbags-c++" "$level" -Wall -Wextra -Werror -o reducers "$source"
     count $? "$source $level"
     reports 0 "" --unseen-ok 'std::allocator*' -- ./reducers clean &&
-        same $'out 7 12 3 4\n10 15 10 4 10\n11 24 f0 7 4 4 1 1 6 4\n and 8\n4 eeeeeeeeeeeeeeeeeeee tbbbbbbbbbbccccccccccddddddddddeeeeeeeeee' \
+        same $'out 7 12 3 4\n10 15 10 4 10\n21 20 12 20\n11 24 f0 7 4 4 1 1 6 4\n and 8\n4 eeeeeeeeeeeeeeeeeeee tbbbbbbbbbbccccccccccddddddddddeeeeeeeeee' \
             "$(grep -v -e '^races' -e '^not seen' output)"
     count $? "$source $level, clean"
     same "$(grep -nF '[update]' "$source" | cut -d: -f1 | awk '{ print $1, $1 + 1 }' | sort)" "$(racy_lines ./reducers racy)"

@@ -1,5 +1,6 @@
 // Spawns of C++. With the word clean there is no race; with racy those of the tags, which say how many bytes race and
-// on which lines. With thrown an exception leaves a child whose variable has no empty value; with kept others do.
+// on which lines. With thrown an exception leaves a child whose variable has no default and is returned; with kept others
+// do.
 #include <cilk/cilk.h>
 #include <cstdio>
 #include <cstring>
@@ -273,11 +274,26 @@ static int thrower(int number) {
     return number;
 }
 
+// None of these has a default. The ends of the second kind are counted.
 struct Full {
     int number;
     explicit Full(int from) : number(from) {}
 };
 static Full full(int number) { return Full(thrower(number)); }
+static int ends;
+struct Counted {
+    std::unique_ptr<int> at;
+    explicit Counted(int number) : at(new int(number)) {}
+    Counted(Counted &&other) = default;
+    ~Counted() { ends++; }
+};
+static Counted counted(int number) { return Counted(thrower(number)); }
+
+static Counted returned(int number) {
+    Counted result = cilk_spawn counted(number); // [thrown]
+    cilk_sync;
+    return result;
+}
 
 // In the end the handler has waited for the other child.
 static int caught() {
@@ -285,12 +301,26 @@ static int caught() {
     std::string kept(30, 'k');
     try {
         cilk_spawn [&] { at = 1; }();
-        Full result = cilk_spawn full(2); // [thrown]
-        at = result.number;
+        at = *returned(2).at;
     } catch (int number) {
         at += number;
     }
     return at;
+}
+
+static int without_default(int number) {
+    int at = ends = 0;
+    try {
+        Full one = cilk_spawn full(number);
+        const auto other = cilk_spawn counted(number + 1);
+        const Counted last{cilk_spawn counted(1)};
+        at = 2;
+        cilk_sync;
+        at = one.number + *other.at + *last.at;
+    } catch (int thrown) {
+        at += 10 * thrown;
+    }
+    return 10 * at + ends;
 }
 
 // What a child throws its parent throws at its sync, and goes on until there.
@@ -340,6 +370,7 @@ template <class Function> static int thrown_by(Function function) {
 }
 
 static void exceptions() {
+    std::printf("%d %d %d ", without_default(0), without_default(1), without_default(2));
     std::printf("%d ", first_of_two());
     std::printf("%d ", thrown_by(throw_at_end));
     std::printf("%d ", ended);

@@ -19,13 +19,10 @@ void __spbags_leave_child(const volatile void *function, unsigned long size, con
 int __spbags_left_child(const volatile void *function, unsigned long size, const void *code);
 }
 
-#if __cplusplus >= 201402L
+#if __cplusplus >= 201103L
 /* What such a function does isn't in the trace. */
 #define __SPBAGS_OUTSIDE __attribute__((no_sanitize_thread, noinline))
 #define __SPBAGS_CODE __builtin_return_address(0)
-
-/* A parameter of the functions that a spawn is made of, by which reports know them. */
-struct __spbags_spawned {};
 
 /* The end of a child, also by an exception. */
 struct __spbags_ending {
@@ -49,6 +46,11 @@ struct __spbags_ending {
         return __spbags_left_child(function, size, __SPBAGS_CODE);
     }
 };
+#endif
+
+#if __cplusplus >= 201402L
+/* A parameter of the functions that a spawn is made of, by which reports know them. */
+struct __spbags_spawned {};
 
 template <class T> struct __spbags_referent { typedef T type; };
 template <class T> struct __spbags_referent<T &> : __spbags_referent<T> {};
