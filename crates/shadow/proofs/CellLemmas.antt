@@ -1,30 +1,30 @@
 -- Kept names stay earlier than later places, and what an access leaves of each location.
 use Rattle.std.proofs.Common.{◌≡◌, ℕ, ◌+◌, ◌<◌, ◌≤◌, List, Bool, true, false, cond, ◌==◌, arith}
-use Rattle.shadow.specs.Cells.{Named, Cell}
+use Rattle.shadow.specs.Cells.{Name, Cell}
 use Rattle.shadow.specs.Before.{IsNameBefore, IsCellBefore}
-use Rattle.shadow.specs.Pages.{cell_of, Seats}
+use Rattle.shadow.specs.Pages.{cell_of, Page}
 use Rattle.shadow.specs.Found.{with_cell}
-use Rattle.shadow.specs.Memory.{Memory, kept_of, IsMemoryBefore}
+use Rattle.shadow.specs.Shadow.{Shadow, kept_of, IsShadowBefore}
 
-pub name_later : (p q m n : ℕ) (x : Named) → p ≤ q → m ≤ n → IsNameBefore p m x → IsNameBefore q n x
+pub name_later : (p q m n : ℕ) (x : Name) → p ≤ q → m ≤ n → IsNameBefore p m x → IsNameBefore q n x
 name_later p q m n x pq mn h = record { from_one = h.from_one; earlier = omega arith; known = omega arith }
 
 pub cell_later : (p q m n : ℕ) (c : Cell) → p ≤ q → m ≤ n → IsCellBefore p m c → IsCellBefore q n c
 cell_later p q m n c pq mn h = record { writer = λ x is. name_later p q m n x pq mn (h.writer x is); reader = λ x is. name_later p q m n x pq mn (h.reader x is) }
 
 -- what is kept of a location was kept before the next place
-pub found_before : (m : Memory) (place count l : ℕ) → IsMemoryBefore m → m.last_place < place → m.least_count ≤ count → IsCellBefore place count (kept_of m l)
+pub found_before : (m : Shadow) (place count l : ℕ) → IsShadowBefore m → m.last_place < place → m.least_count ≤ count → IsCellBefore place count (kept_of m l)
 found_before m place count l before later fewer = cell_later (m.last_place + 1) place m.least_count count (kept_of m l) (omega arith) fewer (before l)
 
 -- so the memory stays before the next place
-pub cells_before : (m : Memory) (es : List (ℕ × Seats)) (place count l : ℕ) (c : Cell) → IsMemoryBefore m → m.last_place < place → m.least_count ≤ count
+pub cells_before : (m : Shadow) (es : List (ℕ × Page)) (place count l : ℕ) (c : Cell) → IsShadowBefore m → m.last_place < place → m.least_count ≤ count
     → IsCellBefore (place + 1) count c → ((q : ℕ) → cell_of m.layout es q ≡ with_cell l c (kept_of m) q)
-    → IsMemoryBefore (record { layout = m.layout; pages = es; last_place = place; least_count = count })
+    → IsShadowBefore (record { layout = m.layout; pages = es; last_place = place; least_count = count })
 cells_before m es place count l c before later fewer now is q = rw is (by (q == l))
   where
     by : (b : Bool) → IsCellBefore (place + 1) count (cond b c (kept_of m q))
     by true = now
     by false = cell_later (m.last_place + 1) (place + 1) m.least_count count (kept_of m q) (omega arith) fewer (before q)
 
-pub pages_stay : (m : Memory) (es : List (ℕ × Seats)) → es ≡ m.pages → IsMemoryBefore m → IsMemoryBefore (record { layout = m.layout; pages = es; last_place = m.last_place; least_count = m.least_count })
+pub pages_stay : (m : Shadow) (es : List (ℕ × Page)) → es ≡ m.pages → IsShadowBefore m → IsShadowBefore (record { layout = m.layout; pages = es; last_place = m.last_place; least_count = m.least_count })
 pages_stay m es is before l = rw is (before l)

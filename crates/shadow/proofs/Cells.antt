@@ -11,7 +11,7 @@ use Rattle.dag.specs.Traces.{IsPlace, IsWellNested}
 use Rattle.dag.specs.Dag.{IsParallel, Leads}
 use Rattle.dag.specs.Races.{IsAccess, IsAccessPlace, IsRead, IsWrite, IsRace, IsLastWrite, IsKeptReader, IsReported, nothing_yet, no_read, first_read, replaces, stays}
 use Rattle.bags.specs.Procedures.{Active, in_p, current, procedure_at}
-use Rattle.shadow.specs.Cells.{Cell, Named, untouched, parallel_access, name_of, reader_after, rival, touched}
+use Rattle.shadow.specs.Cells.{Cell, Name, untouched, parallel_access, name_of, reader_after, rival, touched}
 use Rattle.dag.proofs.Paths.{IsPlace-at, leads_or_parallel}
 use Rattle.dag.proofs.Readers.{NoneBefore, NoWrite, NoRead, last_write_parallel, no_read_parallel, kept_reads, reported_by_write, reported_by_reader, no_race_at_read, no_race_at_write}
 
@@ -19,21 +19,21 @@ use Rattle.dag.proofs.Readers.{NoneBefore, NoWrite, NoRead, last_write_parallel,
 abbrev pub Sees : List Record → ℕ → List Active → Type 0
 Sees w t fs = (i : ℕ) → IsPlace w i → i ≤ t → (in_p fs (procedure_at w i) ≡ true) ↔ IsParallel w i (suc t)
 
--- the writer's slot before place j: the last write, by the procedure that executed it
-abbrev pub IsWriter : List Record → ℕ → ℕ → Option Named → Type 0
+-- the kept writer before place j: the last write, by the procedure that executed it
+abbrev pub IsWriter : List Record → ℕ → ℕ → Option Name → Type 0
 IsWriter w l j None = (i : ℕ) → IsWrite w l i → i < j → ⊥
 IsWriter w l j (Some n) = IsLastWrite w l j n.place × (n.procedure ≡ procedure_at w n.place)
 
-abbrev pub place_of : Option Named → Option ℕ
+abbrev pub place_of : Option Name → Option ℕ
 place_of None = None
 place_of (Some n) = Some n.place
 
-abbrev pub IsNamed : List Record → Option Named → Type 0
+abbrev pub IsNamed : List Record → Option Name → Type 0
 IsNamed w None = Unit {0}
 IsNamed w (Some n) = n.procedure ≡ procedure_at w n.place
 
--- the reader's slot before place j
-pub record IsReader (w : List Record) (l j : ℕ) (o : Option Named) : Type 0 where
+-- the kept reader before place j
+pub record IsReader (w : List Record) (l j : ℕ) (o : Option Name) : Type 0 where
   pub kept : IsKeptReader w l j (place_of o)
   pub named : IsNamed w o
 
@@ -63,24 +63,24 @@ RivalSays w l j k None = (i : ℕ) → IsRace w l i j → ⊥
 RivalSays w l j k (Some f) = IsReported w (record { location = l; first = f; second = record { kind = k; place = j } })
 
 -- whether a kept name stands in a P-bag
-name_sees : (w : List Record) (t : ℕ) (fs : List Active) → Sees w t fs → (n : Named) → n.procedure ≡ procedure_at w n.place → IsPlace w n.place → n.place ≤ t → (in_p fs n.procedure ≡ true) ↔ IsParallel w n.place (suc t)
+name_sees : (w : List Record) (t : ℕ) (fs : List Active) → Sees w t fs → (n : Name) → n.procedure ≡ procedure_at w n.place → IsPlace w n.place → n.place ≤ t → (in_p fs n.procedure ≡ true) ↔ IsParallel w n.place (suc t)
 name_sees w t fs s n e p h = subst (λ (q : ℕ). (in_p fs q ≡ true) ↔ IsParallel w n.place (suc t)) (sym e) (s n.place p h)
 
-writer_test : (w : List Record) {n d : ℕ} → IsWellNested w n d → (l j : ℕ) → IsAccessPlace w j → NoneBefore w l j → (n : Named) → IsLastWrite w l j n.place → (b : Bool) → (b ≡ true) ↔ IsParallel w n.place j → WriterSays w l j (cond b (Some (record { kind = Write; place = n.place })) None)
+writer_test : (w : List Record) {n d : ℕ} → IsWellNested w n d → (l j : ℕ) → IsAccessPlace w j → NoneBefore w l j → (n : Name) → IsLastWrite w l j n.place → (b : Bool) → (b ≡ true) ↔ IsParallel w n.place j → WriterSays w l j (cond b (Some (record { kind = Write; place = n.place })) None)
 writer_test w v l j y f n a true h = (refl, a, h.0 refl)
 writer_test w v l j y f n a false h = λ i b g p. let q = h.1 (last_write_parallel w v l j i n.place y f b g p a) in absurd (cc)
 
-writer_says : (w : List Record) {n d : ℕ} → IsWellNested w n d → (l t : ℕ) (fs : List Active) → Sees w t fs → IsAccessPlace w (suc t) → NoneBefore w l (suc t) → (o : Option Named) → IsWriter w l (suc t) o → WriterSays w l (suc t) (parallel_access fs Write o)
+writer_says : (w : List Record) {n d : ℕ} → IsWellNested w n d → (l t : ℕ) (fs : List Active) → Sees w t fs → IsAccessPlace w (suc t) → NoneBefore w l (suc t) → (o : Option Name) → IsWriter w l (suc t) o → WriterSays w l (suc t) (parallel_access fs Write o)
 writer_says w v l t fs s y f None a = λ i b g p. a i b g
 writer_says w v l t fs s y f (Some n) a =
     let x = a.0 in
     writer_test w v l (suc t) y f n x (in_p fs n.procedure) (name_sees w t fs s n a.1 (IsPlace-at w n.place _ x.a_write) (omega (arith, x.before)))
 
-reader_test : (w : List Record) {n d : ℕ} → IsWellNested w n d → (l j : ℕ) → IsAccessPlace w j → (n : Named) → IsKeptReader w l j (Some n.place) → (b : Bool) → (b ≡ true) ↔ IsParallel w n.place j → ReaderSays w l j (cond b (Some (record { kind = Read; place = n.place })) None)
+reader_test : (w : List Record) {n d : ℕ} → IsWellNested w n d → (l j : ℕ) → IsAccessPlace w j → (n : Name) → IsKeptReader w l j (Some n.place) → (b : Bool) → (b ≡ true) ↔ IsParallel w n.place j → ReaderSays w l j (cond b (Some (record { kind = Read; place = n.place })) None)
 reader_test w v l j y n a true h = (refl, a, h.0 refl)
 reader_test w v l j y n a false h = no_read_parallel w v l j y (Some n.place) a (λ k e p. let s : k ≡ n.place = cc in let q = h.1 (subst (λ (z : ℕ). IsParallel w z j) s p) in absurd (cc))
 
-reader_says : (w : List Record) {n d : ℕ} → IsWellNested w n d → (l t : ℕ) (fs : List Active) → Sees w t fs → IsAccessPlace w (suc t) → (o : Option Named) → IsReader w l (suc t) o → ReaderSays w l (suc t) (parallel_access fs Read o)
+reader_says : (w : List Record) {n d : ℕ} → IsWellNested w n d → (l t : ℕ) (fs : List Active) → Sees w t fs → IsAccessPlace w (suc t) → (o : Option Name) → IsReader w l (suc t) o → ReaderSays w l (suc t) (parallel_access fs Read o)
 reader_says w v l t fs s y None a = no_read_parallel w v l (suc t) y None a.kept (λ k e p. absurd (cc))
 reader_says w v l t fs s y (Some n) a =
     let x = kept_reads w l a.kept n.place refl in
@@ -109,7 +109,7 @@ rival_says w v l t fs s Write a f c b g = rival_at_write w l (suc t) a f _ _ (wr
 abbrev pub IsElsewhere : List Record → ℕ → ℕ → Type 0
 IsElsewhere w l j = (k : Kind) → IsAccess w l j k → ⊥
 
-writer_stays : (w : List Record) (l j : ℕ) → (IsWrite w l j → ⊥) → (o : Option Named) → IsWriter w l j o → IsWriter w l (suc j) o
+writer_stays : (w : List Record) (l j : ℕ) → (IsWrite w l j → ⊥) → (o : Option Name) → IsWriter w l j o → IsWriter w l (suc j) o
 writer_stays w l j f None a = λ i b h. ⊎_elim (λ (s : i < j). a i b s) (λ (s : j ≤ i). f (subst (IsWrite w l) (omega arith) b)) (cases_lt i j)
 writer_stays w l j f (Some n) a =
     let x = a.0 in
@@ -118,10 +118,10 @@ writer_stays w l j f (Some n) a =
 writer_new : (w : List Record) (l j : ℕ) (fs : List Active) → current fs ≡ procedure_at w j → IsWrite w l j → IsWriter w l (suc j) (name_of fs j)
 writer_new w l j fs e a = (record { before = omega arith; a_write = a; none_between = λ k g h b. absurd (omega arith) }, e)
 
-reader_stays : (w : List Record) (l j : ℕ) → (IsRead w l j → ⊥) → (o : Option Named) → IsReader w l j o → IsReader w l (suc j) o
+reader_stays : (w : List Record) (l j : ℕ) → (IsRead w l j → ⊥) → (o : Option Name) → IsReader w l j o → IsReader w l (suc j) o
 reader_stays w l j f o a = record { kept = no_read f a.kept; named = a.named }
 
-reader_new : (w : List Record) {n d : ℕ} → IsWellNested w n d → (l t : ℕ) (fs : List Active) → Sees w t fs → current fs ≡ procedure_at w (suc t) → IsRead w l (suc t) → (o : Option Named) → IsReader w l (suc t) o → IsReader w l (suc (suc t)) (reader_after fs (suc t) o)
+reader_new : (w : List Record) {n d : ℕ} → IsWellNested w n d → (l t : ℕ) (fs : List Active) → Sees w t fs → current fs ≡ procedure_at w (suc t) → IsRead w l (suc t) → (o : Option Name) → IsReader w l (suc t) o → IsReader w l (suc (suc t)) (reader_after fs (suc t) o)
 reader_new w v l t fs s e a None r = record { kept = first_read a r.kept; named = e }
 reader_new w v l t fs s e a (Some n) r =
     let x = kept_reads w l r.kept n.place refl in

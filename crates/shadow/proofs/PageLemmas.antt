@@ -12,71 +12,71 @@ use Rattle.bags.specs.Procedures.{Procedures}
 use Rattle.shadow.specs.Before.{IsCellBefore}
 use Rattle.shadow.specs.Touches.{HasTouched}
 use Rattle.shadow.specs.Cells.{Cell, touched}
-use Rattle.shadow.specs.Pages.{cells_of, cell_in, cell_of, page_of, seat_of, IsPageAt, HasPut, HasSameCells, Seats, no_seats, cell_at, shards_of, apart_of, own_page_of}
+use Rattle.shadow.specs.Pages.{page_numbered, cell_in, cell_of, page_of, seat_of, IsPageAt, HasPut, HasSameCells, Page, no_page, cell_at, shards_of, apart_of, own_page_of}
 use Rattle.shadow.specs.declared.spot.Layout.{Layout}
 use Rattle.shadow.specs.declared.spot.Layout.TheVariants.{Program, Shards}
 use Rattle.shadow.specs.Found.{with_cell}
 
 -- a number at the place that its look-up gives
-pub at_its_index : (es : List (ℕ × Seats)) (i page : ℕ) → position (nat_eq page) (keys_of es) ≡ Some i → IsPageAt es i page
+pub at_its_index : (es : List (ℕ × Page)) (i page : ℕ) → position (nat_eq page) (keys_of es) ≡ Some i → IsPageAt es i page
 at_its_index es i page is =
     let first = position-Some (nat_eq page) (keys_of es) i 0 is in
     there es i first.1 first.0 first.2
   where
-    there : (es : List (ℕ × Seats)) (i : ℕ) → nat_eq page (get_or (keys_of es) i 0) ≡ true → i < length (keys_of es) → ((k : ℕ) → k < i → nat_eq page (get_or (keys_of es) k 0) ≡ false) → IsPageAt es i page
+    there : (es : List (ℕ × Page)) (i : ℕ) → nat_eq page (get_or (keys_of es) i 0) ≡ true → i < length (keys_of es) → ((k : ℕ) → k < i → nat_eq page (get_or (keys_of es) k 0) ≡ false) → IsPageAt es i page
     there [] i at within before = absurd (omega arith)
     there ((n, b) ∷ es) zero at within before = let same : n ≡ page = sym (eqb-true page n at) in rw at (ap (λ m. Some (m, b)) same)
     there (e ∷ es) (suc i) at within before = rw (before 0 (omega arith)) (there es i at (omega arith) (λ k lt. before (suc k) (omega arith)))
 
 -- a page's index has a value
-value_at : (es : List (ℕ × Seats)) (i page : ℕ) (c : Seats) → slice_get es i ≡ Some (page, c) → slice_get (values_of es) i ≡ Some c
-value_at [] i page c e = ap (λ (o : Option (ℕ × Seats)). option_map (λ p. p.1) o) e
-value_at ((n, d) ∷ es) zero page c e = ap (λ (o : Option (ℕ × Seats)). option_map (λ p. p.1) o) e
+value_at : (es : List (ℕ × Page)) (i page : ℕ) (c : Page) → slice_get es i ≡ Some (page, c) → slice_get (values_of es) i ≡ Some c
+value_at [] i page c e = ap (λ (o : Option (ℕ × Page)). option_map (λ p. p.1) o) e
+value_at ((n, d) ∷ es) zero page c e = ap (λ (o : Option (ℕ × Page)). option_map (λ p. p.1) o) e
 value_at (d ∷ es) (suc i) page c e = value_at es i page c e
 
 -- at a page's index there is a value
-pub some_value : (es : List (ℕ × Seats)) (i page : ℕ) (o : Option Seats) → IsPageAt es i page → o ≡ slice_get (values_of es) i → o ≡ None → ⊥
-some_value es i page o at is none = let e : None ≡ Some (cells_of es page) = sym none ∙ is ∙ value_at es i page (cells_of es page) at in absurd (cc)
+pub some_value : (es : List (ℕ × Page)) (i page : ℕ) (o : Option Page) → IsPageAt es i page → o ≡ slice_get (values_of es) i → o ≡ None → ⊥
+some_value es i page o at is none = let e : None ≡ Some (page_numbered es page) = sym none ∙ is ∙ value_at es i page (page_numbered es page) at in absurd (cc)
 
 -- the value at a page's index is the page
-pub value_there : (es : List (ℕ × Seats)) (i page : ℕ) (b : Seats) → IsPageAt es i page → Some b ≡ slice_get (values_of es) i → b ≡ cells_of es page
-value_there es i page b at is = ap (λ o. unwrap_or o no_seats) (is ∙ value_at es i page (cells_of es page) at)
+pub value_there : (es : List (ℕ × Page)) (i page : ℕ) (b : Page) → IsPageAt es i page → Some b ≡ slice_get (values_of es) i → b ≡ page_numbered es page
+value_there es i page b at is = ap (λ o. unwrap_or o no_page) (is ∙ value_at es i page (page_numbered es page) at)
 
 -- what is kept after one page was changed in one seat, where each look-up says so
-pub put_changed : (es fs : List (ℕ × Seats)) (page seat : ℕ) (c : Cell) (b : Seats)
-    → ((k : ℕ) → cell_at b k ≡ (if k == seat then c else cell_at (cells_of es page) k))
+pub put_changed : (es fs : List (ℕ × Page)) (page seat : ℕ) (c : Cell) (b : Page)
+    → ((k : ℕ) → cell_at b k ≡ (if k == seat then c else cell_at (page_numbered es page) k))
     → ((q : ℕ) → lookup (nat_eq q) fs ≡ cond (nat_eq page q) (Some b) (lookup (nat_eq q) es))
     → HasPut page seat c es fs
 put_changed es fs page seat c b seats looks q k = rw looks (⊎_elim same other (eqb_tells page q))
   where
     Changed : Type 0
-    Changed = cell_at (unwrap_or (cond (nat_eq page q) (Some b) (lookup (nat_eq q) es)) no_seats) k ≡ (if q == page && k == seat then c else cell_at (cells_of es q) k)
+    Changed = cell_at (unwrap_or (cond (nat_eq page q) (Some b) (lookup (nat_eq q) es)) no_page) k ≡ (if q == page && k == seat then c else cell_at (page_numbered es q) k)
 
     same : (nat_eq page q ≡ true) × (page ≡ q) → Changed
-    same (is, e) = rw (is, eq-eqb q page (sym e)) (seats k ∙ ap (λ p. if k == seat then c else cell_at (cells_of es p) k) e)
+    same (is, e) = rw (is, eq-eqb q page (sym e)) (seats k ∙ ap (λ p. if k == seat then c else cell_at (page_numbered es p) k) e)
 
     other : (nat_eq page q ≡ false) × (page ≢ q) → Changed
     other (is, ne) = rw (is, ne_eqb q page (λ e. ne (sym e))) refl
 
 -- a page that was left but for one seat
-pub but_one_seat : (old new : Seats) (seat : ℕ) → ((k : ℕ) → k ≢ seat → cell_at new k ≡ cell_at old k) → (k : ℕ) → cell_at new k ≡ (if k == seat then cell_at new seat else cell_at old k)
+pub but_one_seat : (old new : Page) (seat : ℕ) → ((k : ℕ) → k ≢ seat → cell_at new k ≡ cell_at old k) → (k : ℕ) → cell_at new k ≡ (if k == seat then cell_at new seat else cell_at old k)
 but_one_seat old new seat others k = elim (cases_eq k seat) [
   | inl e ↦ rw (eq-eqb k seat e) (ap (cell_at new) e)
   | inr n ↦ rw (ne_eqb k seat n) (others k n)
 ]
 
 -- what was put stands there
-pub put_here : (es fs : List (ℕ × Seats)) (page seat : ℕ) (c : Cell) → HasPut page seat c es fs → cell_in fs page seat ≡ c
+pub put_here : (es fs : List (ℕ × Page)) (page seat : ℕ) (c : Cell) → HasPut page seat c es fs → cell_in fs page seat ≡ c
 put_here es fs page seat c put =
     let here : cell_in fs page seat ≡ (if page == page && seat == seat then c else cell_in es page seat) = put page seat in
     rw (eq-eqb page page refl, eq-eqb seat seat refl) at here
 
 -- a put over pages that keep the same
-pub put_over : (es ps fs : List (ℕ × Seats)) (page seat : ℕ) (c : Cell) → HasSameCells es ps → HasPut page seat c ps fs → HasPut page seat c es fs
+pub put_over : (es ps fs : List (ℕ × Page)) (page seat : ℕ) (c : Cell) → HasSameCells es ps → HasPut page seat c ps fs → HasPut page seat c es fs
 put_over es ps fs page seat c same put q k = put q k ∙ ap (λ d. if q == page && k == seat then c else d) (same q k)
 
 -- an access of the location in a seat
-pub touch_put : {s : Procedures} {l place : ℕ} {kind : Kind} {race : Option RaceAt} (es fs : List (ℕ × Seats)) (page seat : ℕ) → HasTouched s l kind place (cell_in es page seat) (cell_in fs page seat) race
+pub touch_put : {s : Procedures} {l place : ℕ} {kind : Kind} {race : Option RaceAt} (es fs : List (ℕ × Page)) (page seat : ℕ) → HasTouched s l kind place (cell_in es page seat) (cell_in fs page seat) race
     → HasPut page seat (cell_in fs page seat) es fs → HasPut page seat (touched s.active kind place (cell_in es page seat)) es fs
 touch_put es fs page seat t put = subst (λ (c : Cell). HasPut page seat c es fs) t.kept put
 
@@ -108,7 +108,7 @@ one_seat y l q some pages seats = sym (div-add-mod' l n) ∙ ap (λ x. x * n + l
     numbers = one_number y (l / n) (q / n) owns seats
 
 -- a location's cell is a seat of its own, so a put there changes what is kept of no other location
-pub put_is_of : (n : Layout) (es fs : List (ℕ × Seats)) (l : ℕ) (c : Cell) → 1 ≤ shards_of n → HasPut (page_of n l) (seat_of n l) c es fs
+pub put_is_of : (n : Layout) (es fs : List (ℕ × Page)) (l : ℕ) (c : Cell) → 1 ≤ shards_of n → HasPut (page_of n l) (seat_of n l) c es fs
     → (q : ℕ) → cell_of n fs q ≡ with_cell l c (cell_of n es) q
 put_is_of n es fs l c some put q = put (page_of n q) (seat_of n q) ∙ ap (λ t. if t then c else cell_of n es q) (⊎_elim same other (eqb_tells q l))
   where

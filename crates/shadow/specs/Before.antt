@@ -5,10 +5,10 @@ use Rattle.dag.specs.declared.records.Kind.{Kind}
 use Rattle.dag.specs.declared.records.Access.{Access}
 use Rattle.dag.specs.Accesses.{writes}
 use Rattle.bags.specs.Procedures.{Procedures, current, in_p}
-use Rattle.shadow.specs.Cells.{Named, Cell}
+use Rattle.shadow.specs.Cells.{Name, Cell}
 
 -- a name that was kept before a place; it is one of `count` procedures
-pub record IsNameBefore (place count : ℕ) (n : Named) : Type 0 where
+pub record IsNameBefore (place count : ℕ) (n : Name) : Type 0 where
   pub from_one : 1 ≤ n.place
   pub earlier : n.place < place
   pub known : n.procedure < count

@@ -8,26 +8,26 @@ use Rattle.dag.specs.Accesses.{RaceAt}
 use Rattle.bags.specs.Procedures.{Active, in_p, current}
 
 -- a procedure, and the place of its access
-pub record Named : Type 0 where
+pub record Name : Type 0 where
   pub procedure : ℕ
   pub place : ℕ
 
 -- the kept writer and the kept reader of a location, and whether its race was reported
 pub record Cell : Type 0 where
-  pub writer : Option Named
-  pub reader : Option Named
+  pub writer : Option Name
+  pub reader : Option Name
   pub reported : Bool
 
 abbrev pub untouched : Cell
 untouched = record { writer = None; reader = None; reported = false }
 
 -- whether the kept name stands in a P-bag
-abbrev pub stands_in_p : List Active → Option Named → Bool
+abbrev pub stands_in_p : List Active → Option Name → Bool
 stands_in_p fs None = false
 stands_in_p fs (Some n) = in_p fs n.procedure
 
 -- the kept access, if its procedure is in a P-bag
-abbrev pub parallel_access : List Active → Kind → Option Named → Option Access
+abbrev pub parallel_access : List Active → Kind → Option Name → Option Access
 parallel_access fs k None = None
 parallel_access fs k (Some n) = if in_p fs n.procedure then Some (record { kind = k; place = n.place }) else None
 
@@ -37,11 +37,11 @@ abbrev pub rival : List Active → Kind → Cell → Option Access
 rival fs Read c = parallel_access fs Write c.writer
 rival fs Write c = option_or (parallel_access fs Write c.writer) (parallel_access fs Read c.reader)
 
-abbrev pub name_of : List Active → ℕ → Option Named
+abbrev pub name_of : List Active → ℕ → Option Name
 name_of fs place = Some (record { procedure = current fs; place = place })
 
 -- after a read the reader is the executing procedure, unless the kept one stands in a P-bag
-abbrev pub reader_after : List Active → ℕ → Option Named → Option Named
+abbrev pub reader_after : List Active → ℕ → Option Name → Option Name
 reader_after fs place kept = if stands_in_p fs kept then kept else name_of fs place
 
 -- what is kept of the location after an access of it

@@ -2,8 +2,8 @@ pub mod Before
 pub mod Pages
 pub mod Cells
 pub mod Found
-pub mod Memory
-pub mod Slots
+pub mod Shadow
+pub mod Names
 pub use Rattle.bags.specs.Procedures
 pub use Rattle.dag.specs.Accesses
 pub use Rattle.dag.specs.Shares

@@ -1,16 +1,74 @@
-//! The touched pages, by their numbers.
-ghost use Rattle.std.specs.Prelude.{◌≡◌, ◌<◌, [], IfSome, IfOk, IsTrue, OnErr};
-ghost use Rattle.shadow.specs.Pages.{no_seats, cells_of, cell_in, IsPageAt, IsLookedUp, HasPut, HasSameCells};
+//! The touched pages, by their numbers. A page has what is kept of eight locations.
+ghost use Rattle.std.specs.Prelude.{◌≡◌, ◌≢◌, ◌<◌, ℕ, [], IfSome, IfOk, IsTrue, OnErr};
+ghost use Rattle.shadow.specs.Cells.{untouched};
+ghost use Rattle.shadow.specs.Pages.{no_page, page_numbered, cell_at, cell_in};
+ghost use Rattle.shadow.specs.Pages.{IsPageAt, IsLookedUp, HasPut, HasSameCells};
 ghost use Rattle.shadow.specs.Touches.{MayTouch, HasTouched};
 
-use crate::page::Page;
-use crate::spot::{Spot, slot_before};
+use crate::names::Names;
+use crate::spot::{Layout, Spot, slot_before};
 use bags::Bags;
 use dag::{Kind, NoMemory, Race};
 use indexmap::IndexMap;
 use std::alloc::Global;
 use std::hash::BuildHasher;
 use std::marker::Model;
+
+/// What is kept of eight locations.
+#[derive(Drop)]
+pub struct Page {
+    names: [Names; 8],
+    // Whether the race of each location was reported. Few accesses look at it, so it stands apart from the names.
+    reported: [bool; 8],
+}
+
+impl Model for Page {
+    ghost use Rattle.shadow.specs.Pages.{Page};
+
+    ghost Value = { Page };
+
+    ghost view = { λ p. record { names = p.names; reported = p.reported } };
+}
+
+impl Page {
+    /// A page of eight locations before their first access.
+    fn untouched() -> Page
+        ensures { (seat : ℕ) → cell_at result seat ≡ untouched }
+    {
+        Page {
+            names: [
+                Names::none(),
+                Names::none(),
+                Names::none(),
+                Names::none(),
+                Names::none(),
+                Names::none(),
+                Names::none(),
+                Names::none(),
+            ],
+            reported: [false; 8],
+        }
+    }
+
+    /// Takes an access to the location in this seat, and reports its race, if any. The other seats don't change.
+    #[inline(always)]
+    fn touch_seat(
+        &mut self,
+        seat: usize,
+        bags: &Bags,
+        location: u64,
+        kind: Kind,
+        place: u64,
+    ) -> Option<Race>
+        requires within { seat < 8 }
+        requires may { MayTouch bags.now place (cell_at self.old seat) }
+        ensures touched { HasTouched bags.now location kind place
+            (cell_at self.old seat) (cell_at self.new seat) result }
+        ensures others { (k : ℕ) → k ≢ seat → cell_at self.new k ≡ cell_at self.old k }
+    {
+        self.names[seat].update(&mut self.reported[seat], bags, location, kind, place)
+    }
+}
 
 /// The number of remembered indices.
 const SLOTS: usize = 1024;
@@ -26,9 +84,9 @@ pub struct Pages<S: BuildHasher> {
 
 impl<S: BuildHasher> Model for Pages<S> {
     ghost use Rattle.std.specs.Prelude.{ℕ, List};
-    ghost use Rattle.shadow.specs.Pages.{Seats};
+    ghost use Rattle.shadow.specs.Pages.{Page};
 
-    ghost Value = { List (ℕ × Seats) };
+    ghost Value = { List (ℕ × Page) };
 
     ghost view = { λ b. b.map.entries };
 }
@@ -44,62 +102,52 @@ impl<S: BuildHasher> Pages<S> {
         }
     }
 
-    /// The remembered index of this slot. It may be the index of another page.
-    #[inline(always)]
-    pub fn remembered(&self, spot: Spot) -> usize {
-        self.recent[spot.slot] as usize
-    }
-
-    /// Whether the page of this number is at this index.
-    #[inline(always)]
-    pub fn is_at(&self, index: usize, page: u64) -> bool
-        ensures { IsTrue result → IsPageAt self.now index page }
-    {
-        match self.map.get_index(index) {
-            Some((found, _)) => *found == page,
-            None => false,
-        }
-    }
-
-    /// The index of the page of this number, which the slot remembers. If there is no such page, an untouched one is
-    /// added.
+    /// The index of the page of this spot. If there is no such page, an untouched one is added.
     ///
     /// An error leaves all as it was.
-    #[inline(never)]
-    pub fn find(
-        &mut self,
-        slot: usize,
-        page: u64,
-        shards: u64,
-        apart: u64,
-    ) -> Result<usize, NoMemory>
-        requires { slot < 1024 }
-        ensures there { IfOk result (λ at. IsPageAt self.new at page) }
+    #[inline(always)]
+    pub fn find(&mut self, spot: Spot, layout: Layout) -> Result<usize, NoMemory>
+        ensures there { IfOk result (λ at. IsPageAt self.new at spot.page) }
         ensures kept { HasSameCells self.old self.new }
         ensures err { OnErr result (self.new ≡ self.old) }
-        ensures not_there { OnErr result (cells_of self.old page ≡ no_seats) }
+        ensures not_there { OnErr result (page_numbered self.old spot.page ≡ no_page) }
     {
-        if let Some(index) = self.look_up(slot, slot_before(page, shards, apart), page) {
+        let index = self.recent[spot.slot] as usize;
+        if self.is_at(index, spot.page) {
+            return Ok(index);
+        }
+        self.find_or_add(spot, layout)
+    }
+
+    // The same, if the page isn't at the remembered index. It is remembered from here on.
+    #[inline(never)]
+    fn find_or_add(&mut self, spot: Spot, layout: Layout) -> Result<usize, NoMemory>
+        ensures there { IfOk result (λ at. IsPageAt self.new at spot.page) }
+        ensures kept { HasSameCells self.old self.new }
+        ensures err { OnErr result (self.new ≡ self.old) }
+        ensures not_there { OnErr result (page_numbered self.old spot.page ≡ no_page) }
+    {
+        if let Some(index) = self.look_up(spot, layout) {
             return Ok(index);
         }
         let index = self.map.len();
-        self.map.insert(page, Page::untouched())?;
-        self.recent[slot] = remembered(index);
+        self.map.insert(spot.page, Page::untouched())?;
+        self.recent[spot.slot] = remembered(index);
         Ok(index)
     }
 
-    // Where the page of this number stands, if it is there. It is remembered for the slot.
-    fn look_up(&mut self, slot: usize, neighbour: usize, page: u64) -> Option<usize>
-        requires slot { slot < 1024 }
-        requires neighbour { neighbour < 1024 }
+    // Where the page stands, if it is there. It is remembered.
+    fn look_up(&mut self, spot: Spot, layout: Layout) -> Option<usize>
         ensures same { self.new ≡ self.old }
-        ensures found { IsLookedUp self.old page result }
+        ensures found { IsLookedUp self.old spot.page result }
     {
-        if let Some(index) = self.behind_its_neighbour(neighbour, page) {
-            self.recent[slot] = remembered(index);
-            return Some(index);
-        }
-        self.search(slot, page)
+        let neighbour = slot_before(spot.page, layout);
+        let index = match self.behind_its_neighbour(neighbour, spot.page) {
+            Some(near) => near,
+            None => self.map.get_index_of(&spot.page)?,
+        };
+        self.recent[spot.slot] = remembered(index);
+        Some(index)
     }
 
     // The page's index, if it stands 1, 2, 4 or 8 behind the last one found of the neighbour's slot. A program that
@@ -119,19 +167,20 @@ impl<S: BuildHasher> Pages<S> {
         None
     }
 
-    fn search(&mut self, slot: usize, page: u64) -> Option<usize>
-        requires { slot < 1024 }
-        ensures same { self.new ≡ self.old }
-        ensures found { IsLookedUp self.old page result }
+    // Whether the page of this number is at this index.
+    #[inline(always)]
+    fn is_at(&self, index: usize, page: u64) -> bool
+        ensures { IsTrue result → IsPageAt self.now index page }
     {
-        let index = self.map.get_index_of(&page)?;
-        self.recent[slot] = remembered(index);
-        Some(index)
+        match self.map.get_index(index) {
+            Some((found, _)) => *found == page,
+            None => false,
+        }
     }
 
     /// Takes an access to the location of this spot, whose page is at this index, and reports its race, if any.
     #[inline(always)]
-    pub fn touch(
+    pub fn touch_cell(
         &mut self,
         at: usize,
         spot: Spot,
@@ -147,7 +196,7 @@ impl<S: BuildHasher> Pages<S> {
         ensures others { HasPut spot.page spot.seat (cell_in self.new spot.page spot.seat) self.old self.new }
     {
         match self.map.get_index_mut(at) {
-            Some(cells) => cells.touch(spot.seat, bags, location, kind, place),
+            Some(page) => page.touch_seat(spot.seat, bags, location, kind, place),
             None => unreachable!(),
         }
     }
@@ -160,7 +209,7 @@ fn remembered(index: usize) -> u32 {
 #[cfg(test)]
 mod tests {
     use super::*;
-    use crate::spot::{Layout, spot_of};
+    use crate::spot::spot_of;
     use std::hash::{BuildHasherDefault, FoldHasher};
     use std::test::Fail;
 
@@ -169,11 +218,9 @@ mod tests {
         let mut pages = Pages::with_hasher(alloc, BuildHasherDefault::<FoldHasher>::default());
         for number in 0..10_000u64 {
             if 1 <= shards && shards <= 64 {
-                let spot = spot_of(
-                    number.wrapping_mul(shards).wrapping_add(2),
-                    Layout::Shards(shards),
-                );
-                let _ = pages.find(spot.slot, spot.page, spot.shards, spot.apart)?;
+                let layout = Layout::Shards(shards);
+                let spot = spot_of(number.wrapping_mul(shards).wrapping_add(2), layout);
+                let _ = pages.find(spot, layout)?;
             }
         }
         Ok(pages.map.len())
@@ -193,7 +240,7 @@ mod tests {
         let mut pages = Pages::with_hasher(rt.alloc(), BuildHasherDefault::<FoldHasher>::default());
         for unit in 0..10_000u64 {
             let spot = spot_of(2 * unit, Layout::Program);
-            let _ = pages.find(spot.slot, spot.page, spot.shards, spot.apart)?;
+            let _ = pages.find(spot, Layout::Program)?;
         }
         assert_eq!(rt; pages.map.len(), 1250);
         Ok(())

@@ -4,9 +4,9 @@ ghost use Rattle.std.specs.Option.{option_to_list};
 ghost use Rattle.dag.specs.declared.records.Placed.{Placed};
 ghost use Rattle.dag.specs.Bounds.{most_records};
 ghost use Rattle.shadow.specs.Found.{found};
-ghost use Rattle.shadow.specs.Memory.{AreReadyFor, HaveSeen, IsSameMemory, MayGrow};
+ghost use Rattle.shadow.specs.Shadow.{AreReadyFor, HaveSeen, IsSameShadow, MayGrow};
 
-use crate::memory::Shadow;
+use crate::shadow::Shadow;
 use bags::Bags;
 use dag::{Kind, NoMemory, Placed, Race, Record};
 use std::hash::BuildHasher;
@@ -17,7 +17,7 @@ use std::hash::BuildHasher;
 ///
 /// After an error the same call may be made again.
 #[inline(always)]
-pub fn apply<S: BuildHasher>(
+pub fn apply_rule<S: BuildHasher>(
     bags: &mut Bags,
     shadow: &mut Shadow<S>,
     placed: Placed,
@@ -34,7 +34,7 @@ pub fn apply<S: BuildHasher>(
     // A refusal changes nothing, and comes only at a spawn, at a call or at the first access of a
     // location.
     ensures same_bags { OnErr result (bags.new ≡ bags.old) }
-    ensures same_memory { OnErr result (IsSameMemory shadow.old shadow.new) }
+    ensures same_shadow { OnErr result (IsSameShadow shadow.old shadow.new) }
     ensures refused { OnErr result (MayGrow shadow.old placed.what) }
 {
     match placed.what {
@@ -75,7 +75,7 @@ mod tests {
                 return Err("not ready".into());
             }
             let what = *what;
-            if let Some(race) = apply(&mut bags, &mut shadow, Placed { place, what })? {
+            if let Some(race) = apply_rule(&mut bags, &mut shadow, Placed { place, what })? {
                 let (first, second) = (race.first, race.second);
                 reported.push((
                     race.location,

@@ -24,10 +24,6 @@ pub struct Spot {
     pub seat: usize,
     /// The page's slot among the 1,024 that each remember an index.
     pub slot: usize,
-    /// The number of shards.
-    pub shards: u64,
-    /// How far apart the locations of the page are, among those of their shard.
-    pub apart: u64,
     ghost seat_within: { seat < 8 },
     ghost slot_within: { slot < 1024 },
 }
@@ -82,8 +78,6 @@ fn spot_of_program(location: u64) -> Spot
         page: own,
         seat: (location / 2 % SEATS) as usize,
         slot: slot_of_program(own),
-        shards: 1,
-        apart: 2,
     }
 }
 
@@ -100,8 +94,6 @@ fn spot_at(number: u64, shard: u64, shards: u64) -> Spot
         page: own * shards + shard,
         seat: (number / 8 % SEATS) as usize,
         slot: slot_among(own),
-        shards,
-        apart: 8,
     }
 }
 
@@ -123,13 +115,15 @@ fn slot_of_program(own: u64) -> usize
 }
 
 /// The slot of the page whose locations come just before those of a page.
-pub fn slot_before(page: u64, shards: u64, apart: u64) -> usize
+pub fn slot_before(page: u64, layout: Layout) -> usize
     ensures { result < 1024 }
 {
-    if apart == 2 {
-        return slot_of_program(page.wrapping_sub(apart));
+    match layout {
+        Layout::Program => slot_of_program(page.wrapping_sub(2)),
+        Layout::Shards(shards) => {
+            // One shard needs no division.
+            let own = if shards < 2 { page } else { page / shards };
+            slot_among(own.wrapping_sub(8))
+        }
     }
-    // One shard needs no division.
-    let own = if shards < 2 { page } else { page / shards };
-    slot_among(own.wrapping_sub(apart))
 }

@@ -1,8 +1,8 @@
 use Rattle.std.proofs.Common.{refl, ◌≤◌, subst}
 use Rattle.dag.specs.declared.records.Record.TheVariants.{Spawn, Call, Sync, Return}
 use Rattle.shadow.proofs.StateLemmas.{seen_read, seen_write, seen_spawn, seen_call, seen_sync, seen_return, seen_root_return, found_read, found_write, found_none, map_OnOk, map_IfOk}
-use Rattle.shadow.proofs.rules.apply.Goals as goal
-use Rattle.shadow.proofs.rules.apply.Goals.{in-Spawn+in_ok-spawn-in-Spawn, in-Call+in_ok-call-in-Call, in-Sync, in-Return+then-active-gt1, in-Return+else-active-gt1}
+use Rattle.shadow.proofs.rules.apply_rule.Goals as goal
+use Rattle.shadow.proofs.rules.apply_rule.Goals.{in-Spawn+in_ok-spawn-in-Spawn, in-Call+in_ok-call-in-Call, in-Sync, in-Return+then-active-gt1, in-Return+else-active-gt1}
 
 pub returns-in-Read-clause-seen : goal.returns-in-Read-clause-seen
 returns-in-Read-clause-seen g c =

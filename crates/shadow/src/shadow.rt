@@ -24,9 +24,9 @@ pub struct Shadow<S: BuildHasher> {
 }
 
 impl<S: BuildHasher> Model for Shadow<S> {
-    ghost use Rattle.shadow.specs.Memory.{Memory, IsMemoryBefore};
+    ghost use Rattle.shadow.specs.Shadow.{Shadow, IsShadowBefore};
 
-    ghost Value = { Memory };
+    ghost Value = { Shadow };
 
     ghost view = { λ s. record {
       layout = s.layout;
@@ -35,7 +35,7 @@ impl<S: BuildHasher> Model for Shadow<S> {
       least_count = s.least_count;
     } };
 
-    ghost invariant = { λ s. IsMemoryBefore (record {
+    ghost invariant = { λ s. IsShadowBefore (record {
       layout = s.layout;
       pages = s.pages;
       last_place = s.last_place;
@@ -44,7 +44,7 @@ impl<S: BuildHasher> Model for Shadow<S> {
 }
 
 impl<S: BuildHasher> Shadow<S> {
-    ghost use Rattle.shadow.specs.Memory.{kept_of, last_place_of, least_count_of, IsSameMemory};
+    ghost use Rattle.shadow.specs.Shadow.{kept_of, last_place_of, least_count_of, IsSameShadow};
 
     /// Shadow memory before the first access. It takes no memory.
     pub fn with_hasher(alloc: Global, hasher: S) -> Shadow<S>
@@ -138,19 +138,13 @@ impl<S: BuildHasher> Shadow<S> {
         ensures least_count { OnOk result (least_count_of self.new ≡ bags.now.count) }
 
         // A refusal changes nothing, and comes only if nothing is kept of the location yet.
-        ensures err { OnErr result (IsSameMemory self.old self.new) }
+        ensures err { OnErr result (IsSameShadow self.old self.new) }
         ensures not_there { OnErr result (kept_of self.old location ≡ untouched) }
     {
         let spot = spot_of(location, self.layout);
-        let remembered = self.pages.remembered(spot);
-        let at = if self.pages.is_at(remembered, spot.page) {
-            remembered
-        } else {
-            self.pages
-                .find(spot.slot, spot.page, spot.shards, spot.apart)?
-        };
+        let at = self.pages.find(spot, self.layout)?;
         self.last_place = place;
         self.least_count = bags.count();
-        Ok(self.pages.touch(at, spot, bags, location, kind, place))
+        Ok(self.pages.touch_cell(at, spot, bags, location, kind, place))
     }
 }

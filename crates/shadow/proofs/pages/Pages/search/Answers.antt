@@ -1,6 +1,0 @@
-use Rattle.std.proofs.Common.{sym}
-use Rattle.shadow.proofs.PageLemmas.{at_its_index}
-use Rattle.shadow.proofs.pages.Pages.search.Goals as goal
-
-pub returns-clause-found : goal.returns-clause-found
-returns-clause-found g c = rw (← c.self.view_is) (at_its_index c.self.inside.map.entries c.in_ok-index.index c.args.page (sym c.in_ok-index.ensures.index))
