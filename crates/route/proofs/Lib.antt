@@ -9,4 +9,5 @@ pub mod SentSoFar
 pub mod Headline
 pub mod RunLists
 pub mod RouterRuns
+pub mod Steps
 pub mod RunTakes

@@ -1,14 +1,16 @@
 -- Lists of senders after one of them has put an item.
-use Rattle.std.proofs.Common.{◌≡◌, ℕ, ◌<◌, arith, slice_index_or, Bool, true, false, cond, List, [], ◌∷◌, ◌++◌, length, get_or, set, map, sym, refl, ap, ◌∙◌, Result, Ok, Err, OnOk, IfErr, is_ok, IsTrue, IsFalse, vec_len}
+use Rattle.std.proofs.Common.{◌≡◌, ℕ, ◌+◌, ◌<◌, ◌⊎◌, ⊎_elim, subst, arith, slice_index_or, Bool, true, false, cond, List, [], ◌∷◌, ◌++◌, length, get_or, set, map, sym, refl, ap, ◌∙◌, ◌≤◌, Result, Ok, Err, OnOk, IfErr, is_ok, is_err, IsTrue, IsFalse, vec_len}
 use Rattle.std.specs.Prelude.{Vec}
 use Rattle.std.specs.declared.alloc.Global.{Global}
+use Rattle.std.proofs.lemmas.Bool.{cases_order}
 use Rattle.std.proofs.lemmas.List.{map-set, get_or-map, get_or-set_same, get_or-set_other, length-map}
 use Rattle.std.proofs.Math.Seq.{map-set_same}
 use Rattle.lane.specs.declared.item.Item.{Item}
+use Rattle.lane.specs.declared.item.Item.TheVariants.{One, Finish}
 use Rattle.lane.specs.declared.sender.Sender.{Sender}
-use Rattle.lane.specs.Lanes.{put_of, shown_of, capacity_of, room_of, refusals_of, one_more}
+use Rattle.lane.specs.Lanes.{lane_of, SameSender, put_of, shown_of, capacity_of, room_of, refusals_of, one_more}
 use Rattle.dag.specs.declared.records.Placed.{Placed}
-use Rattle.route.specs.Senders.{puts, shown, capacities, rooms, refusals, with_refusal}
+use Rattle.route.specs.Senders.{lanes, puts, shown, capacities, rooms, refusals, with_refusal}
 use Rattle.route.specs.Sending.{put_on, with_put}
 
 -- a put list for each
@@ -24,34 +26,9 @@ puts-set ss k s t x h at more =
     map-set put_of ss k t
     ∙ ap (λ (l : List (Item Placed)). set (puts ss) k l) (more ∙ ap (λ (l : List (Item Placed)). l ++ x ∷ []) (ap put_of at ∙ sym (get_or-map put_of ss k s [] h)))
 
--- after a put
-pub puts_after : (ss : List (Sender Placed)) (k : ℕ) (s t : Sender Placed) (x : Item Placed) (b : Bool) → k < length ss → s ≡ get_or ss k s → (IsTrue b → put_of t ≡ put_of s ++ x ∷ []) → (IsFalse b → put_of t ≡ put_of s)
-    → puts (set ss k t) ≡ cond b (with_put (puts ss) k x) (puts ss)
-puts_after ss k s t x true h at more same = puts-set ss k s t x h at (more refl)
-puts_after ss k s t x false h at more same = map-set_like put_of ss k s t at (same refl)
-
 -- the room that the sender at the place knows
 pub room_set : (ss : List (Sender Placed)) (k : ℕ) (t : Sender Placed) → k < length ss → slice_index_or (rooms (set ss k t)) k 0 ≡ room_of t
 room_set ss k t h = ap (λ (l : List ℕ). slice_index_or l k 0) (map-set room_of ss k t) ∙ get_or-set_same (rooms ss) k (room_of t) 0 (omega (arith, h, length-map ss room_of))
-
--- the sender at the place knew of no room, and knows of none
-pub no_room : (ss : List (Sender Placed)) (k : ℕ) (s t : Sender Placed) → k < length ss → s ≡ get_or ss k s → (room_of s ≡ 0) × (room_of t ≡ 0) → (slice_index_or (rooms ss) k 0 ≡ 0) × (slice_index_or (rooms (set ss k t)) k 0 ≡ 0)
-no_room ss k s t h at none = (get_or-map room_of ss k s 0 h ∙ ap room_of (sym at) ∙ none.0, room_set ss k t h ∙ none.1)
-
-pub on_true : (P : Type 0) (r : Result (Unit {0}) Placed) (b : Bool) → b ≡ is_ok r → OnOk r P → IsTrue b → P
-on_true P (Ok v) b e h t = h
-on_true P (Err v) b e h t = absurd (cc)
-
-pub on_false : (P : Placed → Type 0) (Q : Type 0) (r : Result (Unit {0}) Placed) (b : Bool) → b ≡ is_ok r → IfErr r P → ((x : Placed) → P x → Q) → IsFalse b → Q
-on_false P Q (Ok v) b e h f t = absurd (cc)
-on_false P Q (Err v) b e h f t = f v h
-
--- a choice whose test is known
-pub chosen : {X : Type 0} (x y z : X) (b : Bool) → b ≡ true → x ≡ cond b y z → x ≡ y
-chosen x y z b h e = e ∙ ap (λ (t : Bool). cond t y z) h
-
-pub chosen_else : {X : Type 0} (x y z : X) (b : Bool) → b ≡ false → x ≡ cond b y z → x ≡ z
-chosen_else x y z b h e = e ∙ ap (λ (t : Bool). cond t y z) h
 
 -- what was put on the lane of the sender at the place
 pub put_at : (ss : List (Sender Placed)) (k : ℕ) (s : Sender Placed) → k < length ss → s ≡ get_or ss k s → put_on (puts ss) k ≡ put_of s
@@ -69,10 +46,72 @@ shown_here ss k t h all =
 pub shown_others : (ss : List (Sender Placed)) (i k : ℕ) (t : Sender Placed) → (k ≡ i → ⊥) → slice_index_or (shown (set ss i t)) k [] ≡ slice_index_or (shown ss) k []
 shown_others ss i k t apart = ap (λ (l : List (List (Item Placed))). slice_index_or l k []) (map-set shown_of ss i t) ∙ get_or-set_other (shown ss) i k (shown_of t) [] apart
 
--- after a put or a refusal
-pub refusals_after : (ss : List (Sender Placed)) (k : ℕ) (s t : Sender Placed) (b : Bool) → k < length ss → s ≡ get_or ss k s → refusals_of t ≡ cond b (refusals_of s) (one_more (refusals_of s))
-    → refusals (set ss k t) ≡ cond b (refusals ss) (with_refusal (refusals ss) k)
-refusals_after ss k s t true h at counts = map-set_like refusals_of ss k s t at counts
-refusals_after ss k s t false h at counts =
-    map-set refusals_of ss k t
-    ∙ ap (λ (n : ℕ). set (refusals ss) k n) (counts ∙ ap one_more (ap refusals_of at ∙ sym (get_or-map refusals_of ss k s 0 h)))
+-- the lanes up to this one are shown
+pub all_shown : (ss : List (Sender Placed)) (at : ℕ) (s t : Sender Placed) → at < length ss → s ≡ get_or ss at s → put_of t ≡ put_of s → shown_of t ≡ put_of s
+    → ((k : ℕ) → k < at → slice_index_or (shown ss) k [] ≡ put_on (puts ss) k) → (k : ℕ) → k < at + 1 → slice_index_or (shown (set ss at t)) k [] ≡ put_on (puts (set ss at t)) k
+all_shown ss at s t within there same shows before k h =
+    let P : ℕ → Type 0 = λ j. slice_index_or (shown (set ss at t)) j [] ≡ put_on (puts (set ss at t)) j in
+    ⊎_elim (λ (e : k ≡ at). subst P (sym e) (shown_here ss at t within (shows ∙ sym same)))
+    (λ (x : (k < at) ⊎ (at < k)). ⊎_elim
+    (λ (less : k < at). shown_others ss at k t (λ e. omega (arith, less, e)) ∙ before k less ∙ sym (ap (λ (l : List (List (Item Placed))). put_on l k) (map-set_like put_of ss at s t there same)))
+    (λ (more : at < k). absurd (omega (arith, h, more))) x)
+    (cases_order k at)
+
+-- after a put
+pub record Put (ss ts : List (Sender Placed)) (k : ℕ) (x : Item Placed) : Type 0 where
+  pub on : lanes ts ≡ lanes ss
+  pub holds : capacities ts ≡ capacities ss
+  pub more : puts ts ≡ with_put (puts ss) k x
+  pub counts : refusals ts ≡ refusals ss
+
+pub has_put : (ss : List (Sender Placed)) (k : ℕ) (s t : Sender Placed) (x : Item Placed) → k < length ss → s ≡ get_or ss k s → SameSender s t → put_of t ≡ put_of s ++ x ∷ [] → refusals_of t ≡ refusals_of s → Put ss (set ss k t) k x
+has_put ss k s t x within at lane put counts = record {
+  on = map-set_like lane_of ss k s t at lane.0;
+  holds = map-set_like capacity_of ss k s t at lane.1;
+  more = puts-set ss k s t x within at put;
+  counts = map-set_like refusals_of ss k s t at counts;
+}
+
+-- after a refusal
+pub record Refused (ss ts : List (Sender Placed)) (k : ℕ) : Type 0 where
+  pub on : lanes ts ≡ lanes ss
+  pub holds : capacities ts ≡ capacities ss
+  pub same : puts ts ≡ puts ss
+  pub counts : refusals ts ≡ with_refusal (refusals ss) k
+  pub knew : slice_index_or (rooms ss) k 0 ≡ 0
+  pub knows : slice_index_or (rooms ts) k 0 ≡ 0
+  pub full : slice_index_or (capacities ss) k 0 ≤ length (put_on (puts ss) k)
+
+pub has_refused : (ss : List (Sender Placed)) (k : ℕ) (s t : Sender Placed) → k < length ss → s ≡ get_or ss k s → SameSender s t → (put_of t ≡ put_of s) × (capacity_of s ≤ length (put_of s)) → (room_of s ≡ 0) × (room_of t ≡ 0)
+    → refusals_of t ≡ one_more (refusals_of s) → Refused ss (set ss k t) k
+has_refused ss k s t within at lane full none counts = record {
+  on = map-set_like lane_of ss k s t at lane.0;
+  holds = map-set_like capacity_of ss k s t at lane.1;
+  same = map-set_like put_of ss k s t at full.0;
+  counts = map-set refusals_of ss k t ∙ ap (λ (n : ℕ). set (refusals ss) k n) (counts ∙ ap one_more (ap refusals_of at ∙ sym (get_or-map refusals_of ss k s 0 within)));
+  knew = get_or-map room_of ss k s 0 within ∙ ap room_of (sym at) ∙ none.0;
+  knows = room_set ss k t within ∙ none.1;
+  full = omega (arith, full.1, capacity_at ss k s within at, ap length (put_at ss k s within at));
+}
+
+-- the same of a sender's answer to a put
+pub put_ok : (ss : List (Sender Placed)) (k : ℕ) (s t : Sender Placed) (x : Placed) (r : Result (Unit {0}) Placed) (b : Bool) → k < length ss → s ≡ get_or ss k s → SameSender s t → b ≡ is_err r → b ≡ false
+    → OnOk r (put_of t ≡ put_of s ++ One x ∷ []) → refusals_of t ≡ cond (is_ok r) (refusals_of s) (one_more (refusals_of s)) → Put ss (set ss k t) k (One x)
+put_ok ss k s t x (Ok v) b within at lane is err put counts = has_put ss k s t (One x) within at lane put counts
+put_ok ss k s t x (Err v) b within at lane is err put counts = absurd (cc)
+
+pub put_err : (ss : List (Sender Placed)) (k : ℕ) (s t : Sender Placed) (x : Placed) (r : Result (Unit {0}) Placed) (b : Bool) → k < length ss → s ≡ get_or ss k s → SameSender s t → b ≡ is_err r → b ≡ true
+    → IfErr r (λ y. (y ≡ x) × (put_of t ≡ put_of s) × (capacity_of s ≤ length (put_of s))) → IfErr r (λ y. (room_of s ≡ 0) × (room_of t ≡ 0)) → refusals_of t ≡ cond (is_ok r) (refusals_of s) (one_more (refusals_of s)) → Refused ss (set ss k t) k
+put_err ss k s t x (Ok v) b within at lane is err full none counts = absurd (cc)
+put_err ss k s t x (Err v) b within at lane is err full none counts = has_refused ss k s t within at lane (full.1, full.2) none counts
+
+-- and to the mark
+pub mark_ok : (ss : List (Sender Placed)) (k : ℕ) (s t : Sender Placed) (b : Bool) → k < length ss → s ≡ get_or ss k s → SameSender s t → b ≡ true
+    → (IsTrue b → put_of t ≡ put_of s ++ Finish ∷ []) → refusals_of t ≡ cond b (refusals_of s) (one_more (refusals_of s)) → Put ss (set ss k t) k Finish
+mark_ok ss k s t true within at lane is put counts = has_put ss k s t Finish within at lane (put refl) counts
+mark_ok ss k s t false within at lane is put counts = absurd (cc)
+
+pub mark_err : (ss : List (Sender Placed)) (k : ℕ) (s t : Sender Placed) (b : Bool) → k < length ss → s ≡ get_or ss k s → SameSender s t → b ≡ false
+    → (IsFalse b → (put_of t ≡ put_of s) × (capacity_of s ≤ length (put_of s))) → (IsFalse b → (room_of s ≡ 0) × (room_of t ≡ 0)) → refusals_of t ≡ cond b (refusals_of s) (one_more (refusals_of s)) → Refused ss (set ss k t) k
+mark_err ss k s t true within at lane is full none counts = absurd (cc)
+mark_err ss k s t false within at lane is full none counts = has_refused ss k s t within at lane (full refl) (none refl) counts

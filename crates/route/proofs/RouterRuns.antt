@@ -6,34 +6,30 @@ use Rattle.lane.specs.declared.item.Item.TheVariants.{One, Finish}
 use Rattle.lane.specs.Items.{has_mark, IsBeginning}
 use Rattle.dag.specs.declared.records.Placed.{Placed}
 use Rattle.dag.specs.Shares.{share}
-use Rattle.route.specs.declared.router.Router.{Router}
+use Rattle.route.specs.Routers.{RouterState}
 use Rattle.route.specs.Sending.{put_on}
 use Rattle.route.specs.Routed.{IsRising, in_hand}
-use Rattle.route.specs.Routers.{puts_of, lane_count, pending_of, next_of, marked_of, HasSent, IsUnchanged, IsOnLanes}
+use Rattle.route.specs.Routers.{lane_count, HasSent, IsUnchanged}
 use Rattle.route.specs.Runs.{Event, IsRun, of_lane, put_list}
 use Rattle.route.specs.RouterRuns.{sent_so_far, run_of}
 use Rattle.route.proofs.Headline.{mark_of_front, takes_share}
 use Rattle.route.proofs.LaneShares.{has_mark-sent}
-use Rattle.route.proofs.Lists.{puts_counted}
 use Rattle.route.proofs.RunLists.{puts_in-events, front_of, outcome_of, front_run}
 use Rattle.route.proofs.SentSoFar.{sent_front, sent_on, events-same}
 
-pub counted : (r : Router) → vec_len r.senders ≡ lane_count r
-counted r = sym (puts_counted r.senders)
-
-pub router_run : (r : Router) (w : List Placed) → IsRising (in_hand w (pending_of r)) → IsRun (lane_count r) (in_hand w (pending_of r)) (run_of w r)
+pub router_run : (r : RouterState) (w : List Placed) → IsRising (in_hand w r.pending) → IsRun (lane_count r) (in_hand w r.pending) (run_of w r)
 router_run r w rising =
-    let front = sent_front (lane_count r) w (pending_of r) (next_of r) (marked_of r) (omega (arith, counted r, r.next_within)) (omega (arith, counted r, r.at_most_all)) r.unmarked in
-    front_run (lane_count r) (in_hand w (pending_of r)) (sent_so_far (lane_count r) w (pending_of r) (next_of r) (marked_of r)) (omega (arith, counted r, r.some)) rising front
+    let front = sent_front (lane_count r) w r.pending r.next r.marked (omega (arith, r.kept.next_within)) r.kept.at_most_all r.kept.unmarked in
+    front_run (lane_count r) (in_hand w r.pending) (sent_so_far (lane_count r) w r.pending r.next r.marked) r.kept.some rising front
 
-pub router_puts : (r : Router) (w : List Placed) → HasSent w r → (k : ℕ) → k < lane_count r → put_list (run_of w r) k ≡ put_on (puts_of r) k
+pub router_puts : (r : RouterState) (w : List Placed) → HasSent w r → (k : ℕ) → k < lane_count r → put_list (run_of w r) k ≡ put_on r.puts k
 router_puts r w sent k l =
-    ap (of_lane k) (puts_in-events (sent_so_far (lane_count r) w (pending_of r) (next_of r) (marked_of r)))
-    ∙ sent_on (lane_count r) k w (pending_of r) (next_of r) (marked_of r) l ∙ sym (sent k l)
+    ap (of_lane k) (puts_in-events (sent_so_far (lane_count r) w r.pending r.next r.marked))
+    ∙ sent_on (lane_count r) k w r.pending r.next r.marked l ∙ sym (sent k l)
 
-pub router_still : (old new : Router) (w : List Placed) → IsUnchanged old new → IsOnLanes old new → run_of w new ≡ run_of w old
-router_still old new w same lanes =
-    events-same w (lane_count new) (lane_count old) (pending_of new) (pending_of old) (next_of new) (next_of old) (marked_of new) (marked_of old) lanes.count same.pending same.next same.marked
+pub router_still : (old new : RouterState) (w : List Placed) → IsUnchanged old new → run_of w new ≡ run_of w old
+router_still old new w same =
+    events-same w (lane_count new) (lane_count old) new.pending old.pending new.next old.next new.marked old.marked same.on.count same.pending same.next same.marked
 
 none_pending : (pending : Option Placed) (marked : ℕ) → ((p : Placed) → pending ≡ Some p → marked ≡ 0) → 0 < marked → pending ≡ None
 none_pending None marked unmarked h = refl

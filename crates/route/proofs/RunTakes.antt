@@ -6,10 +6,10 @@ use Rattle.std.proofs.lemmas.List.{length-append, append_cancel_left}
 use Rattle.lane.specs.declared.item.Item.{Item}
 use Rattle.lane.specs.Items.{IsBeginning}
 use Rattle.dag.specs.declared.records.Placed.{Placed}
-use Rattle.route.specs.declared.router.Router.{Router}
+use Rattle.route.specs.Routers.{RouterState}
 use Rattle.route.specs.Sending.{put_on}
 use Rattle.route.specs.Routed.{IsRising, in_hand}
-use Rattle.route.specs.Routers.{puts_of, lane_count, pending_of, next_of, marked_of, HasSent}
+use Rattle.route.specs.Routers.{lane_count, HasSent}
 use Rattle.route.specs.RouterRuns.{sent_so_far, run_of, IsTakenFrom}
 use Rattle.route.specs.Runs.{Event, take, puts_in, takes_in, of_lane, put_list, taken_list, items_on, IsAllowed, IsRun}
 use Rattle.route.proofs.RunFronts.{Sends, of_lane-append}
@@ -115,14 +115,14 @@ first_lanes n w es taken (suc m) run none front within =
     }
 
 -- what the takers of a router's lanes took
-pub router_takes : (r : Router) (w : List Placed) (taken : ℕ → List (Item Placed)) → HasSent w r → IsRising (in_hand w (pending_of r))
-    → ((k : ℕ) → k < lane_count r → IsBeginning (taken k) (put_on (puts_of r) k)) → IsTakenFrom r (in_hand w (pending_of r)) taken
+pub router_takes : (r : RouterState) (w : List Placed) (taken : ℕ → List (Item Placed)) → HasSent w r → IsRising (in_hand w r.pending)
+    → ((k : ℕ) → k < lane_count r → IsBeginning (taken k) (put_on r.puts k)) → IsTakenFrom r (in_hand w r.pending) taken
 router_takes r w taken sent rising front =
     let n = lane_count r in
     let es = run_of w r in
-    let none : takes_in es ≡ [] = takes_in-events (sent_so_far n w (pending_of r) (next_of r) (marked_of r)) in
+    let none : takes_in es ≡ [] = takes_in-events (sent_so_far n w r.pending r.next r.marked) in
     let begins : (k : ℕ) → k < n → IsBeginning (taken k) (put_list es k) = λ k l. let f = front k l in (f.0, router_puts r w sent k l ∙ f.1) in
-    let h = first_lanes n (in_hand w (pending_of r)) es taken n (router_run r w rising) none begins (omega arith) in
+    let h = first_lanes n (in_hand w r.pending) es taken n (router_run r w rising) none begins (omega arith) in
     record {
       events = es ++ h.more;
       run = h.run;

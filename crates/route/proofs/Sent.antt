@@ -42,6 +42,14 @@ portion-from k n i p h = cond-false (nat_lt k i && goes_placed k n p) (p ∷ [])
 pub mark_of-from : (k m : ℕ) → m ≤ k → mark_of k m ≡ []
 mark_of-from k m h = cond-false (nat_lt k m) (Finish ∷ []) [] (le-ltb k m h)
 
+-- nor of a record before its first lane
+portion-first : (k n i : ℕ) (p : Placed) → ((j : ℕ) → j < i → goes_placed j n p ≡ false) → portion k n i (Some p) ≡ []
+portion-first k n i p none = ⊎_elim (λ (e : k ≡ i). portion-from k n i p (omega (arith, e)))
+    (λ (x : (k < i) ⊎ (i < k)). ⊎_elim (λ (h : k < i). portion-before k n i p h ∙ cond-false (goes_placed k n p) (p ∷ []) [] (none k h)) (λ (h : i < k). portion-from k n i p (omega (arith, h))) x) (cases_order k i)
+
+mark_of-before : (k m : ℕ) → k < m → mark_of k m ≡ Finish ∷ []
+mark_of-before k m h = cond-true (nat_lt k m) (Finish ∷ []) [] (lt-ltb k m h)
+
 -- records join the records where no mark stands
 add_all : (xs ys us : List Placed) (marks : Items) → marks ≡ [] → xs ++ us ≡ ys → (map One xs ++ marks) ++ map One us ≡ map One ys ++ marks
 add_all xs ys us marks none e =
@@ -85,15 +93,29 @@ sent-last puts w i p m none h goes last all =
     let Q : ℕ → Type 0 = λ j. (k : ℕ) → k < length (with_put puts i (One p)) → put_on (with_put puts i (One p)) k ≡ map One (share k j (w ++ p ∷ []) ++ []) ++ mark_of k m in
     subst Q (sym (length-set puts i (put_on puts i ++ One p ∷ []))) (each_after P puts i (One p) h here others)
 
+-- a record was offered
+pub sent-offer : (puts : List Items) (w : List Placed) (t i m : ℕ) (p : Placed) → ((j : ℕ) → j < i → goes_placed j (length puts) p ≡ false) → OnPuts w t None m puts → OnPuts w i (Some p) m puts
+sent-offer puts w t i m p none all = λ k l. all k l ∙ ap (λ (x : List Placed). map One (share k (length puts) w ++ x) ++ mark_of k m) (sym (portion-first k (length puts) i p none))
+
+-- a mark was put
+pub sent-mark : (puts : List Items) (w : List Placed) (t m : ℕ) → m < length puts → OnPuts w t None m puts → OnPuts w t None (m + 1) (with_put puts m Finish)
+sent-mark puts w t m h all =
+    let n : ℕ = length puts in
+    let P : ℕ → Items → Type 0 = λ k l. l ≡ map One (share k n w ++ []) ++ mark_of k (m + 1) in
+    let here : P m (put_on puts m ++ Finish ∷ []) =
+    ap (λ (l : Items). l ++ Finish ∷ []) (all m h ∙ ap (λ (l : Items). map One (share m n w ++ []) ++ l) (mark_of-from m m (omega arith)) ∙ append-nil (map One (share m n w ++ [])))
+    ∙ ap (λ (l : Items). map One (share m n w ++ []) ++ l) (sym (mark_of-before m (m + 1) (omega arith))) in
+    let others : (k : ℕ) → (k ≡ m → ⊥) → k < n → P k (put_on puts k) =
+    λ k e l. all k l ∙ ap (λ (x : Items). map One (share k n w ++ []) ++ x) (⊎_elim (λ (x : k < m). mark_of-before k m x ∙ sym (mark_of-before k (m + 1) (omega (arith, x))))
+    (λ (x : m < k). mark_of-from k m (omega (arith, x)) ∙ sym (mark_of-from k (m + 1) (omega (arith, x)))) (apart k m e)) in
+    let Q : ℕ → Type 0 = λ j. (k : ℕ) → k < length (with_put puts m Finish) → put_on (with_put puts m Finish) k ≡ map One (share k j w ++ []) ++ mark_of k (m + 1) in
+    subst Q (sym (length-set puts m (put_on puts m ++ Finish ∷ []))) (each_after P puts m Finish h here others)
+
 -- the marks after a record was put, and after a mark was
 pub marks-one : (puts : List Items) (i : ℕ) (p : Placed) (m : ℕ) → i < length puts → has_mark (put_on puts i) ≡ false → HaveMarks m puts → HaveMarks m (with_put puts i (One p))
 marks-one puts i p m h none all =
     let P : ℕ → Items → Type 0 = λ k l. has_mark l ≡ nat_lt k m in
     each_after P puts i (One p) h (has_mark_more (put_on puts i) (One p) none ∙ sym none ∙ all i h) (λ k e l. all k l)
-
-pub marks_either : (b : Bool) (old new : List Items) (i : ℕ) (p : Placed) (m : ℕ) → new ≡ cond b (with_put old i (One p)) old → i < length old → has_mark (put_on old i) ≡ false → HaveMarks m old → HaveMarks m new
-marks_either true old new i p m e h none all = subst (HaveMarks m) (sym e) (marks-one old i p m h none all)
-marks_either false old new i p m e h none all = subst (HaveMarks m) (sym e) all
 
 pub marks-finish : (puts : List Items) (m : ℕ) → m < length puts → HaveMarks m puts → HaveMarks (m + 1) (with_put puts m Finish)
 marks-finish puts m h all =

@@ -217,6 +217,19 @@ event-mark n w t m =
 pub event-offer : (n : ℕ) (w : List Placed) (p : Placed) (t m : ℕ) → events_so_far n w (Some p) (first_lane n p.what) m ≡ events_so_far n w None t m
 event-offer n w p t m = ap (λ (l : Sends). map put_event (flat_map (sending_of n) w ++ (l ++ first_marks m))) (begun_none n p)
 
+-- a record that is sent whole adds its puts, and a pending one those that were begun
+pub all_events : (n : ℕ) (w : List Placed) (p : Placed) (t u : ℕ) → events_so_far n (w ++ p ∷ []) None t 0 ≡ events_so_far n w None u 0 ++ map put_event (sending_of n p)
+all_events n w p t u =
+    let S : Sends = flat_map (sending_of n) w in
+    ap (map put_event) (append-nil (flat_map (sending_of n) (w ++ p ∷ [])) ∙ flat_map-append (sending_of n) w (p ∷ []) ∙ ap (λ (l : Sends). S ++ l) (append-nil (sending_of n p)))
+    ∙ map-append put_event S (sending_of n p) ∙ ap (λ (l : Sends). map put_event l ++ map put_event (sending_of n p)) (sym (append-nil S))
+
+pub begun_events : (n : ℕ) (w : List Placed) (p : Placed) (t u : ℕ) → events_so_far n w (Some p) t 0 ≡ events_so_far n w None u 0 ++ map put_event (begun n (Some p) t)
+begun_events n w p t u =
+    let S : Sends = flat_map (sending_of n) w in
+    ap (λ (l : Sends). map put_event (S ++ l)) (append-nil (begun n (Some p) t)) ∙ map-append put_event S (begun n (Some p) t)
+    ∙ ap (λ (l : Sends). map put_event l ++ map put_event (begun n (Some p) t)) (sym (append-nil S))
+
 pub events-same : (w : List Placed) (n o : ℕ) (p q : Option Placed) (t u m l : ℕ) → n ≡ o → p ≡ q → t ≡ u → m ≡ l → events_so_far n w p t m ≡ events_so_far o w q u l
 events-same w n o p q t u m l count pending next marked =
     ap (λ (x : ℕ). events_so_far x w p t m) count ∙ ap (λ (x : Option Placed). events_so_far o w x t m) pending ∙ ap (λ (x : ℕ). events_so_far o w q x m) next ∙ ap (λ (x : ℕ). events_so_far o w q u x) marked

@@ -5,3 +5,4 @@ pub mod Routers
 pub mod Routed
 pub mod Runs
 pub mod RouterRuns
+pub mod Steps

@@ -4,9 +4,9 @@ use Rattle.std.specs.List.{range_with_len, flat_map}
 use Rattle.lane.specs.declared.item.Item.{Item}
 use Rattle.lane.specs.declared.item.Item.TheVariants.{Finish}
 use Rattle.dag.specs.declared.records.Placed.{Placed}
-use Rattle.route.specs.declared.router.Router.{Router}
+use Rattle.route.specs.Routers.{RouterState}
 use Rattle.route.specs.Sending.{put_on}
-use Rattle.route.specs.Routers.{puts_of, lane_count, pending_of, next_of, marked_of}
+use Rattle.route.specs.Routers.{lane_count}
 use Rattle.route.specs.Runs.{Event, IsRun, sending_of, put_event, put_list, taken_list}
 
 -- the puts of the pending record on the lanes before the next one
@@ -23,12 +23,12 @@ abbrev pub sent_so_far : ℕ → List Placed → Option Placed → ℕ → ℕ �
 sent_so_far n w pending next marked = flat_map (sending_of n) w ++ (begun n pending next ++ first_marks marked)
 
 -- the run of a router that has sent the records w whole
-abbrev pub run_of : List Placed → Router → List Event
-run_of w r = map put_event (sent_so_far (lane_count r) w (pending_of r) (next_of r) (marked_of r))
+abbrev pub run_of : List Placed → RouterState → List Event
+run_of w r = map put_event (sent_so_far (lane_count r) w r.pending r.next r.marked)
 
 -- a run of the router's lanes by the records w, in which all that it put is put, and `taken k` is taken of lane k
-pub record IsTakenFrom (r : Router) (w : List Placed) (taken : ℕ → List (Item Placed)) : Type 0 where
+pub record IsTakenFrom (r : RouterState) (w : List Placed) (taken : ℕ → List (Item Placed)) : Type 0 where
   pub events : List Event
   pub run : IsRun (lane_count r) w events
-  pub puts : (k : ℕ) → k < lane_count r → put_list events k ≡ put_on (puts_of r) k
+  pub puts : (k : ℕ) → k < lane_count r → put_list events k ≡ put_on r.puts k
   pub takes : (k : ℕ) → k < lane_count r → taken_list events k ≡ taken k

@@ -1,97 +1,92 @@
 -- Promised: what a router says: its lanes, what was put on them, the pending record, and the marks.
-use Rattle.std.specs.Prelude.{◌≡◌, ℕ, ◌<◌, ◌≤◌, false, List, [], length, slice_index_or, Option}
+use Rattle.std.specs.Prelude.{◌≡◌, ℕ, ◌<◌, ◌≤◌, true, false, List, [], length, slice_index_or, Option}
+use Rattle.std.specs.Option.{ForSome}
 use Rattle.lane.specs.declared.item.Item.{Item}
-use Rattle.lane.specs.declared.item.Item.TheVariants.{One}
 use Rattle.lane.specs.Lanes.{LaneId}
 use Rattle.dag.specs.declared.records.Placed.{Placed}
 use Rattle.dag.specs.Shares.{goes_placed}
-use Rattle.route.specs.declared.router.Router.{Router}
-use Rattle.route.specs.Senders.{lanes, puts, shown, capacities, rooms, refusals, with_refusal}
-use Rattle.route.specs.Sending.{put_on, with_put, AllSent}
+use Rattle.route.specs.Senders.{with_refusal}
+use Rattle.route.specs.Sending.{put_on, AllSent, HaveMarks}
 
-abbrev pub lanes_of : Router → List LaneId
-lanes_of r = lanes r.senders.items
+-- What every router keeps, by what was put on its lanes, the pending record, the lane that this goes on next, and how
+-- many lanes have their mark.
+pub record IsRouter (puts : List (List (Item Placed))) (pending : Option Placed) (next marked : ℕ) : Type 0 where
+  pub some : 1 ≤ length puts
+  pub next_within : next < length puts
+  pub aimed : ForSome pending (λ p. goes_placed next (length puts) p ≡ true)
+  pub unmarked : ForSome pending (λ p. marked ≡ 0)
+  pub at_most_all : marked ≤ length puts
+  pub marks : HaveMarks marked puts
 
-abbrev pub puts_of : Router → List (List (Item Placed))
-puts_of r = puts r.senders.items
-
-abbrev pub capacities_of : Router → List ℕ
-capacities_of r = capacities r.senders.items
+-- of each lane in turn: which it is, how many items it holds at most, what was put on it, what its taker is shown, for
+-- how many items more its sender knows to have room, and how often it refused a put, in a counter of 64 bits
+pub record RouterState : Type 0 where
+  pub lanes : List LaneId
+  pub capacities : List ℕ
+  pub puts : List (List (Item Placed))
+  pub shown : List (List (Item Placed))
+  pub rooms : List ℕ
+  pub refusals : List ℕ
+  -- the record that still lacks a put, and the lane that it goes on next
+  pub pending : Option Placed
+  pub next : ℕ
+  -- how many lanes have their mark; they are the first ones
+  pub marked : ℕ
+  pub kept : IsRouter puts pending next marked
 
 -- how many lanes
-abbrev pub lane_count : Router → ℕ
-lane_count r = length (puts_of r)
-
-abbrev pub pending_of : Router → Option Placed
-pending_of r = r.pending
-
--- the lane that the next put goes on
-abbrev pub next_of : Router → ℕ
-next_of r = r.next
-
--- how many lanes have their mark; they are the first ones
-abbrev pub marked_of : Router → ℕ
-marked_of r = r.marked
+abbrev pub lane_count : RouterState → ℕ
+lane_count r = length r.puts
 
 -- w was sent whole, and the pending record to the lanes before the next one
-abbrev pub HasSent : List Placed → Router → Type 0
-HasSent w r = AllSent (lane_count r) w (next_of r) (pending_of r) (marked_of r) (put_on (puts_of r))
+abbrev pub HasSent : List Placed → RouterState → Type 0
+HasSent w r = AllSent (lane_count r) w r.next r.pending r.marked (put_on r.puts)
 
 -- the same lanes with the same capacities, in the same order
-pub record IsOnLanes (old new : Router) : Type 0 where
-  pub lanes : lanes_of new ≡ lanes_of old
-  pub capacities : capacities_of new ≡ capacities_of old
+pub record IsOnLanes (old new : RouterState) : Type 0 where
+  pub lanes : new.lanes ≡ old.lanes
+  pub capacities : new.capacities ≡ old.capacities
   pub count : lane_count new ≡ lane_count old
 
--- nothing was put, and the pending record, the next lane and the marks are the same
-pub record IsUnchanged (old new : Router) : Type 0 where
-  pub puts : puts_of new ≡ puts_of old
-  pub pending : pending_of new ≡ pending_of old
-  pub next : next_of new ≡ next_of old
-  pub marked : marked_of new ≡ marked_of old
+-- nothing was put, and the pending record, the next lane and the marks are the same, so what was sent whole is
+pub record IsUnchanged (old new : RouterState) : Type 0 where
+  pub on : IsOnLanes old new
+  pub puts : new.puts ≡ old.puts
+  pub pending : new.pending ≡ old.pending
+  pub next : new.next ≡ old.next
+  pub marked : new.marked ≡ old.marked
+  pub sent : (w : List Placed) → HasSent w old → HasSent w new
 
 -- no lane after k gets the record
 abbrev pub IsLastLane : ℕ → ℕ → Placed → Type 0
 IsLastLane n k p = (j : ℕ) → k < j → j < n → goes_placed j n p ≡ false
 
 -- what the taker of lane k is shown
-abbrev pub shown_on : Router → ℕ → List (Item Placed)
-shown_on r k = slice_index_or (shown r.senders.items) k []
+abbrev pub shown_on : RouterState → ℕ → List (Item Placed)
+shown_on r k = slice_index_or r.shown k []
 
 -- each taker is shown all items put on its lane
-abbrev pub ShowsAll : Router → Type 0
-ShowsAll r = (k : ℕ) → k < lane_count r → shown_on r k ≡ put_on (puts_of r) k
+abbrev pub ShowsAll : RouterState → Type 0
+ShowsAll r = (k : ℕ) → k < lane_count r → shown_on r k ≡ put_on r.puts k
 
 -- how many items lane k can hold
-abbrev pub capacity_on : Router → ℕ → ℕ
-capacity_on r k = slice_index_or (capacities_of r) k 0
+abbrev pub capacity_on : RouterState → ℕ → ℕ
+capacity_on r k = slice_index_or r.capacities k 0
 
 -- on lane k no fewer items were put than it can hold
-abbrev pub IsFull : Router → ℕ → Type 0
-IsFull r k = capacity_on r k ≤ length (put_on (puts_of r) k)
+abbrev pub IsFull : RouterState → ℕ → Type 0
+IsFull r k = capacity_on r k ≤ length (put_on r.puts k)
 
 -- for how many items more the sender of lane k knows to have room
-abbrev pub room_on : Router → ℕ → ℕ
-room_on r k = slice_index_or (rooms r.senders.items) k 0
-
--- how often the sender of each lane refused a put, in a counter of 64 bits
-abbrev pub refusals_in : Router → List ℕ
-refusals_in r = refusals r.senders.items
+abbrev pub room_on : RouterState → ℕ → ℕ
+room_on r k = slice_index_or r.rooms k 0
 
 -- the sender of lane k refused a put, and no other sender refused one
-abbrev pub WasRefused : Router → Router → ℕ → Type 0
-WasRefused old new k = refusals_in new ≡ with_refusal (refusals_in old) k
-
--- the record was put on lane k, and nothing else has changed
-pub record HasPutRecord (old new : Router) (k : ℕ) (p : Placed) : Type 0 where
-  pub puts : puts_of new ≡ with_put (puts_of old) k (One p)
-  pub refusals : refusals_in new ≡ refusals_in old
-  pub pending : pending_of new ≡ pending_of old
-  pub next : next_of new ≡ next_of old
-  pub marked : marked_of new ≡ marked_of old
+abbrev pub WasRefused : RouterState → RouterState → ℕ → Type 0
+WasRefused old new k = new.refusals ≡ with_refusal old.refusals k
 
 -- A put on lane k was blocked: its sender refused it in this call. It knew of no room, and knows of none.
-pub record HasBlocked (old new : Router) (k : ℕ) : Type 0 where
+pub record HasBlocked (old new : RouterState) (k : ℕ) : Type 0 where
   pub within : k < lane_count old
   pub refused : WasRefused old new k
   pub knew_of_none : room_on old k ≡ 0
@@ -100,7 +95,7 @@ pub record HasBlocked (old new : Router) (k : ℕ) : Type 0 where
   pub unchanged : IsUnchanged old new
 
 -- lane k is full, and its sender knows of no room
-pub record IsStuck (r : Router) (k : ℕ) : Type 0 where
+pub record IsStuck (r : RouterState) (k : ℕ) : Type 0 where
   pub within : k < lane_count r
   pub no_room : room_on r k ≡ 0
   pub full : IsFull r k

@@ -6,10 +6,9 @@ ghost use Rattle.lane.specs.declared.item.Item.TheVariants.{One, Finish};
 ghost use Rattle.lane.specs.Items.{has_mark, IsBeginning};
 ghost use Rattle.dag.specs.declared.records.Placed.{Placed};
 ghost use Rattle.dag.specs.Shares.{share};
-ghost use Rattle.route.specs.declared.router.Router.{Router};
 ghost use Rattle.route.specs.Sending.{put_on};
 ghost use Rattle.route.specs.Routed.{IsRising, in_hand, IsRouted, HasRouted, HasShare, HasWholeShare, TakesShare};
-ghost use Rattle.route.specs.Routers.{puts_of, lane_count, pending_of, HasSent, IsUnchanged, IsOnLanes};
+ghost use Rattle.route.specs.Routers.{RouterState, lane_count, HasSent, IsUnchanged};
 ghost use Rattle.route.specs.Runs.{Event, IsRun, put_event, sending, put_list, taken_list};
 ghost use Rattle.route.specs.RouterRuns.{run_of, IsTakenFrom};
 
@@ -43,34 +42,33 @@ pub fn runs()
 /// whole, or these and the pending record.
 pub fn routers()
     // what it has sent so far is a run of its lanes, an event for each put
-    ensures run { (r : Router) (w : List Placed) → IsRising (in_hand w (pending_of r))
-        → IsRun (lane_count r) (in_hand w (pending_of r)) (run_of w r) }
-    ensures puts { (r : Router) (w : List Placed) → HasSent w r
-        → (k : ℕ) → k < lane_count r → put_list (run_of w r) k ≡ put_on (puts_of r) k }
+    ensures run { (r : RouterState) (w : List Placed) → IsRising (in_hand w r.pending)
+        → IsRun (lane_count r) (in_hand w r.pending) (run_of w r) }
+    ensures puts { (r : RouterState) (w : List Placed) → HasSent w r
+        → (k : ℕ) → k < lane_count r → put_list (run_of w r) k ≡ put_on r.puts k }
     // where nothing was put the run is the same
-    ensures still { (old new : Router) (w : List Placed) → IsUnchanged old new → IsOnLanes old new
-        → run_of w new ≡ run_of w old }
-    ensures routed { (r : Router) (w : List Placed) → HasSent w r → IsRising (in_hand w (pending_of r))
-        → HasRouted (lane_count r) (put_on (puts_of r)) (in_hand w (pending_of r)) }
-    ensures list { (r : Router) (w u : List Placed) → HasSent w r → IsRising (in_hand w (pending_of r))
-        → IsRouted (lane_count r) (put_on (puts_of r)) u → (u ≡ w) ⊎ (u ≡ in_hand w (pending_of r)) }
-    ensures whole { (r : Router) (w u : List Placed) → HasSent w r → IsRising w
-        → pending_of r ≡ None → IsRouted (lane_count r) (put_on (puts_of r)) u → u ≡ w }
-    ensures shares { (r : Router) (k : ℕ) (w u : List Placed) → HasSent w r
-        → IsRising (in_hand w (pending_of r)) → IsRouted (lane_count r) (put_on (puts_of r)) u
-        → k < lane_count r → HasShare (lane_count r) (put_on (puts_of r)) u k }
-    ensures marks { (r : Router) (k : ℕ) (w u : List Placed) → HasSent w r
-        → IsRising (in_hand w (pending_of r)) → IsRouted (lane_count r) (put_on (puts_of r)) u
-        → k < lane_count r → has_mark (put_on (puts_of r) k) ≡ true
-        → HasWholeShare (lane_count r) (put_on (puts_of r)) u k }
+    ensures still { (old new : RouterState) (w : List Placed) → IsUnchanged old new → run_of w new ≡ run_of w old }
+    ensures routed { (r : RouterState) (w : List Placed) → HasSent w r → IsRising (in_hand w r.pending)
+        → HasRouted (lane_count r) (put_on r.puts) (in_hand w r.pending) }
+    ensures list { (r : RouterState) (w u : List Placed) → HasSent w r → IsRising (in_hand w r.pending)
+        → IsRouted (lane_count r) (put_on r.puts) u → (u ≡ w) ⊎ (u ≡ in_hand w r.pending) }
+    ensures whole { (r : RouterState) (w u : List Placed) → HasSent w r → IsRising w
+        → r.pending ≡ None → IsRouted (lane_count r) (put_on r.puts) u → u ≡ w }
+    ensures shares { (r : RouterState) (k : ℕ) (w u : List Placed) → HasSent w r
+        → IsRising (in_hand w r.pending) → IsRouted (lane_count r) (put_on r.puts) u
+        → k < lane_count r → HasShare (lane_count r) (put_on r.puts) u k }
+    ensures marks { (r : RouterState) (k : ℕ) (w u : List Placed) → HasSent w r
+        → IsRising (in_hand w r.pending) → IsRouted (lane_count r) (put_on r.puts) u
+        → k < lane_count r → has_mark (put_on r.puts k) ≡ true
+        → HasWholeShare (lane_count r) (put_on r.puts) u k }
     // what the takers took, a prefix of what was put on each lane, was taken in a run of these lanes
-    ensures takes { (r : Router) (w : List Placed) (taken : ℕ → List (Item Placed)) → HasSent w r
-        → IsRising (in_hand w (pending_of r))
-        → ((k : ℕ) → k < lane_count r → IsBeginning (taken k) (put_on (puts_of r) k))
-        → IsTakenFrom r (in_hand w (pending_of r)) taken }
+    ensures takes { (r : RouterState) (w : List Placed) (taken : ℕ → List (Item Placed)) → HasSent w r
+        → IsRising (in_hand w r.pending)
+        → ((k : ℕ) → k < lane_count r → IsBeginning (taken k) (put_on r.puts k))
+        → IsTakenFrom r (in_hand w r.pending) taken }
     // with the receipt of lane k the items that its taker took are a prefix of the items put
-    ensures headline { (r : Router) (k : ℕ) (w u : List Placed) (taken : List (Item Placed)) → HasSent w r
-        → IsRising (in_hand w (pending_of r)) → IsRouted (lane_count r) (put_on (puts_of r)) u
-        → k < lane_count r → IsBeginning taken (put_on (puts_of r) k)
-        → TakesShare (lane_count r) u k taken (put_on (puts_of r) k) }
+    ensures headline { (r : RouterState) (k : ℕ) (w u : List Placed) (taken : List (Item Placed)) → HasSent w r
+        → IsRising (in_hand w r.pending) → IsRouted (lane_count r) (put_on r.puts) u
+        → k < lane_count r → IsBeginning taken (put_on r.puts k)
+        → TakesShare (lane_count r) u k taken (put_on r.puts k) }
 {}

@@ -2,7 +2,7 @@
 ghost use Rattle.std.specs.Prelude.{◌≡◌, ◌+◌, ◌≤◌, [], ◌∷◌, All, map, IfOk, OnOk, vec_len};
 ghost use Rattle.dag.specs.Bounds.{IsCapacity};
 ghost use Rattle.lane.specs.Lanes.{lane_of, put_of, taker_lane, end_lane};
-ghost use Rattle.route.specs.Routers.{lanes_of, lane_count, pending_of, marked_of};
+ghost use Rattle.route.specs.Routers.{lane_count};
 
 use lane::{End, Item, Sender, Taker, lane};
 use route::Progress::{self, Blocked, Idle, Moved};
@@ -29,10 +29,10 @@ fn over_two(
     second: usize,
 ) -> Result<(Router, Taker<Placed>, Taker<Placed>), NoMemory>
     requires { IsCapacity first × IsCapacity second }
-    ensures lanes { IfOk result (λ r. lanes_of r.0 ≡ taker_lane r.1 ∷ taker_lane r.2 ∷ []) }
+    ensures lanes { IfOk result (λ r. r.0.lanes ≡ taker_lane r.1 ∷ taker_lane r.2 ∷ []) }
     ensures count { IfOk result (λ r. lane_count r.0 ≡ 2) }
-    ensures idle { IfOk result (λ r. pending_of r.0 ≡ None) }
-    ensures unmarked { IfOk result (λ r. marked_of r.0 ≡ 0) }
+    ensures idle { IfOk result (λ r. r.0.pending ≡ None) }
+    ensures unmarked { IfOk result (λ r. r.0.marked ≡ 0) }
 {
     let (sender, taker) = lane::<Placed>(alloc, first)?;
     let (other_sender, other) = lane::<Placed>(alloc, second)?;
@@ -45,10 +45,10 @@ fn router_of(
     second: Sender<Placed>,
 ) -> Result<Router, NoMemory>
     requires { (put_of first ≡ []) × (put_of second ≡ []) }
-    ensures lanes { IfOk result (λ r. lanes_of r ≡ lane_of first ∷ lane_of second ∷ []) }
+    ensures lanes { IfOk result (λ r. r.lanes ≡ lane_of first ∷ lane_of second ∷ []) }
     ensures count { IfOk result (λ r. lane_count r ≡ 2) }
-    ensures idle { IfOk result (λ r. pending_of r ≡ None) }
-    ensures unmarked { IfOk result (λ r. marked_of r ≡ 0) }
+    ensures idle { IfOk result (λ r. r.pending ≡ None) }
+    ensures unmarked { IfOk result (λ r. r.marked ≡ 0) }
 {
     let mut senders = Vec::with_capacity(alloc, 2)?;
     senders.push_reserved(first);
@@ -58,9 +58,9 @@ fn router_of(
 
 // Offers a record where none is pending, and then one is.
 fn offers<R: Abort>(rt: &R, router: &mut Router, place: u64, what: Record)
-    requires { marked_of router.old ≡ 0 }
-    ensures lanes { lanes_of router.new ≡ lanes_of router.old }
-    ensures unmarked { marked_of router.new ≡ 0 }
+    requires { router.old.marked ≡ 0 }
+    ensures lanes { router.new.lanes ≡ router.old.lanes }
+    ensures unmarked { router.new.marked ≡ 0 }
 {
     assert!(rt; !router.pending());
     router.offer(at(place, what));
@@ -69,9 +69,9 @@ fn offers<R: Abort>(rt: &R, router: &mut Router, place: u64, what: Record)
 
 // What the next steps come to.
 fn steps<R: Abort>(rt: &R, router: &mut Router, wanted: &[Progress])
-    requires { marked_of router.old ≡ 0 }
-    ensures lanes { lanes_of router.new ≡ lanes_of router.old }
-    ensures unmarked { marked_of router.new ≡ 0 }
+    requires { router.old.marked ≡ 0 }
+    ensures lanes { router.new.lanes ≡ router.old.lanes }
+    ensures unmarked { router.new.marked ≡ 0 }
 {
     for progress in wanted {
         assert!(rt; router.step() == *progress, "{progress:?}");
@@ -80,9 +80,9 @@ fn steps<R: Abort>(rt: &R, router: &mut Router, wanted: &[Progress])
 
 // What the next steps to the marks come to.
 fn mark_steps<R: Abort>(rt: &R, router: &mut Router, wanted: &[Progress])
-    requires { pending_of router.old ≡ None }
-    ensures lanes { lanes_of router.new ≡ lanes_of router.old }
-    ensures idle { pending_of router.new ≡ None }
+    requires { router.old.pending ≡ None }
+    ensures lanes { router.new.lanes ≡ router.old.lanes }
+    ensures idle { router.new.pending ≡ None }
 {
     for progress in wanted {
         assert!(rt; router.mark_all_step() == *progress, "{progress:?}");
@@ -124,8 +124,8 @@ fn send_two<R: Abort>(
     mut taker: Taker<Placed>,
     mut other: Taker<Placed>,
 )
-    requires unmarked { marked_of router ≡ 0 }
-    requires lanes { lanes_of router ≡ taker_lane taker ∷ taker_lane other ∷ [] }
+    requires unmarked { router.marked ≡ 0 }
+    requires lanes { router.lanes ≡ taker_lane taker ∷ taker_lane other ∷ [] }
 {
     offers(rt, &mut router, 1, Record::Spawn);
     steps(rt, &mut router, &[Moved, Moved, Idle]);
@@ -149,7 +149,7 @@ fn mark_two<R: Abort>(
     mut taker: Taker<Placed>,
     mut other: Taker<Placed>,
 )
-    requires lanes { lanes_of router ≡ taker_lane taker ∷ taker_lane other ∷ [] }
+    requires lanes { router.lanes ≡ taker_lane taker ∷ taker_lane other ∷ [] }
 {
     assert!(rt; !router.pending());
     mark_steps(rt, &mut router, &[Blocked(0)]);
@@ -165,8 +165,8 @@ fn mark_two<R: Abort>(
 
 // The receipts of a router whose lanes have their marks.
 fn ends_of<R: Abort>(rt: &R, mut router: Router) -> Vec<End<Placed>>
-    requires { pending_of router ≡ None }
-    ensures { map end_lane result.items ≡ lanes_of router }
+    requires { router.pending ≡ None }
+    ensures { map end_lane result.items ≡ router.lanes }
 {
     assert!(rt; router.mark_all_step() == Idle);
     router.into_ends()
@@ -182,9 +182,9 @@ fn settle_two(mut ends: Vec<End<Placed>>, mut taker: Taker<Placed>, mut other: T
 
 // What a record's send comes to.
 fn sends<R: Abort>(rt: &R, router: &mut Router, place: u64, what: Record, wanted: Result<(), Full>)
-    requires { marked_of router.old ≡ 0 }
-    ensures lanes { lanes_of router.new ≡ lanes_of router.old }
-    ensures unmarked { marked_of router.new ≡ 0 }
+    requires { router.old.marked ≡ 0 }
+    ensures lanes { router.new.lanes ≡ router.old.lanes }
+    ensures unmarked { router.new.marked ≡ 0 }
 {
     assert!(rt; !router.pending());
     assert!(rt; router.send(at(place, what)) == wanted, "{wanted:?}");
@@ -334,8 +334,8 @@ fn compare<R: Abort>(rt: &R, watched: &Vec<Watched>, place: u64, pending: bool) 
 
 // Whether a put was done, of the pending record; a lane is never full.
 fn moves<R: Abort>(rt: &R, router: &mut Router) -> bool
-    requires { marked_of router.old ≡ 0 }
-    ensures { marked_of router.new ≡ 0 }
+    requires { router.old.marked ≡ 0 }
+    ensures { router.new.marked ≡ 0 }
 {
     let progress = router.step();
     assert!(rt; progress == Moved || progress == Idle);
@@ -344,8 +344,8 @@ fn moves<R: Abort>(rt: &R, router: &mut Router) -> bool
 
 // Whether a put was done, of a mark; a lane is never full.
 fn marks<R: Abort>(rt: &R, router: &mut Router) -> bool
-    requires { pending_of router.old ≡ None }
-    ensures { pending_of router.new ≡ None }
+    requires { router.old.pending ≡ None }
+    ensures { router.new.pending ≡ None }
 {
     let progress = router.mark_all_step();
     assert!(rt; progress == Moved || progress == Idle);
@@ -359,8 +359,8 @@ fn send<R: Wait + Abort>(
     watched: &mut Vec<Watched>,
     placed: Placed,
 ) -> Result<(), Fail>
-    requires { marked_of router.old ≡ 0 }
-    ensures { marked_of router.new ≡ 0 }
+    requires { router.old.marked ≡ 0 }
+    ensures { router.new.marked ≡ 0 }
 {
     offers(rt, router, placed.place, placed.what);
     for _ in rt.forever() {

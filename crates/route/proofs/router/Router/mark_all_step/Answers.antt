@@ -1,21 +1,81 @@
-use Rattle.std.proofs.Common.{◌≡◌, ◌+◌, ◌<◌, length, sym, subst, arith}
-use Rattle.lane.specs.declared.item.Item.TheVariants.{Finish}
+use Rattle.std.proofs.Common.{◌≡◌, ℕ, ◌+◌, ◌<◌, List, length, None, refl, sym, ap, subst, ◌∙◌, arith}
+use Rattle.std.proofs.lemmas.List.{length-map}
+use Rattle.lane.specs.Items.{has_mark}
+use Rattle.lane.specs.Lanes.{put_of}
+use Rattle.dag.specs.declared.records.Placed.{Placed}
 use Rattle.route.specs.Senders.{puts}
-use Rattle.route.specs.Sending.{with_put, HaveMarks}
-use Rattle.route.proofs.Lists.{chosen, puts_counted}
-use Rattle.route.proofs.Sent.{marks-finish}
-use Rattle.route.proofs.SentSoFar.{step_event-mark}
+use Rattle.route.specs.Routers.{RouterState, HasBlocked}
+use Rattle.route.specs.Steps.{HasMarkedOn, HasMarkedNext}
+use Rattle.route.proofs.Lists.{puts_counted, put_at, mark_ok, mark_err}
+use Rattle.route.proofs.Sent.{unmarked_at}
+use Rattle.route.proofs.Steps.{over_view, unchanged, router_same, router_marked, marked_on, marked_same, marks_next}
 use Rattle.route.proofs.router.Router.mark_all_step.Goals as goal
 
-pub invariant_of-self-2-clause-marks : goal.invariant_of-self-2-clause-marks
-invariant_of-self-2-clause-marks c =
-    let s = c.args.self.now in
-    let e : puts c.mark_on.new.senders.items ≡ with_put (puts s.senders.items) s.marked Finish = chosen _ _ _ c.mark_on.result c.if-not-mark_on.false c.mark_on.ensures.puts in
-    let within : s.marked < length (puts s.senders.items) = omega (arith, puts_counted s.senders, s.at_most_all, c.len.ensures, c.if-self-len.false) in
-    subst (HaveMarks (s.marked + 1)) (sym e) (marks-finish (puts s.senders.items) s.marked within s.marks)
+pub mark-requires-after_bounds : goal.mark-requires-after_bounds
+mark-requires-after_bounds c κs =
+    let s = c.self.inside in
+    let among : s.marked < length (puts s.senders.items) = omega (arith, puts_counted s.senders, s.kept.at_most_all, c.len.ensures, c.if-self-len.false) in
+    let within : s.marked < length s.senders.items = omega (arith, among, length-map s.senders.items put_of) in
+    ap has_mark (sym (put_at s.senders.items s.marked _ within c.index_mut.ensures.value)) ∙ unmarked_at (puts s.senders.items) s.marked s.marked (omega arith) among s.kept.marks
 
-pub returns-clause-event : goal.returns-clause-event
-returns-clause-event c =
-    let s = c.args.self.now in
-    let count : length (puts c.mark_on.new.senders.items) ≡ length (puts s.senders.items) = omega (arith, puts_counted s.senders, puts_counted c.mark_on.new.senders, c.mark_on.ensures.len) in
-    λ w. step_event-mark (length (puts s.senders.items)) (length (puts c.mark_on.new.senders.items)) w s.pending s.next s.marked c.requires count
+pub invariant_of-self-inside : goal.invariant_of-self-inside
+invariant_of-self-inside c =
+    let s = c.self.inside in
+    let among : s.marked < length (puts s.senders.items) = omega (arith, puts_counted s.senders, s.kept.at_most_all, c.len.ensures, c.if-self-len.false) in
+    let within : s.marked < length s.senders.items = omega (arith, among, length-map s.senders.items put_of) in
+    let none = mark_err s.senders.items s.marked _ c.mark.new.self c.mark.result within c.index_mut.ensures.value c.mark.ensures.lane c.if-not-mark.true c.mark.ensures.full c.mark.ensures.no_room c.mark.ensures.refusals in
+    (router_same (puts s.senders.items) _ s.pending s.next s.marked none.same s.kept, (s.within, (s.no_ends, (s.room, record {}))))
+
+pub returns-then-not-mark-clause-goes_on : goal.returns-then-not-mark-clause-goes_on
+returns-then-not-mark-clause-goes_on c =
+    let s = c.self.inside in
+    let among : s.marked < length (puts s.senders.items) = omega (arith, puts_counted s.senders, s.kept.at_most_all, c.len.ensures, c.if-self-len.false) in
+    let within : s.marked < length s.senders.items = omega (arith, among, length-map s.senders.items put_of) in
+    let none = mark_err s.senders.items s.marked _ c.mark.new.self c.mark.result within c.index_mut.ensures.value c.mark.ensures.lane c.if-not-mark.true c.mark.ensures.full c.mark.ensures.no_room c.mark.ensures.refusals in
+    let idle : s.pending ≡ None = ap (λ (o : RouterState). o.pending) c.self.view_is ∙ c.requires in
+    over_view HasMarkedOn _ _ _ c.self.view_is (marked_same _ _ idle (unchanged _ _ record { lanes = none.on; capacities = none.holds; count = ap length none.same } none.same refl refl refl))
+
+pub returns-then-not-mark-clause-blocked : goal.returns-then-not-mark-clause-blocked
+returns-then-not-mark-clause-blocked c =
+    let s = c.self.inside in
+    let among : s.marked < length (puts s.senders.items) = omega (arith, puts_counted s.senders, s.kept.at_most_all, c.len.ensures, c.if-self-len.false) in
+    let within : s.marked < length s.senders.items = omega (arith, among, length-map s.senders.items put_of) in
+    let none = mark_err s.senders.items s.marked _ c.mark.new.self c.mark.result within c.index_mut.ensures.value c.mark.ensures.lane c.if-not-mark.true c.mark.ensures.full c.mark.ensures.no_room c.mark.ensures.refusals in
+    over_view (λ o n. (s.marked ≡ o.marked) × HasBlocked o n s.marked) _ _ _ c.self.view_is (
+      refl,
+      record {
+        within = among;
+        refused = none.counts;
+        knew_of_none = none.knew;
+        knows_of_none = none.knows;
+        full = none.full;
+        unchanged = (unchanged _ _ record { lanes = none.on; capacities = none.holds; count = ap length none.same } none.same refl refl refl);
+      },
+    )
+
+pub invariant_of-self-inside-2 : goal.invariant_of-self-inside-2
+invariant_of-self-inside-2 c =
+    let s = c.self.inside in
+    let among : s.marked < length (puts s.senders.items) = omega (arith, puts_counted s.senders, s.kept.at_most_all, c.len.ensures, c.if-self-len.false) in
+    let within : s.marked < length s.senders.items = omega (arith, among, length-map s.senders.items put_of) in
+    let was = mark_ok s.senders.items s.marked _ c.mark.new.self c.mark.result within c.index_mut.ensures.value c.mark.ensures.lane c.if-not-mark.false c.mark.ensures.put c.mark.ensures.refusals in
+    let idle : s.pending ≡ None = ap (λ (o : RouterState). o.pending) c.self.view_is ∙ c.requires in
+    (router_marked (puts s.senders.items) _ s.pending s.next s.marked was.more among idle s.kept, (s.within, (s.no_ends, (s.room, record {}))))
+
+pub returns-clause-goes_on : goal.returns-clause-goes_on
+returns-clause-goes_on c =
+    let s = c.self.inside in
+    let among : s.marked < length (puts s.senders.items) = omega (arith, puts_counted s.senders, s.kept.at_most_all, c.len.ensures, c.if-self-len.false) in
+    let within : s.marked < length s.senders.items = omega (arith, among, length-map s.senders.items put_of) in
+    let was = mark_ok s.senders.items s.marked _ c.mark.new.self c.mark.result within c.index_mut.ensures.value c.mark.ensures.lane c.if-not-mark.false c.mark.ensures.put c.mark.ensures.refusals in
+    let idle : s.pending ≡ None = ap (λ (o : RouterState). o.pending) c.self.view_is ∙ c.requires in
+    over_view HasMarkedOn _ _ _ c.self.view_is (marked_on _ _ idle record { on_lanes = was.on; holds = was.holds; more = was.more } among refl refl refl)
+
+pub returns-clause-put : goal.returns-clause-put
+returns-clause-put c =
+    let s = c.self.inside in
+    let among : s.marked < length (puts s.senders.items) = omega (arith, puts_counted s.senders, s.kept.at_most_all, c.len.ensures, c.if-self-len.false) in
+    let within : s.marked < length s.senders.items = omega (arith, among, length-map s.senders.items put_of) in
+    let was = mark_ok s.senders.items s.marked _ c.mark.new.self c.mark.result within c.index_mut.ensures.value c.mark.ensures.lane c.if-not-mark.false c.mark.ensures.put c.mark.ensures.refusals in
+    let idle : s.pending ≡ None = ap (λ (o : RouterState). o.pending) c.self.view_is ∙ c.requires in
+    over_view HasMarkedNext _ _ _ c.self.view_is (marks_next _ _ idle record { on_lanes = was.on; holds = was.holds; more = was.more } refl refl refl)

@@ -1,12 +1,31 @@
-use Rattle.std.proofs.Common.{◌≡◌, ap, length, ◌∙◌, arith}
+use Rattle.std.proofs.Common.{◌≡◌, ℕ, ◌<◌, false, length, Option, None, refl, sym, subst, ap, ◌∙◌, arith}
+use Rattle.dag.specs.declared.records.Placed.{Placed}
+use Rattle.dag.specs.Shares.{goes_placed}
 use Rattle.route.specs.Senders.{puts}
 use Rattle.route.specs.Sending.{first_lane}
+use Rattle.route.specs.Routers.{RouterState}
+use Rattle.route.specs.Steps.{IsIdle, HasOffered}
 use Rattle.route.proofs.Lists.{puts_counted}
+use Rattle.route.proofs.Sent.{OnPuts, sent-offer}
 use Rattle.route.proofs.SentSoFar.{step_event-offer}
+use Rattle.route.proofs.Steps.{over_view}
 use Rattle.route.proofs.router.Router.offer.Goals as goal
 
-pub returns-clause-run : goal.returns-clause-run
-returns-clause-run c =
-    let s = c.args.self.now in
+pub returns : goal.returns
+returns c =
+    let s = c.self.inside in
+    let p = c.args.placed in
     let count : c.len.result ≡ length (puts s.senders.items) = omega (arith, puts_counted s.senders, c.len.ensures) in
-    λ w. step_event-offer (length (puts s.senders.items)) w s.pending c.args.placed s.next c.first_lane-self.result s.marked c.requires.idle (c.first_lane-self.ensures.value ∙ ap (λ n. first_lane n c.args.placed.what) count)
+    let next = c.first_lane-self-inside.ensures.value ∙ ap (λ (n : ℕ). first_lane n p.what) count in
+    let N : ℕ → Type 0 = λ n. (j : ℕ) → j < c.first_lane-self-inside.result → goes_placed j n p ≡ false in
+    over_view (λ o n. IsIdle o → HasOffered p o n) _ _ _ c.self.view_is (λ idle. record {
+      on = record { lanes = refl; capacities = refl; count = refl };
+      puts = refl;
+      pending = refl;
+      next = next;
+      marked = idle.none_marked;
+      sent = λ w h.
+          let O : Option Placed → Type 0 = λ o. OnPuts w s.next o s.marked (puts s.senders.items) in
+          sent-offer (puts s.senders.items) w s.next c.first_lane-self-inside.result s.marked p (subst N count c.first_lane-self-inside.ensures.first) (subst O idle.none_pending h);
+      run = λ w. step_event-offer (length (puts s.senders.items)) w s.pending p s.next c.first_lane-self-inside.result s.marked idle.none_pending next;
+    }) c.requires

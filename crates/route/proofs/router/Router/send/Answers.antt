@@ -1,20 +1,178 @@
-use Rattle.std.proofs.Common.{◌≡◌, ℕ, [], ◌∷◌, ◌++◌, Option, Some, None, refl, sym, subst, ◌∙◌}
+use Rattle.std.proofs.Common.{◌≡◌, ℕ, ◌+◌, ◌<◌, true, false, List, [], ◌∷◌, ◌++◌, length, slice_index_or, Option, Some, None, refl, sym, ap, subst, ◌∙◌, arith}
+use Rattle.std.proofs.lemmas.List.{length-map, length-set}
 use Rattle.lane.specs.declared.item.Item.TheVariants.{One}
+use Rattle.lane.specs.Items.{has_mark}
+use Rattle.lane.specs.Lanes.{put_of}
 use Rattle.dag.specs.declared.records.Placed.{Placed}
-use Rattle.route.specs.Sending.{put_on, with_put, AllSent}
-use Rattle.route.specs.Routers.{puts_of, lane_count, next_of}
-use Rattle.route.proofs.Sent.{step-last}
+use Rattle.dag.specs.Shares.{goes_placed}
+use Rattle.route.specs.Senders.{puts, with_refusal}
+use Rattle.route.specs.Sending.{put_on, with_put}
+use Rattle.route.specs.Routers.{RouterState, HasSent}
+use Rattle.route.proofs.Lists.{puts_counted, put_at, put_ok, put_err}
+use Rattle.route.proofs.Sent.{Items, OnPuts, sent-offer, sent-next, sent-last, unmarked_at}
+use Rattle.route.proofs.Steps.{router_same, router_put, router_aim, aimed_at, has_sent_record, has_stuck}
 use Rattle.route.proofs.router.Router.send.Goals as goal
 
-pub returns-in-None-clause-sent : goal.returns-in-None-clause-sent
-returns-in-None-clause-sent c w h =
+pub lanes-init : goal.lanes-init
+lanes-init c =
+    let s = c.self.inside in
+    let v = c.self.view_is in
+    let count : c.len-count.result ≡ length (puts s.senders.items) = omega (arith, puts_counted s.senders, c.len-count.ensures) in
+    let idle : s.pending ≡ None = ap (λ (o : RouterState). o.pending) v ∙ c.requires.none_pending in
+    let unmarked : s.marked ≡ 0 = ap (λ (o : RouterState). o.marked) v ∙ c.requires.none_marked in
+    let N : ℕ → Type 0 = λ n. (j : ℕ) → j < c.first_lane-lane.result → goes_placed j n c.args.placed ≡ false in
+    record {
+      within = c.first_lane-lane.ensures.within;
+      counted = count;
+      aimed = c.first_lane-lane.ensures.goes;
+      sent = λ w h.
+          let P : RouterState → Type 0 = λ o. HasSent w o in
+          let O : Option Placed → Type 0 = λ o. OnPuts w s.next o s.marked (puts s.senders.items) in
+          let M : ℕ → Type 0 = λ m. OnPuts w s.next None m (puts s.senders.items) in
+          sent-offer (puts s.senders.items) w s.next c.first_lane-lane.result 0 c.args.placed (subst N count c.first_lane-lane.ensures.first) (subst M unmarked (subst O idle (subst P (sym v) h)));
+      idle = idle;
+      unmarked = unmarked;
+      none_refused = ap (λ (o : RouterState). o.refusals) v;
+      same_lanes = ap (λ (o : RouterState). o.lanes) v;
+      same_capacities = ap (λ (o : RouterState). o.capacities) v;
+      as_many = ap (λ (o : RouterState). length o.puts) v;
+    }
+
+pub index_mut-requires : goal.index_mut-requires
+index_mut-requires c = omega (arith, c.lanes.invariant.within, c.lanes.invariant.counted, puts_counted c.lanes.self-inside.senders)
+
+pub put-requires-after_bounds : goal.put-requires-after_bounds
+put-requires-after_bounds c κs =
+    let s = c.lanes.self-inside in
     let i = c.lanes.invariant in
-    let old = c.lanes.self in
-    let new = c.put_on_lane.new.self in
     let p = c.args.placed in
-    let put : puts_of new ≡ with_put (puts_of old) c.lanes.lane (One p) = (c.put_on_lane.ensures.put c.if-not-put_on_lane.false).puts in
-    let sent = step-last (puts_of old) (puts_of new) w (Some p) p _ c.lanes.lane 0 refl put i.counted refl i.within i.aimed c.in-None.ensures.none (i.sent w h) in
-    let OfMarked : ℕ → Type 0 = λ m. AllSent (lane_count new) (w ++ p ∷ []) (next_of new) None m (put_on (puts_of new)) in
-    let OfPending : Option Placed → Type 0 = λ o. AllSent (lane_count new) (w ++ p ∷ []) (next_of new) o new.marked (put_on (puts_of new)) in
-    let was = c.put_on_lane.ensures.put c.if-not-put_on_lane.false in
-    subst OfPending (sym (was.pending ∙ i.idle)) (subst OfMarked (sym (was.marked ∙ i.unmarked)) sent)
+    let among : c.lanes.lane < length (puts s.senders.items) = omega (arith, i.within, i.counted) in
+    let within : c.lanes.lane < length s.senders.items = omega (arith, among, length-map s.senders.items put_of) in
+    ap has_mark (sym (put_at s.senders.items c.lanes.lane _ within c.index_mut.ensures.value))
+    ∙ unmarked_at (puts s.senders.items) s.marked c.lanes.lane (omega (arith, i.unmarked)) among s.kept.marks
+
+pub invariant_of-self-inside : goal.invariant_of-self-inside
+invariant_of-self-inside c =
+    let s = c.lanes.self-inside in
+    let i = c.lanes.invariant in
+    let p = c.args.placed in
+    let among : c.lanes.lane < length (puts s.senders.items) = omega (arith, i.within, i.counted) in
+    let within : c.lanes.lane < length s.senders.items = omega (arith, among, length-map s.senders.items put_of) in
+    let none = put_err s.senders.items c.lanes.lane _ c.put.new.self p c.put.result c.is_err.result within c.index_mut.ensures.value c.put.ensures.lane c.is_err.ensures.value c.if-is_err.true c.put.ensures.full c.put.ensures.no_room c.put.ensures.refusals in
+    let kept = router_same (puts s.senders.items) _ s.pending s.next s.marked none.same s.kept in
+    let N : ℕ → Type 0 = λ n. goes_placed c.lanes.lane n p ≡ true in
+    let count = i.counted ∙ sym (ap length none.same) in (
+      router_aim _ s.pending (Some p) s.next c.lanes.lane s.marked kept (omega (arith, count, i.within)) (aimed_at _ c.lanes.lane (Some p) p refl (subst N count i.aimed)) (λ q e. i.unmarked),
+      (s.within, (s.no_ends, (s.room, record {}))),
+    )
+
+pub returns-then-is_err-clause-on : goal.returns-then-is_err-clause-on
+returns-then-is_err-clause-on c =
+    let s = c.lanes.self-inside in
+    let i = c.lanes.invariant in
+    let p = c.args.placed in
+    let among : c.lanes.lane < length (puts s.senders.items) = omega (arith, i.within, i.counted) in
+    let within : c.lanes.lane < length s.senders.items = omega (arith, among, length-map s.senders.items put_of) in
+    let none = put_err s.senders.items c.lanes.lane _ c.put.new.self p c.put.result c.is_err.result within c.index_mut.ensures.value c.put.ensures.lane c.is_err.ensures.value c.if-is_err.true c.put.ensures.full c.put.ensures.no_room c.put.ensures.refusals in
+    record { lanes = none.on ∙ i.same_lanes; capacities = none.holds ∙ i.same_capacities; count = ap length none.same ∙ i.as_many }
+
+pub returns-then-is_err-clause-stuck : goal.returns-then-is_err-clause-stuck
+returns-then-is_err-clause-stuck c _ =
+    let s = c.lanes.self-inside in
+    let i = c.lanes.invariant in
+    let p = c.args.placed in
+    let among : c.lanes.lane < length (puts s.senders.items) = omega (arith, i.within, i.counted) in
+    let within : c.lanes.lane < length s.senders.items = omega (arith, among, length-map s.senders.items put_of) in
+    let none = put_err s.senders.items c.lanes.lane _ c.put.new.self p c.put.result c.is_err.result within c.index_mut.ensures.value c.put.ensures.lane c.is_err.ensures.value c.if-is_err.true c.put.ensures.full c.put.ensures.no_room c.put.ensures.refusals in
+    has_stuck c.args.self.now _ p c.requires refl i.unmarked (ap length none.same ∙ i.as_many)
+    record {
+      within = omega (arith, among, ap length none.same);
+      no_room = none.knows;
+      full = omega (arith, none.full, ap (λ (l : List ℕ). slice_index_or l c.lanes.lane 0) none.holds, ap (λ (l : List Items). length (put_on l c.lanes.lane)) none.same);
+    }
+    (none.counts ∙ ap (λ (l : List ℕ). with_refusal l c.lanes.lane) i.none_refused)
+    (λ w h.
+    let A : List Items → Type 0 = λ l. OnPuts w c.lanes.lane (Some p) s.marked l in
+    let M : ℕ → Type 0 = λ m. OnPuts w c.lanes.lane (Some p) m (puts s.senders.items) in
+    subst A (sym none.same) (subst M (sym i.unmarked) (i.sent w h)))
+
+pub invariant_of-self-inside-else-is_err : goal.invariant_of-self-inside-else-is_err
+invariant_of-self-inside-else-is_err c =
+    let s = c.lanes.self-inside in
+    let i = c.lanes.invariant in
+    let p = c.args.placed in
+    let among : c.lanes.lane < length (puts s.senders.items) = omega (arith, i.within, i.counted) in
+    let within : c.lanes.lane < length s.senders.items = omega (arith, among, length-map s.senders.items put_of) in
+    let was = put_ok s.senders.items c.lanes.lane _ c.put.new.self p c.put.result c.is_err.result within c.index_mut.ensures.value c.put.ensures.lane c.is_err.ensures.value c.if-is_err.false c.put.ensures.ok c.put.ensures.refusals in
+    let long = ap length was.more ∙ length-set (puts s.senders.items) c.lanes.lane (put_on (puts s.senders.items) c.lanes.lane ++ One p ∷ []) in
+    let N : ℕ → Type 0 = λ n. goes_placed c.lanes.lane n p ≡ true in
+    let goes = subst N i.counted i.aimed in
+    (router_put (puts s.senders.items) _ s.pending s.next s.marked c.lanes.lane p was.more among (omega (arith, i.unmarked)) s.kept, (s.within, (s.no_ends, (s.room, record {}))))
+
+pub lane_after-requires-clause-within : goal.lane_after-requires-clause-within
+lane_after-requires-clause-within c = c.lanes.invariant.within
+
+pub lane_after-requires-clause-goes : goal.lane_after-requires-clause-goes
+lane_after-requires-clause-goes c = c.lanes.invariant.aimed
+
+pub lanes-smaller : goal.lanes-smaller
+lanes-smaller c = omega (arith, c.in-Some.ensures.some.0, c.lanes.invariant.within)
+
+pub lanes-preserved : goal.lanes-preserved
+lanes-preserved c =
+    let s = c.lanes.self-inside in
+    let i = c.lanes.invariant in
+    let p = c.args.placed in
+    let among : c.lanes.lane < length (puts s.senders.items) = omega (arith, i.within, i.counted) in
+    let within : c.lanes.lane < length s.senders.items = omega (arith, among, length-map s.senders.items put_of) in
+    let was = put_ok s.senders.items c.lanes.lane _ c.put.new.self p c.put.result c.is_err.result within c.index_mut.ensures.value c.put.ensures.lane c.is_err.ensures.value c.if-is_err.false c.put.ensures.ok c.put.ensures.refusals in
+    let long = ap length was.more ∙ length-set (puts s.senders.items) c.lanes.lane (put_on (puts s.senders.items) c.lanes.lane ++ One p ∷ []) in
+    let N : ℕ → Type 0 = λ n. goes_placed c.lanes.lane n p ≡ true in
+    let goes = subst N i.counted i.aimed in
+    record {
+      within = c.in-Some.ensures.some.1;
+      counted = i.counted ∙ sym long;
+      aimed = c.in-Some.ensures.some.2;
+      sent = λ w h.
+          let A : List Items → Type 0 = λ l. OnPuts w c.in-Some.next (Some p) 0 l in
+          let I : ℕ → Type 0 = λ j. OnPuts w j (Some p) 0 (with_put (puts s.senders.items) c.lanes.lane (One p)) in
+          subst A (sym was.more) (subst I (sym c.in-Some.ensures.some.0) (sent-next (puts s.senders.items) w c.lanes.lane p 0 refl among goes (i.sent w h)));
+      idle = i.idle;
+      unmarked = i.unmarked;
+      none_refused = was.counts ∙ i.none_refused;
+      same_lanes = was.on ∙ i.same_lanes;
+      same_capacities = was.holds ∙ i.same_capacities;
+      as_many = long ∙ i.as_many;
+    }
+
+pub returns-in-None-clause-on : goal.returns-in-None-clause-on
+returns-in-None-clause-on c =
+    let s = c.lanes.self-inside in
+    let i = c.lanes.invariant in
+    let p = c.args.placed in
+    let among : c.lanes.lane < length (puts s.senders.items) = omega (arith, i.within, i.counted) in
+    let within : c.lanes.lane < length s.senders.items = omega (arith, among, length-map s.senders.items put_of) in
+    let was = put_ok s.senders.items c.lanes.lane _ c.put.new.self p c.put.result c.is_err.result within c.index_mut.ensures.value c.put.ensures.lane c.is_err.ensures.value c.if-is_err.false c.put.ensures.ok c.put.ensures.refusals in
+    let long = ap length was.more ∙ length-set (puts s.senders.items) c.lanes.lane (put_on (puts s.senders.items) c.lanes.lane ++ One p ∷ []) in
+    let N : ℕ → Type 0 = λ n. goes_placed c.lanes.lane n p ≡ true in
+    let goes = subst N i.counted i.aimed in
+    record { lanes = was.on ∙ i.same_lanes; capacities = was.holds ∙ i.same_capacities; count = long ∙ i.as_many }
+
+pub returns-in-None-clause-sent : goal.returns-in-None-clause-sent
+returns-in-None-clause-sent c =
+    let s = c.lanes.self-inside in
+    let i = c.lanes.invariant in
+    let p = c.args.placed in
+    let among : c.lanes.lane < length (puts s.senders.items) = omega (arith, i.within, i.counted) in
+    let within : c.lanes.lane < length s.senders.items = omega (arith, among, length-map s.senders.items put_of) in
+    let was = put_ok s.senders.items c.lanes.lane _ c.put.new.self p c.put.result c.is_err.result within c.index_mut.ensures.value c.put.ensures.lane c.is_err.ensures.value c.if-is_err.false c.put.ensures.ok c.put.ensures.refusals in
+    let long = ap length was.more ∙ length-set (puts s.senders.items) c.lanes.lane (put_on (puts s.senders.items) c.lanes.lane ++ One p ∷ []) in
+    let N : ℕ → Type 0 = λ n. goes_placed c.lanes.lane n p ≡ true in
+    let goes = subst N i.counted i.aimed in
+    let L : ℕ → Type 0 = λ n. (k : ℕ) → c.lanes.lane < k → k < n → goes_placed k n p ≡ false in
+    has_sent_record c.args.self.now _ p c.requires record { none_pending = i.idle; none_marked = i.unmarked } (long ∙ i.as_many)
+    (λ w h.
+    let A : List Items → Type 0 = λ l. OnPuts (w ++ p ∷ []) s.next s.pending s.marked l in
+    let O : Option Placed → Type 0 = λ o. OnPuts (w ++ p ∷ []) s.next o s.marked (with_put (puts s.senders.items) c.lanes.lane (One p)) in
+    let M : ℕ → Type 0 = λ m. OnPuts (w ++ p ∷ []) s.next None m (with_put (puts s.senders.items) c.lanes.lane (One p)) in
+    subst A (sym was.more) (subst O (sym i.idle) (subst M (sym i.unmarked) (sent-last (puts s.senders.items) w c.lanes.lane p 0 refl among goes (subst L i.counted c.in-None.ensures.none) (i.sent w h)))))

@@ -1,20 +1,23 @@
-use Rattle.std.proofs.Common.{◌≡◌, ◌-◌, ◌<◌, List, Some, None, true}
+use Rattle.std.proofs.Common.{◌≡◌, ◌-◌, ◌<◌, List, Some, None, true, length}
 use Rattle.dag.specs.declared.records.Placed.{Placed}
 use Rattle.dag.specs.Shares.{goes_placed}
-use Rattle.route.specs.Sending.{put_on, AllSent}
-use Rattle.route.specs.Routers.{puts_of, lane_count, pending_of, marked_of, HasSent, IsOnLanes, refusals_in}
+use Rattle.route.specs.Senders.{lanes, capacities, puts, refusals}
+use Rattle.route.specs.Routers.{HasSent, lane_count}
+use Rattle.route.proofs.Sent.{OnPuts}
 use Rattle.route.proofs.router.Router.send.Given as goal
 
 abbrev pub invariant-lanes : goal.invariant-lanes
 invariant-lanes l = record {
   within : l.lane < l.count;
-  counted : l.count ≡ lane_count l.self;
+  counted : l.count ≡ length (puts l.self-inside.senders.items);
   aimed : goes_placed l.lane l.count l.fn.placed ≡ true;
-  sent : (w : List Placed) → HasSent w l.fn.self → AllSent (lane_count l.self) w l.lane (Some l.fn.placed) 0 (put_on (puts_of l.self));
-  idle : pending_of l.self ≡ None;
-  unmarked : marked_of l.self ≡ 0;
-  none_refused : refusals_in l.self ≡ refusals_in l.fn.self;
-  on : IsOnLanes l.fn.self l.self;
+  sent : (w : List Placed) → HasSent w l.fn.self → OnPuts w l.lane (Some l.fn.placed) 0 (puts l.self-inside.senders.items);
+  idle : l.self-inside.pending ≡ None;
+  unmarked : l.self-inside.marked ≡ 0;
+  none_refused : refusals l.self-inside.senders.items ≡ l.fn.self.refusals;
+  same_lanes : lanes l.self-inside.senders.items ≡ l.fn.self.lanes;
+  same_capacities : capacities l.self-inside.senders.items ≡ l.fn.self.capacities;
+  as_many : length (puts l.self-inside.senders.items) ≡ lane_count l.fn.self;
 }
 
 abbrev pub decreases-lanes : goal.decreases-lanes

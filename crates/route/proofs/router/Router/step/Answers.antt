@@ -1,79 +1,108 @@
-use Rattle.std.proofs.Common.{◌≡◌, ℕ, ◌+◌, ◌<◌, false, true, [], ◌∷◌, ◌++◌, Option, None, length, sym, ap, subst, ◌∙◌, arith}
+use Rattle.std.proofs.Common.{◌≡◌, ℕ, ◌+◌, ◌<◌, true, false, [], ◌∷◌, ◌++◌, length, Some, None, refl, sym, ap, subst, ◌∙◌, arith}
+use Rattle.std.proofs.lemmas.List.{length-map, length-set}
 use Rattle.lane.specs.declared.item.Item.TheVariants.{One}
+use Rattle.lane.specs.Items.{has_mark}
+use Rattle.lane.specs.Lanes.{put_of}
 use Rattle.dag.specs.declared.records.Placed.{Placed}
 use Rattle.dag.specs.Shares.{goes_placed}
-use Rattle.route.specs.Sending.{sent_whole}
-use Rattle.route.specs.Routers.{puts_of}
-use Rattle.route.specs.RouterRuns.{run_of}
-use Rattle.route.specs.Runs.{put}
-use Rattle.route.proofs.Lists.{puts_counted}
-use Rattle.route.proofs.Sent.{OnPuts, step-next, step-last}
-use Rattle.route.proofs.SentSoFar.{events_so_far, step_event-next, step_event-last}
+use Rattle.route.specs.Senders.{puts}
+use Rattle.route.specs.Sending.{put_on}
+use Rattle.route.specs.Routers.{RouterState, HasBlocked}
+use Rattle.route.specs.Steps.{HasGoneOn, HasPutNext}
+use Rattle.route.proofs.Lists.{puts_counted, put_at, put_ok, put_err}
+use Rattle.route.proofs.Sent.{unmarked_at}
+use Rattle.route.proofs.Steps.{over_view, for_pending, router_same, router_put, router_aim, aimed_at, unchanged, gone_same, gone_next, gone_last, puts_next, puts_last}
 use Rattle.route.proofs.router.Router.step.Goals as goal
 
-pub returns-in-Some-lane_after-clause-sent : goal.returns-in-Some-lane_after-clause-sent
-returns-in-Some-lane_after-clause-sent c w h =
-    let s = c.args.self.now in
-    let new = c.put_on_lane.new.self in
-    let was = c.put_on_lane.ensures.put c.if-not-put_on_lane.false in
-    let count : c.len.result ≡ length (puts_of s) = omega (arith, c.len.ensures, puts_counted new.senders, c.put_on_lane.ensures.lanes.count) in
-    let within : s.next < c.len.result = omega (arith, count, puts_counted s.senders, s.next_within) in
-    let Goes : ℕ → Type 0 = λ n. goes_placed s.next n c.in-Some.placed ≡ true in
-    let goes = subst Goes (sym (puts_counted s.senders) ∙ sym count) (s.aimed c.in-Some.placed c.in-Some.is) in
-    let next : c.in-Some-lane_after.lane ≡ s.next + 1 = c.in-Some-lane_after.ensures.some.0 ∙ ap (λ (i : ℕ). i + 1) was.next in
-    let sent = step-next (puts_of s) (puts_of new) w s.pending c.in-Some.placed c.len.result s.next c.in-Some-lane_after.lane s.marked c.in-Some.is was.puts count next (s.unmarked c.in-Some.placed c.in-Some.is) within goes h in
-    let OfMarked : ℕ → Type 0 = λ m. OnPuts (sent_whole w s.pending s.pending) c.in-Some-lane_after.lane s.pending m (puts_of new) in
-    let OfPending : Option Placed → Type 0 = λ o. OnPuts (sent_whole w s.pending o) c.in-Some-lane_after.lane o new.marked (puts_of new) in
-    subst OfPending (sym was.pending) (subst OfMarked (sym was.marked) sent)
+pub put-requires-after_bounds : goal.put-requires-after_bounds
+put-requires-after_bounds c κs =
+    let s = c.self.inside in
+    let within : s.next < length s.senders.items = omega (arith, s.kept.next_within, length-map s.senders.items put_of) in
+    ap has_mark (sym (put_at s.senders.items s.next _ within c.index_mut.ensures.value))
+    ∙ unmarked_at (puts s.senders.items) s.marked s.next (omega (arith, s.kept.unmarked c.in-Some.placed c.in-Some.is)) s.kept.next_within s.kept.marks
 
-pub returns-in-None-clause-sent : goal.returns-in-None-clause-sent
-returns-in-None-clause-sent c w h =
-    let s = c.args.self.now in
-    let new = c.put_on_lane.new.self in
-    let was = c.put_on_lane.ensures.put c.if-not-put_on_lane.false in
-    let count : c.len.result ≡ length (puts_of s) = omega (arith, c.len.ensures, puts_counted new.senders, c.put_on_lane.ensures.lanes.count) in
-    let within : s.next < c.len.result = omega (arith, count, puts_counted s.senders, s.next_within) in
-    let Goes : ℕ → Type 0 = λ n. goes_placed s.next n c.in-Some.placed ≡ true in
-    let goes = subst Goes (sym (puts_counted s.senders) ∙ sym count) (s.aimed c.in-Some.placed c.in-Some.is) in
-    let NoneLater : ℕ → Type 0 = λ i. (k : ℕ) → i < k → k < c.len.result → goes_placed k c.len.result c.in-Some.placed ≡ false in
-    let sent = step-last (puts_of s) (puts_of new) w s.pending c.in-Some.placed c.len.result s.next s.marked c.in-Some.is was.puts count (s.unmarked c.in-Some.placed c.in-Some.is) within goes (subst NoneLater was.next c.in-None.ensures.none) h in
-    let OfMarked : ℕ → Type 0 = λ m. OnPuts (sent_whole w s.pending None) s.next None m (puts_of new) in
-    let OfNext : ℕ → Type 0 = λ i. OnPuts (sent_whole w s.pending None) i None new.marked (puts_of new) in
-    subst OfNext (sym was.next) (subst OfMarked (sym was.marked) sent)
+pub invariant_of-self-inside : goal.invariant_of-self-inside
+invariant_of-self-inside c =
+    let s = c.self.inside in
+    let within : s.next < length s.senders.items = omega (arith, s.kept.next_within, length-map s.senders.items put_of) in
+    let none = put_err s.senders.items s.next _ c.put.new.self c.in-Some.placed c.put.result c.is_err.result within c.index_mut.ensures.value c.put.ensures.lane c.is_err.ensures.value c.if-is_err.true c.put.ensures.full c.put.ensures.no_room c.put.ensures.refusals in
+    (router_same (puts s.senders.items) _ s.pending s.next s.marked none.same s.kept, (s.within, (s.no_ends, (s.room, record {}))))
 
-pub returns-in-Some-lane_after-clause-event : goal.returns-in-Some-lane_after-clause-event
-returns-in-Some-lane_after-clause-event c w p some =
-    let s = c.args.self.now in
-    let new = c.put_on_lane.new.self in
-    let was = c.put_on_lane.ensures.put c.if-not-put_on_lane.false in
-    let after : length (puts_of new) ≡ c.len.result = omega (arith, c.len.ensures, puts_counted new.senders) in
-    let before : length (puts_of s) ≡ c.len.result = omega (arith, after, c.put_on_lane.ensures.lanes.count) in
-    let Goes : ℕ → Type 0 = λ n. goes_placed s.next n c.in-Some.placed ≡ true in
-    let goes = subst Goes (sym (puts_counted s.senders) ∙ before) (s.aimed c.in-Some.placed c.in-Some.is) in
-    let next : c.in-Some-lane_after.lane ≡ s.next + 1 = c.in-Some-lane_after.ensures.some.0 ∙ ap (λ (i : ℕ). i + 1) was.next in
-    let event = step_event-next (length (puts_of s)) (length (puts_of new)) c.len.result w s.pending c.in-Some.placed s.next c.in-Some-lane_after.lane s.marked
-    c.in-Some.is after before next (s.unmarked c.in-Some.placed c.in-Some.is) c.in-Some-lane_after.ensures.some.1 goes c.in-Some-lane_after.ensures.some.2 in
-    let OfMarked : ℕ → Type 0 = λ m. events_so_far (length (puts_of new)) (sent_whole w s.pending s.pending) s.pending c.in-Some-lane_after.lane m ≡ run_of w s ++ put s.next (One c.in-Some.placed) ∷ [] in
-    let OfPending : Option Placed → Type 0 = λ o. events_so_far (length (puts_of new)) (sent_whole w s.pending o) o c.in-Some-lane_after.lane new.marked ≡ run_of w s ++ put s.next (One c.in-Some.placed) ∷ [] in
-    let same : c.in-Some.placed ≡ p = let e = sym c.in-Some.is ∙ some in cc in
-    let Of : Placed → Type 0 = λ q. events_so_far (length (puts_of new)) (sent_whole w s.pending new.pending) new.pending c.in-Some-lane_after.lane new.marked ≡ run_of w s ++ put s.next (One q) ∷ [] in
-    subst Of same (subst OfPending (sym was.pending) (subst OfMarked (sym was.marked) event))
+pub returns-then-is_err-clause-goes_on : goal.returns-then-is_err-clause-goes_on
+returns-then-is_err-clause-goes_on c =
+    let s = c.self.inside in
+    let within : s.next < length s.senders.items = omega (arith, s.kept.next_within, length-map s.senders.items put_of) in
+    let none = put_err s.senders.items s.next _ c.put.new.self c.in-Some.placed c.put.result c.is_err.result within c.index_mut.ensures.value c.put.ensures.lane c.is_err.ensures.value c.if-is_err.true c.put.ensures.full c.put.ensures.no_room c.put.ensures.refusals in
+    over_view HasGoneOn _ _ _ c.self.view_is (gone_same _ _ (unchanged _ _ record { lanes = none.on; capacities = none.holds; count = ap length none.same } none.same refl refl refl))
 
-pub returns-in-None-clause-event : goal.returns-in-None-clause-event
-returns-in-None-clause-event c w p some =
-    let s = c.args.self.now in
-    let new = c.put_on_lane.new.self in
-    let was = c.put_on_lane.ensures.put c.if-not-put_on_lane.false in
-    let after : length (puts_of new) ≡ c.len.result = omega (arith, c.len.ensures, puts_counted new.senders) in
-    let before : length (puts_of s) ≡ c.len.result = omega (arith, after, c.put_on_lane.ensures.lanes.count) in
-    let within : s.next < c.len.result = omega (arith, before, puts_counted s.senders, s.next_within) in
-    let Goes : ℕ → Type 0 = λ n. goes_placed s.next n c.in-Some.placed ≡ true in
-    let goes = subst Goes (sym (puts_counted s.senders) ∙ before) (s.aimed c.in-Some.placed c.in-Some.is) in
-    let NoneLater : ℕ → Type 0 = λ i. (k : ℕ) → i < k → k < c.len.result → goes_placed k c.len.result c.in-Some.placed ≡ false in
-    let event = step_event-last (length (puts_of s)) (length (puts_of new)) c.len.result w s.pending c.in-Some.placed s.next s.marked
-    c.in-Some.is after before (s.unmarked c.in-Some.placed c.in-Some.is) within goes (subst NoneLater was.next c.in-None.ensures.none) in
-    let OfMarked : ℕ → Type 0 = λ m. events_so_far (length (puts_of new)) (sent_whole w s.pending None) None s.next m ≡ run_of w s ++ put s.next (One c.in-Some.placed) ∷ [] in
-    let OfNext : ℕ → Type 0 = λ i. events_so_far (length (puts_of new)) (sent_whole w s.pending None) None i new.marked ≡ run_of w s ++ put s.next (One c.in-Some.placed) ∷ [] in
-    let same : c.in-Some.placed ≡ p = let e = sym c.in-Some.is ∙ some in cc in
-    let Of : Placed → Type 0 = λ q. events_so_far (length (puts_of new)) (sent_whole w s.pending None) None new.next new.marked ≡ run_of w s ++ put s.next (One q) ∷ [] in
-    subst Of same (subst OfNext (sym was.next) (subst OfMarked (sym was.marked) event))
+pub returns-then-is_err-clause-blocked : goal.returns-then-is_err-clause-blocked
+returns-then-is_err-clause-blocked c =
+    let s = c.self.inside in
+    let within : s.next < length s.senders.items = omega (arith, s.kept.next_within, length-map s.senders.items put_of) in
+    let none = put_err s.senders.items s.next _ c.put.new.self c.in-Some.placed c.put.result c.is_err.result within c.index_mut.ensures.value c.put.ensures.lane c.is_err.ensures.value c.if-is_err.true c.put.ensures.full c.put.ensures.no_room c.put.ensures.refusals in
+    over_view (λ o n. (s.next ≡ o.next) × HasBlocked o n s.next) _ _ _ c.self.view_is (
+      refl,
+      record {
+        within = s.kept.next_within;
+        refused = none.counts;
+        knew_of_none = none.knew;
+        knows_of_none = none.knows;
+        full = none.full;
+        unchanged = (unchanged _ _ record { lanes = none.on; capacities = none.holds; count = ap length none.same } none.same refl refl refl);
+      },
+    )
+
+pub invariant_of-self-inside-in-Some-lane_after : goal.invariant_of-self-inside-in-Some-lane_after
+invariant_of-self-inside-in-Some-lane_after c =
+    let s = c.self.inside in
+    let within : s.next < length s.senders.items = omega (arith, s.kept.next_within, length-map s.senders.items put_of) in
+    let was = put_ok s.senders.items s.next _ c.put.new.self c.in-Some.placed c.put.result c.is_err.result within c.index_mut.ensures.value c.put.ensures.lane c.is_err.ensures.value c.if-is_err.false c.put.ensures.ok c.put.ensures.refusals in
+    let kept = router_put (puts s.senders.items) _ s.pending s.next s.marked s.next c.in-Some.placed was.more s.kept.next_within (omega (arith, s.kept.unmarked c.in-Some.placed c.in-Some.is)) s.kept in
+    let N : ℕ → Type 0 = λ n. goes_placed c.in-Some-lane_after.lane n c.in-Some.placed ≡ true in
+    let old : c.len.result ≡ length (puts s.senders.items) = omega (arith, c.len.ensures, puts_counted s.senders) in
+    let count = old ∙ sym (ap length was.more ∙ length-set (puts s.senders.items) s.next (put_on (puts s.senders.items) s.next ++ One c.in-Some.placed ∷ [])) in (
+      router_aim _ s.pending s.pending s.next c.in-Some-lane_after.lane s.marked kept (omega (arith, count, c.in-Some-lane_after.ensures.some.1))
+          (aimed_at _ c.in-Some-lane_after.lane s.pending c.in-Some.placed c.in-Some.is (subst N count c.in-Some-lane_after.ensures.some.2)) s.kept.unmarked,
+      (s.within, (s.no_ends, (s.room, record {}))),
+    )
+
+pub invariant_of-self-inside-in-None : goal.invariant_of-self-inside-in-None
+invariant_of-self-inside-in-None c =
+    let s = c.self.inside in
+    let within : s.next < length s.senders.items = omega (arith, s.kept.next_within, length-map s.senders.items put_of) in
+    let was = put_ok s.senders.items s.next _ c.put.new.self c.in-Some.placed c.put.result c.is_err.result within c.index_mut.ensures.value c.put.ensures.lane c.is_err.ensures.value c.if-is_err.false c.put.ensures.ok c.put.ensures.refusals in
+    let kept = router_put (puts s.senders.items) _ s.pending s.next s.marked s.next c.in-Some.placed was.more s.kept.next_within (omega (arith, s.kept.unmarked c.in-Some.placed c.in-Some.is)) s.kept in
+    (router_aim _ s.pending None s.next s.next s.marked kept kept.next_within (λ p e. absurd (cc)) (λ p e. absurd (cc)), (s.within, (s.no_ends, (s.room, record {}))))
+
+pub returns-in-Some-lane_after-clause-goes_on : goal.returns-in-Some-lane_after-clause-goes_on
+returns-in-Some-lane_after-clause-goes_on c =
+    let s = c.self.inside in
+    let within : s.next < length s.senders.items = omega (arith, s.kept.next_within, length-map s.senders.items put_of) in
+    let was = put_ok s.senders.items s.next _ c.put.new.self c.in-Some.placed c.put.result c.is_err.result within c.index_mut.ensures.value c.put.ensures.lane c.is_err.ensures.value c.if-is_err.false c.put.ensures.ok c.put.ensures.refusals in
+    let old : c.len.result ≡ length (puts s.senders.items) = omega (arith, c.len.ensures, puts_counted s.senders) in
+    over_view HasGoneOn _ _ _ c.self.view_is (gone_next _ _ c.in-Some.placed c.len.result c.in-Some.is record { on_lanes = was.on; holds = was.holds; more = was.more } old refl c.in-Some-lane_after.ensures.some.0 refl)
+
+pub returns-in-Some-lane_after-clause-put : goal.returns-in-Some-lane_after-clause-put
+returns-in-Some-lane_after-clause-put c =
+    let s = c.self.inside in
+    let within : s.next < length s.senders.items = omega (arith, s.kept.next_within, length-map s.senders.items put_of) in
+    let was = put_ok s.senders.items s.next _ c.put.new.self c.in-Some.placed c.put.result c.is_err.result within c.index_mut.ensures.value c.put.ensures.lane c.is_err.ensures.value c.if-is_err.false c.put.ensures.ok c.put.ensures.refusals in
+    let old : c.len.result ≡ length (puts s.senders.items) = omega (arith, c.len.ensures, puts_counted s.senders) in
+    over_view (λ o n. (p : Placed) → o.pending ≡ Some p → HasPutNext o n p) _ _ _ c.self.view_is (for_pending _ _ c.in-Some.placed c.in-Some.is (puts_next _ _ c.in-Some.placed c.len.result c.in-Some.is record { on_lanes = was.on; holds = was.holds; more = was.more } old refl c.in-Some-lane_after.ensures.some.0 refl
+    c.in-Some-lane_after.ensures.some.1 c.in-Some-lane_after.ensures.some.2))
+
+pub returns-in-None-clause-goes_on : goal.returns-in-None-clause-goes_on
+returns-in-None-clause-goes_on c =
+    let s = c.self.inside in
+    let within : s.next < length s.senders.items = omega (arith, s.kept.next_within, length-map s.senders.items put_of) in
+    let was = put_ok s.senders.items s.next _ c.put.new.self c.in-Some.placed c.put.result c.is_err.result within c.index_mut.ensures.value c.put.ensures.lane c.is_err.ensures.value c.if-is_err.false c.put.ensures.ok c.put.ensures.refusals in
+    let old : c.len.result ≡ length (puts s.senders.items) = omega (arith, c.len.ensures, puts_counted s.senders) in
+    over_view HasGoneOn _ _ _ c.self.view_is (gone_last _ _ c.in-Some.placed c.len.result c.in-Some.is record { on_lanes = was.on; holds = was.holds; more = was.more } old refl refl refl c.in-None.ensures.none)
+
+pub returns-in-None-clause-put : goal.returns-in-None-clause-put
+returns-in-None-clause-put c =
+    let s = c.self.inside in
+    let within : s.next < length s.senders.items = omega (arith, s.kept.next_within, length-map s.senders.items put_of) in
+    let was = put_ok s.senders.items s.next _ c.put.new.self c.in-Some.placed c.put.result c.is_err.result within c.index_mut.ensures.value c.put.ensures.lane c.is_err.ensures.value c.if-is_err.false c.put.ensures.ok c.put.ensures.refusals in
+    let old : c.len.result ≡ length (puts s.senders.items) = omega (arith, c.len.ensures, puts_counted s.senders) in
+    over_view (λ o n. (p : Placed) → o.pending ≡ Some p → HasPutNext o n p) _ _ _ c.self.view_is (for_pending _ _ c.in-Some.placed c.in-Some.is (puts_last _ _ c.in-Some.placed c.len.result c.in-Some.is record { on_lanes = was.on; holds = was.holds; more = was.more } old refl refl refl c.in-None.ensures.none))
