@@ -3,11 +3,11 @@
 
 mod back;
 pub mod laws;
-mod memory;
+mod no_memory;
 mod part;
 mod records;
 
 pub use back::Back;
-pub use memory::NoMemory;
+pub use no_memory::NoMemory;
 pub use part::Part;
-pub use records::{Access, Kind, Limits, Placed, Race, Record, Version};
+pub use records::{Access, Kind, Limits, MOST_RECORDS, Placed, Race, Record, Version};

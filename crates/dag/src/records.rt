@@ -4,6 +4,9 @@ ghost use Rattle.dag.specs.Bounds.{most_records};
 
 use std::marker::Model;
 
+/// The most records that a trace may have: 2^48.
+pub const MOST_RECORDS: u64 = 1 << 48;
+
 /// One event of a serial depth-first run of a fork-join program.
 #[derive(Clone, Copy, Debug, PartialEq, Eq)]
 pub enum Record {

@@ -7,7 +7,7 @@ use Rattle.lane.specs.declared.item.Item.{Item}
 use Rattle.lane.specs.declared.taker.Taker.{Taker}
 use Rattle.lane.specs.Items.{has_mark, IsBeginning}
 use Rattle.lane.specs.Lanes.{taker_lane, taken_of, waiting_of, end_lane, all_put}
-use Rattle.shard.specs.declared.working.Worked.{Worked}
+use Rattle.shard.specs.declared.worker_loop.Worked.{Worked}
 use Rattle.detect.specs.Closing.{takers_of, IsSameWork, IsSettled, IsEmptied}
 use Rattle.detect.proofs.LanesBack.{ended_to}
 

@@ -14,13 +14,13 @@ use Rattle.trace.specs.Endings.{EndsReading, IsWantOfMemory, IsWantOfMemoryOrThr
 use Rattle.trace.proofs.Endings.{refused_for_want}
 use Rattle.lane.specs.Items.{IsBeginning}
 use Rattle.lane.specs.Lanes.{LaneId, taker_lane, taken_of}
-use Rattle.route.specs.declared.router.Router.{Router}
-use Rattle.route.specs.Routers.{lane_count, pending_of, marked_of, HasSent, IsOnLanes}
-use Rattle.shard.specs.declared.working.Worked.{Worked}
+use Rattle.route.specs.Routers.{RouterState}
+use Rattle.route.specs.Routers.{lane_count, HasSent, IsOnLanes}
+use Rattle.shard.specs.declared.worker_loop.Worked.{Worked}
 use Rattle.detect.specs.declared.workers.WorkOf.{WorkOf}
-use Rattle.detect.specs.declared.setup.Made.{Made}
+use Rattle.detect.specs.declared.made.Made.{Made}
 use Rattle.detect.specs.declared.closing.Done.{Done}
-use Rattle.detect.specs.declared.setup.Lists.{Lists}
+use Rattle.detect.specs.declared.made.Lists.{Lists}
 use Rattle.detect.specs.Rooms.{HasRoom}
 use Rattle.detect.specs.LanesBack.{HasBackMark, IsFurther}
 use Rattle.detect.specs.Workers.{job_lanes, handle_lanes, AllDid}
@@ -36,9 +36,9 @@ use Rattle.detect.proofs.LanesBack.{further_trans}
 use Rattle.detect.proofs.RunEnds.{did_count, did_taker_lanes, did_given_lanes}
 
 module _ {S H : Type 0} where
-  pub finished : (n : ℕ) (made : Made S H) (done : Done S H) (router : Router) (hs : List (PromisedHandle (Worked S H) WorkOf)) (u : List Placed)
+  pub finished : (n : ℕ) (made : Made S H) (done : Done S H) (router : RouterState) (hs : List (PromisedHandle (Worked S H) WorkOf)) (u : List Placed)
       → IsReady n made → map handle_lanes hs ≡ map job_lanes made.jobs.items → HasSent u router → ((v : List Placed) → HasSent v router → HasSent v done.reading.router)
-      → pending_of done.reading.router ≡ None → marked_of done.reading.router ≡ lane_count done.reading.router → IsOnLanes made.reading.router done.reading.router → IsFurther made.reading.gathering done.reading.gathering
+      → done.reading.router.pending ≡ None → done.reading.router.marked ≡ lane_count done.reading.router → IsOnLanes made.reading.router done.reading.router → IsFurther made.reading.gathering done.reading.gathering
       → ((k : ℕ) → k < length hs → HasBackMark done.reading.gathering k) → AllDid (map handle_lanes hs) done.workers.items → IsFinished n done u
   finished n made done router hs u ready started sent marks idle marked on further ended did =
       let P : List (LaneId × LaneId) → Type 0 = λ ls. AllDid ls done.workers.items in
@@ -61,7 +61,7 @@ module _ {S H : Type 0} where
 
   -- the receipts may be compared
   pub closed : (n : ℕ) (made : Made S H) (done : Done S H) (hs : List (PromisedHandle (Worked S H) WorkOf)) → IsReady n made → IsBeginning (map handle_lanes hs) (map job_lanes made.jobs.items)
-      → marked_of done.reading.router ≡ lane_count done.reading.router → IsOnLanes made.reading.router done.reading.router → IsFurther made.reading.gathering done.reading.gathering
+      → done.reading.router.marked ≡ lane_count done.reading.router → IsOnLanes made.reading.router done.reading.router → IsFurther made.reading.gathering done.reading.gathering
       → AllDid (map handle_lanes hs) done.workers.items → IsClosed done
   closed n made done hs ready first marked on further did =
       let to_shard : LaneId × LaneId → LaneId = λ l. l.0 in
@@ -83,7 +83,7 @@ module _ {S H : Type 0} where
       (x x' : X) (s s' : ReadingThread) (g : Gathering) (o : Result (Unit {0}) Fault) → x' ≡ x → s' ≡ s → done.outcome ≡ o
       → IsReady n made → map handle_lanes hs ≡ map job_lanes made.jobs.items
       → EndsReading IsWantOfMemory records depths (before ⇝ state x) (λ _ w. HasSent (records_of part (placed w)) s.router) o → GoesOn made.reading s
-      → ((w : List Placed) → HasSent w s'.router → HasSent w done.reading.router) → pending_of done.reading.router ≡ None → marked_of done.reading.router ≡ lane_count done.reading.router
+      → ((w : List Placed) → HasSent w s'.router → HasSent w done.reading.router) → done.reading.router.pending ≡ None → done.reading.router.marked ≡ lane_count done.reading.router
       → IsOnLanes s'.router done.reading.router → IsFurther s'.gathering g → IsFurther g done.reading.gathering
       → ((k : ℕ) → k < length hs → HasBackMark done.reading.gathering k) → AllDid (map handle_lanes hs) done.workers.items
       → IsDone part n records depths (before ⇝ state x') done

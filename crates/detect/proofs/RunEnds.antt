@@ -8,7 +8,7 @@ use Rattle.lane.specs.declared.item.Item.TheVariants.{One, Finish}
 use Rattle.lane.specs.Items.{has_mark, records}
 use Rattle.lane.specs.Lanes.{LaneId}
 use Rattle.dag.specs.declared.back.Back.{Back}
-use Rattle.shard.specs.declared.working.Worked.{Worked}
+use Rattle.shard.specs.declared.worker_loop.Worked.{Worked}
 use Rattle.dag.specs.Backs.{races_of, fails}
 use Rattle.shard.specs.Working.{AreInOrder, PutsFound}
 use Rattle.shard.proofs.Answered.{answered}

@@ -10,10 +10,10 @@ use Rattle.lane.specs.declared.item.Item.TheVariants.{One, Finish}
 use Rattle.lane.specs.declared.taker.Taker.{Taker}
 use Rattle.lane.specs.Items.{has_mark, IsBeginning}
 use Rattle.lane.specs.Lanes.{taken_of, waiting_of}
-use Rattle.route.specs.declared.router.Router.{Router}
+use Rattle.route.specs.Routers.{RouterState}
 use Rattle.route.specs.Sending.{put_on}
 use Rattle.route.specs.Routed.{IsRising, in_hand}
-use Rattle.route.specs.Routers.{puts_of, lane_count, pending_of, HasSent}
+use Rattle.route.specs.Routers.{lane_count, HasSent}
 use Rattle.route.specs.Runs.{Event, IsRun, taken_list}
 use Rattle.route.specs.RouterRuns.{IsTakenFrom}
 use Rattle.dag.specs.declared.back.Back.{Back}
@@ -45,7 +45,7 @@ pub rising_from : (n : ℕ) (u : List Placed) → RiseFrom n u → IsRising u
 rising_from n u h = increasing-from_rises place_of u (rises n u h)
 
 -- by the run of the lanes in which the takers took what they took: each has its share whole, since each has its mark
-shares_of : (r : Router) (u : List Placed) (taken : ℕ → List (Item Placed)) → IsTakenFrom r u taken → ((k : ℕ) → k < lane_count r → has_mark (taken k) ≡ true)
+shares_of : (r : RouterState) (u : List Placed) (taken : ℕ → List (Item Placed)) → IsTakenFrom r u taken → ((k : ℕ) → k < lane_count r → has_mark (taken k) ≡ true)
     → ((n k : ℕ) (w : List Placed) (es : List Event) → IsRun n w es → k < n → has_mark (taken_list es k) ≡ true → taken_list es k ≡ map One (share k n w) ++ Finish ∷ [])
     → (k : ℕ) → k < lane_count r → taken k ≡ map One (share k (lane_count r) u) ++ Finish ∷ []
 shares_of r u taken from marked whole k lt =
@@ -58,11 +58,11 @@ module _ {S H : Type 0} where
 
   -- a run of the lanes, by the law of routers, in which the takers took what they took
   pub run_of_takers : (n : ℕ) (done : Done S H) (u : List Placed) → IsRising u → IsFinished n done u → IsCompared n done
-      → ((r : Router) (w : List Placed) (taken : ℕ → List (Item Placed)) → HasSent w r → IsRising (in_hand w (pending_of r)) → ((k : ℕ) → k < lane_count r → IsBeginning (taken k) (put_on (puts_of r) k)) → IsTakenFrom r (in_hand w (pending_of r)) taken)
+      → ((r : RouterState) (w : List Placed) (taken : ℕ → List (Item Placed)) → HasSent w r → IsRising (in_hand w r.pending) → ((k : ℕ) → k < lane_count r → IsBeginning (taken k) (put_on r.puts k)) → IsTakenFrom r (in_hand w r.pending) taken)
       → IsTakenFrom done.reading.router u (taken_at done)
   run_of_takers n done u rising f h law =
       let r = done.reading.router in
-      let at_rest : in_hand u (pending_of r) ≡ u = ap (in_hand u) f.idle ∙ append-nil u in
+      let at_rest : in_hand u r.pending ≡ u = ap (in_hand u) f.idle ∙ append-nil u in
       let P : List Placed → Type 0 = λ w. IsTakenFrom r w (taken_at done) in
       subst P at_rest (law r u (taken_at done) f.sent (subst IsRising (sym at_rest) rising) (λ k lt. (h.to_shards k (omega (arith, lt, f.count))).prefix))
 

@@ -6,8 +6,9 @@ use Rattle.dag.specs.Traces.{placed}
 use Rattle.serial.proofs.Detected.{placed-next}
 use Rattle.dag.specs.declared.part.Part.{Part}
 use Rattle.dag.specs.Parts.{records_of}
-use Rattle.route.specs.declared.router.Router.{Router}
+use Rattle.route.specs.Routers.{RouterState}
 use Rattle.route.specs.Sending.{sent_whole}
+use Rattle.route.specs.Steps.{HasPutNext}
 use Rattle.route.specs.Routers.{HasSent, IsOnLanes}
 use Rattle.detect.specs.declared.gathering.Gathering.{Gathering}
 use Rattle.detect.specs.LanesBack.{IsFurther}
@@ -15,10 +16,10 @@ use Rattle.detect.specs.declared.reading_thread.ReadingThread.{ReadingThread}
 use Rattle.detect.specs.Sent.{GoesOn}
 use Rattle.detect.proofs.LanesBack.{further_refl, further_trans}
 
-pub on_lanes_refl : (r : Router) → IsOnLanes r r
+pub on_lanes_refl : (r : RouterState) → IsOnLanes r r
 on_lanes_refl r = record { lanes = refl; capacities = refl; count = refl }
 
-pub on_lanes_trans : (a b c : Router) → IsOnLanes a b → IsOnLanes b c → IsOnLanes a c
+pub on_lanes_trans : (a b c : RouterState) → IsOnLanes a b → IsOnLanes b c → IsOnLanes a c
 on_lanes_trans a b c h k = record { lanes = k.lanes ∙ h.lanes; capacities = k.capacities ∙ h.capacities; count = k.count ∙ h.count }
 
 pub goes_on_refl : (s : ReadingThread) → GoesOn s s
@@ -32,15 +33,15 @@ goes_on_trans a b c h k = record {
 }
 
 -- the router alone did something
-pub goes_on_router : (s : ReadingThread) (r : Router) → IsOnLanes s.router r → GoesOn s (record s { router = r })
+pub goes_on_router : (s : ReadingThread) (r : RouterState) → IsOnLanes s.router r → GoesOn s (record s { router = r })
 goes_on_router s r on = record { part = refl; lanes = on; further = further_refl s.gathering }
 
 -- the router did something, and more was taken of the lanes back
-pub goes_on_both : (s : ReadingThread) (r : Router) (g : Gathering) → IsOnLanes s.router r → IsFurther s.gathering g → GoesOn s (record s { router = r; gathering = g })
+pub goes_on_both : (s : ReadingThread) (r : RouterState) (g : Gathering) → IsOnLanes s.router r → IsFurther s.gathering g → GoesOn s (record s { router = r; gathering = g })
 goes_on_both s r g on further = record { part = refl; lanes = on; further = further }
 
 -- while the record is pending, a step more sends it whole or leaves it pending
-pub sent_step : (p : Placed) (w : List Placed) (first before after : Option Placed) (r : Router) → first ≡ Some p → ((q : Placed) → before ≡ Some q → first ≡ Some q) → (before ≡ None → ⊥)
+pub sent_step : (p : Placed) (w : List Placed) (first before after : Option Placed) (r : RouterState) → first ≡ Some p → ((q : Placed) → before ≡ Some q → first ≡ Some q) → (before ≡ None → ⊥)
     → HasSent (sent_whole (sent_whole w (Some p) before) before after) r → HasSent (sent_whole w (Some p) after) r
 sent_step p w first None after r is same pending h = absurd (pending refl)
 sent_step p w first (Some q) after r is same pending h =
@@ -49,9 +50,14 @@ sent_step p w first (Some q) after r is same pending h =
     subst P one h
 
 -- where nothing is left to put, the record was sent whole
-pub sent_idle : (p : Placed) (w : List Placed) (before after : Option Placed) (r : Router) → before ≡ None → HasSent (sent_whole (sent_whole w (Some p) before) before after) r → HasSent (w ++ p ∷ []) r
+pub sent_idle : (p : Placed) (w : List Placed) (before after : Option Placed) (r : RouterState) → before ≡ None → HasSent (sent_whole (sent_whole w (Some p) before) before after) r → HasSent (w ++ p ∷ []) r
 sent_idle p w None after r idle h = h
 sent_idle p w (Some q) after r idle h = absurd cc
+
+-- a record that a step leaves pending was pending
+pub still_pending : (o : Option Placed) (old new : RouterState) → old.pending ≡ o → (old.pending ≡ None → ⊥) → ((q : Placed) → old.pending ≡ Some q → HasPutNext old new q) → (p : Placed) → new.pending ≡ Some p → old.pending ≡ Some p
+still_pending None old new is some h p e = absurd (some is)
+still_pending (Some q) old new is some h p e = ((h q is).next p e).0
 
 -- a record more of the part, which is the same
 pub sent_more : (old before after : ReadingThread) (w : List Record) (p : Placed) → p.place ≡ length w + 1 → GoesOn old before

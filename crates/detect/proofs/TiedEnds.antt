@@ -15,7 +15,7 @@ use Rattle.dag.specs.Backs.{fails}
 use Rattle.collect.specs.Collected.{Collection, KeepsBest}
 use Rattle.detect.specs.Gathered.{given_by, all_given, Gathers}
 use Rattle.detect.specs.declared.workers.Job.{Job}
-use Rattle.detect.specs.declared.setup.LaneEnds.{LaneEnds}
+use Rattle.detect.specs.declared.made.LaneEnds.{LaneEnds}
 use Rattle.detect.specs.Workers.{IsFreshJob, AllFresh, to_shards, from_shards}
 use Rattle.detect.specs.Readiness.{IsBetween, IsTied}
 

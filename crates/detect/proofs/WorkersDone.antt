@@ -6,7 +6,7 @@ use Rattle.dag.specs.declared.records.Placed.{Placed}
 use Rattle.lane.specs.declared.taker.Taker.{Taker}
 use Rattle.lane.specs.Items.{IsBeginning}
 use Rattle.lane.specs.Lanes.{LaneId}
-use Rattle.shard.specs.declared.working.Worked.{Worked}
+use Rattle.shard.specs.declared.worker_loop.Worked.{Worked}
 use Rattle.shard.specs.Worked.{DidWork}
 use Rattle.detect.specs.declared.workers.Job.{Job}
 use Rattle.detect.specs.declared.workers.WorkOf.{WorkOf}

@@ -6,7 +6,7 @@ use Rattle.lane.specs.declared.taker.Taker.{Taker}
 use Rattle.lane.specs.Items.{has_mark, IsBeginning}
 use Rattle.lane.specs.Lanes.{LaneId, taker_lane, taken_of, waiting_of, end_lane, all_put}
 use Rattle.dag.specs.declared.back.Back.{Back}
-use Rattle.shard.specs.declared.working.Worked.{Worked}
+use Rattle.shard.specs.declared.worker_loop.Worked.{Worked}
 
 module _ {S H : Type 0} where
   -- what the workers took

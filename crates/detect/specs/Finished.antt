@@ -8,7 +8,7 @@ use Rattle.trace.specs.Devices.{Change}
 use Rattle.trace.specs.Endings.{EndsReading, IsWantOfMemoryOrThread}
 use Rattle.lane.specs.Items.{IsBeginning}
 use Rattle.lane.specs.Lanes.{LaneId}
-use Rattle.route.specs.Routers.{lanes_of, lane_count, pending_of, marked_of, puts_of, HasSent}
+use Rattle.route.specs.Routers.{lane_count, HasSent}
 use Rattle.detect.specs.declared.closing.Done.{Done}
 use Rattle.detect.specs.Gathered.{given_by}
 use Rattle.detect.specs.LanesBack.{back_lanes, HasBackMark, IsGathered}
@@ -20,10 +20,10 @@ module _ {S H : Type 0} where
   pub record IsFinished (n : ℕ) (done : Done S H) (u : List Placed) : Type 0 where
     pub sent : HasSent u done.reading.router
     pub count : lane_count done.reading.router ≡ n
-    pub idle : pending_of done.reading.router ≡ None
-    pub marked : marked_of done.reading.router ≡ n
+    pub idle : done.reading.router.pending ≡ None
+    pub marked : done.reading.router.marked ≡ n
     pub lanes : List (LaneId × LaneId)
-    pub to_shards : map (λ l. l.0) lanes ≡ lanes_of done.reading.router
+    pub to_shards : map (λ l. l.0) lanes ≡ done.reading.router.lanes
     pub from_shards : map (λ l. l.1) lanes ≡ back_lanes done.reading.gathering
     pub did : AllDid lanes done.workers.items
     pub workers : length done.workers.items ≡ n
@@ -33,15 +33,15 @@ module _ {S H : Type 0} where
 
   -- the receipts may be compared: all lanes have their marks, and the workers' ends are those of the first lanes
   pub record IsClosed (done : Done S H) : Type 0 where
-    pub marked : marked_of done.reading.router ≡ lane_count done.reading.router
-    pub to_shards : IsBeginning (taker_lanes done.workers.items) (lanes_of done.reading.router)
+    pub marked : done.reading.router.marked ≡ lane_count done.reading.router
+    pub to_shards : IsBeginning (taker_lanes done.workers.items) done.reading.router.lanes
     pub from_shards : IsBeginning (given_lanes done.workers.items) (back_lanes done.reading.gathering)
 
   -- the receipts were compared: what each of n workers took with what was put on its lane, and what came back on its
   -- lane
   -- with what it put there
   pub record IsCompared (n : ℕ) (done : Done S H) : Type 0 where
-    pub to_shards : (k : ℕ) → k < n → IsSettled (taken_by done.workers.items) (puts_of done.reading.router) k
+    pub to_shards : (k : ℕ) → k < n → IsSettled (taken_by done.workers.items) done.reading.router.puts k
     pub from_shards : (k : ℕ) → k < n
         → IsSettled (given_by done.reading.gathering.backs.items) (given_back done.workers.items) k
 

@@ -6,10 +6,11 @@ use Rattle.lane.specs.declared.sender.Sender.{Sender}
 use Rattle.lane.specs.declared.taker.Taker.{Taker}
 use Rattle.lane.specs.Lanes.{lane_of, put_of, taken_of, taker_lane}
 use Rattle.dag.specs.declared.back.Back.{Back}
-use Rattle.route.specs.Routers.{lanes_of, lane_count, pending_of, marked_of, HasSent}
+use Rattle.route.specs.Steps.{IsIdle}
+use Rattle.route.specs.Routers.{lane_count, HasSent}
 use Rattle.detect.specs.declared.workers.Job.{Job}
-use Rattle.detect.specs.declared.setup.LaneEnds.{LaneEnds}
-use Rattle.detect.specs.declared.setup.Made.{Made}
+use Rattle.detect.specs.declared.made.LaneEnds.{LaneEnds}
+use Rattle.detect.specs.declared.made.Made.{Made}
 use Rattle.detect.specs.LanesBack.{back_lanes, IsGathered}
 use Rattle.detect.specs.Workers.{IsFreshJob, AllFresh, to_shards, from_shards}
 
@@ -38,11 +39,10 @@ module _ {S H : Type 0} where
     pub count : lane_count made.reading.router ≡ n
     pub jobs : length made.jobs.items ≡ n
     pub backs : length made.reading.gathering.backs.items ≡ n
-    pub idle : pending_of made.reading.router ≡ None
-    pub unmarked : marked_of made.reading.router ≡ 0
+    pub idle : IsIdle made.reading.router
     pub none_refused : IsFalse made.reading.gathering.collector.refused
     pub none_sent : HasSent [] made.reading.router
-    pub to_shards_are : to_shards made.jobs.items ≡ lanes_of made.reading.router
+    pub to_shards_are : to_shards made.jobs.items ≡ made.reading.router.lanes
     pub from_shards_are : from_shards made.jobs.items ≡ back_lanes made.reading.gathering
     pub new : AllFresh made.jobs.items
     pub gathered : IsGathered made.reading.gathering

@@ -1,6 +1,6 @@
 -- Private: room for what a run answers of each shard.
 use Rattle.std.specs.Prelude.{◌≡◌, ℕ, ◌≤◌, vec_len, vec_capacity}
-use Rattle.detect.specs.declared.setup.Lists.{Lists}
+use Rattle.detect.specs.declared.made.Lists.{Lists}
 
 pub record HasRoom (n : ℕ) (lists : Lists) : Type 0 where
   pub no_taken : vec_len lists.taken ≡ 0

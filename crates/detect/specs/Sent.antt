@@ -1,23 +1,22 @@
 -- Private: what sends records goes on.
 use Rattle.std.specs.Prelude.{◌≡◌, IsFalse, List, [], ◌∷◌, ◌++◌, Some, None}
 use Rattle.dag.specs.declared.records.Placed.{Placed}
-use Rattle.route.specs.declared.router.Router.{Router}
-use Rattle.route.specs.Routers.{pending_of, marked_of, HasSent, IsOnLanes}
+use Rattle.route.specs.Steps.{IsIdle}
+use Rattle.route.specs.Routers.{RouterState, HasSent, IsOnLanes}
 use Rattle.detect.specs.declared.reading_thread.ReadingThread.{ReadingThread}
 use Rattle.detect.specs.LanesBack.{IsFurther}
 
 -- a record may be sent: none is pending, no lane has its mark, and no refused growth is known
 pub record MaySend (s : ReadingThread) : Type 0 where
-  pub idle : pending_of s.router ≡ None
-  pub unmarked : marked_of s.router ≡ 0
+  pub idle : IsIdle s.router
   pub none_refused : IsFalse s.gathering.collector.refused
 
 -- of these records all but the last were sent whole, and that one is pending
-pub record LacksLast (w : List Placed) (r : Router) : Type 0 where
+pub record LacksLast (w : List Placed) (r : RouterState) : Type 0 where
   pub before : List Placed
   pub last : Placed
   pub all : before ++ last ∷ [] ≡ w
-  pub pending : pending_of r ≡ Some last
+  pub pending : r.pending ≡ Some last
   pub sent : HasSent before r
 
 -- the same part is sent on the same lanes, and more was taken of the lanes back

@@ -7,7 +7,7 @@ use Rattle.lane.specs.declared.taker.Taker.{Taker}
 use Rattle.lane.specs.Lanes.{LaneId, taker_lane, taken_of, lane_of, put_of}
 use Rattle.std.specs.declared.thread.PromisedHandle.{PromisedHandle}
 use Rattle.dag.specs.declared.back.Back.{Back}
-use Rattle.shard.specs.declared.working.Worked.{Worked}
+use Rattle.shard.specs.declared.worker_loop.Worked.{Worked}
 use Rattle.shard.specs.Shards.{IsFresh}
 use Rattle.shard.specs.Worked.{DidWork}
 use Rattle.detect.specs.declared.workers.Job.{Job}

@@ -14,8 +14,8 @@ ghost use Rattle.detect.specs.RunFinds.{RunFindsPart};
 ghost use Rattle.detect.specs.Rooms.{HasRoom};
 
 use crate::gathering::Gathering;
+use crate::made::Lists;
 use crate::reading_thread::ReadingThread;
-use crate::setup::Lists;
 use crate::sharded::Run;
 use collect::Report;
 use lane::{End, Taker};
@@ -60,7 +60,7 @@ pub(crate) fn close<S: BuildHasher + Drop>(done: Done<S>, lists: Lists) -> Resul
     } = settle(done);
     gathering.first_trouble(outcome)?;
     let report = gathering.collector.finish()?;
-    Ok(run_of(report, workers, lists))
+    Ok(into_run(report, workers, lists))
 }
 
 // Compares what each worker took with what the router put on its lane, and what came back with what the worker put,
@@ -122,7 +122,7 @@ fn settle_backs<S: BuildHasher + Drop>(workers: &mut Vec<Worked<S>>, backs: &mut
 }
 
 // The report, and what the workers have of each shard.
-fn run_of<S: BuildHasher + Drop>(report: Report, workers: Vec<Worked<S>>, lists: Lists) -> Run
+fn into_run<S: BuildHasher + Drop>(report: Report, workers: Vec<Worked<S>>, lists: Lists) -> Run
     requires room { HasRoom (vec_len workers) lists }
     ensures report { result.report ≡ report }
     ensures taken { result.taken.items ≡ counts_of workers.items }

@@ -65,7 +65,9 @@ impl Gathering {
             if self.backs[shard].ended() {
                 return;
             }
-            if !self.take_from(shard) {
+            if self.take_from(shard) {
+                waiting.end();
+            } else {
                 waiting.wait(rt);
             }
         }

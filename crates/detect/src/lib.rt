@@ -3,11 +3,12 @@
 
 mod closing;
 mod gathering;
+mod made;
+mod plan;
 mod reading_thread;
-mod setup;
 mod sharded;
 mod workers;
 
+pub use plan::Plan;
 pub use serial::{detect_plain, detect_plain_part, laws};
-pub use setup::Plan;
 pub use sharded::{Run, detect, detect_part};

@@ -6,9 +6,9 @@ ghost use Rattle.dag.specs.Traces.{placed};
 ghost use Rattle.dag.specs.Parts.{records_of};
 ghost use Rattle.trace.specs.declared.faults.Fault.TheVariants.{NoMemory};
 ghost use Rattle.trace.specs.Devices.{◌⇝◌};
-ghost use Rattle.trace.specs.Feeding.{GivesNext, HasSameLimits};
+ghost use Rattle.trace.specs.Feeding.{IsNext};
 ghost use Rattle.trace.specs.Endings.{EndsReading, IsWantOfMemory};
-ghost use Rattle.route.specs.Routers.{lane_count, pending_of, next_of, marked_of};
+ghost use Rattle.route.specs.Routers.{lane_count};
 ghost use Rattle.route.specs.Routers.{HasSent, IsUnchanged, IsStuck, ShowsAll};
 ghost use Rattle.detect.specs.Sent.{MaySend, LacksLast, GoesOn};
 
@@ -42,7 +42,7 @@ impl ReadingThread {
         requires none_sent { HasSent [] self.old.router }
         ensures sent { EndsReading IsWantOfMemory limits.records limits.depth (R.state source.old ⇝ R.state source.new)
             (λ _ w. HasSent (records_of self.old.part (placed w)) self.new.router) result }
-        ensures idle { pending_of self.new.router ≡ None }
+        ensures idle { self.new.router.pending ≡ None }
         ensures goes_on { GoesOn self.old self.new }
     {
         let mut intake = Intake::new(limits);
@@ -74,8 +74,7 @@ impl ReadingThread {
     ) -> Result<Option<Placed>, Fault>
         requires none_refused { IsFalse self.now.gathering.collector.refused }
         requires shown { ShowsAll self.now.router }
-        ensures fed { GivesNext intake.old intake.new (R.state source.old ⇝ R.state source.new) result }
-        ensures limits { HasSameLimits intake.old intake.new }
+        ensures { IsNext intake.old intake.new (R.state source.old ⇝ R.state source.new) result }
     {
         intake.next_from(source)
     }
@@ -87,7 +86,7 @@ impl ReadingThread {
             → HasSent (records_of self.old.part (w ++ placed ∷ [])) self.new.router }
         ensures ready { OnOk result (MaySend self.new) }
         ensures refused { IfErr result (λ fault. fault ≡ NoMemory) }
-        ensures idle { pending_of self.new.router ≡ None }
+        ensures idle { self.new.router.pending ≡ None }
         ensures goes_on { GoesOn self.old self.new }
     {
         match self.put(placed) {
@@ -105,11 +104,11 @@ impl ReadingThread {
         ensures ready { OnOk result (MaySend self.new) }
         ensures left { IsErr result → (w : List Placed) → HasSent (records_of self.old.part w) self.old.router
             → LacksLast (records_of self.old.part (w ++ placed ∷ [])) self.new.router }
-        ensures full { IsErr result → IsStuck self.new.router (next_of self.new.router) }
-        ensures unmarked { marked_of self.new.router ≡ 0 }
+        ensures full { IsErr result → IsStuck self.new.router self.new.router.next }
+        ensures unmarked { self.new.router.marked ≡ 0 }
         ensures goes_on { GoesOn self.old self.new }
     {
-        match taken_by(self.part, placed) {
+        match record_of_part(self.part, placed) {
             Some(own) => self.router.send(own),
             None => Ok(()),
         }
@@ -119,12 +118,12 @@ impl ReadingThread {
     #[cold]
     #[inline(never)]
     fn send_rest<T: Wait + Clock>(&mut self, rt: &T) -> Result<(), Fault>
-        requires unmarked { marked_of self.old.router ≡ 0 }
-        requires full { IsStuck self.old.router (next_of self.old.router) }
+        requires unmarked { self.old.router.marked ≡ 0 }
+        requires full { IsStuck self.old.router self.old.router.next }
         ensures sent { (w : List Placed) → LacksLast w self.old.router → HasSent w self.new.router }
         ensures ready { OnOk result (MaySend self.new) }
         ensures refused { IfErr result (λ fault. fault ≡ NoMemory) }
-        ensures idle { pending_of self.new.router ≡ None }
+        ensures idle { self.new.router.pending ≡ None }
         ensures goes_on { GoesOn self.old self.new }
     {
         self.wait(rt);
@@ -140,10 +139,10 @@ impl ReadingThread {
 
     /// Puts the mark on every lane.
     pub(crate) fn mark_all<T: Wait + Clock>(&mut self, rt: &T)
-        requires { pending_of self.old.router ≡ None }
+        requires { self.old.router.pending ≡ None }
         ensures sent { (w : List Placed) → HasSent w self.old.router → HasSent w self.new.router }
-        ensures idle { pending_of self.new.router ≡ None }
-        ensures marked { marked_of self.new.router ≡ lane_count self.new.router }
+        ensures idle { self.new.router.pending ≡ None }
+        ensures marked { self.new.router.marked ≡ lane_count self.new.router }
         ensures goes_on { GoesOn self.old self.new }
     {
         for _ in rt.forever() {
@@ -162,7 +161,6 @@ impl ReadingThread {
     fn wait<T: Wait + Clock>(&mut self, rt: &T)
         ensures shown { ShowsAll self.new.router }
         ensures unchanged { IsUnchanged self.old.router self.new.router }
-        ensures sent { (w : List Placed) → HasSent w self.old.router → HasSent w self.new.router }
         ensures goes_on { GoesOn self.old self.new }
     {
         self.router.flush();
@@ -173,7 +171,7 @@ impl ReadingThread {
 
 // What the part has of the record. The whole has the record itself, which takes no division.
 #[inline(always)]
-fn taken_by(part: Part, placed: Placed) -> Option<Placed>
+fn record_of_part(part: Part, placed: Placed) -> Option<Placed>
     ensures { option_to_list result ≡ records_of part (placed ∷ []) }
 {
     if part.count == 1 {

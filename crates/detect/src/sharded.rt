@@ -8,7 +8,8 @@ ghost use Rattle.detect.specs.Finished.{IsClosed, IsDone};
 ghost use Rattle.detect.specs.RunReports.{RunAnswers, RunAnswersPart};
 
 use crate::closing::{Done, close};
-use crate::setup::{Made, Plan, make, make_lists};
+use crate::made::{Made, make, make_lists};
+use crate::plan::Plan;
 use crate::workers::{join_all, start_all};
 use collect::Report;
 use lane::Taker;

@@ -2,7 +2,6 @@
 //! the workers at work.
 
 mod answers;
-mod by_definition;
 mod cuttings;
 mod faulty_rows;
 mod known;

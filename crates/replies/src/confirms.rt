@@ -6,7 +6,7 @@ ghost use Rattle.replies.specs.Questions.{AnswersConfirm, status_of};
 ghost use Rattle.dag.specs.Bounds.{most_records};
 ghost use Rattle.replies.specs.Answered.{IsAnswered, IsConfirmed};
 
-use crate::checks::{finish, limits_of};
+use crate::answers::{finish, limits_of};
 use audit::{Confirm, confirm};
 use collect::{Report, report_from};
 use std::alloc::Global;

@@ -10,13 +10,13 @@ ghost use Rattle.texts.specs.Messages.{message};
 ghost use Rattle.replies.specs.Files.{HasAnsweredOf, HasConfirmedOf, IsAnsweredOf, IsAnsweredOfFiles};
 ghost use Rattle.replies.specs.Inputs.{known_bytes};
 
-mod checks;
+mod answers;
 mod confirms;
 mod input;
 mod merges;
 mod questions;
 
-pub use checks::{MOST_RECORDS, answer, limits_of, refuse};
+pub use answers::{answer, limits_of, refuse};
 pub use confirms::answer_confirm;
 pub use input::Input;
 use merges::merge_from_files;

@@ -9,7 +9,7 @@ ghost use Rattle.replies.specs.Inputs.{known_bytes};
 ghost use Rattle.replies.specs.Merges.{HasMergedOf, HasWrittenMerged, IsFirstRefused, IsRefusedReport};
 ghost use Rattle.replies.specs.Merging.{HasTakenReport, HaveTaken};
 
-use crate::checks::{finish, status_of_found};
+use crate::answers::{finish, status_of_found};
 use crate::input::Input;
 use collect::{Collector, ReportRefusal, report_from, write_report};
 use std::io;

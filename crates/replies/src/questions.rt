@@ -6,7 +6,7 @@ ghost use Rattle.replies.specs.Questions.{AnswersPairs, AnswersExplain, AnswersM
 ghost use Rattle.dag.specs.Bounds.{most_records};
 ghost use Rattle.replies.specs.Answered.{IsAnswered};
 
-use crate::checks::{finish, limits_of, status_of_found};
+use crate::answers::{finish, limits_of, status_of_found};
 use audit::{Explained, explain, measure, pairs};
 use std::alloc::Global;
 use texts::{put_explained, put_measure, put_pairs, say_fault};

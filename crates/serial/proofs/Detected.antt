@@ -19,7 +19,7 @@ use Rattle.trace.specs.Watching.{ComesAfter}
 use Rattle.trace.proofs.Places.{depth-next, ended_before, ended_by, ended_after}
 use Rattle.bags.specs.Procedures.{Procedures, Active, at_start, after_sync, after_return}
 use Rattle.shadow.specs.Cells.{untouched}
-use Rattle.shadow.specs.Memory.{Memory, HaveSeen, MayGrow, kept_of}
+use Rattle.shadow.specs.Shadow.{Shadow, HaveSeen, MayGrow, kept_of}
 use Rattle.shadow.specs.Found.{State, state_at_start, state_after, after_record, found, put_in, by_location}
 use Rattle.shadow.proofs.FoundLaws.{Apart, found_from-apart, found-push, race_of-is, state_after-push}
 use Rattle.shadow.proofs.Headlines.{verdict_is_report, racy}
@@ -46,12 +46,12 @@ placed-next w p is =
 -- ---- one more record
 
 -- no race is reported at it
-pub detected_none : (u : List Placed) (p : Placed) (d e : DetectorState) → HasDetected u d → HaveSeen (u ++ p ∷ []) e.bags e.memory → e.kept ≡ d.kept → found (u ++ p ∷ []) ≡ found u ++ [] → HasDetected (u ++ p ∷ []) e
+pub detected_none : (u : List Placed) (p : Placed) (d e : DetectorState) → HasDetected u d → HaveSeen (u ++ p ∷ []) e.bags e.shadow → e.kept ≡ d.kept → found (u ++ p ∷ []) ≡ found u ++ [] → HasDetected (u ++ p ∷ []) e
 detected_none u p d e h seen same is =
     record { seen = seen; given = h.given; holds = subst (KeepsBest h.given) (sym same) h.holds; none_failed = h.none_failed; races = h.races ∙ sym (append-nil (found u)) ∙ sym is }
 
 -- a race is reported at it
-pub detected_race : (u : List Placed) (p : Placed) (d e : DetectorState) (r : RaceAt) → HasDetected u d → HaveSeen (u ++ p ∷ []) e.bags e.memory → found (u ++ p ∷ []) ≡ found u ++ r ∷ []
+pub detected_race : (u : List Placed) (p : Placed) (d e : DetectorState) (r : RaceAt) → HasDetected u d → HaveSeen (u ++ p ∷ []) e.bags e.shadow → found (u ++ p ∷ []) ≡ found u ++ r ∷ []
     → ((g : List Back) → KeepsBest g d.kept → KeepsBest (g ++ backs.Race r ∷ []) e.kept) → HasDetected (u ++ p ∷ []) e
 detected_race u p d e r h seen is taken =
     record {
@@ -72,7 +72,7 @@ second_at u p None is = tt
 second_at u p (Some r) is = (race_of-is (state_after u) p.place p.what r (only_race _ r (append_cancel_left (found u) _ _ (sym is ∙ found-push u p)))).0
 
 -- the record asks for memory: it is a want by its own kind
-pub opening : (u : List Placed) (b : Procedures) (m : Memory) (r : Record) → HaveSeen u b m → MayGrow m r → IsOpening u r
+pub opening : (u : List Placed) (b : Procedures) (m : Shadow) (r : Record) → HaveSeen u b m → MayGrow m r → IsOpening u r
 opening u b m Spawn h g = tt
 opening u b m Call h g = tt
 opening u b m Return h g = g
@@ -106,7 +106,7 @@ still_active s place (Write l) some others = (some, refl)
 none_ended : HasEnded [] → ⊥
 none_ended (i, p, e) = let a = p.0 in let b = p.1 in omega arith
 
-pub after_none : (d : DetectorState) → d.bags ≡ at_start → ((l : ℕ) → kept_of d.memory l ≡ untouched) → KeepsBest [] d.kept → d.last_place ≡ 0 → d.ended ≡ false → d.stopped ≡ false → IsAfter [] d
+pub after_none : (d : DetectorState) → d.bags ≡ at_start → ((l : ℕ) → kept_of d.shadow l ≡ untouched) → KeepsBest [] d.kept → d.last_place ≡ 0 → d.ended ≡ false → d.stopped ≡ false → IsAfter [] d
 after_none d bags_are kept_are keeps first runs going = record {
   detected = record { seen = record { bags_are = bags_are; kept_are = kept_are }; given = []; holds = keeps; none_failed = refl; races = refl };
   last = first;

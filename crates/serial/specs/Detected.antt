@@ -12,7 +12,7 @@ use Rattle.dag.specs.Parts.{records_of}
 use Rattle.trace.specs.Faults.{HasEnded}
 use Rattle.bags.specs.Procedures.{Procedures}
 use Rattle.shadow.specs.Cells.{untouched}
-use Rattle.shadow.specs.Memory.{Memory, HaveSeen}
+use Rattle.shadow.specs.Shadow.{Shadow, HaveSeen}
 use Rattle.shadow.specs.Found.{found, state_after}
 use Rattle.collect.specs.Collected.{Collection, KeepsBest, races_of, fails}
 
@@ -20,7 +20,7 @@ use Rattle.collect.specs.Collected.{Collection, KeepsBest, races_of, fails}
 -- root has returned, and whether a growth was refused
 pub record DetectorState : Type 0 where
   pub bags : Procedures
-  pub memory : Memory
+  pub shadow : Shadow
   pub kept : Collection
   pub last_place : ℕ
   pub ended : Bool
@@ -32,7 +32,7 @@ IsStopped d = d.stopped ≡ true
 
 -- its bags and its shadow memory have seen the records u, and its collector was given the races found in them
 pub record HasDetected (u : List Placed) (d : DetectorState) : Type 0 where
-  pub seen : HaveSeen u d.bags d.memory
+  pub seen : HaveSeen u d.bags d.shadow
   pub given : List Back
   pub holds : KeepsBest given d.kept
   pub none_failed : fails given ≡ false

@@ -8,21 +8,19 @@ ghost use Rattle.dag.specs.declared.records.Placed.{Placed};
 ghost use Rattle.dag.specs.Traces.{placed, IsWellNested};
 ghost use Rattle.trace.specs.Faults.{HasEnded};
 ghost use Rattle.shadow.specs.Cells.{untouched};
-ghost use Rattle.shadow.specs.Memory.{HaveSeen, kept_of, last_place_of, least_count_of};
+ghost use Rattle.shadow.specs.Shadow.{HaveSeen, kept_of, last_place_of, least_count_of};
 ghost use Rattle.shadow.specs.Found.{by_location, found};
 ghost use Rattle.serial.specs.Detected.{HasDetected, IsAfter, IsStopped, WantsMemory, MayWant};
 ghost use Rattle.serial.specs.Reported.{IsReportOf};
 
 use bags::Bags;
 use collect::{Collector, Report};
-use shadow::{Shadow, apply};
+use dag::MOST_RECORDS;
+use shadow::{Shadow, apply_rule};
 use std::alloc::Global;
 use std::hash::BuildHasher;
 use std::marker::Model;
 use trace::{Back, NoMemory, Part, Placed, Race, Record, Watch};
-
-// The most records that a trace may have.
-const MOST_RECORDS: u64 = 1 << 48;
 
 /// Why the detector didn't take a record.
 #[derive(Clone, Copy, Debug, PartialEq, Eq)]
@@ -52,7 +50,7 @@ impl<S: BuildHasher + Drop> Model for Detector<S> {
     ghost use Rattle.std.specs.Prelude.{◌+◌};
     ghost use Rattle.std.specs.Coded.{codes};
     ghost use Rattle.bags.specs.Procedures.{coded_procedures};
-    ghost use Rattle.shadow.specs.Memory.{AreReadyFor};
+    ghost use Rattle.shadow.specs.Shadow.{AreReadyFor};
     ghost use Rattle.serial.specs.Detected.{DetectorState};
 
     ghost Value = { DetectorState };
@@ -61,7 +59,7 @@ impl<S: BuildHasher + Drop> Model for Detector<S> {
 
     ghost view = { λ d. record {
       bags = d.bags;
-      memory = d.shadow;
+      shadow = d.shadow;
       kept = d.collector;
       last_place = d.last_place;
       ended = d.ended;
@@ -148,7 +146,7 @@ impl<S: BuildHasher + Drop> Detector<S> {
 
         ensures detected { OnOk result ((u : List Placed) → HasDetected u self.old
             → HasDetected (u ++ placed ∷ []) self.new) }
-        ensures found { IfOk result (λ race. (u : List Placed) → HaveSeen u self.old.bags self.old.memory
+        ensures found { IfOk result (λ race. (u : List Placed) → HaveSeen u self.old.bags self.old.shadow
             → found (u ++ placed ∷ []) ≡ found u ++ option_to_list race) }
 
         ensures last { self.new.last_place ≡ placed.place }
@@ -156,14 +154,14 @@ impl<S: BuildHasher + Drop> Detector<S> {
             ⊎ ((placed.what ≡ Record.Return) × (length self.old.bags.active ≡ 1))) }
         ensures going { self.new.stopped ≡ self.old.stopped }
 
-        ensures want { OnErr result ((u : List Placed) → HaveSeen u self.old.bags self.old.memory
+        ensures want { OnErr result ((u : List Placed) → HaveSeen u self.old.bags self.old.shadow
             → WantsMemory u placed) }
     {
         if matches!(placed.what, Record::Return) && self.bags.active() == 1 {
             self.ended = true;
         }
         self.last_place = placed.place;
-        match apply(&mut self.bags, &mut self.shadow, placed)? {
+        match apply_rule(&mut self.bags, &mut self.shadow, placed)? {
             None => Ok(None),
             Some(race) => {
                 self.collector.take(Back::Race(race))?;

@@ -7,7 +7,7 @@ use Rattle.dag.specs.declared.records.Placed.{Placed}
 use Rattle.dag.specs.Traces.{opens, closes}
 use Rattle.bags.specs.Procedures.{Procedures, Active, event, after_sync, after_return, bags_from}
 use Rattle.shadow.proofs.FoundLaws.{bags-state_after}
-use Rattle.shadow.specs.Memory.{Memory, HaveSeen}
+use Rattle.shadow.specs.Shadow.{Shadow, HaveSeen}
 use Rattle.shard.specs.Shards.{ShardState, Accepts, IsFresh, is_root_return}
 use Rattle.shard.proofs.Follows.{following}
 use Rattle.shard.specs.Working.{Follow, AreInOrder, MayTake}
@@ -80,7 +80,7 @@ bags_from-push s [] p = refl
 bags_from-push s (q ∷ u) p = bags_from-push (event s q.what) u p
 
 -- the bags after one more record
-pub bags_next : (u : List Placed) (p : Placed) (b c : Procedures) (m n : Memory) → HaveSeen u b m → HaveSeen (u ++ p ∷ []) c n → c ≡ event b p.what
+pub bags_next : (u : List Placed) (p : Placed) (b c : Procedures) (m n : Shadow) → HaveSeen u b m → HaveSeen (u ++ p ∷ []) c n → c ≡ event b p.what
 bags_next u p b c m n h k =
     k.bags_are ∙ bags-state_after (u ++ p ∷ []) ∙ bags_from-push _ u p ∙ ap (λ (x : Procedures). event x p.what) (sym (h.bags_are ∙ bags-state_after u))
 
@@ -108,7 +108,7 @@ pub takes_one : (s : ShardState) (p : Placed) → Accepts s p.place → MayTake 
 takes_one s p a = record { after_end = λ e. absurd (let z = a.running in cc); before_end = λ e. (a.later, a.to_limit, (λ is one. refl), tt) }
 
 -- what may be taken after one more record
-module _ (u : List Placed) (p : Placed) (s z : ShardState) (a : Accepts s p.place) (h : HaveSeen u s.bags s.memory) (k : HaveSeen (u ++ p ∷ []) z.bags z.memory) (place : z.last_place ≡ p.place) (ended : z.ended ≡ is_root_return s.bags p.what) (rest : List Placed) where
+module _ (u : List Placed) (p : Placed) (s z : ShardState) (a : Accepts s p.place) (h : HaveSeen u s.bags s.shadow) (k : HaveSeen (u ++ p ∷ []) z.bags z.shadow) (place : z.last_place ≡ p.place) (ended : z.ended ≡ is_root_return s.bags p.what) (rest : List Placed) where
   active : z.ended ≡ false → length z.bags.active ≡ (length s.bags.active + opens p.what) - closes p.what
   active e = ap (λ (b : Procedures). length b.active) (bags_next u p _ _ _ _ h k) ∙ length-event s.bags p.what (sym ended ∙ e)
 

@@ -12,7 +12,7 @@ use Rattle.lane.specs.declared.item.Item.TheVariants.{One, Finish}
 use Rattle.lane.specs.Items.{IsBeginning}
 use Rattle.dag.specs.declared.back.Back.{Back}
 use Rattle.dag.specs.declared.back.Back.TheVariants.{Race, NoMemory}
-use Rattle.shadow.specs.Memory.{HaveSeen}
+use Rattle.shadow.specs.Shadow.{HaveSeen}
 use Rattle.shard.specs.Shards.{ShardState, Accepts, IsFresh, is_root_return, capped_count}
 use Rattle.shard.specs.Working.{AreInOrder, race_items, HasStopped, out_of_order, no_memory, HasHandedBack, IsGoing, HasWorked, IsOfShare, PutsFound}
 use Rattle.shard.proofs.Orders.{in_order-front, length-in_order, takes_new, takes_none, takes_next, takes_one, takes_after}
@@ -41,7 +41,7 @@ worked_new s new = record {
 
 -- a record was applied, and its race was race_items
 pub worked_applied : (u : List Placed) (p : Placed) (s z : ShardState) (put more : List (Item Back)) (o : Option RaceAt) (stopped : Bool) → more ≡ put ++ race_items (option_to_list o) → stopped ≡ false → Accepts s p.place → z.last_place ≡ p.place → z.ended ≡ is_root_return s.bags p.what → z.taken ≡ capped_count (s.taken + 1)
-    → ((u : List Placed) → HaveSeen u s.bags s.memory → HaveSeen (u ++ p ∷ []) z.bags z.memory) → ((u : List Placed) → HaveSeen u s.bags s.memory → found (u ++ p ∷ []) ≡ found u ++ option_to_list o)
+    → ((u : List Placed) → HaveSeen u s.bags s.shadow → HaveSeen (u ++ p ∷ []) z.bags z.shadow) → ((u : List Placed) → HaveSeen u s.bags s.shadow → found (u ++ p ∷ []) ≡ found u ++ option_to_list o)
     → HasWorked u s put stopped → HasWorked (u ++ p ∷ []) z more stopped
 worked_applied u p s z put more o stopped adds is a place ended taken applied finds h =
     let g = h.going is in

@@ -4,14 +4,14 @@ use Rattle.dag.specs.Bounds.{most_records}
 use Rattle.dag.specs.declared.records.Record.{Record}
 use Rattle.dag.specs.declared.records.Record.TheVariants.{Spawn, Call, Return, Sync, Read, Write}
 use Rattle.bags.specs.Procedures.{Procedures}
-use Rattle.shadow.specs.Memory.{Memory, HaveSeen, IsSameMemory}
+use Rattle.shadow.specs.Shadow.{Shadow, HaveSeen, IsSameShadow}
 
 -- its number, the bags, the shadow memory, the place of the last record, whether the root has returned, and how
 -- many records were taken
 pub record ShardState : Type 0 where
   pub index : ℕ
   pub bags : Procedures
-  pub memory : Memory
+  pub shadow : Shadow
   pub last_place : ℕ
   pub ended : Bool
   pub taken : ℕ
@@ -24,7 +24,7 @@ pub record Accepts (s : ShardState) (place : ℕ) : Type 0 where
 
 -- no record was taken
 pub record IsFresh (s : ShardState) : Type 0 where
-  pub applied : HaveSeen [] s.bags s.memory
+  pub applied : HaveSeen [] s.bags s.shadow
   pub at_first : s.last_place ≡ 0
   pub running : s.ended ≡ false
   pub none_taken : s.taken ≡ 0
@@ -46,7 +46,7 @@ capped_count n = min n (2 ^ 64 - 1)
 pub record IsSameShard (old new : ShardState) : Type 0 where
   pub index : new.index ≡ old.index
   pub bags : new.bags ≡ old.bags
-  pub memory : IsSameMemory old.memory new.memory
+  pub shadow : IsSameShadow old.shadow new.shadow
   pub last_place : new.last_place ≡ old.last_place
   pub ended : new.ended ≡ old.ended
   pub taken : new.taken ≡ old.taken

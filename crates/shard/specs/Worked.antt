@@ -8,7 +8,7 @@ use Rattle.lane.specs.declared.taker.Taker.{Taker}
 use Rattle.lane.specs.Items.{records}
 use Rattle.lane.specs.Lanes.{taker_lane, taken_of, lane_of, end_lane, all_put, all_shown}
 use Rattle.dag.specs.declared.back.Back.{Back}
-use Rattle.shard.specs.declared.working.Worked.{Worked}
+use Rattle.shard.specs.declared.worker_loop.Worked.{Worked}
 use Rattle.shard.specs.Shards.{capped_count}
 use Rattle.shard.specs.Working.{HasHandedBack, IsOfShare, PutsFound}
 

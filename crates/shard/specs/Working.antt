@@ -14,7 +14,7 @@ use Rattle.lane.specs.declared.item.Item.TheVariants.{One, Finish}
 use Rattle.lane.specs.Items.{IsBeginning}
 use Rattle.dag.specs.declared.back.Back.{Back}
 use Rattle.dag.specs.declared.back.Back.TheVariants.{Race, NoMemory}
-use Rattle.shadow.specs.Memory.{HaveSeen}
+use Rattle.shadow.specs.Shadow.{HaveSeen}
 use Rattle.shard.specs.Shards.{ShardState, capped_count}
 
 -- the records, without their places
@@ -60,7 +60,7 @@ pub record MayTake (s : ShardState) (rest : List Placed) : Type 0 where
 
 -- a worker applies what comes: it has applied the records u and put their races
 pub record IsGoing (u : List Placed) (s : ShardState) (put : List (Item Back)) : Type 0 where
-  pub applied : HaveSeen u s.bags s.memory
+  pub applied : HaveSeen u s.bags s.shadow
   pub goes_on : (rest : List Placed) → AreInOrder (u ++ rest) ↔ MayTake s rest
   pub races : put ≡ race_items (found u)
 

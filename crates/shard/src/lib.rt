@@ -3,11 +3,11 @@
 
 mod backs;
 mod gate;
-mod state;
+mod shard;
 mod worker;
-mod working;
+mod worker_loop;
 
 pub use dag::Back;
 pub use gate::{Gate, Open};
-pub use state::Shard;
-pub use working::{Worked, work};
+pub use shard::Shard;
+pub use worker_loop::{Worked, work};

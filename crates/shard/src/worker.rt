@@ -11,7 +11,7 @@ ghost use Rattle.shard.specs.Working.{HasWorked};
 use crate::Back;
 use crate::backs::put_back;
 use crate::gate::Gate;
-use crate::state::Shard;
+use crate::shard::Shard;
 use dag::Placed;
 use lane::{Item, Sender};
 use std::hash::BuildHasher;
@@ -47,39 +47,26 @@ impl<S: BuildHasher + Drop> Worker<S> {
     {
         for item in block {
             // Only a race and a refused growth, which are rare, need the runtime.
-            if let Some(back) = self.apply_item(gate, *item) {
+            if let Some(back) = self.take_item(gate, *item) {
                 put_back(rt, &mut self.back, back);
             }
         }
         self.back.flush();
     }
 
-    // Applies the record of an item after it has passed the gate, and gives what is to be put on the lane back.
+    // Takes an item, and gives what is to be put on the lane back. A record that has passed the gate is applied, and
+    // gives its race. After a refused growth, which it gives once, and after a record out of order it only counts.
     #[inline(always)]
-    fn apply_item<G: Gate>(&mut self, gate: &G, item: Item<Placed>) -> Option<Back>
+    fn take_item<G: Gate>(&mut self, gate: &G, item: Item<Placed>) -> Option<Back>
         ensures worked { (u : List Placed) → HasWorked u self.old.shard (put_of self.old.back) self.old.stopped →
             HasWorked (u ++ records (item ∷ [])) self.new.shard
             (put_of self.old.back ++ map One (option_to_list result)) self.new.stopped }
         ensures back { self.new.back ≡ self.old.back }
     {
-        match item {
-            Item::One(placed) => {
-                gate.pass(self.shard.index(), placed.place);
-                self.apply(placed)
-            }
-            Item::Finish => None,
-        }
-    }
-
-    // Applies a record and gives its race. After a refused growth, which it gives once, and after a record out of order
-    // it only counts.
-    #[inline(always)]
-    fn apply(&mut self, placed: Placed) -> Option<Back>
-        ensures worked { (u : List Placed) → HasWorked u self.old.shard (put_of self.old.back) self.old.stopped →
-            HasWorked (u ++ placed ∷ []) self.new.shard
-            (put_of self.old.back ++ map One (option_to_list result)) self.new.stopped }
-        ensures back { self.new.back ≡ self.old.back }
-    {
+        let Item::One(placed) = item else {
+            return None;
+        };
+        gate.pass(self.shard.index(), placed.place);
         if self.stopped || !self.shard.accepts(placed.place) {
             self.stopped = true;
             self.shard.count_one();

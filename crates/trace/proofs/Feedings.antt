@@ -1,5 +1,5 @@
 -- What each step of a feed leaves of `HasFed`, and that the fault that it meets is the first.
-use Rattle.std.proofs.Common.{◌≡◌, ℕ, ◌+◌, ◌-◌, ◌≤◌, List, [], ◌∷◌, ◌++◌, length, take, drop, Option, Some, None, arith, refl, sym, ◌∙◌, ap, subst, append_assoc, length-append}
+use Rattle.std.proofs.Common.{◌≡◌, ℕ, ◌+◌, ◌-◌, ◌≤◌, List, [], ◌∷◌, ◌++◌, length, take, drop, Option, Some, None, Result, Err, inl, rules, arith, refl, sym, ◌∙◌, ap, subst, append_assoc, length-append}
 use Rattle.std.specs.Io.KnownBytes.{Consumes}
 use Rattle.std.proofs.lemmas.List.{append-nil, take-append-drop, drop-take, drop-drop}
 use Rattle.dag.specs.declared.records.Version.{Version}
@@ -9,14 +9,16 @@ use Rattle.trace.specs.declared.faults.NestFault.{NestFault}
 use Rattle.trace.specs.declared.faults.NestKind.{NestKind}
 use Rattle.trace.specs.declared.faults.NestKind.TheVariants.{Unfinished}
 use Rattle.trace.specs.declared.faults.Fault.{Fault}
-use Rattle.trace.specs.declared.faults.Fault.TheVariants.{Text, Nest}
+use Rattle.trace.specs.declared.faults.Fault.TheVariants.{Text, Nest, Read}
+use Rattle.trace.specs.declared.feeding.Ending.TheVariants.{Running, Bad}
+use Rattle.dag.specs.declared.records.Placed.{Placed}
 use Rattle.trace.specs.Text.{Fits, line, text}
 use Rattle.trace.specs.Faults.{HasEnded, IsMisplaced, AreNested, IsBadLine, IsBadPlace, bad_place, IsTruncated, IsFirstFault, IsFaultOfAll, truncated, unfinished}
 use Rattle.trace.specs.Faults as faults
 use Rattle.trace.specs.Reading.{Reading, AreBytes, AllFitIn, AreText, HasRead}
 use Rattle.trace.specs.Nesting.{Nesting, HasNested}
-use Rattle.trace.specs.Devices.{Device, ◌⇝◌, Gave}
-use Rattle.trace.specs.Feeding.{Feeding, before_all, HasUsed, HasFed}
+use Rattle.trace.specs.Devices.{Device, Change, ◌⇝◌, HasFailed, Gave}
+use Rattle.trace.specs.Feeding.{Feeding, before_all, HasUsed, HasFed, GivesNext, EndsAsAnswered, HasSameLimits, IsNext}
 use Rattle.dag.proofs.Lists.{all-front, all-last}
 use Rattle.trace.proofs.Readings.{open_nil}
 use Rattle.trace.proofs.Nestings.{nested_none}
@@ -160,4 +162,23 @@ fed_none records depths =
       };
       has_nested = nested_none depths;
       running = refl;
+    }
+
+-- a feed that runs on, and one that has ended with the fault that it answers
+pub answered_running : (new : Feeding) (result : Result (Option Placed) Fault) → new.ending ≡ Running → EndsAsAnswered new result
+answered_running new result running = record { good = λ is. search (rules, running, is); bad = λ f is. search (rules, running, is) }
+
+pub answered_bad : (new : Feeding) (fault : Fault) → new.ending ≡ Bad fault → EndsAsAnswered new (Err fault)
+answered_bad new fault bad = record { good = λ is. search (rules, bad, is); bad = λ f is. search (rules, bad, is) }
+
+-- the answer of a feed that hadn't ended
+pub next_of_running : (old new : Feeding) (c : Change) (result : Result (Option Placed) Fault) → old.ending ≡ Running → GivesNext old new c result → (result ≡ Err Read → HasFailed c) → EndsAsAnswered new result → HasSameLimits old new → IsNext old new c result
+next_of_running old new c result running fed read answered limits =
+    record {
+      fed = fed;
+      read = λ is. inl (read is);
+      answered = answered;
+      good = λ is. absurd (search (rules, running, is));
+      bad = λ f is. absurd (search (rules, running, is));
+      limits = limits;
     }

@@ -72,12 +72,21 @@ abbrev pub GivesNext : Feeding → Feeding → Change → Result (Option Placed)
 GivesNext old new c result = (w : List Record) (bytes : List ℕ) → HasFed w bytes old
     → (came : List ℕ) × Gave c came × IsFed old.reading.limit old.nesting.max_depth w (bytes ++ came) c new result
 
--- Whatever the feed had read: it answers `Read` only if the source failed in this call, or if the feed had ended with
--- `Read`; and a feed has ended with a fault only if it answered that fault.
-pub record ReadsOnlyFailed (old new : Feeding) (c : Change) (result : Result (Option Placed) Fault) : Type 0 where
-  pub failed : result ≡ Err faults.Read → HasFailed c ⊎ (old.ending ≡ Bad faults.Read)
-  pub answered : (f : Fault) → new.ending ≡ Bad f → result ≡ Err f
+-- The feed has ended only as it answered.
+pub record EndsAsAnswered (new : Feeding) (result : Result (Option Placed) Fault) : Type 0 where
+  pub good : new.ending ≡ Good → result ≡ Ok None
+  pub bad : (f : Fault) → new.ending ≡ Bad f → result ≡ Err f
 
 pub record HasSameLimits (old new : Feeding) : Type 0 where
   pub records : new.reading.limit ≡ old.reading.limit
   pub depths : new.nesting.max_depth ≡ old.nesting.max_depth
+
+-- The answer of a feed that is asked for the next record. Whatever it had read, it answers `Read` only if the source
+-- failed meanwhile, or if it had ended with `Read`. Once it has ended it gives that answer again, and stays as it is.
+pub record IsNext (old new : Feeding) (c : Change) (result : Result (Option Placed) Fault) : Type 0 where
+  pub fed : GivesNext old new c result
+  pub read : result ≡ Err faults.Read → HasFailed c ⊎ (old.ending ≡ Bad faults.Read)
+  pub answered : EndsAsAnswered new result
+  pub good : old.ending ≡ Good → (result ≡ Ok None) × (new ≡ old)
+  pub bad : (f : Fault) → old.ending ≡ Bad f → (result ≡ Err f) × (new ≡ old)
+  pub limits : HasSameLimits old new

@@ -4,7 +4,7 @@ ghost use Rattle.std.specs.Prelude.{◌≡◌, ◌≢◌, ℕ, ◌+◌, ◌≤�
 ghost use Rattle.std.specs.Prelude.{Option, Ok, Err, Some, None, IfOk, IfErr, OnErr, IfSome};
 ghost use Rattle.std.specs.Option.{option_to_list};
 ghost use Rattle.dag.specs.declared.records.Record.{Record};
-ghost use Rattle.trace.specs.Devices.{Change, ◌⇝◌, Counts, Gave, IsUsedUp, IsSteady};
+ghost use Rattle.trace.specs.Devices.{Device, Change, ◌⇝◌, Counts, Gave, IsUsedUp, IsSteady};
 ghost use Rattle.trace.specs.declared.faults.Fault.TheVariants as faults;
 ghost use Rattle.trace.specs.Faults.{IsBadLine, IsFirstFault};
 ghost use Rattle.trace.specs.Reading.{held_back};
@@ -61,10 +61,10 @@ impl Model for Intake {
 }
 
 impl Intake {
-    ghost use Rattle.trace.specs.Feeding.{before_all, HasUsed, HasFed, IsFed, GivesNext};
-    ghost use Rattle.trace.specs.Feeding.{ReadsOnlyFailed, HasSameLimits};
+    ghost use Rattle.trace.specs.Feeding.{before_all, HasUsed, HasFed, IsFed};
+    ghost use Rattle.trace.specs.Feeding.{IsNext, EndsAsAnswered, HasSameLimits};
     ghost use Rattle.trace.specs.Nesting.{HasNested};
-    ghost use Rattle.trace.specs.declared.feeding.Ending.TheVariants.{Running, Good, Bad};
+    ghost use Rattle.trace.specs.declared.feeding.Ending.TheVariants.{Running, Bad};
 
     /// An intake that has read nothing.
     pub fn new(limits: Limits) -> Self
@@ -86,12 +86,8 @@ impl Intake {
     /// returns `None`.
     #[inline(always)]
     pub fn next_from<S: Source>(&mut self, source: &mut S) -> Result<Option<Placed>, Fault>
-        ensures fed { GivesNext self.old self.new (S.state source.old ⇝ S.state source.new) result }
-        ensures read { ReadsOnlyFailed self.old self.new (S.state source.old ⇝ S.state source.new) result }
-        ensures good { self.old.ending ≡ Good → (result ≡ Ok None) × (self.new ≡ self.old) × (source.new ≡ source.old) }
-        ensures bad { (f : Fault) → self.old.ending ≡ Bad f → (result ≡ Err f) × (self.new ≡ self.old)
-            × (source.new ≡ source.old) }
-        ensures limits { HasSameLimits self.old self.new }
+        ensures next { IsNext self.old self.new (S.state source.old ⇝ S.state source.new) result }
+        ensures not_asked { self.old.ending ≢ Running → source.new ≡ source.old }
     {
         match self.next_known() {
             Some(placed) => Ok(Some(placed)),
@@ -99,16 +95,12 @@ impl Intake {
         }
     }
 
-    /// The next placed record, if the bytes that have come show it at once. The answer `None` says nothing and
-    /// changes nothing; then `next_from` gives the record.
+    /// The next placed record, if the bytes that have come show it at once: then it is an answer of `next_from` whose
+    /// source stays as it is, whatever that is. The answer `None` says nothing and changes nothing.
     #[inline(always)]
     pub fn next_known(&mut self) -> Option<Placed>
-        ensures fed { (w : List Record) (bytes : List ℕ) → HasFed w bytes self.old →
-            IfSome result (λ p. (p.place ≡ length w + 1) × HasFed (w ++ p.what ∷ []) bytes self.new) }
+        ensures next { IfSome result (λ p. (d : Device) → IsNext self.old self.new (d ⇝ d) (Ok (Some p))) }
         ensures none { result ≡ None → self.new ≡ self.old }
-        ensures ended { self.old.ending ≢ Running → result ≡ None }
-        ensures running { IfSome result (λ _. self.new.ending ≡ Running) }
-        ensures limits { HasSameLimits self.old self.new }
     {
         if self.start >= self.easy_until {
             return None;
@@ -124,12 +116,8 @@ impl Intake {
     // The next placed record, whether its line is easy or not.
     #[inline(always)]
     fn next_of_all<S: Source>(&mut self, source: &mut S) -> Result<Option<Placed>, Fault>
-        ensures fed { GivesNext self.old self.new (S.state source.old ⇝ S.state source.new) result }
-        ensures read { ReadsOnlyFailed self.old self.new (S.state source.old ⇝ S.state source.new) result }
-        ensures good { self.old.ending ≡ Good → (result ≡ Ok None) × (self.new ≡ self.old) × (source.new ≡ source.old) }
-        ensures bad { (f : Fault) → self.old.ending ≡ Bad f → (result ≡ Err f) × (self.new ≡ self.old)
-            × (source.new ≡ source.old) }
-        ensures limits { HasSameLimits self.old self.new }
+        ensures next { IsNext self.old self.new (S.state source.old ⇝ S.state source.new) result }
+        ensures not_asked { self.old.ending ≢ Running → source.new ≡ source.old }
     {
         match self.ending {
             Ending::Running => self.read_on(source),
@@ -142,9 +130,7 @@ impl Intake {
     #[inline(never)]
     fn read_on<S: Source>(&mut self, source: &mut S) -> Result<Option<Placed>, Fault>
         requires { self.old.ending ≡ Running }
-        ensures fed { GivesNext self.old self.new (S.state source.old ⇝ S.state source.new) result }
-        ensures read { ReadsOnlyFailed self.old self.new (S.state source.old ⇝ S.state source.new) result }
-        ensures limits { HasSameLimits self.old self.new }
+        ensures { IsNext self.old self.new (S.state source.old ⇝ S.state source.new) result }
     {
         loop {
             match self.fill(source) {
@@ -214,7 +200,7 @@ impl Intake {
             → HasUsed (w ++ what ∷ []) bytes self.old → HasNested w self.old.nesting →
             IsFed self.old.reading.limit self.old.nesting.max_depth w bytes c self.new result }
         ensures not_read { result ≢ Err faults.Read }
-        ensures answered { (f : Fault) → self.new.ending ≡ Bad f → result ≡ Err f }
+        ensures answered { EndsAsAnswered self.new result }
         ensures limits { HasSameLimits self.old self.new }
     {
         self.easy_until = 0;
@@ -248,7 +234,7 @@ impl Intake {
             → HasFed w bytes self.old →
             IsFed self.old.reading.limit self.old.nesting.max_depth w bytes c self.new result }
         ensures not_read { result ≢ Err faults.Read }
-        ensures answered { (f : Fault) → self.new.ending ≡ Bad f → result ≡ Err f }
+        ensures answered { EndsAsAnswered self.new result }
         ensures limits { HasSameLimits self.old self.new }
     {
         if let Err(fault) = self.reader.end() {
@@ -282,8 +268,8 @@ pub struct Feed<R> {
 }
 
 impl<R: Source> Feed<R> {
-    ghost use Rattle.trace.specs.Feeding.{before_all, GivesNext, ReadsOnlyFailed, HasSameLimits};
-    ghost use Rattle.trace.specs.declared.feeding.Ending.TheVariants.{Good, Bad};
+    ghost use Rattle.trace.specs.Feeding.{before_all, IsNext};
+    ghost use Rattle.trace.specs.declared.feeding.Ending.TheVariants.{Running};
 
     /// A feed that has read nothing.
     pub fn new(limits: Limits, source: R) -> Self
@@ -309,13 +295,9 @@ impl<R: Source> Feed<R> {
     /// assert_eq!(rt; feed.next()?, None);
     /// ```
     pub fn next(&mut self) -> Result<Option<Placed>, Fault>
-        ensures fed { GivesNext self.old.intake self.new.intake
+        ensures next { IsNext self.old.intake self.new.intake
             (R.state self.old.source ⇝ R.state self.new.source) result }
-        ensures read { ReadsOnlyFailed self.old.intake self.new.intake
-            (R.state self.old.source ⇝ R.state self.new.source) result }
-        ensures good { self.old.intake.ending ≡ Good → (result ≡ Ok None) × (self.new ≡ self.old) }
-        ensures bad { (f : Fault) → self.old.intake.ending ≡ Bad f → (result ≡ Err f) × (self.new ≡ self.old) }
-        ensures limits { HasSameLimits self.old.intake self.new.intake }
+        ensures not_asked { self.old.intake.ending ≢ Running → self.new ≡ self.old }
     {
         self.intake.next_from(&mut self.source)
     }

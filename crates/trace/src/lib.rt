@@ -15,7 +15,9 @@ mod reading;
 mod watching;
 mod writers;
 
-pub use dag::{Access, Back, Kind, Limits, NoMemory, Part, Placed, Race, Record, Version};
+pub use dag::{
+    Access, Back, Kind, Limits, MOST_RECORDS, NoMemory, Part, Placed, Race, Record, Version,
+};
 pub use devices::{Counted, Failed, Sink, Source};
 pub use faults::{Fault, NestFault, NestKind, TextFault, TextKind, WriteFault};
 pub use feeding::{Feed, Intake};

@@ -2,8 +2,6 @@
 #![tactic(auto)]
 
 #[cfg(test)]
-mod by_definition;
-#[cfg(test)]
 mod parallel;
 #[cfg(test)]
 mod tests;

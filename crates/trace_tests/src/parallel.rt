@@ -1,7 +1,7 @@
 //! Which places are parallel: on worked traces, and in every well nested list of at most 7 records.
 
-use super::by_definition::{MOST, are_parallel, is_well_nested, joins, paths};
 use std::process::Abort;
+use testing::by_definition::{MOST, are_parallel, is_well_nested, joins, paths};
 use trace::Record::{self, Call, Read, Return, Spawn, Sync, Write};
 use trace::is_parallel;
 
@@ -116,7 +116,7 @@ fn short_lists(rt: HostRuntime) {
         for number in 0..COUNTS[shorter] {
             let list = list_of(number);
             let records = &list[..shorter + 1];
-            if is_well_nested(records) {
+            if is_well_nested(records, MOST) {
                 check_list(&rt, records, &mut tally);
             }
         }

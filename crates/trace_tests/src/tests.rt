@@ -1,41 +1,15 @@
 //! The worked rows and the tables of faults, whole and cut after every byte; sources and sinks that fail.
 
-ghost use Rattle.std.specs.Prelude.{None, ◌≤◌, length};
+ghost use Rattle.std.specs.Prelude.{◌≤◌, length};
 
 use std::io::{self, ErrorKind, Write};
 use std::process::Abort;
 use std::test::Fail;
+use testing::devices::Pieces;
 use trace::{
-    Counted, Failed, Fault, Feed, Limits, NestFault, NestKind, Placed, Record, Sink, Source,
-    TextFault, TextKind, Version, WriteFault, write_header, write_record,
+    Counted, Fault, Feed, Limits, NestFault, NestKind, Placed, Record, Sink, TextFault, TextKind,
+    Version, WriteFault, write_header, write_record,
 };
-
-// Hands out the bytes, so many at each call, and fails once they have all come, if that is asked. A call
-// after the failure would hand out the end of the input.
-#[derive(Drop)]
-struct Pieces<'a> {
-    bytes: &'a [u8],
-    size: usize,
-    fails: bool,
-    failed: u64,
-}
-
-impl<'a> Source for Pieces<'a> {
-    ghost state = { λ s. record { bytes = None; failures = s.failed } };
-
-    fn get(&mut self, buffer: &mut [u8]) -> Result<usize, Failed> {
-        if self.bytes.is_empty() && self.fails {
-            self.fails = false;
-            self.failed = self.failed.saturating_add(1);
-            return Err(Failed);
-        }
-        let count = self.size.min(self.bytes.len()).min(buffer.len());
-        let (front, back) = self.bytes.split_at(count);
-        buffer[..count].copy_from_slice(front);
-        self.bytes = back;
-        Ok(count)
-    }
-}
 
 fn text(line: u64, kind: TextKind) -> Fault {
     Fault::Text(TextFault { line, kind })

@@ -34,7 +34,7 @@ pub struct Waiting {
 const PAUSES: u32 = 16;
 
 // Of all threads that wait side by side.
-const MOST_LOOKS: u64 = 64;
+const MOST_LOOKS: u64 = 256;
 
 // In microseconds. The system adds some fifty.
 const SHORTEST_NAP: u64 = 3;

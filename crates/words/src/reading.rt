@@ -270,7 +270,7 @@ fn shards_of(found: &ArgMatches<'_>) -> Result<u32, WordsFault>
     ensures within { IfOk result IsShardCount }
     ensures asked { IfOk result (IsNumberAsked 4 (first_of (codes "shards") (rows_in found.now))) }
 {
-    match number_of(found, "shards")? {
+    match option_number(found, "shards")? {
         None => Ok(USUAL_SHARDS),
         Some(shards) if 1 <= shards && shards <= MOST_SHARDS => Ok(shards as u32),
         Some(_) => Err(WordsFault::Bad),
@@ -282,7 +282,7 @@ fn capacity_of(found: &ArgMatches<'_>) -> Result<u32, WordsFault>
     ensures within { IfOk result IsCapacity }
     ensures asked { IfOk result (IsNumberAsked 1024 (first_of (codes "capacity") (rows_in found.now))) }
 {
-    match number_of(found, "capacity")? {
+    match option_number(found, "capacity")? {
         None => Ok(USUAL_CAPACITY),
         Some(capacity) if 1 <= capacity && capacity <= GREATEST_CAPACITY => Ok(capacity as u32),
         Some(_) => Err(WordsFault::Bad),
@@ -294,7 +294,7 @@ fn depth_of(found: &ArgMatches<'_>) -> Result<u32, WordsFault>
     ensures within { IfOk result IsDepth }
     ensures asked { IfOk result (IsDepthAsked (rows_in found.now)) }
 {
-    match number_of(found, "depth")? {
+    match option_number(found, "depth")? {
         None => Ok(USUAL_DEPTH),
         Some(depth) if depth <= GREATEST_DEPTH => Ok(depth as u32),
         Some(_) => Err(WordsFault::Bad),
@@ -302,7 +302,7 @@ fn depth_of(found: &ArgMatches<'_>) -> Result<u32, WordsFault>
 }
 
 // The number that an option gives, spelled as a trace spells its numbers; `None` without the option.
-fn number_of(found: &ArgMatches<'_>, option: &str) -> Result<Option<u64>, WordsFault>
+fn option_number(found: &ArgMatches<'_>, option: &str) -> Result<Option<u64>, WordsFault>
     ensures { IfOk result (λ number. first_of option.now (rows_in found.now) ≡ option_map decimal number) }
 {
     let Some(digits) = value_of(found, option) else {

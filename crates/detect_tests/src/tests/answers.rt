@@ -13,28 +13,10 @@ use std::process::Abort;
 use std::sync::Wait;
 use std::thread::Threads;
 use std::time::Clock;
-use trace::{Counted, Failed, Fault, Limits, NoMemory, Part, Source};
+use testing::devices::Pieces;
+use trace::{Counted, Fault, Limits, NoMemory, Part, Source};
 
 pub type Hasher = BuildHasherDefault<FoldHasher>;
-
-/// Hands out the bytes, in pieces of one size.
-#[derive(Drop)]
-pub struct Pieces<'a> {
-    pub bytes: &'a [u8],
-    pub size: usize,
-}
-
-impl<'a> Source for Pieces<'a> {
-    ghost state = { λ _. record { bytes = None; failures = 0 } };
-
-    fn get(&mut self, buffer: &mut [u8]) -> Result<usize, Failed> {
-        let count = self.size.min(self.bytes.len()).min(buffer.len());
-        let (front, back) = self.bytes.split_at(count);
-        buffer[..count].copy_from_slice(front);
-        self.bytes = back;
-        Ok(count)
-    }
-}
 
 /// The text of the report by one thread, from pieces of the size.
 pub fn text_plain(
@@ -43,7 +25,7 @@ pub fn text_plain(
     bytes: &[u8],
     size: usize,
 ) -> Result<Vec<u8>, Fault> {
-    let mut pieces = Pieces { bytes, size };
+    let mut pieces = Pieces::of(bytes, size);
     let report = detect_plain(alloc, limits, &mut pieces, Hasher::default())?;
     text_of(alloc, &report)
 }
@@ -110,7 +92,7 @@ pub fn answer_of<T: Threads + Wait + Clock + Sync + Abort>(
     limits: Limits,
     bytes: &[u8],
 ) -> Result<Answer, Fault> {
-    let mut pieces = Pieces { bytes, size: 1 };
+    let mut pieces = Pieces::of(bytes, 1);
     answer_from(rt, alloc, shards, capacity, limits, &mut pieces, &Open)
 }
 
@@ -126,7 +108,7 @@ pub fn answer_of_part<T: Threads + Wait + Clock + Sync + Abort>(
     assert!(rt; 1 <= shards && shards <= 64);
     let hashers = hashers(alloc, shards)?;
     let plan = Plan::new(shards, 1, limits);
-    let mut pieces = Pieces { bytes, size: 1 };
+    let mut pieces = Pieces::of(bytes, 1);
     let run = detect_part(rt, alloc, plan, part, &mut pieces, &Open, hashers)?;
     Ok((run.report, run.taken))
 }

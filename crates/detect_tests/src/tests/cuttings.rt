@@ -2,7 +2,7 @@
 //! the pieces.
 ghost use Rattle.std.specs.Prelude.{None};
 
-use super::answers::{Hasher, Pieces, answer_from, text_of};
+use super::answers::{Hasher, answer_from, text_of};
 use super::faulty_rows::all_faulty;
 use super::reported_rows::{LIMITS, WRITE_WRITE, all_reported};
 use detect::detect_plain;
@@ -12,6 +12,7 @@ use std::process::Abort;
 use std::sync::Wait;
 use std::thread::Threads;
 use std::time::Clock;
+use testing::devices::Pieces;
 use trace::{Failed, Fault, Limits, Source};
 
 /// Where a text is cut. If asked to, a call fails there, and then the bytes come one by one.
@@ -37,11 +38,8 @@ impl<'a> TwoPieces<'a> {
         let (first, second) = cut.text.split_at(cut.place.min(cut.text.len()));
         let size = if cut.fails { 1 } else { 4096 };
         TwoPieces {
-            first: Pieces { bytes: first, size },
-            second: Pieces {
-                bytes: second,
-                size,
-            },
+            first: Pieces::of(first, size),
+            second: Pieces::of(second, size),
             fails: cut.fails,
             failed: 0,
         }

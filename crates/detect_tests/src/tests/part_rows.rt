@@ -1,6 +1,6 @@
 //! The parts of the worked rows: each reports the races of its locations, in one thread and with shards.
 
-use super::answers::{Hasher, Pieces, answer_of_part, assert_fault};
+use super::answers::{Hasher, answer_of_part, assert_fault};
 use super::faulty_rows::{Faulty, all_faulty};
 use super::reported_rows::{LIMITS, Reported, WRITE_WRITE, all_reported};
 use collect::{Report, read_report};
@@ -11,6 +11,7 @@ use std::sync::Wait;
 use std::test::Fail;
 use std::thread::Threads;
 use std::time::Clock;
+use testing::devices::Pieces;
 use trace::{Fault, Limits, Part, Race};
 
 /// The numbers of parts.
@@ -35,7 +36,7 @@ fn part_of<R: Abort>(rt: &R, index: u32, count: u32) -> Part {
 
 /// The report by one thread.
 fn plain(alloc: Global, limits: Limits, part: Part, bytes: &[u8]) -> Result<Report, Fault> {
-    let mut pieces = Pieces { bytes, size: 1 };
+    let mut pieces = Pieces::of(bytes, 1);
     detect_plain_part(alloc, limits, part, &mut pieces, Hasher::default())
 }
 

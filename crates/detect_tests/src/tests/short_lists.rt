@@ -2,15 +2,15 @@
 //! the answer of a shard at each place, are those of the definitions.
 
 use super::answers::Hasher;
-use super::by_definition::{
-    MOST, ReportedRace, first_fault, is_well_nested, paths, race_ending_at, second_place,
-};
 use collect::Report;
 use detect::detect_plain;
 use shard::Shard;
 use std::alloc::Global;
 use std::process::Abort;
 use std::test::Fail;
+use testing::by_definition::{
+    MOST, ReportedRace, first_fault, is_well_nested, paths, race_ending_at, second_place,
+};
 use trace::{
     Counted, Fault, Limits, NestKind, Placed, Race, Record, Version, WriteFault, write_header,
     write_record,

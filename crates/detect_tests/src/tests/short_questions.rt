@@ -1,13 +1,13 @@
 //! Every list of at most 7 records over one location, and with calls every list of at most 6: its measure, all its
 //! races, and what is confirmed of any two of its accesses, are those of the definitions.
 
-use super::by_definition::{self, Between, MOST, accesses_at, is_well_nested, paths, race_at};
 use super::short_lists::{counts, list_of, write_list};
 use audit::{Confirm, Measure, confirm, measure, pairs};
 use collect::{Collector, Report};
 use std::alloc::Global;
 use std::process::Abort;
 use std::test::Fail;
+use testing::by_definition::{self, Between, MOST, accesses_at, is_well_nested, paths, race_at};
 use trace::{Access, Back, Counted, Fault, Kind, Limits, Race, Record, Version};
 
 const LIMITS: Limits = Limits {

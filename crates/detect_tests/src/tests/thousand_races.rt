@@ -1,11 +1,12 @@
 //! A child and its parent write the same 1,000 locations: the same 1,000 races, in one thread and with shards; and
 //! none if the trace has a fault at its end.
 
-use super::answers::{Pieces, answer_from, answer_of, assert_fault, assert_text, text_plain};
+use super::answers::{answer_from, answer_of, assert_fault, assert_text, text_plain};
 use shard::Gate;
 use std::alloc::{AllocError, Global};
 use std::sync::atomic::{AtomicU64, Ordering};
 use std::test::Fail;
+use testing::devices::Pieces;
 use trace::{Fault, Limits, NestFault, NestKind};
 
 pub const LIMITS: Limits = Limits {
@@ -94,10 +95,10 @@ fn fault_after_a_flood(rt: HostRuntime) -> Result<(), Fail> {
     let gate = Counting {
         passed: AtomicU64::new(0),
     };
-    let mut pieces = Pieces {
-        bytes: trace.strip_suffix(b"return\n").ok_or("no last record")?,
-        size: 4096,
-    };
+    let mut pieces = Pieces::of(
+        trace.strip_suffix(b"return\n").ok_or("no last record")?,
+        4096,
+    );
     let answer = answer_from(&rt, rt.alloc(), 2, 1, LIMITS, &mut pieces, &gate);
     let fault = Fault::Nest(NestFault {
         place: 2003,

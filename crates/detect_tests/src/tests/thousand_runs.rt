@@ -3,7 +3,7 @@
 //! The runs are shared out among twenty tests, since a test's time is limited: with lanes of capacity 1 each record
 //! waits for a thread's turn, and beside eight busy processes a run takes more than fifty times as long.
 
-use super::answers::{Pieces, answer_from, assert_text};
+use super::answers::{answer_from, assert_text};
 use super::thousand_races::{LIMITS, report_text, trace_text};
 use shard::Open;
 use std::alloc::Global;
@@ -12,6 +12,7 @@ use std::sync::Wait;
 use std::test::Fail;
 use std::thread::Threads;
 use std::time::Clock;
+use testing::devices::Pieces;
 
 const RUNS: usize = 50;
 
@@ -19,10 +20,7 @@ fn run_often<T: Threads + Wait + Clock + Sync + Abort>(rt: &T, alloc: Global) ->
     let trace = trace_text(alloc)?;
     let report = report_text(alloc)?;
     for count in 0..RUNS {
-        let mut pieces = Pieces {
-            bytes: &trace,
-            size: 4096,
-        };
+        let mut pieces = Pieces::of(&trace, 4096);
         let text = answer_from(rt, alloc, 64, 1, LIMITS, &mut pieces, &Open)?.text;
         assert_text(rt, &text, &report, "run", count);
     }

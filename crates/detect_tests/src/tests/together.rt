@@ -1,13 +1,14 @@
 //! The workers run beside each other, and beside the reading. A body on one thread fails here.
 ghost use Rattle.std.specs.Prelude.{None};
 
-use super::answers::{Pieces, answer_from};
+use super::answers::answer_from;
 use super::reported_rows::{LIMITS, WRITE_WRITE};
 use shard::Gate;
 use std::alloc::{AllocError, Global};
 use std::sync::atomic::{AtomicBool, Ordering};
 use std::test::Fail;
 use std::thread;
+use testing::devices::Pieces;
 use trace::{Failed, Limits, Source};
 
 /// How often a gate or a reader that waits looks: a load of a flag, and a yield if it isn't set.
@@ -61,10 +62,7 @@ impl Gate for Meeting {
 fn two_shards_meet(rt: HostRuntime) -> Result<(), Fail> {
     for shards in [2u32, 8] {
         let gate = Meeting::of(rt.alloc(), shards)?;
-        let mut pieces = Pieces {
-            bytes: WRITE_WRITE,
-            size: 1,
-        };
+        let mut pieces = Pieces::of(WRITE_WRITE, 1);
         let text = answer_from(&rt, rt.alloc(), shards, 1, LIMITS, &mut pieces, &gate)?.text;
         assert!(rt; !gate.missed.load(Ordering::SeqCst), "{shards} shards");
         assert_eq!(rt; text.as_slice(), REPORT);
@@ -87,10 +85,7 @@ fn reads_of_one_shard(alloc: Global) -> Result<Vec<u8>, AllocError> {
 fn two_shards_meet_at_a_full_lane(rt: HostRuntime) -> Result<(), Fail> {
     let gate = Meeting::of(rt.alloc(), 2)?;
     let trace = reads_of_one_shard(rt.alloc())?;
-    let mut pieces = Pieces {
-        bytes: &trace,
-        size: 4096,
-    };
+    let mut pieces = Pieces::of(&trace, 4096);
     let limits = Limits {
         records: 43,
         depth: 1,
@@ -156,14 +151,8 @@ fn reader_follows_shard(rt: HostRuntime) -> Result<(), Fail> {
             passed: AtomicBool::new(false),
         };
         let mut reader = Following {
-            first: Pieces {
-                bytes: first,
-                size: 4096,
-            },
-            second: Pieces {
-                bytes: second,
-                size: 4096,
-            },
+            first: Pieces::of(first, 4096),
+            second: Pieces::of(second, 4096),
             passed: &gate.passed,
             missed: false,
         };

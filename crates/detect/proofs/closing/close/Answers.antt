@@ -37,25 +37,25 @@ returns-clause-answers g c = λ part n records depths change some most h.
     let count : vec_len done.workers ≡ n = omega (arith, f.workers, done.workers.ok.0) in
     let compared = subst (λ m. IsCompared m done) count settled.ensures.compared in
     let from = run_of_takers n done u rising f compared c.routers.ensures.takes in
-    let answers = run_finds n done u c.run_of.result some (λ k. in_order_of_part k n part ends.trace most ends.read.whole.well_nested) f
+    let answers = run_finds n done u c.into_run.result some (λ k. in_order_of_part k n part ends.trace most ends.read.whole.well_nested) f
     (record {
       share_taken = took_shares n done u f from c.runs.ensures.whole;
       compared = compared;
       takers = takers_of settled.result.workers.items;
-      lanes = c.run_of.ensures.lanes;
+      lanes = c.into_run.ensures.lanes;
       same = map-map taken_of (λ w. w.taker) settled.result.workers.items ∙ same.taken;
       emptied = λ k lt. settled.ensures.emptied k (omega (arith, lt, count));
-      counts = c.run_of.ensures.taken ∙ same.counts;
-      lane_count_is = omega (arith, c.run_of.result.lanes.ok.0, c.run_of.ensures.lane_count, settled.result.workers.ok.0, same.count, f.workers);
+      counts = c.into_run.ensures.taken ∙ same.counts;
+      lane_count_is = omega (arith, c.into_run.result.lanes.ok.0, c.into_run.ensures.lane_count, settled.result.workers.ok.0, same.count, f.workers);
     })
     good
     (λ held holds.
     let P : List RaceAt → Type 0 = IsCollected held in
-    subst P (sym c.run_of.ensures.report) (c.in_ok-report.ensures.ok held (subst (KeepsBest held) (sym settled.ensures.collector) holds))) in
+    subst P (sym c.into_run.ensures.report) (c.in_ok-report.ensures.ok held (subst (KeepsBest held) (sym settled.ensures.collector) holds))) in
     record { trace = ends.trace; read = ends.read; says = answers }
 
-pub run_of-requires : goal.run_of-requires
-run_of-requires g c =
+pub into_run-requires : goal.into_run-requires
+into_run-requires g c =
     let done = c.args.done in
     let P : ℕ → Type 0 = λ m. HasRoom m c.args.lists in
     let count : vec_len done.workers ≡ vec_len c.settle-outcome.result.workers = omega (arith, done.workers.ok.0, c.settle-outcome.ensures.same.count, c.settle-outcome.result.workers.ok.0) in

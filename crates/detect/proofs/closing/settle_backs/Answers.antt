@@ -1,7 +1,7 @@
 use Rattle.std.proofs.Common.{rules, refl, ap, ◌∙◌}
 use Rattle.std.proofs.Math.Seq.{map-set_same}
 use Rattle.lane.specs.Lanes.{end_lane, taker_lane, taken_of, all_put}
-use Rattle.shard.specs.declared.working.Worked.{Worked}
+use Rattle.shard.specs.declared.worker_loop.Worked.{Worked}
 use Rattle.detect.specs.Gathered.{given_by}
 use Rattle.detect.specs.Closing.{given_back, IsSettled}
 use Rattle.detect.proofs.LanesBack.{ended_to}

@@ -1,7 +1,7 @@
 use Rattle.std.proofs.Common.{rules, map, refl, sym, ap, ◌∙◌}
 use Rattle.std.proofs.Math.Seq.{map-set_same}
 use Rattle.lane.specs.Lanes.{end_lane, taker_lane, taken_of, all_put}
-use Rattle.shard.specs.declared.working.Worked.{Worked}
+use Rattle.shard.specs.declared.worker_loop.Worked.{Worked}
 use Rattle.detect.specs.Closing.{taken_by, IsSettled}
 use Rattle.detect.proofs.LanesBack.{ended_to}
 use Rattle.detect.proofs.Receipts.{front_same, at_front, within_front, at_map, settled_at, same_set, emptied_by, emptied_more}

@@ -1,5 +1,4 @@
 use Rattle.std.proofs.Common.{vec_len, ap, subst, sym, ◌∙◌, arith}
-use Rattle.route.specs.Routers.{pending_of}
 use Rattle.detect.specs.declared.reading_thread.ReadingThread.{ReadingThread}
 use Rattle.detect.specs.Sent.{GoesOn}
 use Rattle.detect.proofs.Endings.{lacks_no_thread}
@@ -11,8 +10,8 @@ use Rattle.detect.proofs.sharded.run_workers.Goals as goal
 
 pub mark_all-requires : goal.mark_all-requires
 mark_all-requires g c = elim c.match-start_all.branch [
-  | in-Ok w ↦ ap (λ (s : ReadingThread). pending_of s.router) w.reading-is ∙ w.send_all-outcome.ensures.idle
-  | in-Err w ↦ ap (λ (s : ReadingThread). pending_of s.router) w.reading-is ∙ c.requires.idle
+  | in-Ok w ↦ ap (λ (s : ReadingThread). s.router.pending) w.reading-is ∙ w.send_all-outcome.ensures.idle
+  | in-Err w ↦ ap (λ (s : ReadingThread). s.router.pending) w.reading-is ∙ c.requires.idle.none_pending
 ]
 
 pub finish_lanes-requires : goal.finish_lanes-requires

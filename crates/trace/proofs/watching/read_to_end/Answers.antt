@@ -24,14 +24,14 @@ records-init g c =
 pub returns-in_err-next_from : goal.returns-in_err-next_from
 returns-in_err-next_from g c =
     let i = c.records.invariant in
-    let fed = c.in_err-next_from.ensures.fed i.trace i.came i.fed in
+    let fed = c.in_err-next_from.ensures.next.fed i.trace i.came i.fed in
     ends_refused _ _ _ _ _ _ _ c.from_residual.ensures.1
     (refused_by_fault IsWantOfMemory _ _ _ _ (g.R.Source.state c.args.source.now) (g.R.Source.state c.records.source) (g.R.Source.state c.next_from.new.source) i.came fed.0 _ i.records i.depths i.steady i.gave fed.1 fed.2.0)
 
 pub returns-in-None : goal.returns-in-None
 returns-in-None g c =
     let i = c.records.invariant in
-    let fed = c.in_ok-next_from.ensures.fed i.trace i.came i.fed in
+    let fed = c.in_ok-next_from.ensures.next.fed i.trace i.came i.fed in
     let change : Change = g.R.Source.state c.records.source ⇝ g.R.Source.state c.next_from.new.source in
     let end = given_end _ _ _ _ change _ _ c.in-None.is fed.2 in
     let P : ℕ → ℕ → Type 0 = λ r d. IsWhole r d i.trace (i.came ++ fed.0) (g.R.Source.state c.next_from.new.source) in
@@ -45,24 +45,24 @@ pub see-requires : goal.see-requires
 see-requires g c =
     let i = c.records.invariant in
     let change : Change = g.R.Source.state c.records.source ⇝ g.R.Source.state c.next_from.new.source in
-    let next = given_next _ _ _ _ change _ _ _ c.in-Some.is (c.in_ok-next_from.ensures.fed i.trace i.came i.fed).2 in
-    let limit : c.in-Some.placed.place ≤ most_records = omega (arith, next.0, next.1.has_used.has_read.within, c.next_from.ensures.limits.records, i.records, c.args.limits.within, length-append i.trace (c.in-Some.placed.what ∷ [])) in
+    let next = given_next _ _ _ _ change _ _ _ c.in-Some.is (c.in_ok-next_from.ensures.next.fed i.trace i.came i.fed).2 in
+    let limit : c.in-Some.placed.place ≤ most_records = omega (arith, next.0, next.1.has_used.has_read.within, c.next_from.ensures.next.limits.records, i.records, c.args.limits.within, length-append i.trace (c.in-Some.placed.what ∷ [])) in
     (_, i.trace, i.seen, record { place_is = next.0; to_limit = limit })
 
 pub records-smaller : goal.records-smaller
 records-smaller g c =
     let i = c.records.invariant in
     let change : Change = g.R.Source.state c.records.source ⇝ g.R.Source.state c.next_from.new.source in
-    let next = given_next _ _ _ _ change _ _ _ c.in-Some.is (c.in_ok-next_from.ensures.fed i.trace i.came i.fed).2 in
-    omega (arith, next.1.has_used.has_read.count_is, next.1.has_used.has_read.within, i.fed.has_used.has_read.count_is, c.next_from.ensures.limits.records, i.records, length-append i.trace (c.in-Some.placed.what ∷ []))
+    let next = given_next _ _ _ _ change _ _ _ c.in-Some.is (c.in_ok-next_from.ensures.next.fed i.trace i.came i.fed).2 in
+    omega (arith, next.1.has_used.has_read.count_is, next.1.has_used.has_read.within, i.fed.has_used.has_read.count_is, c.next_from.ensures.next.limits.records, i.records, length-append i.trace (c.in-Some.placed.what ∷ []))
 
 pub records-preserved : goal.records-preserved
 records-preserved g c =
     let i = c.records.invariant in
-    let fed = c.in_ok-next_from.ensures.fed i.trace i.came i.fed in
+    let fed = c.in_ok-next_from.ensures.next.fed i.trace i.came i.fed in
     let change : Change = g.R.Source.state c.records.source ⇝ g.R.Source.state c.next_from.new.source in
     let next = given_next _ _ _ _ change _ _ _ c.in-Some.is fed.2 in
-    let limit : c.in-Some.placed.place ≤ most_records = omega (arith, next.0, next.1.has_used.has_read.within, c.next_from.ensures.limits.records, i.records, c.args.limits.within, length-append i.trace (c.in-Some.placed.what ∷ [])) in
+    let limit : c.in-Some.placed.place ≤ most_records = omega (arith, next.0, next.1.has_used.has_read.within, c.next_from.ensures.next.limits.records, i.records, c.args.limits.within, length-append i.trace (c.in-Some.placed.what ∷ [])) in
     record {
       trace = i.trace ++ c.in-Some.placed.what ∷ [];
       came = i.came ++ fed.0;
@@ -70,6 +70,6 @@ records-preserved g c =
       fed = next.1;
       seen = c.in_ok-see-in-Some.ensures _ i.trace i.seen (record { place_is = next.0; to_limit = limit });
       steady = next.2 ∙ i.steady;
-      records = c.next_from.ensures.limits.records ∙ i.records;
-      depths = c.next_from.ensures.limits.depths ∙ i.depths;
+      records = c.next_from.ensures.next.limits.records ∙ i.records;
+      depths = c.next_from.ensures.next.limits.depths ∙ i.depths;
     }

@@ -29,47 +29,51 @@ records-init g c =
 pub records-smaller-in_default : goal.records-smaller-in_default
 records-smaller-in_default g c =
     let i = c.records.invariant in
-    let next = c.in-Some.ensures.fed i.trace i.came i.fed in
-    omega (arith, next.1.has_used.has_read.count_is, next.1.has_used.has_read.within, i.fed.has_used.has_read.count_is, c.next_known.ensures.limits.records, i.records, length-append i.trace (c.in-Some.placed.what ∷ []))
+    let answer = c.in-Some.ensures.next (g.R.Source.state c.records.source) in
+    let next = answer.fed i.trace i.came i.fed in
+    omega (arith, next.2.1.has_used.has_read.count_is, next.2.1.has_used.has_read.within, i.fed.has_used.has_read.count_is, answer.limits.records, i.records, length-append i.trace (c.in-Some.placed.what ∷ []))
 
 pub records-preserved-in_default : goal.records-preserved-in_default
 records-preserved-in_default g c =
     let i = c.records.invariant in
-    let next = c.in-Some.ensures.fed i.trace i.came i.fed in
+    let answer = c.in-Some.ensures.next (g.R.Source.state c.records.source) in
+    let next = answer.fed i.trace i.came i.fed in
     record {
       trace = i.trace ++ c.in-Some.placed.what ∷ [];
-      came = i.came;
-      gave = i.gave;
-      fed = next.1;
-      sent = sent_more c.args.self.now c.records.self c.put.new.self i.trace c.in-Some.placed next.0 i.goes_on (c.in_default.ensures.sent (placed i.trace)) i.sent;
+      came = i.came ++ next.0;
+      gave = consumes_more _ _ _ i.came next.0 i.gave next.1;
+      fed = next.2.1;
+      sent = sent_more c.args.self.now c.records.self c.put.new.self i.trace c.in-Some.placed next.2.0 i.goes_on (c.in_default.ensures.sent (placed i.trace)) i.sent;
       ready = c.in_default.ensures.ready;
       goes_on = goes_on_trans _ _ _ i.goes_on c.put.ensures.goes_on;
-      steady = i.steady;
-      records = c.next_known.ensures.limits.records ∙ i.records;
-      depths = c.next_known.ensures.limits.depths ∙ i.depths;
+      steady = next.2.2 ∙ i.steady;
+      records = answer.limits.records ∙ i.records;
+      depths = answer.limits.depths ∙ i.depths;
     }
 
 pub records-smaller-in-Continue-1 : goal.records-smaller-in-Continue-1
 records-smaller-in-Continue-1 g c =
     let i = c.records.invariant in
-    let next = c.in-Some.ensures.fed i.trace i.came i.fed in
-    omega (arith, next.1.has_used.has_read.count_is, next.1.has_used.has_read.within, i.fed.has_used.has_read.count_is, c.next_known.ensures.limits.records, i.records, length-append i.trace (c.in-Some.placed.what ∷ []))
+    let answer = c.in-Some.ensures.next (g.R.Source.state c.records.source) in
+    let next = answer.fed i.trace i.came i.fed in
+    omega (arith, next.2.1.has_used.has_read.count_is, next.2.1.has_used.has_read.within, i.fed.has_used.has_read.count_is, answer.limits.records, i.records, length-append i.trace (c.in-Some.placed.what ∷ []))
 
 pub records-preserved-in-Continue-1 : goal.records-preserved-in-Continue-1
 records-preserved-in-Continue-1 g c =
     let i = c.records.invariant in
-    let next = c.in-Some.ensures.fed i.trace i.came i.fed in
+    let answer = c.in-Some.ensures.next (g.R.Source.state c.records.source) in
+    let next = answer.fed i.trace i.came i.fed in
     record {
       trace = i.trace ++ c.in-Some.placed.what ∷ [];
-      came = i.came;
-      gave = i.gave;
-      fed = next.1;
-      sent = sent_more c.args.self.now c.records.self c.send_rest.new.self i.trace c.in-Some.placed next.0 i.goes_on (λ h. c.send_rest.ensures.sent _ (c.in-Err.ensures.left refl (placed i.trace) h)) i.sent;
+      came = i.came ++ next.0;
+      gave = consumes_more _ _ _ i.came next.0 i.gave next.1;
+      fed = next.2.1;
+      sent = sent_more c.args.self.now c.records.self c.send_rest.new.self i.trace c.in-Some.placed next.2.0 i.goes_on (λ h. c.send_rest.ensures.sent _ (c.in-Err.ensures.left refl (placed i.trace) h)) i.sent;
       ready = c.in_ok-send_rest-in-Some.ensures.ready;
       goes_on = goes_on_trans _ _ _ i.goes_on (goes_on_trans _ _ _ c.put.ensures.goes_on c.send_rest.ensures.goes_on);
-      steady = i.steady;
-      records = c.next_known.ensures.limits.records ∙ i.records;
-      depths = c.next_known.ensures.limits.depths ∙ i.depths;
+      steady = next.2.2 ∙ i.steady;
+      records = answer.limits.records ∙ i.records;
+      depths = answer.limits.depths ∙ i.depths;
     }
 
 pub returns-in_err-read_on-in-None-clause-sent : goal.returns-in_err-read_on-in-None-clause-sent
@@ -80,7 +84,7 @@ returns-in_err-read_on-in-None-clause-sent g c =
     let fed = c.in_err-read_on-in-None.ensures.fed i.trace i.came kept in
     ends_refused _ _ _ _ _ _ _ c.from_residual-in_err-read_on-in-None.ensures.1
     (refused_by_fault IsWantOfMemory _ _ _ _ (g.R.Source.state c.args.source.now) (g.R.Source.state c.records.source) (g.R.Source.state c.read_on.new.source) i.came fed.0 _
-    (c.next_known.ensures.limits.records ∙ i.records) (c.next_known.ensures.limits.depths ∙ i.depths) i.steady i.gave fed.1 fed.2.0)
+    (ap (λ (s : Feeding). s.reading.limit) same ∙ i.records) (ap (λ (s : Feeding). s.nesting.max_depth) same ∙ i.depths) i.steady i.gave fed.1 fed.2.0)
 
 pub returns-in-None-2-clause-sent : goal.returns-in-None-2-clause-sent
 returns-in-None-2-clause-sent g c =
@@ -96,9 +100,9 @@ returns-in-None-2-clause-sent g c =
       read = record {
         came = i.came ++ fed.0;
         gave = consumes_more _ _ _ i.came fed.0 i.gave fed.1;
-        whole = at_limits P _ _ _ _ (c.next_known.ensures.limits.records ∙ i.records) (c.next_known.ensures.limits.depths ∙ i.depths) end;
+        whole = at_limits P _ _ _ _ (ap (λ (s : Feeding). s.reading.limit) same ∙ i.records) (ap (λ (s : Feeding). s.nesting.max_depth) same ∙ i.depths) end;
       };
-      says = c.flush.ensures.sent (records_of c.args.self.now.part (placed i.trace)) i.sent;
+      says = c.flush.ensures.unchanged.sent (records_of c.args.self.now.part (placed i.trace)) i.sent;
     }
 
 pub records-smaller : goal.records-smaller
@@ -108,7 +112,7 @@ records-smaller g c =
     let kept : HasFed i.trace i.came c.next_known.new.self = subst (HasFed i.trace i.came) (sym same) i.fed in
     let change : Change = g.R.Source.state c.records.source ⇝ g.R.Source.state c.read_on.new.source in
     let next = given_next _ _ _ _ change _ _ _ c.in-Some-2.is (c.in_ok-read_on-in-None.ensures.fed i.trace i.came kept).2 in
-    omega (arith, next.1.has_used.has_read.count_is, next.1.has_used.has_read.within, i.fed.has_used.has_read.count_is, c.read_on.ensures.limits.records, c.next_known.ensures.limits.records, i.records, length-append i.trace (c.in-Some-2.placed.what ∷ []))
+    omega (arith, next.1.has_used.has_read.count_is, next.1.has_used.has_read.within, i.fed.has_used.has_read.count_is, c.read_on.ensures.limits.records, ap (λ (s : Feeding). s.reading.limit) same, i.records, length-append i.trace (c.in-Some-2.placed.what ∷ []))
 
 pub records-preserved : goal.records-preserved
 records-preserved g c =
@@ -119,8 +123,8 @@ records-preserved g c =
     let change : Change = g.R.Source.state c.records.source ⇝ g.R.Source.state c.read_on.new.source in
     let next = given_next _ _ _ _ change _ _ _ c.in-Some-2.is fed.2 in
     let taken : ReadingThread = record c.records.self { router = c.flush.new.self; gathering = c.take_backs.new.self } in
-    let goes_on = goes_on_trans _ _ _ i.goes_on (goes_on_both c.records.self c.flush.new.self c.take_backs.new.self c.flush.ensures.lanes c.take_backs.ensures.further) in
-    let before = c.flush.ensures.sent (records_of c.args.self.now.part (placed i.trace)) i.sent in
+    let goes_on = goes_on_trans _ _ _ i.goes_on (goes_on_both c.records.self c.flush.new.self c.take_backs.new.self c.flush.ensures.unchanged.on c.take_backs.ensures.further) in
+    let before = c.flush.ensures.unchanged.sent (records_of c.args.self.now.part (placed i.trace)) i.sent in
     record {
       trace = i.trace ++ c.in-Some-2.placed.what ∷ [];
       came = i.came ++ fed.0;
@@ -130,12 +134,12 @@ records-preserved g c =
       ready = c.in_ok-send-in-Some-2.ensures.ready;
       goes_on = goes_on_trans _ _ _ goes_on c.send.ensures.goes_on;
       steady = next.2 ∙ i.steady;
-      records = c.read_on.ensures.limits.records ∙ c.next_known.ensures.limits.records ∙ i.records;
-      depths = c.read_on.ensures.limits.depths ∙ c.next_known.ensures.limits.depths ∙ i.depths;
+      records = c.read_on.ensures.limits.records ∙ ap (λ (s : Feeding). s.reading.limit) same ∙ i.records;
+      depths = c.read_on.ensures.limits.depths ∙ ap (λ (s : Feeding). s.nesting.max_depth) same ∙ i.depths;
     }
 
 pub returns-in_err-read_on-in-None-clause-goes_on : goal.returns-in_err-read_on-in-None-clause-goes_on
-returns-in_err-read_on-in-None-clause-goes_on g c = goes_on_trans _ _ _ c.records.invariant.goes_on (goes_on_both c.records.self c.flush.new.self c.take_backs.new.self c.flush.ensures.lanes c.take_backs.ensures.further)
+returns-in_err-read_on-in-None-clause-goes_on g c = goes_on_trans _ _ _ c.records.invariant.goes_on (goes_on_both c.records.self c.flush.new.self c.take_backs.new.self c.flush.ensures.unchanged.on c.take_backs.ensures.further)
 
 pub returns-in-None-2-clause-goes_on : goal.returns-in-None-2-clause-goes_on
-returns-in-None-2-clause-goes_on g c = goes_on_trans _ _ _ c.records.invariant.goes_on (goes_on_both c.records.self c.flush.new.self c.take_backs.new.self c.flush.ensures.lanes c.take_backs.ensures.further)
+returns-in-None-2-clause-goes_on g c = goes_on_trans _ _ _ c.records.invariant.goes_on (goes_on_both c.records.self c.flush.new.self c.take_backs.new.self c.flush.ensures.unchanged.on c.take_backs.ensures.further)

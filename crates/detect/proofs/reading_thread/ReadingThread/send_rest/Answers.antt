@@ -3,7 +3,7 @@ use Rattle.dag.specs.declared.records.Placed.{Placed}
 use Rattle.route.specs.Sending.{sent_whole}
 use Rattle.route.specs.Routers.{HasSent}
 use Rattle.detect.proofs.LanesBack.{further_refl}
-use Rattle.detect.proofs.Sendings.{goes_on_trans, sent_step, sent_idle}
+use Rattle.detect.proofs.Sendings.{goes_on_trans, sent_step, sent_idle, still_pending}
 use Rattle.detect.proofs.Troubles.{if_good, only_memory}
 use Rattle.detect.proofs.reading_thread.ReadingThread.send_rest.Goals as goal
 
@@ -11,7 +11,7 @@ pub loop-init : goal.loop-init
 loop-init g c = record {
   sent = λ w p is h.
       let P : Option Placed → Type 0 = λ o. HasSent (sent_whole w (Some p) o) c.wait.new.self.router in
-      subst P (sym (c.wait.ensures.unchanged.pending ∙ is)) (c.wait.ensures.sent w h);
+      subst P (sym (c.wait.ensures.unchanged.pending ∙ is)) (c.wait.ensures.unchanged.sent w h);
   pending = λ p is. sym c.wait.ensures.unchanged.pending ∙ is;
   unmarked = c.wait.ensures.unchanged.marked ∙ c.requires.unmarked;
   goes_on = c.wait.ensures.goes_on;
@@ -20,10 +20,10 @@ loop-init g c = record {
 pub returns-in-Idle-clause-sent : goal.returns-in-Idle-clause-sent
 returns-in-Idle-clause-sent g c w h =
     let P : List Placed → Type 0 = λ u. HasSent u c.step.new.self in
-    subst P h.all (sent_idle h.last h.before _ _ c.step.new.self (c.in-Idle.ensures.idle.0 refl) (c.step.ensures.sent _ (c.loop.invariant.sent h.before h.last h.pending h.sent)))
+    subst P h.all (sent_idle h.last h.before _ _ c.step.new.self (c.in-Idle.ensures.idle.0 refl) (c.step.ensures.goes_on.sent _ (c.loop.invariant.sent h.before h.last h.pending h.sent)))
 
 pub returns-in-Idle-clause-ready : goal.returns-in-Idle-clause-ready
-returns-in-Idle-clause-ready g c = if_good _ _ _ _ c.first_trouble.ensures.refused c.first_trouble.ensures.none_refused (λ good. record { idle = search rules; unmarked = search rules; none_refused = good })
+returns-in-Idle-clause-ready g c = if_good _ _ _ _ c.first_trouble.ensures.refused c.first_trouble.ensures.none_refused (λ good. record { idle = record { none_pending = search rules; none_marked = search rules }; none_refused = good })
 
 pub returns-in-Idle-clause-refused : goal.returns-in-Idle-clause-refused
 returns-in-Idle-clause-refused g c = only_memory _ _ _ c.first_trouble.ensures.refused c.first_trouble.ensures.none_refused
@@ -32,8 +32,8 @@ pub loop-preserved-in-Moved : goal.loop-preserved-in-Moved
 loop-preserved-in-Moved g c =
     let i = c.loop.invariant in
     record {
-      sent = λ w p is h. sent_step p w _ _ _ c.step.new.self is i.pending (λ e. let same = c.in-Moved.ensures.idle.1 e in absurd cc) (c.step.ensures.sent _ (i.sent w p is h));
-      pending = λ p e. i.pending p (c.in-Moved.ensures.next p e).0;
-      unmarked = c.step.ensures.marked ∙ i.unmarked;
-      goes_on = goes_on_trans _ _ _ i.goes_on (record { part = refl; lanes = c.step.ensures.lanes; further = further_refl c.loop.self.gathering });
+      sent = λ w p is h. sent_step p w _ _ _ c.step.new.self is i.pending (λ e. let same = c.in-Moved.ensures.idle.1 e in absurd cc) (c.step.ensures.goes_on.sent _ (i.sent w p is h));
+      pending = λ p e. i.pending p (still_pending _ _ _ refl (λ none. let same = c.in-Moved.ensures.idle.1 none in absurd cc) c.in-Moved.ensures.put p e);
+      unmarked = c.step.ensures.goes_on.marked ∙ i.unmarked;
+      goes_on = goes_on_trans _ _ _ i.goes_on (record { part = refl; lanes = c.step.ensures.goes_on.on; further = further_refl c.loop.self.gathering });
     }

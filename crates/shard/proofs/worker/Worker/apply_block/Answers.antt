@@ -15,24 +15,24 @@ pub loop-item-preserved : goal.loop-item-preserved
 loop-item-preserved g c =
     let i = c.loop-item.item-index in
     let block = c.args.block.now in
-    let P : List Placed → Type 0 = λ l. HasWorked l c.apply_item.new.self.shard (put_of c.loop-item.self.back ++ map One (option_to_list c.apply_item.result)) c.apply_item.new.self.stopped in
+    let P : List Placed → Type 0 = λ l. HasWorked l c.take_item.new.self.shard (put_of c.loop-item.self.back ++ map One (option_to_list c.take_item.result)) c.take_item.new.self.stopped in
     let worked : (u : List Placed) → HasWorked u c.args.self.now.shard (put_of c.args.self.now.back) c.args.self.now.stopped → P (u ++ records (take (i + 1) block)) =
-    λ u h. subst P (append_assoc u (records (take i block)) _ ∙ ap (λ (l : List Placed). u ++ l) (sym (records_next block i _ c.loop-item-test.true))) (c.apply_item.ensures.worked (u ++ records (take i block)) (c.loop-item.invariant.worked u h)) in
+    λ u h. subst P (append_assoc u (records (take i block)) _ ∙ ap (λ (l : List Placed). u ++ l) (sym (records_next block i _ c.loop-item-test.true))) (c.take_item.ensures.worked (u ++ records (take i block)) (c.loop-item.invariant.worked u h)) in
     let put = put_of c.loop-item.self.back in
-    let Q : List (Item Back) → Type 0 = λ all. (u : List Placed) → HasWorked u c.args.self.now.shard (put_of c.args.self.now.back) c.args.self.now.stopped → HasWorked (u ++ records (take (i + 1) block)) c.apply_item.new.self.shard all c.apply_item.new.self.stopped in
-    elim c.match-apply_item.branch [
+    let Q : List (Item Back) → Type 0 = λ all. (u : List Placed) → HasWorked u c.args.self.now.shard (put_of c.args.self.now.back) c.args.self.now.stopped → HasWorked (u ++ records (take (i + 1) block)) c.take_item.new.self.shard all c.take_item.new.self.stopped in
+    elim c.match-take_item.branch [
       | in-Some w ↦
-          (let adds : put_of w.put_back.new.back ≡ put ++ map One (option_to_list c.apply_item.result) =
-          w.put_back.ensures.put ∙ ap (λ b. put_of b ++ One w.in-Some.back ∷ []) c.apply_item.ensures.back ∙ ap (λ (o : Option Back). put ++ map One (option_to_list o)) (sym w.in-Some.is) in
+          (let adds : put_of w.put_back.new.back ≡ put ++ map One (option_to_list c.take_item.result) =
+          w.put_back.ensures.put ∙ ap (λ b. put_of b ++ One w.in-Some.back ∷ []) c.take_item.ensures.back ∙ ap (λ (o : Option Back). put ++ map One (option_to_list o)) (sym w.in-Some.is) in
           record {
-            same_back = ap (λ s. lane_of s.back) w.self-is ∙ w.put_back.ensures.lane ∙ ap lane_of c.apply_item.ensures.back ∙ c.loop-item.invariant.same_back;
+            same_back = ap (λ s. lane_of s.back) w.self-is ∙ w.put_back.ensures.lane ∙ ap lane_of c.take_item.ensures.back ∙ c.loop-item.invariant.same_back;
             worked = λ u h. subst (λ s. HasWorked (u ++ records (take (i + 1) block)) s.shard (put_of s.back) s.stopped) (sym w.self-is) (subst Q (sym adds) worked u h);
           })
       | in_default w ↦
-          (let adds : put_of c.apply_item.new.self.back ≡ put ++ map One (option_to_list c.apply_item.result) =
-          ap put_of c.apply_item.ensures.back ∙ sym (append-nil put) ∙ ap (λ (o : Option Back). put ++ map One (option_to_list o)) (sym w.in_default.is) in
+          (let adds : put_of c.take_item.new.self.back ≡ put ++ map One (option_to_list c.take_item.result) =
+          ap put_of c.take_item.ensures.back ∙ sym (append-nil put) ∙ ap (λ (o : Option Back). put ++ map One (option_to_list o)) (sym w.in_default.is) in
           record {
-            same_back = ap (λ s. lane_of s.back) w.self-is ∙ ap lane_of c.apply_item.ensures.back ∙ c.loop-item.invariant.same_back;
+            same_back = ap (λ s. lane_of s.back) w.self-is ∙ ap lane_of c.take_item.ensures.back ∙ c.loop-item.invariant.same_back;
             worked = λ u h. subst (λ s. HasWorked (u ++ records (take (i + 1) block)) s.shard (put_of s.back) s.stopped) (sym w.self-is) (subst Q (sym adds) worked u h);
           })
     ]

@@ -1,5 +1,0 @@
-use Rattle.texts.proofs.Sinks.{puts_flushed}
-use Rattle.replies.proofs.checks.passed_on.Goals as goal
-
-pub returns : goal.returns
-returns g c text before puts = puts_flushed _ c.flush.result (rw c.in_ok-put.was at puts) c.flush.ensures

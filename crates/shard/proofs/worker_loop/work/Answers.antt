@@ -1,0 +1,52 @@
+use Rattle.std.proofs.Common.{rules, ◌≡◌, List, [], ◌++◌, length, take, false, refl, sym, ap, subst, ◌∙◌}
+use Rattle.dag.specs.declared.records.Placed.{Placed}
+use Rattle.lane.specs.declared.item.Item.{Item}
+use Rattle.lane.specs.Items.{has_mark, records}
+use Rattle.lane.specs.Lanes.{taken_of, put_of}
+use Rattle.lane.proofs.Marks.{records_append, all_to_mark}
+use Rattle.dag.specs.declared.back.Back.{Back}
+use Rattle.shard.specs.Working.{HasWorked, IsOfShare, PutsFound}
+use Rattle.shard.proofs.Works.{worked_new, answers, puts_share}
+use Rattle.shard.proofs.worker_loop.work.Goals as goal
+
+pub loop-init : goal.loop-init
+loop-init g c =
+    let P : List (Item Placed) → Type 0 = λ x. HasWorked (records x) c.args.shard (put_of c.args.back) false in
+    let Q : List (Item Back) → Type 0 = λ y. HasWorked [] c.args.shard y false in
+    record {
+      same_taker = refl;
+      same_back = refl;
+      before_mark = ap has_mark c.requires.none_taken;
+      worked = subst P (sym c.requires.none_taken) (subst Q (sym c.requires.none_put) (worked_new c.args.shard c.requires.new));
+    }
+
+pub loop-preserved : goal.loop-preserved
+loop-preserved g c =
+    let i = c.loop.invariant in
+    let same : records (taken_of c.take_block-count.new.self) ≡ records (taken_of c.loop.taker) ++ records (take c.take_block-count.result c.take_block-count.new.items) = ap records c.take_block-count.ensures.taken ∙ records_append (taken_of c.loop.taker) _ in
+    let P : List Placed → Type 0 = λ u. HasWorked u c.apply_block.new.self.shard (put_of c.apply_block.new.self.back) c.apply_block.new.self.stopped in
+    record {
+      same_taker = c.take_block-count.ensures.lane ∙ i.same_taker;
+      same_back = c.apply_block.ensures.lane ∙ i.same_back;
+      before_mark = search rules;
+      worked = subst P (sym same) (c.apply_block.ensures.worked (records (taken_of c.loop.taker)) i.worked);
+    }
+
+pub returns-then-ended : goal.returns-then-ended
+returns-then-ended g c =
+    let i = c.loop.invariant in
+    let taken = taken_of c.take_block-count.new.self in
+    let put = put_of c.apply_block.new.self.back in
+    let same : records taken ≡ records (taken_of c.loop.taker) ++ records (take c.take_block-count.result c.take_block-count.new.items) = ap records c.take_block-count.ensures.taken ∙ records_append (taken_of c.loop.taker) _ in
+    let P : List Placed → Type 0 = λ u. HasWorked u c.apply_block.new.self.shard put c.apply_block.new.self.stopped in
+    let worked = subst P (sym same) (c.apply_block.ensures.worked (records (taken_of c.loop.taker)) i.worked) in
+    let Q : List (Item Back) → Type 0 = λ all. IsOfShare (records taken) → (c.apply_block.new.self.shard.taken ≡ length (records taken)) × PutsFound (records taken) all in
+    record {
+      same_taker = c.take_block-count.ensures.lane ∙ i.same_taker;
+      same_back = c.mark.ensures.lane ∙ c.apply_block.ensures.lane ∙ i.same_back;
+      to_mark = all_to_mark taken c.take_block-count.ensures.last (search rules);
+      count = worked.taken;
+      answers = (put, c.mark.ensures.put, answers _ _ put _ worked);
+      shown = c.mark.ensures.shown;
+      of_share = subst Q (sym c.mark.ensures.put) (puts_share _ _ put _ worked);
+    }
