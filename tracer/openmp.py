@@ -80,9 +80,12 @@ def without(text, clause):
 
 
 def rescheduled(text):
-    """A loop's directive with the schedule that the hooks need: 2 says that it was static."""
+    """A loop's directive with the schedule that the hooks need: 2 says that it was static, and 3 that it has no barrier
+    besides."""
+    has_nowait = any(name == "nowait" for name, _, _ in clauses_of(text))
     text, schedule = without(text, "schedule")
-    return text.rstrip(" ,") + f" schedule(dynamic,{2 if STATIC.match(schedule) else 1})"
+    kind = 1 if not STATIC.match(schedule) else 3 if has_nowait else 2
+    return text.rstrip(" ,") + f" schedule(dynamic,{kind})"
 
 
 def body(kind, file, line, next_line):

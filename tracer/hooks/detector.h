@@ -1,5 +1,12 @@
 /* The detector inside the program, which spbags-cc --inside links. It takes each record in place of a line of the
    trace, and at the end gives the report. */
+int __real_sem_wait(sem_t *semaphore);
+
+__attribute__((unused)) static void wait_for(sem_t *semaphore) {
+    while (__real_sem_wait(semaphore) != 0)
+        continue;
+}
+
 #ifdef SPBAGS_INSIDE
 enum { HAS_DETECTOR = true };
 /* By this spbags-run knows that a program has it. */
@@ -21,13 +28,6 @@ static pthread_t detector;
 /* The bundle that is filled, where the next record goes, and where the bundle ends. */
 static struct bundle *filling;
 static uint64_t *next_record, *bundle_end;
-
-int __real_sem_wait(sem_t *semaphore);
-
-static void wait_for(sem_t *bundle) {
-    while (__real_sem_wait(bundle) != 0)
-        continue;
-}
 
 static void fill_bundle(size_t number) {
     filling = &bundles[number];

@@ -125,9 +125,6 @@ static void end_by_signal(int number) {
     die_by(number);
 }
 
-/* The signals have a stack of their own, since the program's may be used up. */
-static _Alignas(16) char signal_stack[1 << 18];
-
 /* The handler returns, and the run goes on at its end, there and with all signals blocked: no handler calls the
    detector. */
 static void end_after_handler(int number, ucontext_t *context) {

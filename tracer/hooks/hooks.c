@@ -4,9 +4,9 @@
    in the serial order: a spawned child runs at once, as an ordinary call.
 
    Each part stands on those before it: what goes out; the detector and its heap, where SPBAGS_INSIDE is defined; what
-   is held; places; what a strand has done; records; locations, and bytes; procedures; a look at the races' places;
-   reducers; scopes and loops of Cilk; the hooks of accesses, of C++'s spawns, of library functions and of jumps; a
-   watch for waits without end; the hooks of locks; the heap; those of C++, of its parallel libraries and, where
+   is held; places; stacks; what a strand has done; records; locations, and bytes; procedures; a look at the races'
+   places; reducers; scopes and loops of Cilk; the hooks of accesses, of C++'s spawns, of library functions and of jumps;
+   a watch for waits without end; the hooks of locks; the heap; those of C++, of its parallel libraries and, where
    SPBAGS_OPENMP is defined, of OpenMP; functions that nothing is known of, and what of the code has no hook of the
    compiler's; the ends of the run, and its beginning. */
 #define _GNU_SOURCE
@@ -85,6 +85,7 @@ static bool looking;
 #include "detector_heap.h"
 #include "guards.h"
 #include "places.h"
+#include "stacks.h"
 #include "marks.h"
 #include "records.h"
 #include "locations.h"
@@ -109,6 +110,8 @@ static bool looking;
 #pragma GCC visibility push(hidden)
 #include "openmp_replicated.h"
 #include "openmp.h"
+#include "openmp_teams.h"
+#include "openmp_bodies.h"
 #include "openmp_calls.h"
 #include "openmp_loops.h"
 #include "openmp_reductions.h"

@@ -8,6 +8,21 @@ static uint64_t *numbers, last_number;
 static uint64_t narrow_accesses;
 static uintptr_t narrow_bits;
 
+/* A unit of a stack that doesn't run has a number from now on. */
+__attribute__((noinline, cold)) static void lower_elsewhere(uintptr_t address) {
+    struct stack *stack = stack_of(address);
+    if (stack && address < stack->lowest)
+        stack->lowest = address;
+}
+
+/* A unit of the stack has a number from now on. */
+static inline void lower(uintptr_t address) {
+    if (__builtin_expect(address - running_first >= running_size, 0))
+        lower_elsewhere(address);
+    else if (address < lowest)
+        lowest = address;
+}
+
 /* Of the unit that begins at this address, which has this mark. */
 static inline uint64_t location_of(uintptr_t address, uint32_t mark, unsigned shift) {
     uintptr_t at = address - stack_first;
@@ -15,8 +30,7 @@ static inline uint64_t location_of(uintptr_t address, uint32_t mark, unsigned sh
         return 2 * (address >> shift);
     if (mark == UNTOUCHED) {
         numbers[at >> shift] = ++last_number;
-        if (address < lowest)
-            lowest = address;
+        lower(address);
     }
     return 2 * numbers[at >> shift] + 1;
 }

@@ -57,6 +57,8 @@ struct part {
     uintptr_t data;
     const char *of;
     uint64_t first, last;
+    /* A region whose members are shown in its place. */
+    bool is_hidden;
 };
 static struct part *parts;
 
@@ -128,7 +130,9 @@ static void add_node(size_t at) {
     bool is_part = frame->kind >= CALLED, is_shown = is_part || frame->kind == FUNCTION;
     bool has_part = is_part || (frame->kind == CHILD && frame->code != 0);
     /* A part stands for the function that the hooks call in it. */
-    if (around == CALLED || around == TASK_PART)
+    if (!is_part && (around == CALLED || around == TASK_PART))
+        is_shown = false;
+    if (has_part && parts[at].is_hidden)
         is_shown = false;
     uint32_t parent = frames[at - 1].node;
     uintptr_t code = has_part ? frame->code : is_shown ? code_in(at - 1, *(uintptr_t *)(frame->end - 8)) : 0;
@@ -172,12 +176,14 @@ static uintptr_t way_to(const struct look *look, uint32_t function) {
 
 /* The function whose frame holds this, from the frame's end on. */
 static struct owner frame_owner(uintptr_t address, const struct look *look) {
-    if (address - stack_first >= stack_size)
+    const struct stack *stack = stack_of(address);
+    if (!stack)
         return (struct owner){0};
-    size_t frame = top_at();
-    while (frame > 0 && (frames[frame].kind != FUNCTION || frames[frame].end <= address))
+    const struct frame *first = stack == running ? frames : stack->frames, *frame = stack == running ? top : stack->top;
+    while (frame > first && (frame->kind != FUNCTION || frame->end <= address))
         frame--;
-    return (struct owner){way_to(look, node_of(frame)), (intptr_t)(address - frames[frame].end)};
+    uint32_t node = stack == running ? node_of((size_t)(frame - first)) : frame->node;
+    return (struct owner){way_to(look, node), (intptr_t)(address - frame->end)};
 }
 
 /* The function of a part whose data begin nearest below this. */

@@ -34,7 +34,7 @@ static uint32_t *added, regions_added;
 static uint32_t *stack_regions, *stack_regions_end;
 /* Where the mark of the unit 0 would stand, if those of the stack went on. */
 static uintptr_t stack_marks;
-/* No mark of the stack stands below this address, which begins a unit. */
+/* No mark of the stack that runs stands below this address, which begins a unit. */
 static uintptr_t lowest;
 
 static inline size_t region_of(uintptr_t address) { return (address >> REGION_BITS) & (REGIONS - 1); }
@@ -105,12 +105,20 @@ static void mark_own(uintptr_t first, uintptr_t end) {
 static void forget_divided(void);
 static void forget_views(void);
 
+/* A unit of the stack keeps its number. */
+static void forget_stack(const struct stack *stack) {
+    uintptr_t from = stack == running ? lowest : stack->lowest;
+    const uint32_t *end = stack == stacks ? stack_regions_end : stack_mark(stack->end);
+    for (uint32_t *mark = stack_mark(from); mark < end; mark++)
+        if (*mark != UNTOUCHED && *mark != own_mark)
+            *mark = TOUCHED;
+}
+
 /* All numbers are taken: they begin again, and no mark may have an old one. What was touched stays touched, since that
    says on the stack that a unit has its number. */
 __attribute__((noinline, cold)) static void forget_strands(void) {
-    for (uint32_t *mark = stack_mark(lowest); mark < stack_regions_end; mark++)
-        if (*mark != UNTOUCHED)
-            *mark = TOUCHED;
+    for (unsigned number = 0; number < stacks_count; number++)
+        forget_stack(&stacks[number]);
     for (uint32_t at = 0; at < regions_added; at++)
         if (madvise(region_marks(added[at]), region_size(), MADV_DONTNEED) != 0)
             fail("out of memory: %s", strerror(errno));

@@ -1,21 +1,26 @@
-/* OpenMP as gcc compiles it: these stand in for its runtime, libgomp, with a team of one. A task runs at once, where it
-   is made, and so does an iteration of a loop; each is a spawned child. Nothing syncs at a function's end here.
+/* OpenMP as gcc compiles it: these stand in for its runtime, libgomp. A task runs at once, where it is made, and so
+   does an iteration of a loop; each is a spawned child, and so is what a member of a team does between two barriers.
+   Nothing syncs at a function's end here.
 
-   A scope is what a wait may be about: a team, a task, a group, or a share of a loop. One that wasn't spawned is no
-   procedure of the trace as long as it needs none. A `call` is opened for it where it makes its first child while
+   A scope is what a wait may be about: a team, a member of it, a task, a group, or a share of a loop. One that wasn't
+   spawned is no procedure of the trace as long as it needs none. A `call` is opened for it where it makes its first child while
    something older is unsynced in the same procedure: then a wait for its children isn't a wait for those. */
-enum scope_kind { TEAM, TASK, GROUP, SHARE };
+enum scope_kind { TEAM, MEMBER, TASK, GROUP, SHARE };
 
 /* The loop of a team, or its sections: its counter's first value, step and end; how many iterations it has, and how
-   many have begun; and of its shares, how many have begun, and the most iterations of one, or 0 where they are to be as
-   many as the threads. */
+   many have begun; and the most iterations of a share. */
 struct loop {
-    uint64_t start, step, end, count, begun, shares, most;
+    uint64_t start, step, end, count, begun, most;
     bool ordered, is_sections;
     /* Where it begins; and where the loop before begins, if no barrier parts them and each thread has the same
        iterations in both. */
     uintptr_t code, alike;
-    bool is_static;
+    bool is_static, has_no_barrier;
+    /* Each member of the team does a block of its iterations, as one share. */
+    bool in_blocks;
+    /* The first member's reductions, and its memory for all. */
+    uintptr_t *reductions;
+    void *memory;
 };
 
 struct scope {
@@ -36,17 +41,30 @@ struct scope {
     uintptr_t *reductions;
     /* What is done here is done by each thread of the team around, or stands after an ordered region. */
     enum watch watch;
-    /* Of a share: the number of its thread. Whether it is what follows a loop, up to its end. */
-    int thread;
+    /* Of a share: whether it is what follows a loop, up to its end. */
     bool follows_loop;
-    /* Of a team: the stack memory below is its thread's own; its loop; whether it has replicated code; and whether its
-       master has done something that nothing has waited for. */
+    /* Of a team: how many threads it has; and its members, if they are several. */
+    unsigned size;
+    struct team *team;
+    /* Of a thread, which is a member or all of a team: its number, and which member it is. The stack memory below is
+       its own. Its loop, how many shares and iterations of that it has begun, and the loops and single regions that it has
+       met in this phase. Whether it has replicated code, and whether the master has done something that nothing has
+       waited for. */
+    int thread;
+    struct member *member;
     uintptr_t stack_end;
-    struct loop loop;
+    struct loop *loop;
+    uint64_t shares, taken;
+    uint32_t loops_met, singles_met;
     bool has_replicated, has_master;
+    /* Of a member: it is in the program's own code; and nothing of it is recorded. */
+    bool in_body, is_silent;
     /* No other scope has this number. */
     uint64_t number;
 };
+
+struct team;
+struct member;
 
 enum { MOST_SCOPES = MOST_DEPTH + 3 };
 static struct scope *scopes;
@@ -93,18 +111,27 @@ static struct scope *pop_scope(void) {
     return popped;
 }
 
-/* The program's beginning is a team too. */
-static size_t team_at(void) {
+static bool is_thread(const struct scope *scope) { return scope->kind == TEAM || scope->kind == MEMBER; }
+
+/* The thread that does what is done here. The program's beginning is a team too. */
+static size_t thread_at(void) {
     size_t at = newest_scope;
-    while (scopes[at].kind != TEAM)
+    while (!is_thread(&scopes[at]))
         at--;
     return at;
 }
 
-/* A share of a loop is a part of its team's task. */
+static struct scope *thread_now(void) { return &scopes[thread_at()]; }
+
+static struct scope *team_now(void) {
+    struct scope *thread = thread_now();
+    return thread->kind == MEMBER ? thread - 1 : thread;
+}
+
+/* A share of a loop is a part of its thread's task. */
 static struct scope *current_task(void) {
     size_t at = newest_scope;
-    while (scopes[at].kind != TASK && scopes[at].kind != TEAM)
+    while (scopes[at].kind != TASK && !is_thread(&scopes[at]))
         at--;
     return &scopes[at];
 }
@@ -199,7 +226,9 @@ static void join_from(size_t first, uintptr_t code) {
         struct scope *scope = &scopes[at];
         left += unsynced(scope);
         scope->children = scope->others = scope->following = 0;
-        scope->has_master = scope->loop.is_static = false;
+        scope->has_master = false;
+        if (scope->loop)
+            scope->loop->is_static = false;
         if (at > first && scope->owns) {
             write_return(code);
             scope->owns = false;
@@ -208,26 +237,6 @@ static void join_from(size_t first, uintptr_t code) {
     }
     if (left > 0)
         write_sync(code);
-}
-
-/* The threads of the team wait for one another: what replicated code did since the last wait, others have done too. */
-static void end_phase(uintptr_t code) {
-    if (replicas_count == 0 || scopes[newest_scope].kind != TEAM || scopes[newest_scope].alone)
-        return;
-    if (replicas_write) {
-        racy_region = racy_region ? racy_region : region_code;
-        open_child(SHARE, code);
-        record_replicas();
-        close_child(code);
-    }
-    if (unsynced(&scopes[newest_scope]) > 0)
-        record_replicas();
-    forget_replicas();
-}
-
-static void join_team(uintptr_t code) {
-    end_phase(code);
-    join_from(team_at(), code);
 }
 
 /* Ends a scope that waits for all that was made in it. */
@@ -305,7 +314,7 @@ static void run_task(const struct task *task, const struct bounds *bounds, uintp
     scope->final = is_final || task->final;
     open_part(deferred ? TASK_PART : CALLED, stack_pointer, code);
     note_part((struct part){(uintptr_t)data, bounds ? "taskloop" : "task", bounds ? bounds->first : 0,
-                            bounds ? bounds->last : 0});
+                            bounds ? bounds->last : 0, false});
     task->run(data);
     close_part(code);
     if (deferred)
@@ -345,169 +354,3 @@ void GOMP_taskyield(void) {}
 void GOMP_taskgroup_start(void) { push_scope(GROUP, false); }
 
 void GOMP_taskgroup_end(void) { close_waiting(CODE); }
-
-/* ---- Teams ---- */
-
-/* What the program is told of the threads that there could be: more than one, so that it doesn't take a serial course.
-   With SPBAGS_TEAM each loop has so many shares, and each share the number of its thread. */
-enum { PROCESSORS = 8 };
-static uint64_t team_size = 1;
-static int active_levels, most_active_levels = 1;
-
-/* A team in another one has one thread, unless the program asks for more levels. */
-__attribute__((noreturn)) static void refuse_nested(uintptr_t code);
-
-/* What its threads do alike begins where the program's own code does. */
-static void begin_region(uintptr_t stack_pointer) {
-    scopes[newest_scope].watch = UNWATCHED;
-    follow_scope();
-    region_stack_end = stack_pointer;
-    region_asks = false;
-    forget_replicas();
-}
-
-static void begin_team(unsigned threads, void *data, uintptr_t stack_pointer, uintptr_t code) {
-    bool wants_one = threads == 1 || (threads == 0 && current_task()->threads_wanted == 1);
-    bool alone = wants_one || active_levels == most_active_levels;
-    if (!alone && active_levels > 0)
-        refuse_nested(code);
-    if (tracing)
-        clear_below(stack_pointer);
-    struct scope *team = push_scope(TEAM, false);
-    team->alone = alone;
-    team->stack_end = stack_pointer;
-    active_levels += !alone;
-    if (!alone)
-        begin_region(stack_pointer);
-    open_part(CALLED, stack_pointer, code);
-    note_part((struct part){.data = (uintptr_t)data, .of = region_name});
-}
-
-static void end_team(uintptr_t stack_pointer, uintptr_t code) {
-    active_levels -= !scopes[newest_scope].alone;
-    close_part(code);
-    end_phase(code);
-    close_waiting(code);
-    if (tracing)
-        clear_below(stack_pointer);
-}
-
-void GOMP_parallel(void (*run)(void *), void *data, unsigned threads, unsigned flags) {
-    (void)flags;
-    begin_team(threads, data, STACK_POINTER, CODE);
-    run(data);
-    end_team(STACK_POINTER, CODE);
-}
-
-/* Where a loop's variable is private first and shared at its end, gcc puts a barrier into the loop's first share. */
-void GOMP_barrier(void) {
-    const struct scope *newest = &scopes[newest_scope];
-    bool in_share = newest->kind == SHARE && !scopes[team_at()].loop.ordered;
-    if (in_share)
-        close_child(CODE);
-    if (in_share || newest->kind != SHARE)
-        join_team(CODE);
-    if (in_share)
-        open_child(SHARE, CODE);
-}
-
-bool GOMP_single_start(void) { return true; }
-void *GOMP_single_copy_start(void) { return NULL; }
-void GOMP_single_copy_end(void *data) { (void)data; }
-
-/* ---- Bodies. spbags-cc puts `for (__spbags_body(KIND); __spbags_goes_on();)` before each of these: of a parallel
-   region, of a single one, and of a master's, and a loop with simd alone ---- */
-
-enum body_kind { PARALLEL_BODY, SINGLE_BODY, MASTER_BODY, SIMD_BODY };
-
-/* Whether it has begun, and is a child. */
-struct body {
-    enum body_kind kind;
-    bool begun, is_child;
-};
-static struct body *bodies;
-static size_t newest_body;
-
-/* Where a master region waits for what the team has made before, as one thread does all of them. */
-static uintptr_t second_master;
-/* The first loop with simd alone. */
-static uintptr_t simd_loop;
-
-void __spbags_body(int kind) {
-    if (++newest_body == MOST_SCOPES)
-        fail("parallel regions nest deeper than %d", MOST_SCOPES);
-    bodies[newest_body] = (struct body){.kind = (enum body_kind)kind};
-}
-
-/* The compiler may give the call of the runtime another line than the body has. */
-static void begin_parallel_body(uintptr_t code) {
-    struct scope *team = &scopes[newest_scope];
-    if (tracing && top[-1].kind == CALLED)
-        top[-1].code = code;
-    if (team->alone)
-        return;
-    region_code = code;
-    team->watch = REPLICATED;
-    team->has_replicated = true;
-    follow_scope();
-}
-
-static void end_parallel_body(void) {
-    if (!scopes[newest_scope].alone)
-        scopes[newest_scope].watch = UNWATCHED;
-    follow_scope();
-}
-
-/* One thread of the team does this, beside what the others do. */
-static void begin_child_body(struct body *body, uintptr_t stack_pointer, uintptr_t code) {
-    struct scope *team = &scopes[newest_scope];
-    body->is_child = team->kind == TEAM && !team->alone;
-    if (!body->is_child)
-        return;
-    if (body->kind == MASTER_BODY && team->has_master) {
-        second_master = second_master ? second_master : code;
-        join_from(newest_scope, code);
-    }
-    team->has_master |= body->kind == MASTER_BODY;
-    open_child(SHARE, code);
-    open_part(LOOP_PART, stack_pointer, code);
-    note_part((struct part){.of = body->kind == MASTER_BODY ? "master" : "single"});
-}
-
-static void end_child_body(uintptr_t code) {
-    close_part(code);
-    close_child(code);
-    if (tracing)
-        clear_below(scopes[newest_scope].stack_end);
-}
-
-int __spbags_goes_on(void) {
-    struct body *body = &bodies[newest_body];
-    bool begins = !body->begun;
-    body->begun = true;
-    if (body->kind == PARALLEL_BODY && begins)
-        begin_parallel_body(CODE);
-    else if (body->kind == PARALLEL_BODY)
-        end_parallel_body();
-    else if (body->kind == SIMD_BODY)
-        simd_loop = simd_loop ? simd_loop : CODE;
-    else if (begins)
-        begin_child_body(body, STACK_POINTER, CODE);
-    else if (body->is_child)
-        end_child_body(CODE);
-    newest_body -= !begins;
-    return begins;
-}
-
-/* ---- Critical regions ---- */
-
-/* An even address, as those of locks are. */
-static const _Alignas(2) char critical_name[] = "the critical region ";
-static const char lock_name[] = "the lock ";
-
-void GOMP_critical_start(void) { enter_guard((uintptr_t)critical_name, "the critical region without a name"); }
-void GOMP_critical_end(void) { leave_guard((uintptr_t)critical_name); }
-void GOMP_critical_name_start(void **name) { enter_guard((uintptr_t)name, critical_name); }
-void GOMP_critical_name_end(void **name) { leave_guard((uintptr_t)name); }
-void GOMP_atomic_start(void) { enter_guard(ATOMIC, "atomic"); }
-void GOMP_atomic_end(void) { leave_guard(ATOMIC); }

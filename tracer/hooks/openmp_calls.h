@@ -12,7 +12,7 @@ double omp_get_wtick(void) { return seconds(CLOCK_MONOTONIC, clock_getres); }
 
 /* ---- Threads ---- */
 
-static uint64_t threads_now(void) { return scopes[team_at()].alone ? 1 : team_size; }
+static uint64_t threads_now(void) { return team_now()->size; }
 
 void omp_set_num_threads(int threads) { current_task()->threads_wanted = threads; }
 int omp_get_num_threads(void) { return (int)threads_now(); }
@@ -21,35 +21,38 @@ int omp_get_thread_limit(void) { return INT_MAX; }
 int omp_in_parallel(void) { return active_levels > 0; }
 
 int omp_get_max_threads(void) {
-    int wanted = current_task()->threads_wanted;
-    return team_size > 1 ? (int)team_size : wanted > 0 ? wanted : PROCESSORS;
+    int wanted = current_task()->threads_wanted, most = team_size > 1 ? (int)team_size : INT_MAX;
+    return wanted > 0 ? (int)least((size_t)wanted, (size_t)most) : most < INT_MAX ? most : PROCESSORS;
 }
 
-/* The share or the team that this stands in. */
-static size_t thread_at(void) {
-    size_t at = newest_scope;
-    while (scopes[at].kind != SHARE && scopes[at].kind != TEAM)
-        at--;
-    return at;
-}
-
-int omp_get_thread_num(void) { return scopes[thread_at()].thread; }
+int omp_get_thread_num(void) { return thread_now()->thread; }
 
 /* Where a share asks for its thread's number, which is 0 in all of them; and where a task does, whose thread may be
    any. */
 static uintptr_t share_asks, task_asks;
 
+/* A member may do what only one of its number does, so loops aren't all the first member's any more. */
+static void ask_in_team(struct scope *thread) {
+    thread->team->asks = true;
+    if (scopes[newest_scope].kind == SHARE && thread->loop && !thread->loop->ordered)
+        thread->loop->in_blocks = true;
+}
+
 /* gcc would ask once for a whole loop, and asks for itself in a master region, so programs have another name for it. */
 int __spbags_thread_num(void) {
-    size_t at = thread_at(), task = newest_scope;
+    struct scope *thread = thread_now();
+    size_t task = newest_scope;
     while (scopes[task].kind == GROUP)
         task--;
-    uintptr_t *asks = scopes[task].kind == TASK ? &task_asks : &share_asks;
-    if (watch == REPLICATED)
+    bool is_task = scopes[task].kind == TASK;
+    uintptr_t *asks = is_task ? &task_asks : &share_asks;
+    if (thread->kind == MEMBER && !is_task)
+        ask_in_team(thread);
+    else if (watch == REPLICATED)
         note_asking(CODE);
-    else if (*asks == 0 && active_levels > 0 && (scopes[task].kind == TASK || team_size == 1))
+    else if (*asks == 0 && active_levels > 0)
         *asks = CODE;
-    return scopes[at].thread;
+    return thread->thread;
 }
 
 /* ---- Levels: the teams around, and of those the ones that could have several threads ---- */
@@ -63,11 +66,25 @@ static int level(bool active) {
 
 int omp_get_level(void) { return level(false); }
 int omp_get_active_level(void) { return level(true); }
+
+/* The thread at this level, or NULL. The program's beginning has the level 0. */
+static const struct scope *thread_of_level(int of) {
+    size_t at = newest_scope;
+    int now = level(false);
+    if (of < 0 || of > now)
+        return NULL;
+    for (; now > of || !is_thread(&scopes[at]); at--)
+        now -= scopes[at].kind == TEAM;
+    return &scopes[at];
+}
+
 int omp_get_ancestor_thread_num(int of) {
-    return of < 0 || of > level(false) ? -1 : of == 0 ? 0 : omp_get_thread_num();
+    const struct scope *thread = thread_of_level(of);
+    return thread ? thread->thread : -1;
 }
 int omp_get_team_size(int of) {
-    return of < 0 || of > level(false) ? -1 : of == 0 || of < level(false) ? 1 : omp_get_num_threads();
+    const struct scope *thread = thread_of_level(of);
+    return thread ? (int)thread->size : -1;
 }
 void omp_set_max_active_levels(int most) { most_active_levels = most >= 0 ? most : most_active_levels; }
 int omp_get_max_active_levels(void) { return most_active_levels; }

@@ -1,16 +1,15 @@
-/* Loops and sections. The wrapper gives every loop the schedule `dynamic,1`, so that gcc asks for each iteration here:
-   then the share before ends, and a new one begins. Variables of the team's thread are private to each share, so all
-   stack memory below the team loses its numbers between two. */
+/* Loops and sections. The wrapper gives every loop the schedule `dynamic,1`, so that gcc asks for each iteration
+   here: then the share before ends, and a new one begins. The first member of a team that comes does all of them, so
+   the others find nothing left, unless each of them has a block of its own. Variables of a thread are private to each share,
+   so all stack memory below its region's loses its numbers between two. */
 
 /* SPBAGS_ITERATIONS makes so many iterations one share. */
 static uint64_t iterations = 1;
-/* A loop had shares of several iterations. */
-static bool has_long_shares;
-
-static uint64_t shares_of(const struct loop *loop) {
-    uint64_t size = loop->most;
-    return size > 0 ? loop->count / size + (loop->count % size != 0) : least(loop->count, team_size);
-}
+/* A loop had shares of several iterations; and the first whose threads had such blocks, how many these are, and whether
+   they ask for their numbers. */
+static bool has_long_shares, blocks_asked;
+static uintptr_t blocks_of;
+static unsigned blocks_team;
 
 /* Of two loops with schedule(static) and the same iterations each thread has the same in both. */
 static bool are_alike(const struct loop *one, const struct loop *other) {
@@ -18,39 +17,77 @@ static bool are_alike(const struct loop *one, const struct loop *other) {
            one->count == other->count;
 }
 
-static void begin_loop(struct loop loop) {
-    struct scope *team = &scopes[team_at()];
-    loop.alike = are_alike(&team->loop, &loop) ? team->loop.code : 0;
-    team->loop = loop;
-    has_long_shares |= !team->alone && shares_of(&loop) < loop.count;
+/* OpenMP says which thread does what, and maybe the program relies on it; or it asks for the number of its thread. */
+static bool wants_blocks(const struct team *team, const struct loop *loop) {
+    const struct loop *before = loops_begun > team->first_loop ? &loops[loops_begun - 1] : NULL;
+    return !loop->ordered && (team->asks || (loop->is_static && loop->has_no_barrier) ||
+                              (before && before->in_blocks && are_alike(before, loop)));
 }
+
+/* The loop that the thread comes to: the next of its team's, which another member may have begun. */
+static struct loop *loop_of_team(struct scope *thread, struct loop loop) {
+    struct loop *met = &loops[thread->team->first_loop + thread->loops_met++];
+    if (met < &loops[loops_begun])
+        return met;
+    if (loops_begun == MOST_LOOPS)
+        fail("there are more than %d loops without a barrier between them", MOST_LOOPS);
+    loop.in_blocks = wants_blocks(thread->team, &loop);
+    loops_begun++;
+    *met = loop;
+    return met;
+}
+
+static void begin_loop(struct loop loop) {
+    struct scope *thread = thread_now();
+    thread->shares = thread->taken = 0;
+    if (thread->kind == MEMBER) {
+        thread->loop = loop_of_team(thread, loop);
+        return;
+    }
+    loop.alike = are_alike(thread->loop, &loop) ? thread->loop->code : 0;
+    *thread->loop = loop;
+}
+
+static uint64_t count_steps(uint64_t distance, uint64_t step) { return distance / step + (distance % step != 0); }
+
+static uint64_t shares_of(const struct loop *loop) { return count_steps(loop->count, loop->most); }
 
 /* An ordered region comes after those of all earlier iterations. So each share is nested in the next one, which waits
    for it where its ordered region begins. */
 static void begin_ordered(struct loop loop, uintptr_t code) {
     loop.ordered = true;
     begin_loop(loop);
-    if (scopes[team_at()].alone)
+    const struct scope *thread = thread_now();
+    if (thread->alone || thread->loop->begun > 0)
         return;
-    for (uint64_t share = shares_of(&loop); share > 0; share--)
+    for (uint64_t share = shares_of(thread->loop); share > 0; share--)
         open_child(SHARE, code);
 }
 
-/* How many iterations the next share has. */
-static uint64_t next_size(const struct loop *loop) {
-    uint64_t size = loop->most;
-    if (size == 0)
-        size = loop->count / team_size + (loop->shares < loop->count % team_size);
-    return least(size, loop->count - loop->begun);
+/* How many iterations the thread's block still has, of those that are left. The last thread's has all. */
+static uint64_t left_of_block(const struct scope *thread, uint64_t left) {
+    uint64_t number = (uint64_t)thread->thread, count = thread->loop->count;
+    uint64_t block = count / thread->size + (number < count % thread->size);
+    return number + 1 == thread->size ? left : least(block - least(block, thread->taken), left);
 }
 
-static void end_share(const struct scope *team, uintptr_t code) {
-    if (team->alone || team->loop.shares == 0)
-        return;
+/* How many iterations the thread has next. gcc asks for each section. */
+static uint64_t next_size(const struct scope *thread) {
+    const struct loop *loop = thread->loop;
+    uint64_t left = loop->count - loop->begun;
+    if (loop->in_blocks)
+        left = left_of_block(thread, left);
+    return loop->in_blocks && !loop->is_sections ? left : least(loop->most, left);
+}
+
+/* What the thread does behind a block comes after that. */
+static void end_share(struct scope *thread, uintptr_t code) {
     close_part(code);
     close_child(code);
+    if (thread->loop->in_blocks)
+        join_from(newest_scope, code);
     if (tracing)
-        clear_below(team->stack_end);
+        clear_below(thread->stack_end);
 }
 
 /* The first two loops that are alike. */
@@ -64,23 +101,32 @@ static void begin_first_share(struct loop *loop, uintptr_t code) {
     }
 }
 
-static void begin_share(struct scope *team, uint64_t first, uintptr_t stack_pointer, uintptr_t code) {
-    if (team->alone)
-        return;
-    if (team->loop.shares == 0)
-        begin_first_share(&team->loop, code);
-    if (!team->loop.ordered)
-        open_child(SHARE, team->loop.code);
-    scopes[newest_scope].thread = (int)(team->loop.shares % team_size);
-    open_part(LOOP_PART, stack_pointer, team->loop.code);
-    note_part((struct part){.of = team->loop.is_sections ? "sections" : "loop", .first = first,
-                            .last = team->loop.start + (team->loop.begun - 1) * team->loop.step});
+/* The iterations of the share that has begun now go from this one to the newest. */
+static void note_share(const struct loop *loop, uint64_t first) {
+    note_part((struct part){.of = loop->is_sections ? "sections" : "loop", .first = first,
+                            .last = loop->start + (loop->begun - 1) * loop->step});
 }
 
-/* What the compiler puts between the last share and the loop's end, as a reduction's sums, is no replicated code: it is
-   done beside that, as a share is. */
-static void begin_following(const struct scope *team, uintptr_t stack_pointer, uintptr_t code) {
-    if (!team->has_replicated || team->alone || scopes[newest_scope].kind != TEAM)
+/* A block is no child, but a part of what its thread does. */
+static void begin_share(struct scope *thread, uint64_t first, uintptr_t stack_pointer, uintptr_t code) {
+    struct loop *loop = thread->loop;
+    be_silent(false);
+    if (loop->code == 0)
+        begin_first_share(loop, code);
+    if (thread->alone || loop->in_blocks)
+        return;
+    if (!loop->ordered)
+        open_child(SHARE, loop->code);
+    open_part(LOOP_PART, stack_pointer, loop->code);
+    note_share(loop, first);
+}
+
+/* What the compiler puts between the last share and the loop's end, as a reduction's sums, is no code of the program's:
+   it is done beside that, as a share is. */
+static void begin_following(const struct scope *thread, uintptr_t stack_pointer, uintptr_t code) {
+    be_silent(true);
+    bool has_own_code = thread->kind == MEMBER ? thread->in_body && thread->thread == 0 : thread->has_replicated;
+    if (!has_own_code || thread->alone || !is_thread(&scopes[newest_scope]))
         return;
     open_child(SHARE, code)->follows_loop = true;
     open_part(LOOP_PART, stack_pointer, code);
@@ -88,38 +134,52 @@ static void begin_following(const struct scope *team, uintptr_t stack_pointer, u
 }
 
 static void end_following(uintptr_t code) {
-    if (!scopes[newest_scope].follows_loop)
-        return;
-    close_part(code);
-    close_child(code);
-    if (tracing)
-        clear_below(scopes[newest_scope].stack_end);
+    if (scopes[newest_scope].follows_loop) {
+        close_part(code);
+        close_child(code);
+        if (tracing)
+            clear_below(scopes[newest_scope].stack_end);
+    }
+    be_silent(!thread_now()->in_body);
 }
 
-/* Gives the next share's first counter and its end, where one is left. */
+static void note_long_share(const struct scope *thread, uint64_t size) {
+    if (thread->alone || size < 2)
+        return;
+    if (thread->loop->in_blocks && blocks_of == 0) {
+        blocks_of = thread->loop->code;
+        blocks_team = thread->size;
+        blocks_asked = thread->team->asks;
+    }
+    has_long_shares |= !thread->loop->in_blocks;
+}
+
+/* Gives the next share's first counter and its end, where one is left. A loop may become one of blocks in its first
+   share, which goes on then as a block. */
 static bool next_share(uint64_t *first, uint64_t *end, uintptr_t stack_pointer, uintptr_t code) {
-    struct scope *team = &scopes[team_at()];
-    struct loop *loop = &team->loop;
-    end_share(team, code);
-    if (loop->begun == loop->count) {
-        begin_following(team, stack_pointer, code);
+    struct scope *thread = thread_now();
+    struct loop *loop = thread->loop;
+    uint64_t size = next_size(thread);
+    bool goes_on = loop->in_blocks && size > 0;
+    if (thread->shares > 0 && !goes_on && scopes[newest_scope].kind == SHARE)
+        end_share(thread, code);
+    if (size == 0) {
+        begin_following(thread, stack_pointer, code);
         return false;
     }
     *first = loop->start + loop->begun * loop->step;
-    loop->begun += next_size(loop);
+    loop->begun += size;
     *end = loop->begun == loop->count ? loop->end : loop->start + loop->begun * loop->step;
-    begin_share(team, *first, stack_pointer, code);
-    loop->shares++;
+    if (thread->shares++ == 0 || !goes_on)
+        begin_share(thread, *first, stack_pointer, code);
+    thread->taken += size;
+    note_long_share(thread, loop->in_blocks ? thread->taken : size);
     return true;
 }
 
-/* The most iterations of a share, or 0 where each thread has one share. */
-static uint64_t most_of_share(void) { return team_size > 1 ? 0 : iterations; }
-
-static uint64_t count_steps(uint64_t distance, uint64_t step) { return distance / step + (distance % step != 0); }
-
-/* What the wrapper makes of schedule(static). */
-static bool is_static(long most) { return most == 2; }
+/* What the wrapper makes of schedule(static), and of that with nowait. */
+static bool is_static(long most) { return most >= 2; }
+static bool is_static_nowait(long most) { return most == 3; }
 
 static struct loop signed_loop(long start, long end, long step, long most) {
     uint64_t first = (uint64_t)start, last = (uint64_t)end, size = (uint64_t)step, count = 0;
@@ -127,8 +187,8 @@ static struct loop signed_loop(long start, long end, long step, long most) {
         count = count_steps(last - first, size);
     if (step < 0 && start > end)
         count = count_steps(first - last, -size);
-    return (struct loop){.start = first, .step = size, .end = last, .count = count, .most = most_of_share(),
-                         .is_static = is_static(most)};
+    return (struct loop){.start = first, .step = size, .end = last, .count = count, .most = iterations,
+                         .is_static = is_static(most), .has_no_barrier = is_static_nowait(most)};
 }
 
 static struct loop unsigned_loop(bool up, uint64_t start, uint64_t end, uint64_t step, long most) {
@@ -137,8 +197,8 @@ static struct loop unsigned_loop(bool up, uint64_t start, uint64_t end, uint64_t
         count = count_steps(end - start, step);
     if (!up && start > end)
         count = count_steps(start - end, -step);
-    return (struct loop){.start = start, .step = step, .end = end, .count = count, .most = most_of_share(),
-                         .is_static = is_static(most)};
+    return (struct loop){.start = start, .step = step, .end = end, .count = count, .most = iterations,
+                         .is_static = is_static(most), .has_no_barrier = is_static_nowait(most)};
 }
 
 #define NEXT(NAME, TYPE) \
@@ -168,10 +228,8 @@ UNSIGNED_LOOP(GOMP_loop_ull_ordered_dynamic, BEGIN_ORDERED)
     void NAME(void (*run)(void *), void *data, unsigned threads, long start, long end, long step, long most, \
               unsigned flags) { \
         (void)flags; \
-        begin_team(threads, data, STACK_POINTER, CODE); \
-        begin_loop(signed_loop(start, end, step, most)); \
-        run(data); \
-        end_team(STACK_POINTER, CODE); \
+        struct loop whole = signed_loop(start, end, step, most); \
+        do_region(run, data, threads, &whole, STACK_POINTER, CODE); \
     }
 PARALLEL_LOOP(GOMP_parallel_loop_dynamic) PARALLEL_LOOP(GOMP_parallel_loop_nonmonotonic_dynamic)
 
@@ -190,7 +248,7 @@ void GOMP_ordered_start(void) {
 
 void GOMP_ordered_end(void) {
     struct scope *scope = &scopes[newest_scope];
-    if (scope->kind == SHARE && scopes[team_at()].loop.ordered)
+    if (scope->kind == SHARE && thread_now()->loop->ordered)
         scope->watch = AFTER_ORDERED;
     follow_scope();
 }
@@ -215,10 +273,8 @@ unsigned GOMP_sections_next(void) { return next_section(STACK_POINTER, CODE); }
 
 void GOMP_parallel_sections(void (*run)(void *), void *data, unsigned threads, unsigned count, unsigned flags) {
     (void)flags;
-    begin_team(threads, data, STACK_POINTER, CODE);
-    begin_loop(sections(count));
-    run(data);
-    end_team(STACK_POINTER, CODE);
+    struct loop whole = sections(count);
+    do_region(run, data, threads, &whole, STACK_POINTER, CODE);
 }
 
 void GOMP_sections_end(void) { end_loop(CODE); }

@@ -79,10 +79,12 @@ static void tell_waits(void) {
 
 static void tell_shares(void) {
     char before[ROOM], after[ROOM];
-    if (has_long_shares && team_size > 1)
-        tell_incomplete("SPBAGS_TEAM=%llu divides each loop into that many blocks: races inside a block aren't seen",
-                        (unsigned long long)team_size);
-    else if (has_long_shares)
+    if (blocks_of != 0)
+        tell_incomplete("%s: each of %u threads does a block of this loop, since %s: races inside a block aren't seen",
+                        source_line(blocks_of, before, ROOM), blocks_team,
+                        blocks_asked ? "its region asks for a thread's number"
+                                     : "with schedule(static) and nowait a thread relies on what it did before");
+    if (has_long_shares)
         tell_incomplete("SPBAGS_ITERATIONS=%llu makes that many iterations one child: races between them aren't seen",
                         (unsigned long long)iterations);
     if (alike_before != 0)

@@ -69,7 +69,7 @@ unsigned GOMP_parallel_reductions(void (*run)(void *), void *data, unsigned thre
     (void)flags;
     begin_team(threads, data, STACK_POINTER, CODE);
     register_reductions(*(uintptr_t **)data);
-    run(data);
+    run_team(run, data, NULL, CODE);
     unsigned copies = (unsigned)threads_now();
     end_team(STACK_POINTER, CODE);
     return copies;

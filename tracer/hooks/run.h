@@ -228,6 +228,31 @@ static void claim_threads(void) {
         __libc_single_threaded = 0;
 }
 
+#ifdef SPBAGS_OPENMP
+static uint64_t threads_of_team(void) {
+    uint64_t threads = number_from("SPBAGS_TEAM", "threads", 1);
+    if (threads > MOST_STACKS)
+        fail("SPBAGS_TEAM=%llu: a team has at most %d threads", (unsigned long long)threads, MOST_STACKS);
+    return threads;
+}
+
+/* The stacks of a team's members lie below the program's own, where the system leaves room for that to grow. */
+static size_t room_for_members(size_t *own_size) {
+    const size_t room = (size_t)120 << 20, whole = *own_size > room ? *own_size : room;
+    uint64_t others = threads_of_team() - 1;
+    if (others == 0)
+        return 0;
+    *own_size = least(*own_size, whole / 2);
+    member_stack_size = least(*own_size, ((whole - *own_size) / others - stack_gap) & ~(size_t)0xffff);
+    return others * (member_stack_size + stack_gap);
+}
+#else
+static size_t room_for_members(const size_t *own_size) {
+    (void)own_size;
+    return 0;
+}
+#endif
+
 /* The stack as it may grow, up to where the environment stands above all frames. */
 static void find_stack(void) {
     const size_t most = (size_t)1 << 30;
@@ -236,8 +261,13 @@ static void find_stack(void) {
     if (getrlimit(RLIMIT_STACK, &limit) == 0 && limit.rlim_cur < most)
         size = limit.rlim_cur;
     uintptr_t end = (uintptr_t)environ;
-    stack_first = (end - size) & ~unit_mask;
-    stack_size = (end & ~unit_mask) - stack_first;
+    size_t room = room_for_members(&size);
+    running_first = (end - size) & ~(uintptr_t)0xffff;
+    running_size = (end & ~unit_mask) - running_first;
+    stack_first = running_first - room;
+    stack_size = room + running_size;
+    stacks[0].first = running_first;
+    stacks[0].end = running_first + running_size;
     make_marks(stack_first, end);
     numbers = reserve((stack_size >> unit_shift) * sizeof *numbers);
     /* A frame has at least its return address and its frame pointer, and at most one open child. */

@@ -94,7 +94,7 @@ check_openmp_ways() {
     SPBAGS_ITERATIONS=2 check_openmp_way neighbours 0 'SPBAGS_ITERATIONS=2 makes' ""
     turn=$(line_of "$source" '[numbered]')
     check_openmp_way numbered 0 "" "1 $turn $turn"
-    SPBAGS_TEAM=3 check_openmp_way numbered 0 'SPBAGS_TEAM=3 divides' ""
+    SPBAGS_TEAM=3 check_openmp_way numbered 0 'each of 3 threads does a block of this loop' ""
     check_openmp_way thread_memory 0 'variables of which each thread has its own, 4 bytes' ""
     ends_with 2 "openmp.c:$(line_of "$source" '[inner]'): OpenMP's nested teams can't be traced" \
         env SPBAGS_TRACE=run.trace ./ways nested
@@ -151,7 +151,7 @@ check_openmp_replicated() {
     check_openmp_answer lanes 0 "openmp.c:$(line_of "$source" '[lanes]'): a loop with simd alone" "" ""
     check_openmp_answer task_number 0 "" "" ""
     check_openmp_answer numbered 0 "the report is that of a team of 8; .* 1 location would" "" ""
-    check_openmp_answer numbered_blocks 3 "SPBAGS_TEAM=8 divides each loop into that many blocks" "" ""
+    check_openmp_answer numbered_blocks 3 "each of 8 threads does a block of this loop" "" ""
     SPBAGS_TEAM=1 check_openmp_answer numbered 1 "openmp.c:$(line_of "$source" '[numbered]'): a loop asks" \
         numbered numbered
     SPBAGS_TEAM=8 check_openmp_answer numbered 0 "" "" ""
@@ -166,6 +166,41 @@ check_openmp_replicated() {
     count $? "tests/openmp.c, guarded: what is held"
     ends_with 0 "" "$here/spbags-run" --data-races -- ./ways guarded
     count $? "tests/openmp.c, guarded: no data race"
+}
+
+# Whether a traced run of a team has races, and nothing that a thread mustn't see.
+check_team() {
+    local threads=$1 way=$2 race=$3
+    SPBAGS_TEAM=$threads SPBAGS_TRACE=run.trace ./teams "$way" 2>/dev/null && "$spbags" check run.trace >report
+    [ $? = "$([ "$race" = none ] && echo 0 || echo 1)" ]
+    count $? "tests/teams.c $level, $way: a team of $threads"
+}
+
+# What the members of a team do.
+check_teams() {
+    local level threads way race
+    for level in -O0 -O1; do
+        "$here/spbags-cc" "$level" -fopenmp -Wall -Werror -o teams tracer/tests/teams.c
+        count $? "tests/teams.c $level: compile without a warning"
+        for threads in 2 3; do
+            while read -r way race; do
+                check_team "$threads" "$way" "$race"
+            done < <(./teams 2>/dev/null)
+        done
+    done
+    SPBAGS_TEAM=2 ends_with 1 "" "$here/spbags-run" -- ./teams every_thread &&
+        tr -s '\n ' ' ' <output | grep -q 'threads of the region at .* may do this at once'
+    count $? "tests/teams.c: threads of a region in the report"
+    SPBAGS_TEAM=2 ends_with 0 "" "$here/spbags-run" --data-races -- ./teams in_lock
+    count $? "tests/teams.c: a lock of two members"
+    SPBAGS_TEAM=65 ends_with 2 'a team has at most 64 threads' env SPBAGS_TRACE=run.trace ./teams every_thread
+    count $? "tests/teams.c: too large a team"
+}
+
+check_random_openmp() {
+    "$here/tests/random_openmp.py" --count "$programs" --seconds 60 2>&1 | sed "s/^/tracer: OpenMP: /" >&2
+    [ "${PIPESTATUS[0]}" = 0 ]
+    count $? "OpenMP: random programs"
 }
 
 # With --data-races what both do under one guard is left out.
@@ -388,6 +423,7 @@ start_openmp() {
         check_options check_shared_libraries &
     CC=gcc run_checks link_built check_cmake check_meson &
     run_checks random_cplusplus check_random_cplusplus &
+    run_checks teams check_teams check_random_openmp &
     run_checks openmp check_openmp_outputs check_openmp_ways check_openmp_replicated check_openmp_guards \
         check_openmp_refused check_containers check_tbb_refused check_tbb_groups &
 }

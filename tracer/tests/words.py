@@ -274,7 +274,7 @@ def check_children_of_one_construct():
 def check_shares_of_several():
     """With blocks of iterations both ends are said."""
     if HAS_OPENMP:
-        env = {"SPBAGS_TEAM": "2"}
+        env = {"SPBAGS_ITERATIONS": "2"}
         [pair] = found_with("./words_openmp", "steps", env=env)[1]["pairs"]
         same(("loop", line_of("steps", "words_openmp.c"), [10, 5], [0, -5]), siblings_of(pair))
 

@@ -1,0 +1,90 @@
+/* ---- Bodies. spbags-cc puts `for (__spbags_body(KIND); __spbags_goes_on();)` before each of these: of a parallel
+   region, of a single one, and of a master's, and a loop with simd alone ---- */
+
+/* Where a master region waits for what the team has made before, as one thread does all of them. */
+static uintptr_t second_master;
+/* The first loop with simd alone. */
+static uintptr_t simd_loop;
+
+void __spbags_body(int kind) {
+    if (++newest_body == MOST_SCOPES)
+        fail("parallel regions nest deeper than %d", MOST_SCOPES);
+    bodies[newest_body] = (struct body){.kind = (enum body_kind)kind};
+}
+
+/* The compiler may give the call of the runtime another line than the body has. */
+static void begin_parallel_body(uintptr_t code) {
+    struct scope *team = &scopes[newest_scope];
+    if (tracing && top[-1].kind >= CALLED)
+        top[-1].code = code;
+    team->in_body = true;
+    be_silent(false);
+    if (team->alone || team->kind == MEMBER)
+        return;
+    region_code = code;
+    team->watch = REPLICATED;
+    team->has_replicated = true;
+    follow_scope();
+}
+
+static void end_parallel_body(void) {
+    scopes[newest_scope].in_body = false;
+    be_silent(true);
+    if (!scopes[newest_scope].alone)
+        scopes[newest_scope].watch = UNWATCHED;
+    follow_scope();
+}
+
+/* One thread of the team does this, beside what the others do. */
+static void begin_child_body(struct body *body, uintptr_t stack_pointer, uintptr_t code) {
+    struct scope *team = &scopes[newest_scope];
+    body->is_child = is_thread(team) && !team->alone;
+    if (!body->is_child)
+        return;
+    if (body->kind == MASTER_BODY && team->has_master) {
+        second_master = second_master ? second_master : code;
+        join_from(newest_scope, code);
+    }
+    team->has_master |= body->kind == MASTER_BODY;
+    open_child(SHARE, code);
+    open_part(LOOP_PART, stack_pointer, code);
+    note_part((struct part){.of = body->kind == MASTER_BODY ? "master" : "single"});
+}
+
+static void end_child_body(uintptr_t code) {
+    close_part(code);
+    close_child(code);
+    if (tracing)
+        clear_below(scopes[newest_scope].stack_end);
+}
+
+int __spbags_goes_on(void) {
+    struct body *body = &bodies[newest_body];
+    bool begins = !body->begun;
+    body->begun = true;
+    if (body->kind == PARALLEL_BODY && begins)
+        begin_parallel_body(CODE);
+    else if (body->kind == PARALLEL_BODY)
+        end_parallel_body();
+    else if (body->kind == SIMD_BODY)
+        simd_loop = simd_loop ? simd_loop : CODE;
+    else if (begins)
+        begin_child_body(body, STACK_POINTER, CODE);
+    else if (body->is_child)
+        end_child_body(CODE);
+    newest_body -= !begins;
+    return begins;
+}
+
+/* ---- Critical regions ---- */
+
+/* An even address, as those of locks are. */
+static const _Alignas(2) char critical_name[] = "the critical region ";
+static const char lock_name[] = "the lock ";
+
+void GOMP_critical_start(void) { enter_guard((uintptr_t)critical_name, "the critical region without a name"); }
+void GOMP_critical_end(void) { leave_guard((uintptr_t)critical_name); }
+void GOMP_critical_name_start(void **name) { enter_guard((uintptr_t)name, critical_name); }
+void GOMP_critical_name_end(void **name) { leave_guard((uintptr_t)name); }
+void GOMP_atomic_start(void) { enter_guard(ATOMIC, "atomic"); }
+void GOMP_atomic_end(void) { leave_guard(ATOMIC); }

@@ -1,0 +1,41 @@
+/* The stacks of the program's threads: its own, and below that those of a team's members, so that all lie in one range.
+   One of them runs at a time. While it does, what is known of it stands in variables of the hooks. */
+enum { MOST_STACKS = 64 };
+/* Between two stacks is so much that belongs to none. */
+static const size_t stack_gap = (size_t)1 << 20;
+
+struct frame;
+struct part;
+struct body;
+
+struct stack {
+    uintptr_t first, end;
+    /* No mark of it stands below this address. */
+    uintptr_t lowest;
+    struct frame *frames, *frames_end, *top, *grouped;
+    struct part *parts;
+    struct body *bodies;
+    size_t newest_body;
+    unsigned initialising, hidden_updates;
+    struct guard guards[MOST_GUARDS];
+    unsigned guards_held;
+    /* Of a member's: its thread waits here for its turn, and then does this. */
+    sem_t turn;
+    struct member *member;
+};
+static struct stack stacks[MOST_STACKS];
+static unsigned stacks_count = 1;
+static struct stack *running = stacks;
+
+/* The signals have a stack of their own, since the program's may be used up. */
+static _Alignas(16) char signal_stack[1 << 18];
+
+/* The memory of the stack that runs. */
+static uintptr_t running_first, running_size;
+
+static struct stack *stack_of(uintptr_t address) {
+    unsigned at = 0;
+    while (at < stacks_count && address - stacks[at].first >= stacks[at].end - stacks[at].first)
+        at++;
+    return at < stacks_count ? &stacks[at] : NULL;
+}

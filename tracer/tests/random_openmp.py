@@ -1,0 +1,435 @@
+#!/usr/bin/env python3
+"""Random OpenMP programs, traced and judged. Each is a parallel region that is written as C for spbags-cc, and run by a
+model of its own: that does what each thread does, keeps the dag of the strands with all its paths, and says by
+definition which variables race. The model knows nothing of traces, bags or stacks; their names have to be those of the
+locations that `spbags check` reports.
+
+    random_openmp.py [--count 200] [--seed 1] [--seconds 60]
+
+SPBAGS names the checker. It stops after so many seconds, and its last line says how many programs it tried and how many
+of them were wrong."""
+import argparse
+import os
+import random
+import subprocess
+import sys
+import tempfile
+import time
+from concurrent.futures import ThreadPoolExecutor
+
+HERE = os.path.dirname(os.path.realpath(__file__))
+TRACER = os.path.dirname(HERE)
+SPBAGS = os.path.realpath(os.environ.get("SPBAGS", os.path.join(TRACER, "..", "spbags")))
+BATCH, GLOBALS, SLOTS = 25, 4, 16
+
+HEAD = """\
+#include <omp.h>
+#include <stdlib.h>
+typedef volatile int number;
+static number *shown;
+static void use(int value) { if (value == -77) abort(); }
+"""
+
+
+# ---- The model ----
+
+class Dag:
+    """Strands, each with the set of those before it, as the bits of a number; and what they access."""
+
+    def __init__(self):
+        self.before, self.accesses = [], {}
+
+    def strand(self, *after):
+        bits = 1 << len(self.before)
+        for one in after:
+            bits |= self.before[one]
+        self.before.append(bits)
+        return len(self.before) - 1
+
+    def access(self, strand, variable, writes):
+        self.accesses.setdefault(variable, set()).add((strand, writes))
+
+    def racy(self):
+        return {variable for variable, accesses in self.accesses.items()
+                if any(self.race(one, other) for one in accesses for other in accesses)}
+
+    def race(self, one, other):
+        first, second = one[0], other[0]
+        is_path = self.before[first] >> second & 1 or self.before[second] >> first & 1
+        return (one[1] or other[1]) and not is_path
+
+
+class Procedure:
+    """What runs now, and the last strands of its children that nothing has waited for."""
+
+    def __init__(self, dag, now):
+        self.dag, self.now, self.children, self.tasks, self.has_master = dag, now, [], 0, False
+
+    def access(self, variable, writes):
+        self.dag.access(self.now, variable, writes)
+
+    def spawn(self, does, *words):
+        child = Procedure(self.dag, self.dag.strand(self.now))
+        self.now = self.dag.strand(self.now)
+        does(child, *words)
+        child.sync()
+        self.children.append(child.now)
+
+    def sync(self):
+        self.now = self.dag.strand(self.now, *self.children)
+        self.children, self.tasks, self.has_master = [], 0, False
+
+
+class Team:
+    """Runs a region's items by its members, from barrier to barrier."""
+
+    def __init__(self, dag, around, size):
+        self.dag, self.around, self.size = dag, around, size
+        self.asks, self.before = False, None
+
+    def run(self, items):
+        """Each member's items are a generator that stops at barriers."""
+        members = [Member(self, number, items) for number in range(self.size)]
+        parts = [member.steps() for member in members]
+        while parts:
+            parts = [part for part, member in zip(list(parts), [member for member in members if not member.ended])
+                     if self.step(part, member)]
+            self.around.sync()
+            self.before = None
+
+    def step(self, part, member):
+        def run_part(child):
+            member.part = child
+            member.ended = next(part, "end") == "end"
+        self.around.spawn(run_part)
+        return not member.ended
+
+
+class Member:
+    """One thread of a team. The first one does single regions and all loops but those in blocks."""
+
+    def __init__(self, team, number, items):
+        self.team, self.number, self.items, self.part, self.ended = team, number, items, None, False
+
+    def steps(self):
+        for item in self.items:
+            yield from getattr(self, item.kind)(item)
+
+    def do(self, procedure, item):
+        """What has no barrier, in a part of this member or in a child."""
+        if item.kind == "task":
+            procedure.spawn(lambda child: [self.do(child, inner) for inner in item.inner])
+            procedure.tasks += 1
+        elif item.kind == "taskwait" and procedure.tasks > 0:
+            procedure.sync()
+        elif item.kind == "access":
+            procedure.access(self.place(item.variable, 0), item.writes)
+
+    def place(self, variable, iteration):
+        array = variable.partition("[")
+        if array[1]:
+            return f"{array[0]}[{self.number if 'thread' in array[2] else iteration + (1 if '+' in array[2] else 0)}]"
+        return variable
+
+    def access(self, item):
+        self.team.asks |= "thread" in item.variable
+        self.do(self.part, item)
+        yield from ()
+
+    def task(self, item):
+        self.do(self.part, item)
+        yield from ()
+
+    taskwait = task
+
+    def numbered(self, item):
+        """What only the thread of a number does."""
+        self.team.asks = True
+        if self.number == item.number:
+            self.do(self.part, item.inner[0])
+        yield from ()
+
+    def barrier(self, _):
+        yield
+
+    def child_of_first(self, item):
+        if self.number == 0:
+            self.part.spawn(lambda child: [self.do(child, inner) for inner in item.inner])
+
+    def single(self, item):
+        self.child_of_first(item)
+        if not item.nowait:
+            yield
+
+    def master(self, item):
+        if self.number == 0 and self.part.has_master:
+            self.part.sync()
+        self.child_of_first(item)
+        self.part.has_master = self.number == 0
+        yield from ()
+
+    def sections(self, item):
+        if self.number == 0:
+            item.in_blocks = self.team.asks
+        if not item.in_blocks:
+            for inner in item.inner if self.number == 0 else ():
+                self.part.spawn(lambda child, inner=inner: self.do(child, inner))
+        else:
+            for at in self.block(len(item.inner)):
+                self.do(self.part, item.inner[at])
+        if not item.nowait:
+            yield
+
+    def block(self, count):
+        size, more = divmod(count, self.team.size)
+        first = self.number * size + min(self.number, more)
+        return range(first, first + size + (self.number < more))
+
+    def iteration(self, procedure, item, at):
+        for inner in item.inner:
+            if inner.kind == "access":
+                procedure.access(self.place(inner.variable, at), inner.writes)
+            else:
+                self.do(procedure, inner)
+
+    def loop(self, item):
+        asks = any("thread" in inner.variable for inner in item.inner if inner.kind == "access")
+        if self.number == 0:
+            before = self.team.before
+            alike = before and before.in_blocks and before.static and item.static and before.count == item.count
+            item.in_blocks = self.team.asks or (item.static and item.nowait) or bool(alike)
+            item.is_made_so = asks and not item.in_blocks
+            item.in_blocks |= asks
+            self.team.before = item
+        self.team.asks |= asks
+        if item.in_blocks:
+            for at in self.block(item.count):
+                self.iteration(self.part, item, at)
+            if item.is_made_so and self.number == 0:
+                self.part.sync()
+        elif self.number == 0:
+            for at in range(item.count):
+                self.part.spawn(self.iteration, item, at)
+        if item.sum and self.number == 0:
+            self.part.spawn(self.combine, item.sum)
+        if not item.nowait:
+            yield
+
+    @staticmethod
+    def combine(child, variable):
+        child.access(variable, False)
+        child.access(variable, True)
+
+
+# ---- Programs ----
+
+class Item:
+    def __init__(self, kind, **more):
+        self.kind = kind
+        self.__dict__.update(more)
+
+
+class Writer:
+    """A random program: its items, and their lines in C."""
+
+    def __init__(self, number, source):
+        self.random, self.number, self.lines = source, number, []
+        self.globals = [f"p{number}_g{at}" for at in range(GLOBALS)]
+        self.slots, self.local = f"p{number}_s", "local"
+
+    def chance(self, of):
+        return self.random.random() < of
+
+    def write(self):
+        self.threads = self.random.randint(2, 4)
+        self.line(f"static number {', '.join(self.globals)}, {self.slots}[{SLOTS}];")
+        self.items = [self.item(deep=0) for _ in range(self.random.randint(1, 7))]
+        inner, self.lines = self.lines[1:], self.lines[:1]
+        # gcc copies a variable without an address into a region and back.
+        self.line(f"static void p{self.number}(void) {{ number local; shown = &local;")
+        self.line(f"#pragma omp parallel num_threads({self.threads})")
+        self.line("{")
+        self.lines += inner
+        self.line("}")
+        self.line("}")
+
+    def line(self, text):
+        self.lines.append(text)
+
+    def variable(self, index=None):
+        kind = self.random.randrange(8)
+        if kind < 5:
+            return self.random.choice(self.globals)
+        if kind == 5:
+            return self.local
+        if index is not None and kind == 6:
+            return f"{self.slots}[{index}{self.random.choice(('', ' + 1'))}]"
+        return f"{self.slots}[thread]" if self.chance(0.4) else self.random.choice(self.globals)
+
+    def access(self, index=None, in_child=False):
+        variable, writes = self.variable(index), self.chance(0.4)
+        if in_child and "thread" in variable:
+            variable = self.globals[0]
+        name = variable.replace("thread", "omp_get_thread_num()")
+        self.line(f"{name} = 1;" if writes else f"use({name});")
+        return Item("access", variable=variable, writes=writes)
+
+    def inner(self, count, deep):
+        """What a child does: accesses and tasks."""
+        return [self.task(deep + 1) if deep < 2 and self.chance(0.2) else
+                self.taskwait() if self.chance(0.1) else self.access(in_child=True) for _ in range(count)]
+
+    def task(self, deep):
+        self.line("#pragma omp task shared(local)")
+        self.line("{")
+        item = Item("task", inner=self.inner(self.random.randint(1, 2), deep))
+        self.line("}")
+        return item
+
+    def taskwait(self):
+        self.line("#pragma omp taskwait")
+        return Item("taskwait")
+
+    def item(self, deep):
+        kind = self.random.choice(("access", "access", "barrier", "single", "master", "loop", "loop", "sections", "task",
+                                   "taskwait", "numbered"))
+        return {"access": self.access, "taskwait": self.taskwait, "task": lambda: self.task(deep)}.get(
+            kind, getattr(self, "make_" + kind, None))()
+
+    def make_barrier(self):
+        self.line("#pragma omp barrier")
+        return Item("barrier")
+
+    def make_single(self):
+        nowait = self.chance(0.5)
+        self.line("#pragma omp single" + " nowait" * nowait)
+        self.line("{")
+        item = Item("single", nowait=nowait, inner=self.inner(2, 0))
+        self.line("}")
+        return item
+
+    def make_master(self):
+        self.line("#pragma omp master")
+        self.line("{")
+        item = Item("master", inner=self.inner(2, 0))
+        self.line("}")
+        return item
+
+    def make_numbered(self):
+        number = self.random.randrange(self.threads)
+        self.line(f"if (omp_get_thread_num() == {number})")
+        return Item("numbered", number=number, inner=[self.access(in_child=True)])
+
+    def make_sections(self):
+        nowait = self.chance(0.4)
+        self.line("#pragma omp sections" + " nowait" * nowait)
+        self.line("{")
+        inner = []
+        for _ in range(self.random.randint(1, 3)):
+            self.line("#pragma omp section")
+            inner.append(self.access(in_child=True))
+        self.line("}")
+        return Item("sections", nowait=nowait, inner=inner)
+
+    def make_loop(self):
+        nowait, count = self.chance(0.4), self.random.choice((1, 4, 5))
+        schedule = self.random.choice(("", "static", "static", "dynamic", "guided"))
+        sum = self.random.choice(self.globals) if self.chance(0.15) else None
+        self.line("#pragma omp for" + f" schedule({schedule})" * bool(schedule) + " nowait" * nowait
+                  + (f" reduction(+ : {sum})" if sum else ""))
+        self.line(f"for (int i = 0; i < {count}; i++) {{")
+        begun = len(self.lines)
+        inner = [self.access("i") for _ in range(self.random.randint(1, 2))]
+        if sum:
+            inner = [item for item in inner if item.variable != sum]
+            self.lines[begun:] = [line for line in self.lines[begun:] if sum not in line] + [f"{sum}++;"]
+        self.line("}")
+        return Item("loop", nowait=nowait, count=count, static=schedule == "static", sum=sum, inner=inner)
+
+    def racy(self):
+        dag = Dag()
+        around = Procedure(dag, dag.strand())
+        Team(dag, around, self.threads).run(self.items)
+        return dag.racy()
+
+
+# ---- Both ----
+
+class Batch:
+    """Some programs in one file."""
+
+    def __init__(self, folder, first, count, seed):
+        self.name = os.path.join(folder, f"b{first}")
+        self.writers = [Writer(number, random.Random(f"{seed} {number}")) for number in range(first, first + count)]
+        lines = HEAD.splitlines()
+        for writer in self.writers:
+            writer.write()
+            lines += writer.lines
+        calls = " ".join(f"case {writer.number}: p{writer.number}(); break;" for writer in self.writers)
+        lines.append(f"int main(int count, char **words) {{ switch (atoi(words[1])) {{ {calls} }} }}")
+        with open(self.name + ".c", "w", encoding="utf-8") as file:
+            file.write("\n".join(lines) + "\n")
+
+    def run(self, *words, **settings):
+        done = subprocess.run(words, capture_output=True, text=True, env={**os.environ, **settings})
+        if done.returncode not in (0, 1) or (done.returncode and words[0] != SPBAGS):
+            sys.exit(f"random_openmp.py: {' '.join(words)}: {done.stderr}")
+        return done.stdout
+
+    def build(self):
+        level = ("-O0", "-O1")[self.writers[0].number // BATCH % 2]
+        self.run(os.path.join(TRACER, "spbags-cc"), "-fopenmp", level, "-w", "-o", self.name, self.name + ".c")
+        symbols = map(str.split, self.run("nm", self.name).splitlines())
+        self.addresses = {words[2]: int(words[0], 16) for words in symbols if len(words) == 3}
+
+    def names(self, writer):
+        """By location. All of the stack is the local variable."""
+        slots = self.addresses[writer.slots]
+        found = {self.addresses[name] // 4 * 2: name for name in writer.globals}
+        return {**found, **{(slots + 4 * at) // 4 * 2: f"{writer.slots}[{at}]" for at in range(SLOTS)}}
+
+    def found(self, writer):
+        trace = f"{self.name}.{writer.number}"
+        self.run(self.name, str(writer.number), SPBAGS_TRACE=trace, SPBAGS_TEAM=str(writer.threads))
+        locations = [int(line.split()[1]) for line in self.run(SPBAGS, "check", trace).splitlines()[1:]]
+        os.remove(trace)
+        os.remove(trace + ".places")
+        names = self.names(writer)
+        return sorted(writer.local if location % 2 else names.get(location, "?") for location in locations)
+
+    def wrong(self):
+        """The programs whose races aren't those that the model names."""
+        self.build()
+        wrong = []
+        self.racy = 0
+        for writer in self.writers:
+            wanted, found = sorted(writer.racy()), self.found(writer)
+            self.racy += bool(wanted)
+            if wanted != found:
+                print("\n".join(writer.lines), file=sys.stderr)
+                print(f"program {writer.number}: wanted {wanted}, found {found}", file=sys.stderr)
+                wrong.append(writer.number)
+        return wrong
+
+
+def main():
+    parser = argparse.ArgumentParser(description=__doc__, formatter_class=argparse.RawDescriptionHelpFormatter)
+    for name, value in (("count", 200), ("seed", 1), ("seconds", 60)):
+        parser.add_argument("--" + name, type=int, default=value)
+    words = parser.parse_args()
+    end, tried, wrong, racy = time.monotonic() + words.seconds, 0, 0, 0
+    with tempfile.TemporaryDirectory(prefix="spbags-random-") as folder, ThreadPoolExecutor(2) as pool:
+        batches = [Batch(folder, first, min(BATCH, words.count - first), words.seed)
+                   for first in range(0, words.count, BATCH)]
+        results = [(batch, pool.submit(lambda batch=batch: batch.wrong() if time.monotonic() < end else None))
+                   for batch in batches]
+        for batch, result in results:
+            if result.result() is not None:
+                tried += len(batch.writers)
+                wrong += len(result.result())
+                racy += batch.racy
+    print(f"{tried} programs, {racy} with races, {wrong} wrong")
+    return 1 if wrong or not racy else 0
+
+
+sys.exit(main())
