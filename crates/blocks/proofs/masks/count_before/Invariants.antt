@@ -1,0 +1,6 @@
+use Rattle.std.proofs.Common.{◌≡◌}
+use Rattle.blocks.specs.Masks.{units_before}
+use Rattle.blocks.proofs.masks.count_before.Given as goal
+
+abbrev pub invariant-loop-before : goal.invariant-loop-before
+invariant-loop-before l = l.count ≡ units_before l.units l.before

@@ -1,0 +1,56 @@
+-- Private: what groups of units keep of each unit.
+use Rattle.std.specs.Prelude.{◌≡◌, ◌≢◌, ℕ, ◌<◌, ◌≤◌, Bool, false, List, [], ◌∷◌, Option, None, Some, if◌then◌else◌, unwrap_or, length, get_or, is_some}
+use Rattle.std.specs.Option.{option_or}
+use Rattle.dag.specs.declared.records.Kind.{Kind}
+use Rattle.bags.specs.Procedures.{Active}
+use Rattle.blocks.specs.Masks.{has}
+use Rattle.blocks.specs.Steps.{has_rival, keeps_names, touched_names, names_after, no_names}
+use Rattle.blocks.specs.declared.step.Step.{Step}
+use Rattle.blocks.specs.declared.step.Names.{Names}
+use Rattle.blocks.specs.declared.groups.Group.{Group}
+
+-- the names that are kept of a unit: those of the last group that has it
+abbrev pub names_at : List Group → ℕ → Option Names
+names_at [] unit = None
+names_at (g ∷ gs) unit = option_or (names_at gs unit) (if has g.units unit then Some g.names else None)
+
+-- whether an access races with one of the names, if there are any
+abbrev pub is_racy : List Active → Kind → Option Names → Bool
+is_racy fs kind None = false
+is_racy fs kind (Some n) = has_rival fs kind n
+
+-- the procedures of these names, if they are names, are among so many
+abbrev pub IsKnown : ℕ → Step → Type 0
+IsKnown count s = s.place ≢ 0 → s.procedure < count
+
+pub record AreKnown (count : ℕ) (n : Names) : Type 0 where
+  pub writer : IsKnown count n.writer
+  pub reader : IsKnown count n.reader
+
+-- the group that stands for one past the end
+abbrev pub no_group : Group
+no_group = record { units = 0; names = no_names }
+
+abbrev pub names_of : List Group → ℕ → Names
+names_of gs unit = unwrap_or (names_at gs unit) no_names
+
+-- the names that an access changes and what it makes of them, for a unit that has these or none
+abbrev pub changed : List Active → Kind → Step → Option Names → Option Names
+changed fs kind step None = Some (touched_names kind step no_names)
+changed fs kind step (Some n) = if keeps_names fs kind n then None else Some (touched_names kind step n)
+
+-- behind old groups there are new ones of all units whose names an access changes, and those units are moved
+pub record HasChanged (fs : List Active) (kind : Kind) (step : Step) (old new : List Group) (moved : ℕ) : Type 0 where
+  pub names : (i : ℕ) → i < 64 → names_at new i
+      ≡ (if has step.units i then changed fs kind step (names_at old i) else None)
+  pub units : (i : ℕ) → i < 64 → has moved i ≡ is_some (names_at new i)
+
+-- the names of a unit after an access to the step's units
+abbrev pub names_of_touched : List Active → Kind → Step → ℕ → Names → Names
+names_of_touched fs kind step unit n = if has step.units unit then names_after fs kind step n else n
+
+-- the group at this index has these names, and stands behind so many
+pub record IsAlike (gs : List Group) (count : ℕ) (n : Names) (at : ℕ) : Type 0 where
+  pub behind : count ≤ at
+  pub within : at < length gs
+  pub names : (get_or gs at no_group).names ≡ n

@@ -1,0 +1,89 @@
+//! Shadow memory of the accesses of strands, by blocks of 64 units.
+ghost use Rattle.std.specs.Prelude.{◌≡◌, ℕ, ◌+◌, ◌<◌, ◌≤◌, ◌^◌, ◌++◌, OnOk, OnErr, if◌then◌else◌, ◌==◌};
+ghost use Rattle.dag.specs.Bounds.{most_records};
+ghost use Rattle.shadow.specs.Cells.{untouched};
+ghost use Rattle.std.specs.Int.RustNames.{count_ones};
+ghost use Rattle.blocks.specs.Pages.{touched_at, races_up_to, cell_in};
+ghost use Rattle.blocks.specs.Blocks.{page_of, unit_of, first_of};
+
+use crate::pages::Pages;
+use bags::Bags;
+use dag::{Kind, NoMemory, Race};
+use std::alloc::Global;
+use std::hash::BuildHasher;
+use std::marker::Model;
+
+/// The shadow memory of a serial run whose accesses come a block at a time: 64 locations that are two apart.
+#[derive(Drop)]
+pub struct BlockShadow<S: BuildHasher> {
+    pages: Pages<S>,
+    next_place: u64,
+    least_count: u64,
+}
+
+impl<S: BuildHasher> Model for BlockShadow<S> {
+    ghost use Rattle.blocks.specs.Blocks.{Blocks, IsBlocksBefore};
+
+    ghost Value = { Blocks };
+
+    ghost view = { λ s. record { pages = s.pages; next_place = s.next_place; least_count = s.least_count } };
+
+    ghost invariant = { λ s. IsBlocksBefore (record {
+      pages = s.pages;
+      next_place = s.next_place;
+      least_count = s.least_count;
+    }) };
+}
+
+impl<S: BuildHasher> BlockShadow<S> {
+    ghost use Rattle.blocks.specs.Blocks.{kept_of, next_place_of, least_count_of};
+
+    /// Shadow memory before the first access. It takes no memory.
+    pub fn with_hasher(alloc: Global, hasher: S) -> BlockShadow<S>
+        ensures kept { (l : ℕ) → kept_of result l ≡ untouched }
+        ensures next_place { next_place_of result ≡ 1 }
+        ensures least_count { least_count_of result ≡ 1 }
+    {
+        BlockShadow {
+            pages: Pages::with_hasher(alloc, hasher),
+            next_place: 1,
+            least_count: 1,
+        }
+    }
+
+    /// Takes an access by the executing procedure to these units of the location's block, the first of them at this
+    /// place, and puts the races that it reports behind the others, by ascending locations.
+    #[inline(always)]
+    pub fn touch(
+        &mut self,
+        bags: &Bags,
+        location: u64,
+        kind: Kind,
+        place: u64,
+        units: u64,
+        races: &mut Vec<Race>,
+    ) -> Result<(), NoMemory>
+        requires later { next_place_of self.old ≤ place }
+        requires from_one { 1 ≤ place }
+        requires to_limit { place + count_ones units ≤ most_records + 1 }
+        requires no_fewer { least_count_of self.old ≤ bags.now.count }
+
+        ensures races { OnOk result (races.new.items ≡ races.old.items
+            ++ races_up_to bags.now.active (first_of (page_of location)) kind place units
+            (cell_in self.old.pages (page_of location)) 64) }
+        ensures kept { OnOk result ((l : ℕ) → kept_of self.new l ≡ (if page_of l == page_of location
+            then touched_at bags.now.active kind place units (unit_of l) (kept_of self.old l)
+            else kept_of self.old l)) }
+        ensures next_place { OnOk result (next_place_of self.new ≡ place + count_ones units) }
+        ensures least_count { OnOk result (least_count_of self.new ≡ bags.now.count) }
+    {
+        let page = location / 128 * 2 + location % 2;
+        let first = location / 128 * 128 + location % 2;
+        let at = self.pages.find(page)?;
+        self.next_place = place + u64::from(units.count_ones());
+        self.least_count = bags.count();
+        self.pages
+            .touch(at, page, bags, first, kind, place, units, races)?;
+        Ok(())
+    }
+}

@@ -1,0 +1,125 @@
+//! What is kept of the 64 units of a block.
+ghost use Rattle.std.specs.Prelude.{◌≡◌, ℕ, ◌+◌, ◌^◌, ◌<◌, ◌≤◌, ◌&&◌, not, ◌++◌, OnOk, OnErr, length};
+ghost use Rattle.std.specs.Int.RustNames.{count_ones};
+ghost use Rattle.dag.specs.Bounds.{most_records};
+ghost use Rattle.shadow.specs.Cells.{untouched};
+ghost use Rattle.shadow.specs.Before.{Executes, IsCellBefore};
+ghost use Rattle.blocks.specs.Masks.{has};
+ghost use Rattle.blocks.specs.Groups.{names_at, names_of, is_racy};
+ghost use Rattle.blocks.specs.Pages.{cell_at, touched_at, races_up_to};
+
+use crate::groups::{Group, names_of, racy_units, touch};
+use crate::masks::{count_before, without};
+use crate::step::Step;
+use bags::Bags;
+use dag::{Access, Kind, NoMemory, Race};
+use std::alloc::Global;
+use std::marker::Model;
+
+/// What is kept of 64 units: those that keep the same names are a group.
+#[derive(Drop)]
+pub struct Page {
+    groups: Vec<Group>,
+    // The units whose race was reported.
+    reported: u64,
+}
+
+impl Model for Page {
+    ghost use Rattle.blocks.specs.Pages.{Page};
+
+    ghost Value = { Page };
+
+    ghost view = { λ p. record { groups = p.groups.items; reported = p.reported } };
+}
+
+impl Page {
+    /// A page before the first access. It takes no memory.
+    pub fn untouched(alloc: Global) -> Page
+        ensures { (i : ℕ) → cell_at result i ≡ untouched }
+    {
+        Page {
+            groups: Vec::new(alloc),
+            reported: 0,
+        }
+    }
+
+    /// Takes an access to these units by the executing procedure, the first of them at this place, and puts the races
+    /// that it reports behind the others. The location of unit 0 is `first`.
+    pub fn touch(
+        &mut self,
+        bags: &Bags,
+        first: u64,
+        kind: Kind,
+        place: u64,
+        units: u64,
+        races: &mut Vec<Race>,
+    ) -> Result<(), NoMemory>
+        requires first { first + 126 < 2 ^ 64 }
+        requires from_one { 1 ≤ place }
+        requires to_limit { place + count_ones units ≤ most_records + 1 }
+        requires before { (i : ℕ) → i < 64 → IsCellBefore place bags.now.count (cell_at self.old i) }
+
+        ensures races { OnOk result (races.new.items ≡ races.old.items
+            ++ races_up_to bags.now.active first kind place units (cell_at self.old) 64) }
+        ensures kept { OnOk result ((i : ℕ) → i < 64
+            → cell_at self.new i ≡ touched_at bags.now.active kind place units i (cell_at self.old i)) }
+        ensures earlier { OnOk result ((i : ℕ) → i < 64
+            → IsCellBefore (place + count_ones units) bags.now.count (cell_at self.new i)) }
+        ensures err { OnErr result (self.new ≡ self.old) }
+    {
+        let executing = bags.current();
+        let racy = without(
+            racy_units(&self.groups, bags, executing, kind, units),
+            self.reported,
+        );
+        if racy != 0 {
+            self.report(racy, bags, first, kind, place, units, races)?;
+        }
+        let step = Step {
+            procedure: executing,
+            place,
+            units,
+        };
+        touch(&mut self.groups, bags, kind, step)?;
+        self.reported |= racy;
+        Ok(())
+    }
+
+    /// Puts the races at these units, of all that the access touches, behind the others.
+    #[cold]
+    #[inline(never)]
+    fn report(
+        &self,
+        racy: u64,
+        bags: &Bags,
+        first: u64,
+        kind: Kind,
+        place: u64,
+        units: u64,
+        races: &mut Vec<Race>,
+    ) -> Result<(), NoMemory>
+        requires first { first + 126 < 2 ^ 64 }
+        requires from_one { 1 ≤ place }
+        requires to_limit { place + count_ones units ≤ most_records + 1 }
+        requires before { (i : ℕ) → i < 64 → IsCellBefore place bags.now.count (cell_at self.now i) }
+        requires racy { (i : ℕ) → i < 64 → has racy i ≡ (has units i && (is_racy bags.now.active kind (names_at self.now.groups i) && not (has self.now.reported i))) }
+        ensures races { OnOk result (races.new.items ≡ races.old.items
+            ++ races_up_to bags.now.active first kind place units (cell_at self.now) 64) }
+    {
+        let executing = bags.current();
+        for unit in 0..64u32 {
+            if racy >> unit & 1 == 1 {
+                let at = place + count_before(units, unit);
+                let rival = names_of(&self.groups, unit).rival(bags, executing, kind, unit, at);
+                if let Some(rival) = rival {
+                    races.push(Race {
+                        location: first + 2 * unit as u64,
+                        first: rival,
+                        second: Access { kind, place: at },
+                    })?;
+                }
+            }
+        }
+        Ok(())
+    }
+}

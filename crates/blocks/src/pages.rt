@@ -1,0 +1,133 @@
+//! The touched pages, by their numbers.
+ghost use Rattle.std.specs.Prelude.{◌≡◌, ℕ, ◌+◌, ◌^◌, ◌<◌, ◌≤◌, ◌++◌, [], IfSome, IfOk, IsTrue, OnOk, OnErr};
+ghost use Rattle.dag.specs.Bounds.{most_records};
+ghost use Rattle.shadow.specs.Before.{IsCellBefore};
+ghost use Rattle.std.specs.Int.RustNames.{count_ones};
+ghost use Rattle.blocks.specs.Pages.{cell_in, touched_at, races_up_to, IsPageAt, IsLookedUp, HasSameCells, HasPut};
+
+use crate::page::Page;
+use bags::Bags;
+use dag::{Kind, NoMemory, Race};
+use indexmap::IndexMap;
+use std::alloc::Global;
+use std::hash::BuildHasher;
+use std::marker::Model;
+
+/// Pages by their numbers.
+#[derive(Drop)]
+pub struct Pages<S: BuildHasher> {
+    alloc: Global,
+    map: IndexMap<u64, Page, S>,
+    // Where the last page was found. It isn't trusted.
+    last: usize,
+}
+
+impl<S: BuildHasher> Model for Pages<S> {
+    ghost use Rattle.std.specs.Prelude.{ℕ, List};
+    ghost use Rattle.blocks.specs.Pages.{Page};
+
+    ghost Value = { List (ℕ × Page) };
+
+    ghost view = { λ b. b.map.entries };
+}
+
+impl<S: BuildHasher> Pages<S> {
+    /// No page. It takes no memory.
+    pub fn with_hasher(alloc: Global, hasher: S) -> Pages<S>
+        ensures { result ≡ [] }
+    {
+        Pages {
+            alloc,
+            map: IndexMap::with_hasher(alloc, hasher),
+            last: 0,
+        }
+    }
+
+    /// The index of the page of this number. If there is no such page, an untouched one is added.
+    ///
+    /// An error leaves all as it was.
+    #[inline(always)]
+    pub fn find(&mut self, page: u64) -> Result<usize, NoMemory>
+        ensures there { IfOk result (λ at. IsPageAt self.new at page) }
+        ensures kept { HasSameCells self.old self.new }
+        ensures err { OnErr result (self.new ≡ self.old) }
+    {
+        if self.is_at(self.last, page) {
+            return Ok(self.last);
+        }
+        self.find_or_add(page)
+    }
+
+    #[inline(never)]
+    fn find_or_add(&mut self, page: u64) -> Result<usize, NoMemory>
+        ensures there { IfOk result (λ at. IsPageAt self.new at page) }
+        ensures kept { HasSameCells self.old self.new }
+        ensures err { OnErr result (self.new ≡ self.old) }
+    {
+        if let Some(index) = self.look_up(page) {
+            self.last = index;
+            return Ok(index);
+        }
+        let index = self.map.len();
+        self.map.insert(page, Page::untouched(self.alloc))?;
+        self.last = index;
+        Ok(index)
+    }
+
+    // Where the page stands, if it is there: often behind the last one.
+    fn look_up(&self, page: u64) -> Option<usize>
+        ensures { IsLookedUp self.now page result }
+    {
+        let next = self.last.wrapping_add(1);
+        if self.is_at(next, page) {
+            return Some(next);
+        }
+        let index = self.map.get_index_of(&page)?;
+        Some(index)
+    }
+
+    // Whether the page of this number is at this index.
+    #[inline(always)]
+    fn is_at(&self, index: usize, page: u64) -> bool
+        ensures { IsTrue result → IsPageAt self.now index page }
+    {
+        match self.map.get_index(index) {
+            Some((found, _)) => *found == page,
+            None => false,
+        }
+    }
+
+    /// Takes an access to these units of the page of this number, which is at this index, as `Page::touch` does.
+    #[inline(always)]
+    pub fn touch(
+        &mut self,
+        at: usize,
+        page: u64,
+        bags: &Bags,
+        first: u64,
+        kind: Kind,
+        place: u64,
+        units: u64,
+        races: &mut Vec<Race>,
+    ) -> Result<(), NoMemory>
+        requires there { IsPageAt self.old at page }
+        requires first { first + 126 < 2 ^ 64 }
+        requires from_one { 1 ≤ place }
+        requires to_limit { place + count_ones units ≤ most_records + 1 }
+        requires before { (i : ℕ) → i < 64 → IsCellBefore place bags.now.count (cell_in self.old page i) }
+
+        ensures races { OnOk result (races.new.items ≡ races.old.items
+            ++ races_up_to bags.now.active first kind place units (cell_in self.old page) 64) }
+        ensures kept { OnOk result (HasPut page
+            (λ i. touched_at bags.now.active kind place units i (cell_in self.old page i)) self.old self.new) }
+        ensures earlier { OnOk result ((i : ℕ) → i < 64
+            → IsCellBefore (place + count_ones units) bags.now.count (cell_in self.new page i)) }
+        ensures err { OnErr result (HasSameCells self.old self.new) }
+    {
+        match self.map.get_index_mut(at) {
+            Some(page) => page.touch(bags, first, kind, place, units, races)?,
+            None => unreachable!(),
+        }
+        Ok(())
+    }
+}
