@@ -52,15 +52,9 @@ put_after es fs page b cells are looks q k h = ap (λ p. cell_at p k) (page_afte
     go true = are k h
     go false = refl
 
--- a page that stays the same changes nothing
-pub same_after : (es fs : List (ℕ × Page)) (page : ℕ) (b : Page) → b ≡ page_numbered es page → ((q : ℕ) → lookup (nat_eq q) fs ≡ cond (nat_eq page q) (Some b) (lookup (nat_eq q) es)) → HasSameCells es fs
-same_after es fs page b is looks q k = ap (λ p. cell_at p k) (page_after es fs page b looks q ∙ ⊎_elim same other (eqb_tells q page))
-  where
-    same : (nat_eq q page ≡ true) × (q ≡ page) → (if q == page then b else page_numbered es q) ≡ page_numbered es q
-    same (t, e) = rw t (is ∙ ap (page_numbered es) (sym e))
-
-    other : (nat_eq q page ≡ false) × (q ≢ page) → (if q == page then b else page_numbered es q) ≡ page_numbered es q
-    other (t, ne) = rw t refl
+-- each other page is as it was
+pub others_after : (es fs : List (ℕ × Page)) (page : ℕ) (b : Page) → ((q : ℕ) → lookup (nat_eq q) fs ≡ cond (nat_eq page q) (Some b) (lookup (nat_eq q) es)) → (q k : ℕ) → q ≢ page → cell_in fs q k ≡ cell_in es q k
+others_after es fs page b looks q k ne = ap (λ p. cell_at p k) (page_after es fs page b looks q ∙ ap (λ t. if t then b else page_numbered es q) (ne_eqb q page ne))
 
 -- what holds at an error
 pub on_err : {T E : Type 0} (r : Result T E) (P : Type 0) → P → OnErr r P

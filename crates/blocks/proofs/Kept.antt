@@ -16,14 +16,14 @@ pub all_later : (m : Blocks) (pages : List (ℕ × Page)) (place count : ℕ) �
 all_later m pages place count before same h l q k u = subst (IsCellBefore place count) (sym (same q k)) (unit_later m.next_place place m.least_count count (cell_in m.pages q k) h l (before q k u))
 
 -- and so they are after an access
-pub all_after : (old new : List (ℕ × Page)) (page place next count : ℕ) (cells : ℕ → Cell) → ((q k : ℕ) → k < 64 → IsCellBefore place count (cell_in old q k)) → place ≤ next → HasPut page cells old new → ((k : ℕ) → k < 64 → IsCellBefore next count (cell_in new page k)) → (q k : ℕ) → k < 64 → IsCellBefore next count (cell_in new q k)
-all_after old new page place next count cells before h put own q k u = ⊎_elim here there (eqb_tells q page)
+pub all_after : (old new : List (ℕ × Page)) (page place next count : ℕ) → ((q k : ℕ) → k < 64 → IsCellBefore place count (cell_in old q k)) → place ≤ next → ((q k : ℕ) → q ≢ page → cell_in new q k ≡ cell_in old q k) → ((k : ℕ) → k < 64 → IsCellBefore next count (cell_in new page k)) → (q k : ℕ) → k < 64 → IsCellBefore next count (cell_in new q k)
+all_after old new page place next count before h others own q k u = ⊎_elim here there (eqb_tells q page)
   where
     here : (nat_eq q page ≡ true) × (q ≡ page) → IsCellBefore next count (cell_in new q k)
     here (t, e) = subst (λ n. IsCellBefore next count (cell_in new n k)) (sym e) (own k u)
 
     there : (nat_eq q page ≡ false) × (q ≢ page) → IsCellBefore next count (cell_in new q k)
-    there (t, n) = subst (IsCellBefore next count) (sym (put q k u ∙ ap (λ b. if b then cells k else cell_in old q k) t)) (unit_later place next count count (cell_in old q k) h (omega arith) (before q k u))
+    there (t, n) = subst (IsCellBefore next count) (sym (others q k n)) (unit_later place next count count (cell_in old q k) h (omega arith) (before q k u))
 
 -- what is kept of each location
 pub kept_after : (old new : List (ℕ × Page)) (page : ℕ) (f : ℕ → Cell → Cell) → HasPut page (λ i. f i (cell_in old page i)) old new → (l : ℕ) → cell_in new (page_of l) (unit_of l) ≡ (if page_of l == page then f (unit_of l) (cell_in old (page_of l) (unit_of l)) else cell_in old (page_of l) (unit_of l))

@@ -1,9 +1,9 @@
 pub mod Bits
 pub mod Looks
 pub mod Puts
-pub mod Moves
 pub mod Counts
 pub mod Named
 pub mod Raced
 pub mod Entries
 pub mod Kept
+pub mod Renames

@@ -93,7 +93,7 @@ racy_same fs kind units rest racy g gs z r h i k =
     h i k ∙ out_cases fs kind (has units i) (has g.units i) (names_at gs i) g.names (none_inside g.units rest i (has units i) (names_at gs i) z (r i k))
 
 -- what the last groups keep of a unit is what all keep of it
-names_behind : (gs : List Group) (k i : ℕ) (n : Names) → names_at (drop k gs) i ≡ Some n → names_at gs i ≡ Some n
+pub names_behind : (gs : List Group) (k i : ℕ) (n : Names) → names_at (drop k gs) i ≡ Some n → names_at gs i ≡ Some n
 names_behind gs zero i n e = e
 names_behind [] (suc k) i n e = e
 names_behind (g ∷ gs) (suc k) i n e = ap (λ o. option_or o (cond (has g.units i) (Some g.names) None)) (names_behind gs k i n e)
@@ -168,6 +168,16 @@ look_past fs kind units rest racy gs n h z l =
 pub look_ends : (fs : List Active) (kind : Kind) (units rest racy : ℕ) (gs : List Group) (n : ℕ) → n ≤ 0 → HasLooked fs kind units rest racy gs n → AreRacy fs kind units racy gs
 look_ends fs kind units rest racy gs zero h l = l.racy_are
 look_ends fs kind units rest racy gs (suc n) h l = absurd (omega (arith, h))
+
+-- no unit is left
+pub look_done : (fs : List Active) (kind : Kind) (units rest racy : ℕ) (gs : List Group) (n : ℕ) → rest ≡ 0 → HasLooked fs kind units rest racy gs n → AreRacy fs kind units racy gs
+look_done fs kind units rest racy gs n z l i k =
+    l.racy_are i k ∙ go (has units i) (names_at (drop n gs) i) (names_at gs i) (sym (has_zero i) ∙ ap (λ m. has m i) (sym z) ∙ l.rest_is i k) (λ m e. names_behind gs n i m e)
+  where
+    go : (u : Bool) (o p : Option Names) → false ≡ (u && is_none o) → ((m : Names) → o ≡ Some m → p ≡ Some m) → (u && is_racy fs kind o) ≡ (u && is_racy fs kind p)
+    go false o p e f = refl
+    go true None p e f = absurd (cc)
+    go true (Some m) p e f = ap (is_racy fs kind) (sym (f m refl))
 
 -- what is known of all units' names is known of a group's that has some of the rest
 pub known_inside : (P : Names → Type 0) (units rest : ℕ) (gs : List Group) (n : ℕ) → 0 < n → n ≤ length gs → rest < 2 ^ 64 → IsRest units rest (drop n gs) → bit_and (get_or gs (n - 1) no_group).units rest ≢ 0 → ((i : ℕ) → i < 64 → ForSome (names_at gs i) P) → P (get_or gs (n - 1) no_group).names

@@ -1,5 +1,5 @@
 -- What the names of units say of each of them.
-use Rattle.std.proofs.Common.{◌≡◌, ◌≢◌, ℕ, zero, suc, ◌+◌, ◌^◌, ◌<◌, ◌≤◌, Bool, true, false, not, ◌||◌, ◌&&◌, is_some, unwrap_or, Option, Some, None, List, cond, refl, sym, ap, ◌∙◌, subst, arith}
+use Rattle.std.proofs.Common.{◌≡◌, ◌≢◌, ℕ, zero, suc, ◌+◌, ◌^◌, ◌<◌, ◌≤◌, Bool, true, false, not, ◌||◌, ◌&&◌, is_some, unwrap_or, ◌⊎◌, ⊎_elim, Option, Some, None, List, cond, refl, sym, ap, ◌∙◌, subst, arith}
 use Rattle.std.specs.Option.{option_or, ForSome}
 use Rattle.std.specs.Int.RustNames.{count_ones}
 use Rattle.dag.specs.declared.records.Kind.{Kind}
@@ -144,3 +144,18 @@ touched_earlier fs kind place units unit count c k h f u x = go (has units unit)
     go : (t : Bool) → has units unit ≡ t → IsCellBefore (place + count_ones units) count (cond t (touched fs kind (place + units_before units unit) c) c)
     go true e = touched_before fs kind (place + units_before units unit) (place + count_ones units) count c k (omega (arith, h)) (omega (arith, one_of_all units unit f u e)) later
     go false e = later
+
+-- the same of each unit, after an access to some of the units
+pub partly_earlier : (fs : List Active) (kind : Kind) (step : Step) (unit count : ℕ) (n m : Names) (b : Bool) → (m ≡ n) ⊎ ((has step.units unit ≡ true) × (m ≡ names_after fs kind step n)) → current fs < count → step.procedure ≡ current fs → 1 ≤ step.place → step.units < 2 ^ 64 → unit < 64 → IsCellBefore step.place count (cell_of n unit b) → IsCellBefore (step.place + count_ones step.units) count (cell_of m unit b)
+partly_earlier fs kind step unit count n m b p k e h f u x = ⊎_elim same other p
+  where
+    same : m ≡ n → IsCellBefore (step.place + count_ones step.units) count (cell_of m unit b)
+    same q = subst (λ o. IsCellBefore (step.place + count_ones step.units) count (cell_of o unit b)) (sym q) (cell_later step.place (step.place + count_ones step.units) count n unit b b (omega arith) x)
+    other : (has step.units unit ≡ true) × (m ≡ names_after fs kind step n) → IsCellBefore (step.place + count_ones step.units) count (cell_of m unit b)
+    other q =
+        let c : Bool = b || is_some (rival fs kind (cell_of n unit b)) in
+        let after : IsCellBefore (step.place + count_ones step.units) count (touched fs kind (step.place + units_before step.units unit) (cell_of n unit b))
+        = subst (λ t. IsCellBefore (step.place + count_ones step.units) count (cond t (touched fs kind (step.place + units_before step.units unit) (cell_of n unit b)) (cell_of n unit b))) q.0 (touched_earlier fs kind step.place step.units unit count (cell_of n unit b) k h f u x) in
+        subst (λ o. IsCellBefore (step.place + count_ones step.units) count (cell_of o unit b)) (sym q.1)
+        (cell_later (step.place + count_ones step.units) (step.place + count_ones step.units) count (names_after fs kind step n) unit c b (omega arith)
+            (subst (IsCellBefore (step.place + count_ones step.units) count) (sym (after_step fs kind step unit n b c e h refl)) after))

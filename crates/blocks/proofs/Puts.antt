@@ -1,7 +1,6 @@
 -- What groups keep of each unit, after one of them got more units, lost some, or was added.
-use Rattle.std.proofs.Common.{◌≡◌, ℕ, zero, suc, ◌+◌, ◌-◌, ◌<◌, ◌≤◌, Bool, true, false, not, ◌&&◌, ◌||◌, List, [], ◌∷◌, ◌++◌, drop, set, length, length-set, get_or, Option, Some, None, is_none, cond, refl, sym, ap, ◌∙◌, subst, arith, nat_eq, ◌^◌}
-use Rattle.std.proofs.lemmas.Bool.{eqb-true}
-use Rattle.std.specs.List.{filter}
+use Rattle.std.proofs.Common.{◌≡◌, ℕ, zero, suc, ◌+◌, ◌-◌, ◌<◌, ◌≤◌, Bool, true, false, not, ◌&&◌, ◌||◌, List, [], ◌∷◌, ◌++◌, take, drop, set, length, length-set, get_or, Option, Some, None, is_none, cond, refl, sym, ap, ◌∙◌, subst, arith, nat_eq, ◌^◌}
+use Rattle.std.proofs.lemmas.List.{take-append-drop}
 use Rattle.std.specs.Int.{bit_not, w64}
 use Rattle.std.specs.Int.RustNames.{bit_and, bit_or}
 use Rattle.std.specs.Option.{option_or}
@@ -66,63 +65,65 @@ added_behind (h ∷ gs) (suc count) g i k = added_behind gs count g i (omega (ar
 abbrev pub without_units : ℕ → Group → Group
 without_units units g = record { units = bit_and g.units (bit_not w64 units); names = g.names }
 
-shed_cases : (b h : Bool) (n : Names) (o : Option Names) → (b ≡ true → is_none o ≡ false) → option_or o (cond (h && not b) (Some n) None) ≡ option_or o (cond h (Some n) None)
-shed_cases b h n (Some x) f = refl
-shed_cases true h n None f = let e = f refl in absurd (cc)
-shed_cases false true n None f = refl
-shed_cases false false n None f = refl
+tail_of : {A : Type 0} {x y : A} {xs ys : List A} → x ∷ xs ≡ y ∷ ys → xs ≡ ys
+tail_of e = ap (drop 1) e
 
-some_behind : (gs : List Group) (k i : ℕ) → is_none (names_at (drop k gs) i) ≡ false → is_none (names_at gs i) ≡ false
-some_behind gs zero i e = e
-some_behind [] (suc k) i e = e
-some_behind (g ∷ gs) (suc k) i e = in_front (names_at gs i) _ (some_behind gs k i e)
-  where
-    in_front : (o p : Option Names) → is_none o ≡ false → is_none (option_or o p) ≡ false
-    in_front (Some n) p f = refl
-    in_front None p f = absurd (cc)
+-- what was put behind some groups is put behind the first of them
+pub put_before : (gs hs : List Group) (k from : ℕ) (b : Bool) (n : Names) (i : ℕ) → k ≤ from → take from hs ≡ take from gs → names_at (drop from hs) i ≡ cond b (Some n) (names_at (drop from gs) i) → names_at (drop k hs) i ≡ cond b (Some n) (names_at (drop k gs) i)
+put_before gs hs zero from b n i h e f =
+    ap (λ l. names_at l i) (sym (take-append-drop from hs)) ∙ names_append (take from hs) (drop from hs) i
+    ∙ ap (λ o. option_or o (names_at (take from hs) i)) f ∙ ap (λ l. option_or (cond b (Some n) (names_at (drop from gs) i)) (names_at l i)) e
+    ∙ first_of b n (names_at (drop from gs) i) (names_at (take from gs) i)
+    ∙ ap (cond b (Some n)) (sym (ap (λ l. names_at l i) (sym (take-append-drop from gs)) ∙ names_append (take from gs) (drop from gs) i))
+put_before gs hs (suc k) zero b n i h e f = absurd (omega (arith, h))
+put_before [] [] (suc k) (suc from) b n i h e f = f
+put_before [] (x ∷ hs) (suc k) (suc from) b n i h e f = absurd (cc)
+put_before (y ∷ gs) [] (suc k) (suc from) b n i h e f = absurd (cc)
+put_before (y ∷ gs) (x ∷ hs) (suc k) (suc from) b n i h e f = put_before gs hs k from b n i (omega (arith, h)) (tail_of e) f
 
--- a group before the last ones lost units that the last ones have
-pub shed : (gs : List Group) (count at units i : ℕ) → at < count → at < length gs → units < 2 ^ 64 → i < 64 → (has units i ≡ true → is_none (names_at (drop count gs) i) ≡ false) → names_at (set gs at (without_units units (get_or gs at no_group))) i ≡ names_at gs i
-shed gs zero at units i h k f l e = absurd (omega (arith, h))
-shed [] (suc count) at units i h k f l e = absurd (omega (arith, k))
-shed (g ∷ gs) (suc count) zero units i h k f l e =
-    ap (λ b. option_or (names_at gs i) (cond b (Some g.names) None)) (has_and g.units (bit_not w64 units) i ∙ ap (λ b. has g.units i && b) (has_not units i f l))
-    ∙ shed_cases (has units i) (has g.units i) g.names (names_at gs i) (λ u. some_behind gs count i (e u))
-shed (g ∷ gs) (suc count) (suc at) units i h k f l e = ap (λ o. option_or o (cond (has g.units i) (Some g.names) None)) (shed gs count at units i (omega (arith, h)) (omega (arith, k)) f l e)
+-- a group that lost units which are put behind it
+part_cases : (b h : Bool) (m n : Names) (o : Option Names) → option_or (cond b (Some n) o) (cond (h && not b) (Some m) None) ≡ cond b (Some n) (option_or o (cond h (Some m) None))
+part_cases true h m n o = refl
+part_cases false true m n o = refl
+part_cases false false m n o = refl
 
-pub drop_of_set : (gs : List Group) (count at : ℕ) (g : Group) → at < count → drop count (set gs at g) ≡ drop count gs
-drop_of_set gs zero at g h = absurd (omega (arith, h))
-drop_of_set [] (suc count) zero g h = refl
-drop_of_set [] (suc count) (suc at) g h = refl
-drop_of_set (x ∷ gs) (suc count) zero g h = refl
-drop_of_set (x ∷ gs) (suc count) (suc at) g h = drop_of_set gs count at g (omega (arith, h))
+pub parted : (g : Group) (gs hs : List Group) (inside : ℕ) (n : Names) (i : ℕ) → inside < 2 ^ 64 → i < 64 → names_at hs i ≡ cond (has inside i) (Some n) (names_at gs i) → names_at (without_units inside g ∷ hs) i ≡ cond (has inside i) (Some n) (names_at (g ∷ gs) i)
+parted g gs hs inside n i f k e =
+    ap (λ o. option_or o (cond (has (bit_and g.units (bit_not w64 inside)) i) (Some g.names) None)) e
+    ∙ ap (λ b. option_or (cond (has inside i) (Some n) (names_at gs i)) (cond b (Some g.names) None)) (has_and g.units (bit_not w64 inside) i ∙ ap (λ b. has g.units i && b) (has_not inside i f k))
+    ∙ part_cases (has inside i) (has g.units i) g.names n (names_at gs i)
 
--- whether a group has units
-abbrev pub has_units : Group → Bool
-has_units g = not (nat_eq g.units 0)
+-- a group whose units all are put behind it
+gone_cases : (b : Bool) (m n : Names) (o : Option Names) → cond b (Some n) o ≡ cond b (Some n) (option_or o (cond b (Some m) None))
+gone_cases true m n o = refl
+gone_cases false m n None = refl
+gone_cases false m n (Some x) = refl
 
--- groups without units keep nothing
-pub kept_by_others : (gs : List Group) (i : ℕ) → names_at (filter has_units gs) i ≡ names_at gs i
-kept_by_others [] i = refl
-kept_by_others (g ∷ gs) i = go g (filter has_units gs) gs i (nat_eq g.units 0) refl (kept_by_others gs i)
-  where
-    or_nothing : (o : Option Names) → o ≡ option_or o None
-    or_nothing None = refl
-    or_nothing (Some n) = refl
+pub gone : (g : Group) (gs : List Group) (inside : ℕ) (n : Names) (i : ℕ) → inside ≡ g.units → cond (has inside i) (Some n) (names_at gs i) ≡ cond (has inside i) (Some n) (names_at (g ∷ gs) i)
+gone g gs inside n i e = gone_cases (has inside i) g.names n (names_at gs i) ∙ ap (λ u. cond (has inside i) (Some n) (option_or (names_at gs i) (cond (has u i) (Some g.names) None))) e
 
-    go : (g : Group) (ks gs : List Group) (i : ℕ) (b : Bool) → nat_eq g.units 0 ≡ b → names_at ks i ≡ names_at gs i → names_at (cond (not b) (g ∷ ks) ks) i ≡ names_at (g ∷ gs) i
-    go g ks gs i true e h = h ∙ or_nothing (names_at gs i) ∙ ap (λ b. option_or (names_at gs i) (cond b (Some g.names) None)) (sym (ap (λ m. has m i) (eqb-true g.units 0 e) ∙ has_zero i))
-    go g ks gs i false e h = ap (λ o. option_or o (cond (has g.units i) (Some g.names) None)) h
+-- a group whose units get other names, and no later one has them
+new_cases : (b : Bool) (m n : Names) (o : Option Names) → (b ≡ true → o ≡ None) → option_or o (cond b (Some n) None) ≡ cond b (Some n) (option_or o (cond b (Some m) None))
+new_cases true m n o f = ap (λ p. option_or p (Some n)) (f refl)
+new_cases false m n o f = refl
 
--- the same is kept of all units, and the last groups are the same
-pub record KeepsAll (count : ℕ) (old new : List Group) : Type 0 where
-  pub as_long : length new ≡ length old
-  pub last : drop count new ≡ drop count old
-  pub kept : (i : ℕ) → i < 64 → names_at new i ≡ names_at old i
+pub renamed : (g : Group) (gs : List Group) (inside : ℕ) (n : Names) (i : ℕ) → inside ≡ g.units → (has inside i ≡ true → names_at gs i ≡ None) → names_at (record { units = g.units; names = n } ∷ gs) i ≡ cond (has inside i) (Some n) (names_at (g ∷ gs) i)
+renamed g gs inside n i e f = subst (λ u. option_or (names_at gs i) (cond (has u i) (Some n) None) ≡ cond (has inside i) (Some n) (option_or (names_at gs i) (cond (has u i) (Some g.names) None))) e (new_cases (has inside i) g.names n (names_at gs i) f)
 
-pub keeps_more : (count at units : ℕ) (old new : List Group) → at < count → at < length new → units < 2 ^ 64 → ((i : ℕ) → i < 64 → has units i ≡ true → is_none (names_at (drop count old) i) ≡ false) → KeepsAll count old new → KeepsAll count old (set new at (without_units units (get_or new at no_group)))
-keeps_more count at units old new h k f e l = record {
-  as_long = length-set new at _ ∙ l.as_long;
-  last = drop_of_set new count at _ h ∙ l.last;
-  kept = λ i b. shed new count at units i h k f b (λ u. ap (λ gs. is_none (names_at gs i)) l.last ∙ e i b u) ∙ l.kept i b;
-}
+-- none of the last groups has a unit that none of more groups has
+pub none_later : (gs : List Group) (j k i : ℕ) → j ≤ k → names_at (drop j gs) i ≡ None → names_at (drop k gs) i ≡ None
+none_later gs zero zero i h e = e
+none_later gs (suc j) zero i h e = absurd (omega (arith, h))
+none_later [] j (suc k) i h e = refl
+none_later (g ∷ gs) zero (suc k) i h e = none_later gs zero k i (omega arith) (none_behind (names_at gs i) _ e)
+none_later (g ∷ gs) (suc j) (suc k) i h e = none_later gs j k i (omega (arith, h)) e
+
+pub drop_set : (gs : List Group) (n : ℕ) (g : Group) → n < length gs → drop n (set gs n g) ≡ g ∷ drop (suc n) gs
+drop_set [] n g h = absurd (omega (arith, h))
+drop_set (x ∷ gs) zero g h = refl
+drop_set (x ∷ gs) (suc n) g h = drop_set gs n g (omega (arith, h))
+
+pub behind_all : (gs hs : List Group) (n : ℕ) → n ≤ length gs → drop n (take n gs ++ hs) ≡ hs
+behind_all gs hs zero h = refl
+behind_all [] hs (suc n) h = absurd (omega (arith, h))
+behind_all (g ∷ gs) hs (suc n) h = behind_all gs hs n (omega (arith, h))

@@ -1,6 +1,9 @@
 -- The races that an access reports at the units of a page.
 use Rattle.std.proofs.Common.{◌≡◌, ℕ, zero, suc, ◌+◌, ◌^◌, ◌<◌, ◌≤◌, Bool, true, false, not, ◌&&◌, is_some, unwrap_or, List, [], ◌∷◌, ◌++◌, Option, Some, None, cond, refl, sym, ap, ◌∙◌, subst, arith, append_assoc, append-nil}
 use Rattle.std.specs.Option.{option_to_list}
+use Rattle.std.specs.Int.RustNames.{bit_and}
+use Rattle.blocks.specs.declared.step.Names.{Names}
+use Rattle.blocks.specs.declared.groups.Group.{Group}
 use Rattle.dag.specs.declared.records.Kind.{Kind}
 use Rattle.dag.specs.declared.records.Access.{Access}
 use Rattle.dag.specs.Accesses.{RaceAt}
@@ -10,7 +13,7 @@ use Rattle.blocks.specs.Masks.{has, units_before}
 use Rattle.blocks.specs.Steps.{no_names, cell_of}
 use Rattle.blocks.specs.Groups.{names_at, is_racy}
 use Rattle.blocks.specs.Pages.{Page, cell_at, location_of, race_of, races_up_to}
-use Rattle.blocks.proofs.Bits.{has_zero}
+use Rattle.blocks.proofs.Bits.{has_and, has_zero}
 use Rattle.blocks.proofs.Named.{racy_is_rival, calm_race, new_race, rival_of_any}
 
 and_and : (u r b : Bool) → ((u && r) && b) ≡ (u && (r && b))
@@ -20,6 +23,16 @@ and_and false r b = refl
 -- the units whose race is new
 pub new_units : (racy new reported i : ℕ) (u r : Bool) → has racy i ≡ (u && r) → has new i ≡ (has racy i && not (has reported i)) → has new i ≡ (u && (r && not (has reported i)))
 new_units racy new reported i u r e f = f ∙ ap (λ b. b && not (has reported i)) e ∙ and_and u r (not (has reported i))
+
+known_cases : (fs : List Active) (kind : Kind) (u t : Bool) (o : Option Names) → t ≡ is_some o → ((u && t) && is_racy fs kind o) ≡ (u && is_racy fs kind o)
+known_cases fs kind false t o e = refl
+known_cases fs kind true true o e = refl
+known_cases fs kind true false None e = refl
+known_cases fs kind true false (Some n) e = absurd (cc)
+
+-- a unit that no group has doesn't race
+pub known_racy : (fs : List Active) (kind : Kind) (units touched racy i : ℕ) (gs : List Group) → has touched i ≡ is_some (names_at gs i) → has racy i ≡ (has (bit_and units touched) i && is_racy fs kind (names_at gs i)) → has racy i ≡ (has units i && is_racy fs kind (names_at gs i))
+known_racy fs kind units touched racy i gs t e = e ∙ ap (λ b. b && is_racy fs kind (names_at gs i)) (has_and units touched i) ∙ known_cases fs kind (has units i) (has touched i) (names_at gs i) t
 
 -- the units at which an access reports a race
 abbrev pub AreNew : List Active → Kind → ℕ → Page → ℕ → Type 0

@@ -1,5 +1,5 @@
 -- Private: what groups of units keep of each unit.
-use Rattle.std.specs.Prelude.{◌≡◌, ◌≢◌, ℕ, ◌<◌, ◌≤◌, Bool, false, List, [], ◌∷◌, Option, None, Some, if◌then◌else◌, unwrap_or, length, get_or, is_some}
+use Rattle.std.specs.Prelude.{◌≡◌, ◌≢◌, ℕ, ◌<◌, ◌≤◌, Bool, false, List, [], ◌∷◌, Option, None, Some, if◌then◌else◌, unwrap_or, length, get_or, option_map, is_some, true, ◌⊎◌}
 use Rattle.std.specs.Option.{option_or}
 use Rattle.dag.specs.declared.records.Kind.{Kind}
 use Rattle.bags.specs.Procedures.{Active}
@@ -34,16 +34,10 @@ no_group = record { units = 0; names = no_names }
 abbrev pub names_of : List Group → ℕ → Names
 names_of gs unit = unwrap_or (names_at gs unit) no_names
 
--- the names that an access changes and what it makes of them, for a unit that has these or none
-abbrev pub changed : List Active → Kind → Step → Option Names → Option Names
-changed fs kind step None = Some (touched_names kind step no_names)
-changed fs kind step (Some n) = if keeps_names fs kind n then None else Some (touched_names kind step n)
-
--- behind old groups there are new ones of all units whose names an access changes, and those units are moved
-pub record HasChanged (fs : List Active) (kind : Kind) (step : Step) (old new : List Group) (moved : ℕ) : Type 0 where
-  pub names : (i : ℕ) → i < 64 → names_at new i
-      ≡ (if has step.units i then changed fs kind step (names_at old i) else None)
-  pub units : (i : ℕ) → i < 64 → has moved i ≡ is_some (names_at new i)
+-- what groups keep of a unit after an access, if they have the unit, and it is one of those accessed
+abbrev pub names_at_touched : List Active → Kind → Step → Bool → Option Names → Option Names
+names_at_touched fs kind step false o = o
+names_at_touched fs kind step true o = option_map (names_after fs kind step) o
 
 -- the names of a unit after an access to the step's units
 abbrev pub names_of_touched : List Active → Kind → Step → ℕ → Names → Names
@@ -54,3 +48,12 @@ pub record IsAlike (gs : List Group) (count : ℕ) (n : Names) (at : ℕ) : Type
   pub behind : count ≤ at
   pub within : at < length gs
   pub names : (get_or gs at no_group).names ≡ n
+
+-- of each unit they keep what they did, or what an access to these units makes of it
+abbrev pub IsPartly : List Active → Kind → Step → ℕ → List Group → List Group → Type 0
+IsPartly fs kind step units old new = (i : ℕ) → i < 64 → (names_of new i ≡ names_of old i)
+    ⊎ ((has units i ≡ true) × (names_of new i ≡ names_after fs kind step (names_of old i)))
+
+-- these are the units that groups have
+abbrev pub IsTouched : ℕ → List Group → Type 0
+IsTouched touched gs = (i : ℕ) → i < 64 → has touched i ≡ is_some (names_at gs i)

@@ -1,10 +1,12 @@
 //! Groups of the units of a block that keep the same names.
-ghost use Rattle.std.specs.Prelude.{◌≡◌, ℕ, ◌<◌, ◌≤◌, ◌&&◌, Some, None, true, is_none, false, OnOk, OnErr, IfOk, IfSome, length, take, drop, if◌then◌else◌};
+ghost use Rattle.std.specs.Prelude.{◌≡◌, ℕ, ◌<◌, ◌≤◌, ◌+◌, ◌&&◌, Some, None, true, is_some, false, OnOk, OnErr, IfOk, IfSome, length, take, drop, if◌then◌else◌, slice_index_or, bit_or};
 ghost use Rattle.std.specs.Option.{ForSome};
 ghost use Rattle.shadow.specs.Before.{Executes};
 ghost use Rattle.blocks.specs.Masks.{has};
-ghost use Rattle.blocks.specs.Groups.{names_at, is_racy, names_of, names_of_touched, AreKnown, IsAlike, HasChanged};
+ghost use Rattle.blocks.specs.Groups.{names_at, is_racy, names_of, names_of_touched, names_at_touched, no_group};
+ghost use Rattle.blocks.specs.Groups.{AreKnown, IsAlike, IsPartly, IsTouched};
 
+use crate::masks::without;
 use crate::step::{NO_NAMES, Names, Step};
 use bags::Bags;
 use dag::{Kind, NoMemory};
@@ -43,7 +45,7 @@ pub fn racy_units(groups: &[Group], bags: &Bags, executing: u64, kind: Kind, uni
     let mut rest = units;
     let mut racy = 0;
     let mut index = groups.len();
-    while index > 0 {
+    while rest != 0 && index > 0 {
         index -= 1;
         let group = groups[index];
         let inside = group.units & rest;
@@ -77,6 +79,7 @@ fn put(groups: &mut Vec<Group>, count: usize, group: Group) -> Result<(), NoMemo
     ensures first { take count groups.new.items ≡ take count groups.old.items }
     ensures put { OnOk result ((i : ℕ) → i < 64 → names_at (drop count groups.new.items) i
         ≡ (if has group.units i then Some group.names else names_at (drop count groups.old.items) i)) }
+    ensures err { OnErr result (groups.new.items ≡ groups.old.items) }
 {
     match alike(groups, count, group.names) {
         Some(at) => groups[at].units |= group.units,
@@ -85,33 +88,68 @@ fn put(groups: &mut Vec<Group>, count: usize, group: Group) -> Result<(), NoMemo
     Ok(())
 }
 
-/// Takes units from the first `count` groups, and drops each group that has none left. Later groups have these units.
-fn forget(groups: &mut Vec<Group>, count: usize, units: u64)
-    requires within { count ≤ length groups.old.items }
-    requires later { (i : ℕ) → i < 64 → has units i ≡ true
-        → is_none (names_at (drop count groups.old.items) i) ≡ false }
-    ensures { (i : ℕ) → i < 64 → names_at groups.new.items i ≡ names_at groups.old.items i }
+/// Gives some units of the group at this index other names. None of the later groups has these units. Groups with these
+/// names stand from `from` on, if there are any. The answer is from where on they stand afterwards.
+///
+/// An error leaves all as it was.
+fn rename(
+    groups: &mut Vec<Group>,
+    index: usize,
+    inside: u64,
+    names: Names,
+    from: usize,
+) -> Result<usize, NoMemory>
+    requires within { (index < from) × (from ≤ length groups.old.items) }
+    requires inside { (i : ℕ) → i < 64 → has inside i ≡ true
+        → has (slice_index_or groups.old.items index no_group).units i ≡ true }
+    requires last { (i : ℕ) → i < 64 → has inside i ≡ true → names_at (drop (index + 1) groups.old.items) i ≡ None }
+    ensures within { IfOk result (λ r. (index ≤ r) × (r ≤ length groups.new.items)) }
+    ensures first { OnOk result (take index groups.new.items ≡ take index groups.old.items) }
+    ensures names { OnOk result ((i : ℕ) → i < 64 → names_at (drop index groups.new.items) i
+        ≡ (if has inside i then Some names else names_at (drop index groups.old.items) i)) }
+    ensures err { OnErr result (groups.new.items ≡ groups.old.items) }
 {
-    for index in 0..count {
-        groups[index].units &= !units;
+    let units = groups[index].units;
+    if inside != units {
+        put(groups, from, Group { units: inside, names })?;
+        groups[index].units = units & !inside;
+        return Ok(from);
     }
-    groups.retain(|group| group.units != 0);
+    match alike(groups, from, names) {
+        Some(at) => {
+            groups[at].units |= inside;
+            groups.remove(index);
+            Ok(from - 1)
+        }
+        None => {
+            groups[index].names = names;
+            Ok(index)
+        }
+    }
 }
 
-/// Puts groups behind those that are there, which keep what an access to the step's units makes of the names of each
-/// unit; and answers which units these are. Units whose names stay aren't among them.
-fn follow(groups: &mut Vec<Group>, bags: &Bags, kind: Kind, step: Step) -> Result<u64, NoMemory>
+/// Takes an access to these units, which the groups have, and answers from where on there may be groups with the names
+/// that it makes.
+fn follow(
+    groups: &mut Vec<Group>,
+    bags: &Bags,
+    kind: Kind,
+    step: Step,
+    units: u64,
+) -> Result<usize, NoMemory>
     requires executes { Executes bags.now step.procedure }
     requires known { (i : ℕ) → i < 64 → ForSome (names_at groups.old.items i) (AreKnown bags.now.count) }
-    ensures first { take (length groups.old.items) groups.new.items ≡ groups.old.items }
-    ensures changed { IfOk result (λ moved. HasChanged bags.now.active kind step groups.old.items
-        (drop (length groups.old.items) groups.new.items) moved) }
+    ensures within { IfOk result (λ r. r ≤ length groups.new.items) }
+    ensures names { OnOk result ((i : ℕ) → i < 64 → names_at groups.new.items i
+        ≡ names_at_touched bags.now.active kind step (has units i) (names_at groups.old.items i)) }
+    ensures some { (i : ℕ) → i < 64
+        → is_some (names_at groups.new.items i) ≡ is_some (names_at groups.old.items i) }
+    ensures partly { IsPartly bags.now.active kind step units groups.old.items groups.new.items }
 {
-    let count = groups.len();
-    let mut rest = step.units;
-    let mut moved = 0;
-    let mut index = count;
-    while index > 0 {
+    let mut rest = units;
+    let mut index = groups.len();
+    let mut from = index;
+    while rest != 0 && index > 0 {
         index -= 1;
         let Group { units, names } = groups[index];
         let inside = units & rest;
@@ -119,42 +157,35 @@ fn follow(groups: &mut Vec<Group>, bags: &Bags, kind: Kind, step: Step) -> Resul
             rest &= !inside;
             if !names.stay(bags, step.procedure, kind) {
                 let names = names.touched(kind, step);
-                put(
-                    groups,
-                    count,
-                    Group {
-                        units: inside,
-                        names,
-                    },
-                )?;
-                moved |= inside;
+                from = rename(groups, index, inside, names, from)?;
             }
         }
     }
-    if rest != 0 {
-        let names = NO_NAMES.touched(kind, step);
-        put(groups, count, Group { units: rest, names })?;
-    }
-    Ok(moved | rest)
+    Ok(from)
 }
 
-/// Takes an access to the step's units by the executing procedure. An error leaves all as it was.
-pub fn touch(groups: &mut Vec<Group>, bags: &Bags, kind: Kind, step: Step) -> Result<(), NoMemory>
+/// Takes an access to the step's units by the executing procedure. Of these the groups have the `touched` ones.
+pub fn touch(
+    groups: &mut Vec<Group>,
+    bags: &Bags,
+    kind: Kind,
+    step: Step,
+    touched: u64,
+) -> Result<(), NoMemory>
     requires executes { Executes bags.now step.procedure }
     requires known { (i : ℕ) → i < 64 → ForSome (names_at groups.old.items i) (AreKnown bags.now.count) }
+    requires touched { IsTouched touched groups.old.items }
     ensures kept { OnOk result ((i : ℕ) → i < 64 → names_of groups.new.items i
         ≡ names_of_touched bags.now.active kind step i (names_of groups.old.items i)) }
-    ensures err { OnErr result (groups.new.items ≡ groups.old.items) }
+    ensures partly { IsPartly bags.now.active kind step step.units groups.old.items groups.new.items }
+    ensures touched { OnOk result (IsTouched (bit_or touched step.units) groups.new.items) }
+    ensures untouched { OnErr result (IsTouched touched groups.new.items) }
 {
-    let count = groups.len();
-    match follow(groups, bags, kind, step) {
-        Ok(moved) => {
-            forget(groups, count, moved);
-            Ok(())
-        }
-        Err(NoMemory) => {
-            groups.truncate(count);
-            Err(NoMemory)
-        }
+    let from = follow(groups, bags, kind, step, step.units & touched)?;
+    let new = without(step.units, touched);
+    if new != 0 {
+        let names = NO_NAMES.touched(kind, step);
+        put(groups, from, Group { units: new, names })?;
     }
+    Ok(())
 }

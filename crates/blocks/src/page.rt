@@ -20,16 +20,21 @@ use std::marker::Model;
 #[derive(Drop)]
 pub struct Page {
     groups: Vec<Group>,
+    // The units that the groups have.
+    touched: u64,
     // The units whose race was reported.
     reported: u64,
 }
 
 impl Model for Page {
     ghost use Rattle.blocks.specs.Pages.{Page};
+    ghost use Rattle.blocks.specs.Groups.{IsTouched};
 
     ghost Value = { Page };
 
     ghost view = { λ p. record { groups = p.groups.items; reported = p.reported } };
+
+    ghost invariant = { λ p. IsTouched p.touched p.groups.items };
 }
 
 impl Page {
@@ -39,6 +44,7 @@ impl Page {
     {
         Page {
             groups: Vec::new(alloc),
+            touched: 0,
             reported: 0,
         }
     }
@@ -63,13 +69,14 @@ impl Page {
             ++ races_up_to bags.now.active first kind place units (cell_at self.old) 64) }
         ensures kept { OnOk result ((i : ℕ) → i < 64
             → cell_at self.new i ≡ touched_at bags.now.active kind place units i (cell_at self.old i)) }
-        ensures earlier { OnOk result ((i : ℕ) → i < 64
-            → IsCellBefore (place + count_ones units) bags.now.count (cell_at self.new i)) }
-        ensures err { OnErr result (self.new ≡ self.old) }
+        // After an error too.
+        ensures earlier { (i : ℕ) → i < 64
+            → IsCellBefore (place + count_ones units) bags.now.count (cell_at self.new i) }
     {
         let executing = bags.current();
+        let known = units & self.touched;
         let racy = without(
-            racy_units(&self.groups, bags, executing, kind, units),
+            racy_units(&self.groups, bags, executing, kind, known),
             self.reported,
         );
         if racy != 0 {
@@ -80,7 +87,8 @@ impl Page {
             place,
             units,
         };
-        touch(&mut self.groups, bags, kind, step)?;
+        touch(&mut self.groups, bags, kind, step, self.touched)?;
+        self.touched |= units;
         self.reported |= racy;
         Ok(())
     }

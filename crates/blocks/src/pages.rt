@@ -1,5 +1,5 @@
 //! The touched pages, by their numbers.
-ghost use Rattle.std.specs.Prelude.{◌≡◌, ℕ, ◌+◌, ◌^◌, ◌<◌, ◌≤◌, ◌++◌, [], IfSome, IfOk, IsTrue, OnOk, OnErr};
+ghost use Rattle.std.specs.Prelude.{◌≡◌, ◌≢◌, ℕ, ◌+◌, ◌^◌, ◌<◌, ◌≤◌, ◌++◌, [], IfSome, IfOk, IsTrue, OnOk, OnErr};
 ghost use Rattle.dag.specs.Bounds.{most_records};
 ghost use Rattle.shadow.specs.Before.{IsCellBefore};
 ghost use Rattle.std.specs.Int.RustNames.{count_ones};
@@ -120,9 +120,10 @@ impl<S: BuildHasher> Pages<S> {
             ++ races_up_to bags.now.active first kind place units (cell_in self.old page) 64) }
         ensures kept { OnOk result (HasPut page
             (λ i. touched_at bags.now.active kind place units i (cell_in self.old page i)) self.old self.new) }
-        ensures earlier { OnOk result ((i : ℕ) → i < 64
-            → IsCellBefore (place + count_ones units) bags.now.count (cell_in self.new page i)) }
-        ensures err { OnErr result (HasSameCells self.old self.new) }
+        // After an error too.
+        ensures earlier { (i : ℕ) → i < 64
+            → IsCellBefore (place + count_ones units) bags.now.count (cell_in self.new page i) }
+        ensures others { (q k : ℕ) → q ≢ page → cell_in self.new q k ≡ cell_in self.old q k }
     {
         match self.map.get_index_mut(at) {
             Some(page) => page.touch(bags, first, kind, place, units, races)?,

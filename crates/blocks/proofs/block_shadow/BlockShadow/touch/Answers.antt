@@ -20,18 +20,18 @@ touch-requires-clause-before g c =
     found (page_of c.args.location)
 
 pub invariant_of-self-in_err-touch : goal.invariant_of-self-in_err-touch
-invariant_of-self-in_err-touch g c q k u =
+invariant_of-self-in_err-touch g c =
     let next : c.self.inside.next_place ≡ c.args.self.now.next_place = ap (λ (m : Blocks). m.next_place) c.self.view_is in
     let least : c.self.inside.least_count ≡ c.args.self.now.least_count = ap (λ (m : Blocks). m.least_count) c.self.view_is in
     let found = all_later (record { pages = c.self.inside.pages; next_place = c.self.inside.next_place; least_count = c.self.inside.least_count }) c.find.new.self c.args.place c.args.bags.now.count c.self.invariant c.in_ok-at.ensures.kept (omega (arith, next, c.requires.later)) (omega (arith, least, c.requires.no_fewer)) in
-    rw (c.in_err-touch.ensures.err q k, c.count-self-inside.ensures.procedures) (unit_later c.args.place (c.args.place + c.from.result) c.args.bags.now.count c.args.bags.now.count (cell_in c.find.new.self q k) (omega arith) (omega arith) (found q k u))
+    rw (c.from.ensures, c.count-self-inside.ensures.procedures) (all_after c.find.new.self c.touch.new.self (page_of c.args.location) c.args.place (c.args.place + count_ones c.args.units) c.args.bags.now.count found (omega arith) c.in_err-touch.ensures.others c.in_err-touch.ensures.earlier)
 
 pub invariant_of-self-2 : goal.invariant_of-self-2
 invariant_of-self-2 g c =
     let next : c.self.inside.next_place ≡ c.args.self.now.next_place = ap (λ (m : Blocks). m.next_place) c.self.view_is in
     let least : c.self.inside.least_count ≡ c.args.self.now.least_count = ap (λ (m : Blocks). m.least_count) c.self.view_is in
     let found = all_later (record { pages = c.self.inside.pages; next_place = c.self.inside.next_place; least_count = c.self.inside.least_count }) c.find.new.self c.args.place c.args.bags.now.count c.self.invariant c.in_ok-at.ensures.kept (omega (arith, next, c.requires.later)) (omega (arith, least, c.requires.no_fewer)) in
-    rw (c.from.ensures, c.count-self-inside.ensures.procedures) (all_after c.find.new.self c.touch.new.self (page_of c.args.location) c.args.place (c.args.place + count_ones c.args.units) c.args.bags.now.count _ found (omega arith) c.in_ok-touch.ensures.kept c.in_ok-touch.ensures.earlier)
+    rw (c.from.ensures, c.count-self-inside.ensures.procedures) (all_after c.find.new.self c.touch.new.self (page_of c.args.location) c.args.place (c.args.place + count_ones c.args.units) c.args.bags.now.count found (omega arith) c.in_ok-touch.ensures.others c.in_ok-touch.ensures.earlier)
 
 pub returns-clause-races : goal.returns-clause-races
 returns-clause-races g c =

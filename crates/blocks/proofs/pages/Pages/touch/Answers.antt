@@ -5,7 +5,7 @@ use Rattle.std.specs.Map.{lookup}
 use Rattle.std.specs.Option.{option_copied_mut}
 use Rattle.indexmap.proofs.CallerLemmas.{updates-with_value_at}
 use Rattle.blocks.specs.Pages.{Page, cell_at, cell_in, page_numbered, touched_at, IsPageAt}
-use Rattle.blocks.proofs.Entries.{some_value, value_there, page_after, put_after, same_after, on_err}
+use Rattle.blocks.proofs.Entries.{some_value, value_there, page_after, put_after, others_after}
 use Rattle.blocks.proofs.pages.Pages.touch.Goals as goal
 
 pub touch-requires-clause-before : goal.touch-requires-clause-before
@@ -14,13 +14,21 @@ touch-requires-clause-before g c i h =
     let is = value_there c.self.inside.map.entries c.args.at c.args.page c.in-Some.page.now there c.in-Some.ensures.value in
     rw (is, c.self.view_is) (c.requires.before i h)
 
-pub returns-in_err-touch-in-Some-clause-err : goal.returns-in_err-touch-in-Some-clause-err
-returns-in_err-touch-in-Some-clause-err g c =
+pub returns-in_err-touch-in-Some-clause-earlier : goal.returns-in_err-touch-in-Some-clause-earlier
+returns-in_err-touch-in-Some-clause-earlier g c i h =
     let es = c.self.inside.map.entries in
     let there : IsPageAt es c.args.at c.args.page = rw c.self.view_is c.requires.there in
     let is = value_there es c.args.at c.args.page c.in-Some.page.now there c.in-Some.ensures.value in
     let updates = updates-with_value_at c.self.inside.map c.args.at c.touch.new.self nat_eq_equiv c.get_index_mut.ensures.unique c.args.page c.in-Some.page.now (there ∙ ap (λ b. Some (c.args.page, b)) (sym is)) in
-    on_err c.from_residual.result _ (rw (← c.self.view_is) (same_after es _ c.args.page c.touch.new.self (c.in_err-touch-in-Some.ensures.err ∙ is) updates.0))
+    rw (page_after es _ c.args.page c.touch.new.self updates.0 c.args.page, eq-eqb c.args.page c.args.page refl) (c.in_err-touch-in-Some.ensures.earlier i h)
+
+pub returns-in_err-touch-in-Some-clause-others : goal.returns-in_err-touch-in-Some-clause-others
+returns-in_err-touch-in-Some-clause-others g c =
+    let es = c.self.inside.map.entries in
+    let there : IsPageAt es c.args.at c.args.page = rw c.self.view_is c.requires.there in
+    let is = value_there es c.args.at c.args.page c.in-Some.page.now there c.in-Some.ensures.value in
+    let updates = updates-with_value_at c.self.inside.map c.args.at c.touch.new.self nat_eq_equiv c.get_index_mut.ensures.unique c.args.page c.in-Some.page.now (there ∙ ap (λ b. Some (c.args.page, b)) (sym is)) in
+    rw (← c.self.view_is) (others_after es _ c.args.page c.touch.new.self updates.0)
 
 pub unreachable-requires : goal.unreachable-requires
 unreachable-requires g c =
@@ -49,3 +57,11 @@ returns-clause-earlier g c i h =
     let is = value_there es c.args.at c.args.page c.in-Some.page.now there c.in-Some.ensures.value in
     let updates = updates-with_value_at c.self.inside.map c.args.at c.touch.new.self nat_eq_equiv c.get_index_mut.ensures.unique c.args.page c.in-Some.page.now (there ∙ ap (λ b. Some (c.args.page, b)) (sym is)) in
     rw (page_after es _ c.args.page c.touch.new.self updates.0 c.args.page, eq-eqb c.args.page c.args.page refl) (c.in_ok-touch-in-Some.ensures.earlier i h)
+
+pub returns-clause-others : goal.returns-clause-others
+returns-clause-others g c =
+    let es = c.self.inside.map.entries in
+    let there : IsPageAt es c.args.at c.args.page = rw c.self.view_is c.requires.there in
+    let is = value_there es c.args.at c.args.page c.in-Some.page.now there c.in-Some.ensures.value in
+    let updates = updates-with_value_at c.self.inside.map c.args.at c.touch.new.self nat_eq_equiv c.get_index_mut.ensures.unique c.args.page c.in-Some.page.now (there ∙ ap (λ b. Some (c.args.page, b)) (sym is)) in
+    rw (← c.self.view_is) (others_after es _ c.args.page c.touch.new.self updates.0)
