@@ -1,5 +1,5 @@
 -- A look at groups from the last one to the first: the units that none of them had, and those at which an access races.
-use Rattle.std.proofs.Common.{◌≡◌, ℕ, zero, suc, ◌+◌, ◌-◌, ◌/◌, ◌^◌, ◌<◌, ◌≤◌, ◌≢◌, Bool, true, false, not, ◌&&◌, ◌||◌, List, [], ◌∷◌, drop, length, get_or, Option, Some, None, is_none, unwrap_or, nat_eq, cond, refl, sym, ap, ◌∙◌, subst, arith}
+use Rattle.std.proofs.Common.{◌≡◌, ℕ, zero, suc, ◌-◌, ◌/◌, ◌^◌, ◌<◌, ◌≤◌, ◌≢◌, Bool, true, false, not, ◌&&◌, ◌||◌, List, [], ◌∷◌, drop, length, get_or, Option, Some, None, is_none, unwrap_or, nat_eq, cond, refl, sym, ap, ◌∙◌, subst, arith}
 use Rattle.std.specs.Int.{bit_not, w64}
 use Rattle.std.specs.Int.RustNames.{bit_and, bit_or}
 use Rattle.std.specs.Option.{option_or, ForSome}
@@ -10,7 +10,7 @@ use Rattle.std.proofs.lemmas.Nat.Bits.{shr_and_one}
 use Rattle.dag.specs.declared.records.Kind.{Kind}
 use Rattle.bags.specs.Procedures.{Active}
 use Rattle.blocks.specs.Masks.{has}
-use Rattle.blocks.specs.Steps.{has_rival, no_names}
+use Rattle.blocks.specs.Steps.{has_rival, no_steps}
 use Rattle.blocks.specs.Groups.{names_at, names_of, is_racy, no_group}
 use Rattle.blocks.specs.declared.step.Names.{Names}
 use Rattle.blocks.specs.declared.groups.Group.{Group}
@@ -200,4 +200,4 @@ found_here unit gs n h e l =
     let g = get_or gs (n - 1) no_group in
     let has_it : has g.units unit ≡ true = ap (λ x. nat_eq x 1) (sym (shr_and_one g.units unit) ∙ e) in
     let here : names_at (drop (n - 1) gs) unit ≡ Some g.names = ap (λ x. names_at x unit) (with_one_before gs n h l.within) ∙ ap (λ o. option_or o (cond (has g.units unit) (Some g.names) None)) l.none ∙ ap (λ b. cond b (Some g.names) None) has_it in
-    sym (ap (λ o. unwrap_or o no_names) (names_behind gs (n - 1) unit g.names here))
+    sym (ap (λ o. unwrap_or o no_steps) (names_behind gs (n - 1) unit g.names here))

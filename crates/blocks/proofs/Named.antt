@@ -5,12 +5,11 @@ use Rattle.std.specs.Int.RustNames.{count_ones}
 use Rattle.dag.specs.declared.records.Kind.{Kind}
 use Rattle.dag.specs.declared.records.Kind.TheVariants.{Read, Write}
 use Rattle.dag.specs.declared.records.Access.{Access}
-use Rattle.dag.specs.Accesses.{RaceAt}
 use Rattle.bags.specs.Procedures.{Active, in_p, current}
-use Rattle.shadow.specs.Cells.{Name, Cell, parallel_access, rival, stands_in_p, reader_after, name_of, touched, race_with}
+use Rattle.shadow.specs.Cells.{Name, Cell, parallel_access, rival, stands_in_p, name_of, touched, race_with}
 use Rattle.shadow.specs.Before.{IsNameBefore, IsCellBefore}
 use Rattle.blocks.specs.Masks.{has, units_before}
-use Rattle.blocks.specs.Steps.{name_from, name_in, is_in_p_from, is_step_in_p, has_rival, keeps_names, touched_names, names_after, no_names, cell_of}
+use Rattle.blocks.specs.Steps.{name_from, name_in, is_in_p_from, is_step_in_p, touched_names, names_after, no_steps, named_cell}
 use Rattle.blocks.specs.Groups.{names_at, names_of, names_of_touched, is_racy, AreKnown}
 use Rattle.blocks.specs.Pages.{touched_at}
 use Rattle.blocks.proofs.Counts.{one_of_all}
@@ -23,9 +22,9 @@ known_from procedure zero b place count f h = absurd (h refl)
 known_from procedure (suc k) b place count f h = (f _ refl).known
 
 -- the procedures of names that units keep are among those of the bags
-pub known_names : (gs : List Group) (unit place count : ℕ) (b : Bool) → IsCellBefore place count (cell_of (names_of gs unit) unit b) → ForSome (names_at gs unit) (AreKnown count)
+pub known_names : (gs : List Group) (unit place count : ℕ) (b : Bool) → IsCellBefore place count (named_cell (names_of gs unit) unit b) → ForSome (names_at gs unit) (AreKnown count)
 known_names gs unit place count b h n e =
-    let c : IsCellBefore place count (cell_of n unit b) = subst (λ o. IsCellBefore place count (cell_of (unwrap_or o no_names) unit b)) e h in
+    let c : IsCellBefore place count (named_cell n unit b) = subst (λ o. IsCellBefore place count (named_cell (unwrap_or o no_steps) unit b)) e h in
     record {
       writer = known_from n.writer.procedure n.writer.place (units_before n.writer.units unit) place count c.writer;
       reader = known_from n.reader.procedure n.reader.place (units_before n.reader.units unit) place count c.reader;
@@ -34,7 +33,7 @@ known_names gs unit place count b h n e =
 name_later : (p q c d : ℕ) (o : Option Name) → p ≤ q → c ≤ d → ForSome o (IsNameBefore p c) → ForSome o (IsNameBefore q d)
 name_later p q c d o h l f n e = let x = f n e in record { from_one = x.from_one; earlier = omega (arith, h, x.earlier); known = omega (arith, l, x.known) }
 
-pub cell_later : (p q count : ℕ) (n : Names) (unit : ℕ) (a b : Bool) → p ≤ q → IsCellBefore p count (cell_of n unit a) → IsCellBefore q count (cell_of n unit b)
+pub cell_later : (p q count : ℕ) (n : Names) (unit : ℕ) (a b : Bool) → p ≤ q → IsCellBefore p count (named_cell n unit a) → IsCellBefore q count (named_cell n unit b)
 cell_later p q count n unit a b h c = record { writer = name_later p q count count (name_in n.writer unit) h (omega arith) c.writer; reader = name_later p q count count (name_in n.reader unit) h (omega arith) c.reader }
 
 parallel_from : (fs : List Active) (k : Kind) (procedure p b : ℕ) → is_in_p_from fs procedure p ≡ is_some (parallel_access fs k (name_from procedure p b))
@@ -52,13 +51,13 @@ or_some true b None p e f = absurd (cc)
 or_some false b (Some x) p e f = absurd (cc)
 
 -- whether there is a rival of an access to a unit
-pub racy_is_rival : (fs : List Active) (kind : Kind) (o : Option Names) (unit : ℕ) (b : Bool) → is_racy fs kind o ≡ is_some (rival fs kind (cell_of (unwrap_or o no_names) unit b))
+pub racy_is_rival : (fs : List Active) (kind : Kind) (o : Option Names) (unit : ℕ) (b : Bool) → is_racy fs kind o ≡ is_some (rival fs kind (named_cell (unwrap_or o no_steps) unit b))
 racy_is_rival fs Read None unit b = refl
 racy_is_rival fs Write None unit b = refl
 racy_is_rival fs Read (Some n) unit b = parallel_from fs Write n.writer.procedure n.writer.place (units_before n.writer.units unit)
 racy_is_rival fs Write (Some n) unit b = or_some _ _ _ _ (parallel_from fs Write n.writer.procedure n.writer.place (units_before n.writer.units unit)) (parallel_from fs Read n.reader.procedure n.reader.place (units_before n.reader.units unit))
 
-pub rival_of_any : (fs : List Active) (kind : Kind) (n : Names) (unit : ℕ) (a b : Bool) → rival fs kind (cell_of n unit a) ≡ rival fs kind (cell_of n unit b)
+pub rival_of_any : (fs : List Active) (kind : Kind) (n : Names) (unit : ℕ) (a b : Bool) → rival fs kind (named_cell n unit a) ≡ rival fs kind (named_cell n unit b)
 rival_of_any fs Read n unit a b = refl
 rival_of_any fs Write n unit a b = refl
 
@@ -87,15 +86,15 @@ name_new fs procedure (suc p) b e h = ap (λ q. Some (record { procedure = q; pl
 abbrev cell3 : Option Name → Option Name → Bool → Cell
 cell3 w r b = record { writer = w; reader = r; reported = b }
 
-reads : (fs : List Active) (step : Step) (unit : ℕ) (n : Names) (p : Option Name) (c d : Bool) → name_in step unit ≡ p → c ≡ d → (t : Bool) → stands_in_p fs (name_in n.reader unit) ≡ t → cell_of (cond t n (touched_names Read step n)) unit c ≡ cell3 (name_in n.writer unit) (cond (stands_in_p fs (name_in n.reader unit)) (name_in n.reader unit) p) d
+reads : (fs : List Active) (step : Step) (unit : ℕ) (n : Names) (p : Option Name) (c d : Bool) → name_in step unit ≡ p → c ≡ d → (t : Bool) → stands_in_p fs (name_in n.reader unit) ≡ t → named_cell (cond t n (touched_names Read step n)) unit c ≡ cell3 (name_in n.writer unit) (cond (stands_in_p fs (name_in n.reader unit)) (name_in n.reader unit) p) d
 reads fs step unit n p c d e f true g = ap (cell3 (name_in n.writer unit) (name_in n.reader unit)) f ∙ ap (λ t. cell3 (name_in n.writer unit) (cond t (name_in n.reader unit) p) d) (sym g)
 reads fs step unit n p c d e f false g = ap (cell3 (name_in n.writer unit) (name_in step unit)) f ∙ ap (λ x. cell3 (name_in n.writer unit) x d) e ∙ ap (λ t. cell3 (name_in n.writer unit) (cond t (name_in n.reader unit) p) d) (sym g)
 
-after_step : (fs : List Active) (kind : Kind) (step : Step) (unit : ℕ) (n : Names) (b c : Bool) → step.procedure ≡ current fs → 1 ≤ step.place → c ≡ (b || is_some (rival fs kind (cell_of n unit b))) → cell_of (names_after fs kind step n) unit c ≡ touched fs kind (step.place + units_before step.units unit) (cell_of n unit b)
+after_step : (fs : List Active) (kind : Kind) (step : Step) (unit : ℕ) (n : Names) (b c : Bool) → step.procedure ≡ current fs → 1 ≤ step.place → c ≡ (b || is_some (rival fs kind (named_cell n unit b))) → named_cell (names_after fs kind step n) unit c ≡ touched fs kind (step.place + units_before step.units unit) (named_cell n unit b)
 after_step fs Read step unit n b c e h f =
     reads fs step unit n _ c _ (name_new fs step.procedure step.place (units_before step.units unit) e h) f (is_step_in_p fs n.reader) (stands_from fs n.reader.procedure n.reader.place (units_before n.reader.units unit))
 after_step fs Write step unit n b c e h f =
-    ap (cell3 (name_in step unit) (name_in n.reader unit)) f ∙ ap (λ x. cell3 x (name_in n.reader unit) (b || is_some (rival fs Write (cell_of n unit b)))) (name_new fs step.procedure step.place (units_before step.units unit) e h)
+    ap (cell3 (name_in step unit) (name_in n.reader unit)) f ∙ ap (λ x. cell3 x (name_in n.reader unit) (b || is_some (rival fs Write (named_cell n unit b)))) (name_new fs step.procedure step.place (units_before step.units unit) e h)
 
 reported_cases : (u r b x : Bool) → x ≡ (u && (r && not b)) → u ≡ true → (b || x) ≡ (b || r)
 reported_cases true r true x e f = refl
@@ -110,12 +109,12 @@ unreported_cases true r b x e f = absurd (cc)
 
 -- what is kept of a unit after a step, where x says whether its race is reported at it
 pub cell_after : (fs : List Active) (kind : Kind) (step : Step) (unit : ℕ) (o : Option Names) (b x : Bool) → step.procedure ≡ current fs → 1 ≤ step.place → x ≡ (has step.units unit && (is_racy fs kind o && not b))
-    → cell_of (names_of_touched fs kind step unit (unwrap_or o no_names)) unit (b || x) ≡ touched_at fs kind step.place step.units unit (cell_of (unwrap_or o no_names) unit b)
+    → named_cell (names_of_touched fs kind step unit (unwrap_or o no_steps)) unit (b || x) ≡ touched_at fs kind step.place step.units unit (named_cell (unwrap_or o no_steps) unit b)
 cell_after fs kind step unit o b x e h f = go (has step.units unit) refl
   where
-    go : (u : Bool) → has step.units unit ≡ u → cell_of (cond u (names_after fs kind step (unwrap_or o no_names)) (unwrap_or o no_names)) unit (b || x) ≡ cond u (touched fs kind (step.place + units_before step.units unit) (cell_of (unwrap_or o no_names) unit b)) (cell_of (unwrap_or o no_names) unit b)
-    go true g = after_step fs kind step unit (unwrap_or o no_names) b (b || x) e h (reported_cases (has step.units unit) (is_racy fs kind o) b x f g ∙ ap (λ r. b || r) (racy_is_rival fs kind o unit b))
-    go false g = ap (cell_of (unwrap_or o no_names) unit) (unreported_cases (has step.units unit) (is_racy fs kind o) b x f g)
+    go : (u : Bool) → has step.units unit ≡ u → named_cell (cond u (names_after fs kind step (unwrap_or o no_steps)) (unwrap_or o no_steps)) unit (b || x) ≡ cond u (touched fs kind (step.place + units_before step.units unit) (named_cell (unwrap_or o no_steps) unit b)) (named_cell (unwrap_or o no_steps) unit b)
+    go true g = after_step fs kind step unit (unwrap_or o no_steps) b (b || x) e h (reported_cases (has step.units unit) (is_racy fs kind o) b x f g ∙ ap (λ r. b || r) (racy_is_rival fs kind o unit b))
+    go false g = ap (named_cell (unwrap_or o no_steps) unit) (unreported_cases (has step.units unit) (is_racy fs kind o) b x f g)
 
 pub unit_later : (p q m n : ℕ) (c : Cell) → p ≤ q → m ≤ n → IsCellBefore p m c → IsCellBefore q n c
 unit_later p q m n c h l x = record { writer = name_later p q m n c.writer h l x.writer; reader = name_later p q m n c.reader h l x.reader }
@@ -146,16 +145,17 @@ touched_earlier fs kind place units unit count c k h f u x = go (has units unit)
     go false e = later
 
 -- the same of each unit, after an access to some of the units
-pub partly_earlier : (fs : List Active) (kind : Kind) (step : Step) (unit count : ℕ) (n m : Names) (b : Bool) → (m ≡ n) ⊎ ((has step.units unit ≡ true) × (m ≡ names_after fs kind step n)) → current fs < count → step.procedure ≡ current fs → 1 ≤ step.place → step.units < 2 ^ 64 → unit < 64 → IsCellBefore step.place count (cell_of n unit b) → IsCellBefore (step.place + count_ones step.units) count (cell_of m unit b)
+pub partly_earlier : (fs : List Active) (kind : Kind) (step : Step) (unit count : ℕ) (n m : Names) (b : Bool) → (m ≡ n) ⊎ ((has step.units unit ≡ true) × (m ≡ names_after fs kind step n)) → current fs < count → step.procedure ≡ current fs → 1 ≤ step.place → step.units < 2 ^ 64 → unit < 64 → IsCellBefore step.place count (named_cell n unit b) → IsCellBefore (step.place + count_ones step.units) count (named_cell m unit b)
 partly_earlier fs kind step unit count n m b p k e h f u x = ⊎_elim same other p
   where
-    same : m ≡ n → IsCellBefore (step.place + count_ones step.units) count (cell_of m unit b)
-    same q = subst (λ o. IsCellBefore (step.place + count_ones step.units) count (cell_of o unit b)) (sym q) (cell_later step.place (step.place + count_ones step.units) count n unit b b (omega arith) x)
-    other : (has step.units unit ≡ true) × (m ≡ names_after fs kind step n) → IsCellBefore (step.place + count_ones step.units) count (cell_of m unit b)
+    same : m ≡ n → IsCellBefore (step.place + count_ones step.units) count (named_cell m unit b)
+    same q = subst (λ o. IsCellBefore (step.place + count_ones step.units) count (named_cell o unit b)) (sym q) (cell_later step.place (step.place + count_ones step.units) count n unit b b (omega arith) x)
+
+    other : (has step.units unit ≡ true) × (m ≡ names_after fs kind step n) → IsCellBefore (step.place + count_ones step.units) count (named_cell m unit b)
     other q =
-        let c : Bool = b || is_some (rival fs kind (cell_of n unit b)) in
-        let after : IsCellBefore (step.place + count_ones step.units) count (touched fs kind (step.place + units_before step.units unit) (cell_of n unit b))
-        = subst (λ t. IsCellBefore (step.place + count_ones step.units) count (cond t (touched fs kind (step.place + units_before step.units unit) (cell_of n unit b)) (cell_of n unit b))) q.0 (touched_earlier fs kind step.place step.units unit count (cell_of n unit b) k h f u x) in
-        subst (λ o. IsCellBefore (step.place + count_ones step.units) count (cell_of o unit b)) (sym q.1)
+        let c : Bool = b || is_some (rival fs kind (named_cell n unit b)) in
+        let after : IsCellBefore (step.place + count_ones step.units) count (touched fs kind (step.place + units_before step.units unit) (named_cell n unit b))
+        = subst (λ t. IsCellBefore (step.place + count_ones step.units) count (cond t (touched fs kind (step.place + units_before step.units unit) (named_cell n unit b)) (named_cell n unit b))) q.0 (touched_earlier fs kind step.place step.units unit count (named_cell n unit b) k h f u x) in
+        subst (λ o. IsCellBefore (step.place + count_ones step.units) count (named_cell o unit b)) (sym q.1)
         (cell_later (step.place + count_ones step.units) (step.place + count_ones step.units) count (names_after fs kind step n) unit c b (omega arith)
-            (subst (IsCellBefore (step.place + count_ones step.units) count) (sym (after_step fs kind step unit n b c e h refl)) after))
+        (subst (IsCellBefore (step.place + count_ones step.units) count) (sym (after_step fs kind step unit n b c e h refl)) after))

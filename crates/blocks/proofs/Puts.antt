@@ -1,5 +1,5 @@
 -- What groups keep of each unit, after one of them got more units, lost some, or was added.
-use Rattle.std.proofs.Common.{◌≡◌, ℕ, zero, suc, ◌+◌, ◌-◌, ◌<◌, ◌≤◌, Bool, true, false, not, ◌&&◌, ◌||◌, List, [], ◌∷◌, ◌++◌, take, drop, set, length, length-set, get_or, Option, Some, None, is_none, cond, refl, sym, ap, ◌∙◌, subst, arith, nat_eq, ◌^◌}
+use Rattle.std.proofs.Common.{◌≡◌, ℕ, zero, suc, ◌<◌, ◌≤◌, Bool, true, false, not, ◌&&◌, ◌||◌, List, [], ◌∷◌, ◌++◌, take, drop, set, length, get_or, Option, Some, None, cond, refl, sym, ap, ◌∙◌, subst, arith, ◌^◌}
 use Rattle.std.proofs.lemmas.List.{take-append-drop}
 use Rattle.std.specs.Int.{bit_not, w64}
 use Rattle.std.specs.Int.RustNames.{bit_and, bit_or}
@@ -8,7 +8,7 @@ use Rattle.blocks.specs.Masks.{has}
 use Rattle.blocks.specs.Groups.{names_at, no_group}
 use Rattle.blocks.specs.declared.step.Names.{Names}
 use Rattle.blocks.specs.declared.groups.Group.{Group}
-use Rattle.blocks.proofs.Bits.{has_or, has_and, has_not, has_zero}
+use Rattle.blocks.proofs.Bits.{has_or, has_and, has_not}
 
 first_of : (b : Bool) (n : Names) (o p : Option Names) → option_or (cond b (Some n) o) p ≡ cond b (Some n) (option_or o p)
 first_of true n o p = refl

@@ -1,5 +1,5 @@
 -- The races that an access reports at the units of a page.
-use Rattle.std.proofs.Common.{◌≡◌, ℕ, zero, suc, ◌+◌, ◌^◌, ◌<◌, ◌≤◌, Bool, true, false, not, ◌&&◌, is_some, unwrap_or, List, [], ◌∷◌, ◌++◌, Option, Some, None, cond, refl, sym, ap, ◌∙◌, subst, arith, append_assoc, append-nil}
+use Rattle.std.proofs.Common.{◌≡◌, ℕ, zero, suc, ◌+◌, ◌<◌, ◌≤◌, Bool, true, false, not, ◌&&◌, is_some, unwrap_or, List, [], ◌++◌, Option, Some, None, refl, sym, ap, ◌∙◌, arith, append-nil}
 use Rattle.std.specs.Option.{option_to_list}
 use Rattle.std.specs.Int.RustNames.{bit_and}
 use Rattle.blocks.specs.declared.step.Names.{Names}
@@ -8,11 +8,11 @@ use Rattle.dag.specs.declared.records.Kind.{Kind}
 use Rattle.dag.specs.declared.records.Access.{Access}
 use Rattle.dag.specs.Accesses.{RaceAt}
 use Rattle.bags.specs.Procedures.{Active}
-use Rattle.shadow.specs.Cells.{Cell, rival, race_with}
+use Rattle.shadow.specs.Cells.{rival, race_with}
 use Rattle.blocks.specs.Masks.{has, units_before}
-use Rattle.blocks.specs.Steps.{no_names, cell_of}
+use Rattle.blocks.specs.Steps.{no_steps, named_cell}
 use Rattle.blocks.specs.Groups.{names_at, is_racy}
-use Rattle.blocks.specs.Pages.{Page, cell_at, location_of, race_of, races_up_to}
+use Rattle.blocks.specs.Pages.{Block, AreNew, unit_cell, location_of, race_at_unit, races_up_to}
 use Rattle.blocks.proofs.Bits.{has_and, has_zero}
 use Rattle.blocks.proofs.Named.{racy_is_rival, calm_race, new_race, rival_of_any}
 
@@ -34,32 +34,28 @@ known_cases fs kind true false (Some n) e = absurd (cc)
 pub known_racy : (fs : List Active) (kind : Kind) (units touched racy i : ℕ) (gs : List Group) → has touched i ≡ is_some (names_at gs i) → has racy i ≡ (has (bit_and units touched) i && is_racy fs kind (names_at gs i)) → has racy i ≡ (has units i && is_racy fs kind (names_at gs i))
 known_racy fs kind units touched racy i gs t e = e ∙ ap (λ b. b && is_racy fs kind (names_at gs i)) (has_and units touched i) ∙ known_cases fs kind (has units i) (has touched i) (names_at gs i) t
 
--- the units at which an access reports a race
-abbrev pub AreNew : List Active → Kind → ℕ → Page → ℕ → Type 0
-AreNew fs kind units p racy = (i : ℕ) → i < 64 → has racy i ≡ (has units i && (is_racy fs kind (names_at p.groups i) && not (has p.reported i)))
-
-calm_at : (fs : List Active) (first : ℕ) (kind : Kind) (place units : ℕ) (p : Page) (racy i : ℕ) → AreNew fs kind units p racy → i < 64 → has racy i ≡ false → race_of fs first kind place units i (cell_at p i) ≡ None
+calm_at : (fs : List Active) (first : ℕ) (kind : Kind) (place units : ℕ) (p : Block) (racy i : ℕ) → AreNew fs kind units p racy → i < 64 → has racy i ≡ false → race_at_unit fs first kind place units i (unit_cell p i) ≡ None
 calm_at fs first kind place units p racy i new h e =
     calm_race (location_of first i) kind (place + units_before units i) (has units i) (is_racy fs kind (names_at p.groups i)) (has p.reported i) _ (sym (new i h) ∙ e) (racy_is_rival fs kind (names_at p.groups i) i (has p.reported i))
 
 -- a unit without a race adds none
-pub races_same : (fs : List Active) (first : ℕ) (kind : Kind) (place units : ℕ) (p : Page) (racy i : ℕ) → AreNew fs kind units p racy → i < 64 → has racy i ≡ false → races_up_to fs first kind place units (cell_at p) (suc i) ≡ races_up_to fs first kind place units (cell_at p) i
+pub races_same : (fs : List Active) (first : ℕ) (kind : Kind) (place units : ℕ) (p : Block) (racy i : ℕ) → AreNew fs kind units p racy → i < 64 → has racy i ≡ false → races_up_to fs first kind place units (unit_cell p) (suc i) ≡ races_up_to fs first kind place units (unit_cell p) i
 unfolding races_up_to
 races_same fs first kind place units p racy i new h e =
-    ap (λ o. races_up_to fs first kind place units (cell_at p) i ++ option_to_list o) (calm_at fs first kind place units p racy i new h e) ∙ append-nil (races_up_to fs first kind place units (cell_at p) i)
+    ap (λ o. races_up_to fs first kind place units (unit_cell p) i ++ option_to_list o) (calm_at fs first kind place units p racy i new h e) ∙ append-nil (races_up_to fs first kind place units (unit_cell p) i)
 
 -- one with a race adds what its rival says
-pub races_more : (fs : List Active) (first : ℕ) (kind : Kind) (place units : ℕ) (p : Page) (racy i : ℕ) (o : Option Access) → AreNew fs kind units p racy → i < 64 → has racy i ≡ true → o ≡ rival fs kind (cell_of (unwrap_or (names_at p.groups i) no_names) i false)
-    → races_up_to fs first kind place units (cell_at p) (suc i) ≡ races_up_to fs first kind place units (cell_at p) i ++ option_to_list (race_with (location_of first i) kind (place + units_before units i) false o)
+pub races_more : (fs : List Active) (first : ℕ) (kind : Kind) (place units : ℕ) (p : Block) (racy i : ℕ) (o : Option Access) → AreNew fs kind units p racy → i < 64 → has racy i ≡ true → o ≡ rival fs kind (named_cell (unwrap_or (names_at p.groups i) no_steps) i false)
+    → races_up_to fs first kind place units (unit_cell p) (suc i) ≡ races_up_to fs first kind place units (unit_cell p) i ++ option_to_list (race_with (location_of first i) kind (place + units_before units i) false o)
 unfolding races_up_to
 races_more fs first kind place units p racy i o new h e is =
-    let n = unwrap_or (names_at p.groups i) no_names in
-    ap (λ q. races_up_to fs first kind place units (cell_at p) i ++ option_to_list q)
-    (new_race (location_of first i) kind (place + units_before units i) (has units i) (is_racy fs kind (names_at p.groups i)) (has p.reported i) (rival fs kind (cell_of n i (has p.reported i))) (sym (new i h) ∙ e)
+    let n = unwrap_or (names_at p.groups i) no_steps in
+    ap (λ q. races_up_to fs first kind place units (unit_cell p) i ++ option_to_list q)
+    (new_race (location_of first i) kind (place + units_before units i) (has units i) (is_racy fs kind (names_at p.groups i)) (has p.reported i) (rival fs kind (named_cell n i (has p.reported i))) (sym (new i h) ∙ e)
     ∙ ap (race_with (location_of first i) kind (place + units_before units i) false) (rival_of_any fs kind n i (has p.reported i) false ∙ sym is))
 
 -- no unit has one
-pub no_races : (fs : List Active) (first : ℕ) (kind : Kind) (place units : ℕ) (p : Page) (racy n : ℕ) → AreNew fs kind units p racy → racy ≡ 0 → n ≤ 64 → races_up_to fs first kind place units (cell_at p) n ≡ []
+pub no_races : (fs : List Active) (first : ℕ) (kind : Kind) (place units : ℕ) (p : Block) (racy n : ℕ) → AreNew fs kind units p racy → racy ≡ 0 → n ≤ 64 → races_up_to fs first kind place units (unit_cell p) n ≡ []
 unfolding races_up_to
 no_races fs first kind place units p racy zero new z h = refl
 no_races fs first kind place units p racy (suc n) new z h = races_same fs first kind place units p racy n new (omega (arith, h)) (ap (λ m. has m n) z ∙ has_zero n) ∙ no_races fs first kind place units p racy n new z (omega (arith, h))
@@ -69,9 +65,9 @@ first_of true b e = refl
 first_of false b e = absurd (cc)
 
 -- a unit with a race is one of those that are accessed
-pub is_accessed : (fs : List Active) (kind : Kind) (units : ℕ) (p : Page) (racy i : ℕ) → AreNew fs kind units p racy → i < 64 → has racy i ≡ true → has units i ≡ true
+pub is_accessed : (fs : List Active) (kind : Kind) (units : ℕ) (p : Block) (racy i : ℕ) → AreNew fs kind units p racy → i < 64 → has racy i ≡ true → has units i ≡ true
 is_accessed fs kind units p racy i new h e = first_of (has units i) _ (sym (new i h) ∙ e)
 
-pub races_begin : (fs : List Active) (first : ℕ) (kind : Kind) (place units : ℕ) (p : Page) (rs : List RaceAt) → rs ≡ rs ++ races_up_to fs first kind place units (cell_at p) 0
+pub races_begin : (fs : List Active) (first : ℕ) (kind : Kind) (place units : ℕ) (p : Block) (rs : List RaceAt) → rs ≡ rs ++ races_up_to fs first kind place units (unit_cell p) 0
 unfolding races_up_to
 races_begin fs first kind place units p rs = sym (append-nil rs)

@@ -1,15 +1,15 @@
 -- An access that goes through groups from the last one to the first, and gives their units other names.
-use Rattle.std.proofs.Common.{◌≡◌, ◌≢◌, ℕ, zero, suc, ◌+◌, ◌-◌, ◌^◌, ◌<◌, ◌≤◌, ◌⊎◌, inl, inr, Bool, true, false, not, ◌&&◌, List, [], ◌∷◌, take, drop, length, get_or, Option, Some, None, option_map, unwrap_or, is_some, ◌||◌, ⊎_elim, cond, refl, sym, ap, ◌∙◌, subst, arith}
+use Rattle.std.proofs.Common.{◌≡◌, ◌≢◌, ℕ, zero, suc, ◌-◌, ◌^◌, ◌<◌, ◌≤◌, ◌⊎◌, inl, inr, Bool, true, false, not, ◌&&◌, List, ◌∷◌, take, drop, length, get_or, Option, Some, None, option_map, unwrap_or, is_some, ◌||◌, ⊎_elim, cond, refl, sym, ap, ◌∙◌, arith}
 use Rattle.std.specs.Int.{bit_not, w64}
 use Rattle.std.specs.Int.RustNames.{bit_and, bit_or}
 use Rattle.std.specs.Option.{option_or, ForSome}
-use Rattle.std.proofs.lemmas.List.{drop_all, get_or_read}
+use Rattle.std.proofs.lemmas.List.{drop_all}
 use Rattle.dag.specs.declared.records.Kind.{Kind}
 use Rattle.dag.specs.declared.records.Kind.TheVariants.{Read, Write}
 use Rattle.bags.specs.Procedures.{Active}
 use Rattle.blocks.specs.Masks.{has}
-use Rattle.blocks.specs.Steps.{keeps_names, touched_names, names_after, no_names}
-use Rattle.blocks.specs.Groups.{names_at, names_of, names_at_touched, names_of_touched, no_group, IsPartly, IsTouched}
+use Rattle.blocks.specs.Steps.{keeps_names, touched_names, names_after, no_steps}
+use Rattle.blocks.specs.Groups.{names_at, names_of, names_at_touched, names_of_touched, no_group, IsPartly}
 use Rattle.blocks.specs.declared.step.Step.{Step}
 use Rattle.blocks.specs.declared.step.Names.{Names}
 use Rattle.blocks.specs.declared.groups.Group.{Group}
@@ -111,8 +111,8 @@ rename_stays fs kind step units old n from rest gs h f e l =
       within = omega (arith, l.within);
       from_within = l.from_within;
       none = λ i k x.
-        let y : (has rest i && not (has g.units i && has rest i)) ≡ true = sym (has_rest g.units rest i f k) ∙ x in
-        ap (λ m. names_at m i) (with_one_before gs n h (omega (arith, l.within, l.from_within))) ∙ none_left g (drop n gs) i (l.none i k (left_rest (has rest i) (has g.units i) y)) (left_other (has rest i) (has g.units i) y);
+          let y : (has rest i && not (has g.units i && has rest i)) ≡ true = sym (has_rest g.units rest i f k) ∙ x in
+          ap (λ m. names_at m i) (with_one_before gs n h (omega (arith, l.within, l.from_within))) ∙ none_left g (drop n gs) i (l.none i k (left_rest (has rest i) (has g.units i) y)) (left_other (has rest i) (has g.units i) y);
       kept = λ i k. stay_cases fs kind step (has units i) (has rest i) (has g.units i) (names_at old i) (names_at gs i) g.names e (l.rest_of i k)
           (λ r x. sym (l.kept i k ∙ as_it_was fs kind step (has units i) (has rest i) (names_at old i) r) ∙ here gs n i h (omega (arith, l.within, l.from_within)) (l.none i k r) x) (l.kept i k)
           ∙ ap (λ b. names_at_touched fs kind step (has units i && not b) (names_at old i)) (sym (has_rest g.units rest i f k));
@@ -137,13 +137,13 @@ rename_changes fs kind step units old n from new_from rest gs new h f e w v firs
       within = w;
       from_within = v;
       none = λ i k x.
-        let y : (has rest i && not (has g.units i && has rest i)) ≡ true = sym (has_rest g.units rest i f k) ∙ x in
-        put i k ∙ ap (λ b. cond b (Some t) (names_at (drop (n - 1) gs) i)) (has_and g.units rest i ∙ ap (λ b. b && has rest i) (left_other (has rest i) (has g.units i) y))
-        ∙ ap (λ m. names_at m i) (with_one_before gs n h (omega (arith, l.within, l.from_within))) ∙ none_left g (drop n gs) i (l.none i k (left_rest (has rest i) (has g.units i) y)) (left_other (has rest i) (has g.units i) y);
+          let y : (has rest i && not (has g.units i && has rest i)) ≡ true = sym (has_rest g.units rest i f k) ∙ x in
+          put i k ∙ ap (λ b. cond b (Some t) (names_at (drop (n - 1) gs) i)) (has_and g.units rest i ∙ ap (λ b. b && has rest i) (left_other (has rest i) (has g.units i) y))
+          ∙ ap (λ m. names_at m i) (with_one_before gs n h (omega (arith, l.within, l.from_within))) ∙ none_left g (drop n gs) i (l.none i k (left_rest (has rest i) (has g.units i) y)) (left_other (has rest i) (has g.units i) y);
       kept = λ i k. put_before gs new 0 (n - 1) (has (bit_and g.units rest) i) t i (omega arith) first (put i k)
           ∙ ap (λ b. cond b (Some t) (names_at gs i)) (has_and g.units rest i)
           ∙ change_cases fs kind step (has units i) (has rest i) (has g.units i) (names_at old i) (names_at gs i) g.names e (l.rest_of i k)
-              (λ r x. sym (l.kept i k ∙ as_it_was fs kind step (has units i) (has rest i) (names_at old i) r) ∙ here gs n i h (omega (arith, l.within, l.from_within)) (l.none i k r) x) (l.kept i k)
+          (λ r x. sym (l.kept i k ∙ as_it_was fs kind step (has units i) (has rest i) (names_at old i) r) ∙ here gs n i h (omega (arith, l.within, l.from_within)) (l.none i k r) x) (l.kept i k)
           ∙ ap (λ b. names_at_touched fs kind step (has units i && not b) (names_at old i)) (sym (has_rest g.units rest i f k));
       rest_of = λ i k x. l.rest_of i k (left_rest (has rest i) (has g.units i) (sym (has_rest g.units rest i f k) ∙ x));
     }
@@ -167,10 +167,10 @@ pub rename_ends : (fs : List Active) (kind : Kind) (step : Step) (units : ℕ) (
 rename_ends fs kind step units old (suc n) from rest gs h l i k = absurd (omega (arith, h))
 rename_ends fs kind step units old zero from rest gs h l i k = end_cases fs kind step (has units i) (has rest i) (names_at old i) (names_at gs i) (l.rest_of i k) (l.none i k) (l.kept i k)
 
-part_cases : (fs : List Active) (kind : Kind) (step : Step) (u b : Bool) (o p : Option Names) → (b ≡ true → u ≡ true) → p ≡ names_at_touched fs kind step b o → (unwrap_or p no_names ≡ unwrap_or o no_names) ⊎ ((u ≡ true) × (unwrap_or p no_names ≡ names_after fs kind step (unwrap_or o no_names)))
-part_cases fs kind step u false o p f e = inl (ap (λ x. unwrap_or x no_names) e)
-part_cases fs kind step u true None p f e = inl (ap (λ x. unwrap_or x no_names) e)
-part_cases fs kind step u true (Some n) p f e = inr (f refl, ap (λ x. unwrap_or x no_names) e)
+part_cases : (fs : List Active) (kind : Kind) (step : Step) (u b : Bool) (o p : Option Names) → (b ≡ true → u ≡ true) → p ≡ names_at_touched fs kind step b o → (unwrap_or p no_steps ≡ unwrap_or o no_steps) ⊎ ((u ≡ true) × (unwrap_or p no_steps ≡ names_after fs kind step (unwrap_or o no_steps)))
+part_cases fs kind step u false o p f e = inl (ap (λ x. unwrap_or x no_steps) e)
+part_cases fs kind step u true None p f e = inl (ap (λ x. unwrap_or x no_steps) e)
+part_cases fs kind step u true (Some n) p f e = inr (f refl, ap (λ x. unwrap_or x no_steps) e)
 
 -- at each moment
 pub rename_partly : (fs : List Active) (kind : Kind) (step : Step) (units : ℕ) (old : List Group) (n from rest : ℕ) (gs : List Group) → HasRenamed fs kind step units old n from rest gs → IsPartly fs kind step units old gs
@@ -188,18 +188,18 @@ some_cases fs kind step true (Some n) = refl
 pub rename_some : (fs : List Active) (kind : Kind) (step : Step) (units : ℕ) (old : List Group) (n from rest : ℕ) (gs : List Group) → HasRenamed fs kind step units old n from rest gs → (i : ℕ) → i < 64 → is_some (names_at gs i) ≡ is_some (names_at old i)
 rename_some fs kind step units old n from rest gs l i k = ap is_some (l.kept i k) ∙ some_cases fs kind step (has units i && not (has rest i)) (names_at old i)
 
-unnamed : (fs : List Active) (kind : Kind) (step : Step) → touched_names kind step no_names ≡ names_after fs kind step no_names
+unnamed : (fs : List Active) (kind : Kind) (step : Step) → touched_names kind step no_steps ≡ names_after fs kind step no_steps
 unnamed fs Read step = refl
 unnamed fs Write step = refl
 
-all_cases : (fs : List Active) (kind : Kind) (step : Step) (u t : Bool) (o p : Option Names) → t ≡ is_some o → p ≡ names_at_touched fs kind step (u && t) o → unwrap_or (cond (u && not t) (Some (touched_names kind step no_names)) p) no_names ≡ cond u (names_after fs kind step (unwrap_or o no_names)) (unwrap_or o no_names)
-all_cases fs kind step false t o p e f = ap (λ x. unwrap_or x no_names) f
+all_cases : (fs : List Active) (kind : Kind) (step : Step) (u t : Bool) (o p : Option Names) → t ≡ is_some o → p ≡ names_at_touched fs kind step (u && t) o → unwrap_or (cond (u && not t) (Some (touched_names kind step no_steps)) p) no_steps ≡ cond u (names_after fs kind step (unwrap_or o no_steps)) (unwrap_or o no_steps)
+all_cases fs kind step false t o p e f = ap (λ x. unwrap_or x no_steps) f
 all_cases fs kind step true true None p e f = absurd (cc)
-all_cases fs kind step true true (Some n) p e f = ap (λ x. unwrap_or x no_names) f
+all_cases fs kind step true true (Some n) p e f = ap (λ x. unwrap_or x no_steps) f
 all_cases fs kind step true false None p e f = unnamed fs kind step
 all_cases fs kind step true false (Some n) p e f = absurd (cc)
 
-had_cases : (fs : List Active) (kind : Kind) (step : Step) (u t : Bool) (o p : Option Names) → t ≡ is_some o → p ≡ names_at_touched fs kind step (u && t) o → (t || u) ≡ is_some (cond (u && not t) (Some (touched_names kind step no_names)) p)
+had_cases : (fs : List Active) (kind : Kind) (step : Step) (u t : Bool) (o p : Option Names) → t ≡ is_some o → p ≡ names_at_touched fs kind step (u && t) o → (t || u) ≡ is_some (cond (u && not t) (Some (touched_names kind step no_steps)) p)
 had_cases fs kind step false true o p e f = e ∙ sym (ap is_some f)
 had_cases fs kind step false false o p e f = e ∙ sym (ap is_some f)
 had_cases fs kind step true true None p e f = absurd (cc)
@@ -208,13 +208,14 @@ had_cases fs kind step true false o p e f = refl
 
 -- after the units that no group had got one
 pub all_touched : (fs : List Active) (kind : Kind) (step : Step) (touched : ℕ) (old between new : List Group) (fresh : ℕ) (i : ℕ) → has touched i ≡ is_some (names_at old i) → names_at between i ≡ names_at_touched fs kind step (has (bit_and step.units touched) i) (names_at old i) → has fresh i ≡ (has step.units i && not (has touched i))
-    → names_at new i ≡ cond (has fresh i) (Some (touched_names kind step no_names)) (names_at between i)
+    → names_at new i ≡ cond (has fresh i) (Some (touched_names kind step no_steps)) (names_at between i)
     → (names_of new i ≡ names_of_touched fs kind step i (names_of old i)) × (has (bit_or touched step.units) i ≡ is_some (names_at new i))
 all_touched fs kind step touched old between new fresh i e f g h =
     let both : names_at between i ≡ names_at_touched fs kind step (has step.units i && has touched i) (names_at old i) = f ∙ ap (λ b. names_at_touched fs kind step b (names_at old i)) (has_and step.units touched i) in
-    let now : names_at new i ≡ cond (has step.units i && not (has touched i)) (Some (touched_names kind step no_names)) (names_at between i) = h ∙ ap (λ b. cond b (Some (touched_names kind step no_names)) (names_at between i)) g in
-    (ap (λ o. unwrap_or o no_names) now ∙ all_cases fs kind step (has step.units i) (has touched i) (names_at old i) (names_at between i) e both,
-     has_or touched step.units i ∙ had_cases fs kind step (has step.units i) (has touched i) (names_at old i) (names_at between i) e both ∙ ap is_some (sym now))
+    let now : names_at new i ≡ cond (has step.units i && not (has touched i)) (Some (touched_names kind step no_steps)) (names_at between i) = h ∙ ap (λ b. cond b (Some (touched_names kind step no_steps)) (names_at between i)) g in (
+      ap (λ o. unwrap_or o no_steps) now ∙ all_cases fs kind step (has step.units i) (has touched i) (names_at old i) (names_at between i) e both,
+      has_or touched step.units i ∙ had_cases fs kind step (has step.units i) (has touched i) (names_at old i) (names_at between i) e both ∙ ap is_some (sym now),
+    )
 
 pub partly_of : (fs : List Active) (kind : Kind) (step : Step) (i : ℕ) (old new : List Group) → names_of new i ≡ names_of_touched fs kind step i (names_of old i) → (names_of new i ≡ names_of old i) ⊎ ((has step.units i ≡ true) × (names_of new i ≡ names_after fs kind step (names_of old i)))
 partly_of fs kind step i old new e = go (has step.units i) refl

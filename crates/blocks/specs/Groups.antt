@@ -1,10 +1,11 @@
--- Private: what groups of units keep of each unit.
-use Rattle.std.specs.Prelude.{◌≡◌, ◌≢◌, ℕ, ◌<◌, ◌≤◌, Bool, false, List, [], ◌∷◌, Option, None, Some, if◌then◌else◌, unwrap_or, length, get_or, option_map, is_some, true, ◌⊎◌}
+-- Promised: what groups of units keep of each unit.
+use Rattle.std.specs.Prelude.{◌≡◌, ◌≢◌, ℕ, ◌<◌, ◌≤◌, ◌⊎◌, Bool, true, false, List, [], ◌∷◌, length, get_or}
+use Rattle.std.specs.Prelude.{Option, None, Some, option_map, is_some, unwrap_or, if◌then◌else◌}
 use Rattle.std.specs.Option.{option_or}
 use Rattle.dag.specs.declared.records.Kind.{Kind}
 use Rattle.bags.specs.Procedures.{Active}
 use Rattle.blocks.specs.Masks.{has}
-use Rattle.blocks.specs.Steps.{has_rival, keeps_names, touched_names, names_after, no_names}
+use Rattle.blocks.specs.Steps.{has_rival, names_after, no_steps}
 use Rattle.blocks.specs.declared.step.Step.{Step}
 use Rattle.blocks.specs.declared.step.Names.{Names}
 use Rattle.blocks.specs.declared.groups.Group.{Group}
@@ -29,10 +30,10 @@ pub record AreKnown (count : ℕ) (n : Names) : Type 0 where
 
 -- the group that stands for one past the end
 abbrev pub no_group : Group
-no_group = record { units = 0; names = no_names }
+no_group = record { units = 0; names = no_steps }
 
 abbrev pub names_of : List Group → ℕ → Names
-names_of gs unit = unwrap_or (names_at gs unit) no_names
+names_of gs unit = unwrap_or (names_at gs unit) no_steps
 
 -- what groups keep of a unit after an access, if they have the unit, and it is one of those accessed
 abbrev pub names_at_touched : List Active → Kind → Step → Bool → Option Names → Option Names

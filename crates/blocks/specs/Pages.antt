@@ -1,5 +1,6 @@
 -- Promised: what a page keeps of its 64 units, and what an access to some of them does.
-use Rattle.std.specs.Prelude.{◌≡◌, ℕ, zero, suc, ◌+◌, ◌*◌, ◌<◌, Bool, List, [], ◌++◌, Option, Some, None, if◌then◌else◌, ◌==◌, nat_eq, slice_get, unwrap_or}
+use Rattle.std.specs.Prelude.{◌≡◌, ℕ, zero, suc, ◌+◌, ◌*◌, ◌<◌, not, ◌&&◌, List, [], ◌++◌, Option, Some, None}
+use Rattle.std.specs.Prelude.{if◌then◌else◌, ◌==◌, nat_eq, slice_get, unwrap_or}
 use Rattle.std.specs.Map.{lookup}
 use Rattle.std.specs.Option.{option_to_list}
 use Rattle.dag.specs.declared.records.Kind.{Kind}
@@ -7,63 +8,71 @@ use Rattle.dag.specs.Accesses.{RaceAt}
 use Rattle.bags.specs.Procedures.{Active}
 use Rattle.shadow.specs.Cells.{Cell, touched, race_at}
 use Rattle.blocks.specs.Masks.{has, units_before}
-use Rattle.blocks.specs.Steps.{cell_of}
-use Rattle.blocks.specs.Groups.{names_of}
+use Rattle.blocks.specs.Steps.{named_cell}
+use Rattle.blocks.specs.Groups.{names_at, names_of, is_racy}
 use Rattle.blocks.specs.declared.groups.Group.{Group}
 
 -- the groups, and the units whose race was reported
-pub record Page : Type 0 where
+pub record Block : Type 0 where
   pub groups : List Group
   pub reported : ℕ
 
 -- what is kept of a unit
-abbrev pub cell_at : Page → ℕ → Cell
-cell_at p unit = cell_of (names_of p.groups unit) unit (has p.reported unit)
+abbrev pub unit_cell : Block → ℕ → Cell
+unit_cell p unit = named_cell (names_of p.groups unit) unit (has p.reported unit)
 
 -- what is kept of a unit after an access to these units, the first of them at this place
 abbrev pub touched_at : List Active → Kind → ℕ → ℕ → ℕ → Cell → Cell
-touched_at fs kind place units unit c = if has units unit then touched fs kind (place + units_before units unit) c else c
+touched_at fs kind place units unit c =
+    if has units unit then touched fs kind (place + units_before units unit) c else c
 
 -- the location of a unit, by that of unit 0
 abbrev pub location_of : ℕ → ℕ → ℕ
 location_of first unit = first + 2 * unit
 
 -- the race that is reported at a unit
-abbrev pub race_of : List Active → ℕ → Kind → ℕ → ℕ → ℕ → Cell → Option RaceAt
-race_of fs first kind place units unit c =
+abbrev pub race_at_unit : List Active → ℕ → Kind → ℕ → ℕ → ℕ → Cell → Option RaceAt
+race_at_unit fs first kind place units unit c =
     if has units unit then race_at fs (location_of first unit) kind (place + units_before units unit) c else None
 
 -- those that are reported at the units up to one, by ascending units
 unfoldable pub races_up_to : List Active → ℕ → Kind → ℕ → ℕ → (ℕ → Cell) → ℕ → List RaceAt
 races_up_to fs first kind place units cells zero = []
 races_up_to fs first kind place units cells (suc unit) =
-    races_up_to fs first kind place units cells unit ++ option_to_list (race_of fs first kind place units unit (cells unit))
+    races_up_to fs first kind place units cells unit
+    ++ option_to_list (race_at_unit fs first kind place units unit (cells unit))
+
+-- the units at which an access reports a race: it races there, and no race was reported
+abbrev pub AreNew : List Active → Kind → ℕ → Block → ℕ → Type 0
+AreNew fs kind units b racy = (i : ℕ) → i < 64
+    → has racy i ≡ (has units i && (is_racy fs kind (names_at b.groups i) && not (has b.reported i)))
 
 -- before the first access
-abbrev pub no_page : Page
-no_page = record { groups = []; reported = 0 }
+abbrev pub no_block : Block
+no_block = record { groups = []; reported = 0 }
 
 -- the page of this number; if it isn't there, an untouched one
-abbrev pub page_numbered : List (ℕ × Page) → ℕ → Page
-page_numbered pages page = unwrap_or (lookup (nat_eq page) pages) no_page
+abbrev pub block_numbered : List (ℕ × Block) → ℕ → Block
+block_numbered pages page = unwrap_or (lookup (nat_eq page) pages) no_block
 
 -- what is kept of a unit of the page of this number
-abbrev pub cell_in : List (ℕ × Page) → ℕ → ℕ → Cell
-cell_in pages page unit = cell_at (page_numbered pages page) unit
+abbrev pub cell_of_unit : List (ℕ × Block) → ℕ → ℕ → Cell
+cell_of_unit pages page unit = unit_cell (block_numbered pages page) unit
 
 -- the page of this number stands at this index of the list
-abbrev pub IsPageAt : List (ℕ × Page) → ℕ → ℕ → Type 0
-IsPageAt pages index page = slice_get pages index ≡ Some (page, page_numbered pages page)
+abbrev pub IsBlockAt : List (ℕ × Block) → ℕ → ℕ → Type 0
+IsBlockAt pages index page = slice_get pages index ≡ Some (page, block_numbered pages page)
 
 -- the index of the page of this number, or that there is none
-abbrev pub IsLookedUp : List (ℕ × Page) → ℕ → Option ℕ → Type 0
-IsLookedUp pages page (Some index) = IsPageAt pages index page
-IsLookedUp pages page None = lookup (nat_eq page) pages ≡ None
+abbrev pub IsFoundBlock : List (ℕ × Block) → ℕ → Option ℕ → Type 0
+IsFoundBlock pages page (Some index) = IsBlockAt pages index page
+IsFoundBlock pages page None = lookup (nat_eq page) pages ≡ None
 
 -- all is kept as it was
-abbrev pub HasSameCells : List (ℕ × Page) → List (ℕ × Page) → Type 0
-HasSameCells old new = (q k : ℕ) → cell_in new q k ≡ cell_in old q k
+abbrev pub HasSameUnits : List (ℕ × Block) → List (ℕ × Block) → Type 0
+HasSameUnits old new = (q k : ℕ) → cell_of_unit new q k ≡ cell_of_unit old q k
 
 -- all is kept as it was but for the units of one page, of which this is kept
-abbrev pub HasPut : ℕ → (ℕ → Cell) → List (ℕ × Page) → List (ℕ × Page) → Type 0
-HasPut page cells old new = (q k : ℕ) → k < 64 → cell_in new q k ≡ (if q == page then cells k else cell_in old q k)
+abbrev pub HasPutUnits : ℕ → (ℕ → Cell) → List (ℕ × Block) → List (ℕ × Block) → Type 0
+HasPutUnits page cells old new = (q k : ℕ) → k < 64
+    → cell_of_unit new q k ≡ (if q == page then cells k else cell_of_unit old q k)

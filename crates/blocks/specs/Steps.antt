@@ -1,5 +1,5 @@
--- Private: what a step and the names of some units say of each unit.
-use Rattle.std.specs.Prelude.{ℕ, zero, suc, ◌+◌, Bool, true, false, ◌||◌, Option, None, Some, List, if◌then◌else◌}
+-- Promised: what a step and the names of some units say of each unit.
+use Rattle.std.specs.Prelude.{ℕ, zero, suc, ◌+◌, Bool, false, ◌||◌, Option, None, Some, List, if◌then◌else◌}
 use Rattle.dag.specs.declared.records.Kind.{Kind}
 use Rattle.dag.specs.declared.records.Kind.TheVariants.{Read, Write}
 use Rattle.bags.specs.Procedures.{Active, in_p}
@@ -46,9 +46,10 @@ names_after fs kind step n = if keeps_names fs kind n then n else touched_names 
 abbrev pub no_step : Step
 no_step = record { procedure = 0; place = 0; units = 0 }
 
-abbrev pub no_names : Names
-no_names = record { writer = no_step; reader = no_step }
+abbrev pub no_steps : Names
+no_steps = record { writer = no_step; reader = no_step }
 
 -- what is kept of a unit that has these names
-abbrev pub cell_of : Names → ℕ → Bool → Cell
-cell_of n unit reported = record { writer = name_in n.writer unit; reader = name_in n.reader unit; reported = reported }
+abbrev pub named_cell : Names → ℕ → Bool → Cell
+named_cell n unit reported =
+    record { writer = name_in n.writer unit; reader = name_in n.reader unit; reported = reported }

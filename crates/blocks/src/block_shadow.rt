@@ -1,10 +1,10 @@
 //! Shadow memory of the accesses of strands, by blocks of 64 units.
-ghost use Rattle.std.specs.Prelude.{◌≡◌, ℕ, ◌+◌, ◌<◌, ◌≤◌, ◌^◌, ◌++◌, OnOk, OnErr, if◌then◌else◌, ◌==◌};
+ghost use Rattle.std.specs.Prelude.{◌≡◌, ℕ, ◌+◌, ◌≤◌, List, ◌++◌, OnOk};
+ghost use Rattle.dag.specs.declared.records.Placed.{Placed};
 ghost use Rattle.dag.specs.Bounds.{most_records};
 ghost use Rattle.shadow.specs.Cells.{untouched};
 ghost use Rattle.std.specs.Int.RustNames.{count_ones};
-ghost use Rattle.blocks.specs.Pages.{touched_at, races_up_to, cell_in};
-ghost use Rattle.blocks.specs.Blocks.{page_of, unit_of, first_of};
+ghost use Rattle.blocks.specs.Blocks.{accesses, HaveSeenBlocks, AddsRaces};
 
 use crate::pages::Pages;
 use bags::Bags;
@@ -36,13 +36,13 @@ impl<S: BuildHasher> Model for BlockShadow<S> {
 }
 
 impl<S: BuildHasher> BlockShadow<S> {
-    ghost use Rattle.blocks.specs.Blocks.{kept_of, next_place_of, least_count_of};
+    ghost use Rattle.blocks.specs.Blocks.{kept_in_blocks, next_place_of, count_of_blocks};
 
     /// Shadow memory before the first access. It takes no memory.
     pub fn with_hasher(alloc: Global, hasher: S) -> BlockShadow<S>
-        ensures kept { (l : ℕ) → kept_of result l ≡ untouched }
+        ensures kept { (l : ℕ) → kept_in_blocks result l ≡ untouched }
         ensures next_place { next_place_of result ≡ 1 }
-        ensures least_count { least_count_of result ≡ 1 }
+        ensures least_count { count_of_blocks result ≡ 1 }
     {
         BlockShadow {
             pages: Pages::with_hasher(alloc, hasher),
@@ -66,16 +66,14 @@ impl<S: BuildHasher> BlockShadow<S> {
         requires later { next_place_of self.old ≤ place }
         requires from_one { 1 ≤ place }
         requires to_limit { place + count_ones units ≤ most_records + 1 }
-        requires no_fewer { least_count_of self.old ≤ bags.now.count }
+        requires no_fewer { count_of_blocks self.old ≤ bags.now.count }
 
-        ensures races { OnOk result (races.new.items ≡ races.old.items
-            ++ races_up_to bags.now.active (first_of (page_of location)) kind place units
-            (cell_in self.old.pages (page_of location)) 64) }
-        ensures kept { OnOk result ((l : ℕ) → kept_of self.new l ≡ (if page_of l == page_of location
-            then touched_at bags.now.active kind place units (unit_of l) (kept_of self.old l)
-            else kept_of self.old l)) }
+        ensures seen { OnOk result ((u : List Placed) → HaveSeenBlocks u bags.now self.old
+            → HaveSeenBlocks (u ++ accesses location kind place units) bags.now self.new) }
+        ensures found { OnOk result ((u : List Placed) → HaveSeenBlocks u bags.now self.old
+            → AddsRaces u (accesses location kind place units) races.old.items races.new.items) }
         ensures next_place { OnOk result (next_place_of self.new ≡ place + count_ones units) }
-        ensures least_count { OnOk result (least_count_of self.new ≡ bags.now.count) }
+        ensures least_count { OnOk result (count_of_blocks self.new ≡ bags.now.count) }
     {
         let page = location / 128 * 2 + location % 2;
         let first = location / 128 * 128 + location % 2;

@@ -1,5 +1,6 @@
 //! Groups of the units of a block that keep the same names.
-ghost use Rattle.std.specs.Prelude.{◌≡◌, ℕ, ◌<◌, ◌≤◌, ◌+◌, ◌&&◌, Some, None, true, is_some, false, OnOk, OnErr, IfOk, IfSome, length, take, drop, if◌then◌else◌, slice_index_or, bit_or};
+ghost use Rattle.std.specs.Prelude.{◌≡◌, ℕ, ◌<◌, ◌≤◌, ◌+◌, ◌&&◌, true, Some, None, is_some, if◌then◌else◌};
+ghost use Rattle.std.specs.Prelude.{OnOk, OnErr, IfOk, IfSome, length, take, drop, slice_index_or, bit_or};
 ghost use Rattle.std.specs.Option.{ForSome};
 ghost use Rattle.shadow.specs.Before.{Executes};
 ghost use Rattle.blocks.specs.Masks.{has};
@@ -111,7 +112,14 @@ fn rename(
 {
     let units = groups[index].units;
     if inside != units {
-        put(groups, from, Group { units: inside, names })?;
+        put(
+            groups,
+            from,
+            Group {
+                units: inside,
+                names,
+            },
+        )?;
         groups[index].units = units & !inside;
         return Ok(from);
     }

@@ -1,12 +1,10 @@
 //! What is kept of the 64 units of a block.
-ghost use Rattle.std.specs.Prelude.{◌≡◌, ℕ, ◌+◌, ◌^◌, ◌<◌, ◌≤◌, ◌&&◌, not, ◌++◌, OnOk, OnErr, length};
+ghost use Rattle.std.specs.Prelude.{◌≡◌, ℕ, ◌+◌, ◌^◌, ◌<◌, ◌≤◌, ◌++◌, OnOk};
 ghost use Rattle.std.specs.Int.RustNames.{count_ones};
 ghost use Rattle.dag.specs.Bounds.{most_records};
 ghost use Rattle.shadow.specs.Cells.{untouched};
-ghost use Rattle.shadow.specs.Before.{Executes, IsCellBefore};
-ghost use Rattle.blocks.specs.Masks.{has};
-ghost use Rattle.blocks.specs.Groups.{names_at, names_of, is_racy};
-ghost use Rattle.blocks.specs.Pages.{cell_at, touched_at, races_up_to};
+ghost use Rattle.shadow.specs.Before.{IsCellBefore};
+ghost use Rattle.blocks.specs.Pages.{unit_cell, touched_at, races_up_to, AreNew};
 
 use crate::groups::{Group, names_of, racy_units, touch};
 use crate::masks::{count_before, without};
@@ -27,10 +25,10 @@ pub struct Page {
 }
 
 impl Model for Page {
-    ghost use Rattle.blocks.specs.Pages.{Page};
+    ghost use Rattle.blocks.specs.Pages.{Block};
     ghost use Rattle.blocks.specs.Groups.{IsTouched};
 
-    ghost Value = { Page };
+    ghost Value = { Block };
 
     ghost view = { λ p. record { groups = p.groups.items; reported = p.reported } };
 
@@ -40,7 +38,7 @@ impl Model for Page {
 impl Page {
     /// A page before the first access. It takes no memory.
     pub fn untouched(alloc: Global) -> Page
-        ensures { (i : ℕ) → cell_at result i ≡ untouched }
+        ensures { (i : ℕ) → unit_cell result i ≡ untouched }
     {
         Page {
             groups: Vec::new(alloc),
@@ -63,15 +61,15 @@ impl Page {
         requires first { first + 126 < 2 ^ 64 }
         requires from_one { 1 ≤ place }
         requires to_limit { place + count_ones units ≤ most_records + 1 }
-        requires before { (i : ℕ) → i < 64 → IsCellBefore place bags.now.count (cell_at self.old i) }
+        requires before { (i : ℕ) → i < 64 → IsCellBefore place bags.now.count (unit_cell self.old i) }
 
         ensures races { OnOk result (races.new.items ≡ races.old.items
-            ++ races_up_to bags.now.active first kind place units (cell_at self.old) 64) }
+            ++ races_up_to bags.now.active first kind place units (unit_cell self.old) 64) }
         ensures kept { OnOk result ((i : ℕ) → i < 64
-            → cell_at self.new i ≡ touched_at bags.now.active kind place units i (cell_at self.old i)) }
+            → unit_cell self.new i ≡ touched_at bags.now.active kind place units i (unit_cell self.old i)) }
         // After an error too.
         ensures earlier { (i : ℕ) → i < 64
-            → IsCellBefore (place + count_ones units) bags.now.count (cell_at self.new i) }
+            → IsCellBefore (place + count_ones units) bags.now.count (unit_cell self.new i) }
     {
         let executing = bags.current();
         let known = units & self.touched;
@@ -109,10 +107,10 @@ impl Page {
         requires first { first + 126 < 2 ^ 64 }
         requires from_one { 1 ≤ place }
         requires to_limit { place + count_ones units ≤ most_records + 1 }
-        requires before { (i : ℕ) → i < 64 → IsCellBefore place bags.now.count (cell_at self.now i) }
-        requires racy { (i : ℕ) → i < 64 → has racy i ≡ (has units i && (is_racy bags.now.active kind (names_at self.now.groups i) && not (has self.now.reported i))) }
+        requires before { (i : ℕ) → i < 64 → IsCellBefore place bags.now.count (unit_cell self.now i) }
+        requires racy { AreNew bags.now.active kind units self.now racy }
         ensures races { OnOk result (races.new.items ≡ races.old.items
-            ++ races_up_to bags.now.active first kind place units (cell_at self.now) 64) }
+            ++ races_up_to bags.now.active first kind place units (unit_cell self.now) 64) }
     {
         let executing = bags.current();
         for unit in 0..64u32 {

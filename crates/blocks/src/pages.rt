@@ -1,9 +1,11 @@
 //! The touched pages, by their numbers.
-ghost use Rattle.std.specs.Prelude.{◌≡◌, ◌≢◌, ℕ, ◌+◌, ◌^◌, ◌<◌, ◌≤◌, ◌++◌, [], IfSome, IfOk, IsTrue, OnOk, OnErr};
+ghost use Rattle.std.specs.Prelude.{◌≡◌, ◌≢◌, ℕ, ◌+◌, ◌^◌, ◌<◌, ◌≤◌, ◌++◌, []};
+ghost use Rattle.std.specs.Prelude.{IfSome, IfOk, IsTrue, OnOk, OnErr};
 ghost use Rattle.dag.specs.Bounds.{most_records};
 ghost use Rattle.shadow.specs.Before.{IsCellBefore};
 ghost use Rattle.std.specs.Int.RustNames.{count_ones};
-ghost use Rattle.blocks.specs.Pages.{cell_in, touched_at, races_up_to, IsPageAt, IsLookedUp, HasSameCells, HasPut};
+ghost use Rattle.blocks.specs.Pages.{cell_of_unit, touched_at, races_up_to};
+ghost use Rattle.blocks.specs.Pages.{IsBlockAt, IsFoundBlock, HasSameUnits, HasPutUnits};
 
 use crate::page::Page;
 use bags::Bags;
@@ -24,9 +26,9 @@ pub struct Pages<S: BuildHasher> {
 
 impl<S: BuildHasher> Model for Pages<S> {
     ghost use Rattle.std.specs.Prelude.{ℕ, List};
-    ghost use Rattle.blocks.specs.Pages.{Page};
+    ghost use Rattle.blocks.specs.Pages.{Block};
 
-    ghost Value = { List (ℕ × Page) };
+    ghost Value = { List (ℕ × Block) };
 
     ghost view = { λ b. b.map.entries };
 }
@@ -48,8 +50,8 @@ impl<S: BuildHasher> Pages<S> {
     /// An error leaves all as it was.
     #[inline(always)]
     pub fn find(&mut self, page: u64) -> Result<usize, NoMemory>
-        ensures there { IfOk result (λ at. IsPageAt self.new at page) }
-        ensures kept { HasSameCells self.old self.new }
+        ensures there { IfOk result (λ at. IsBlockAt self.new at page) }
+        ensures kept { HasSameUnits self.old self.new }
         ensures err { OnErr result (self.new ≡ self.old) }
     {
         if self.is_at(self.last, page) {
@@ -60,8 +62,8 @@ impl<S: BuildHasher> Pages<S> {
 
     #[inline(never)]
     fn find_or_add(&mut self, page: u64) -> Result<usize, NoMemory>
-        ensures there { IfOk result (λ at. IsPageAt self.new at page) }
-        ensures kept { HasSameCells self.old self.new }
+        ensures there { IfOk result (λ at. IsBlockAt self.new at page) }
+        ensures kept { HasSameUnits self.old self.new }
         ensures err { OnErr result (self.new ≡ self.old) }
     {
         if let Some(index) = self.look_up(page) {
@@ -76,7 +78,7 @@ impl<S: BuildHasher> Pages<S> {
 
     // Where the page stands, if it is there: often behind the last one.
     fn look_up(&self, page: u64) -> Option<usize>
-        ensures { IsLookedUp self.now page result }
+        ensures { IsFoundBlock self.now page result }
     {
         let next = self.last.wrapping_add(1);
         if self.is_at(next, page) {
@@ -89,7 +91,7 @@ impl<S: BuildHasher> Pages<S> {
     // Whether the page of this number is at this index.
     #[inline(always)]
     fn is_at(&self, index: usize, page: u64) -> bool
-        ensures { IsTrue result → IsPageAt self.now index page }
+        ensures { IsTrue result → IsBlockAt self.now index page }
     {
         match self.map.get_index(index) {
             Some((found, _)) => *found == page,
@@ -110,20 +112,20 @@ impl<S: BuildHasher> Pages<S> {
         units: u64,
         races: &mut Vec<Race>,
     ) -> Result<(), NoMemory>
-        requires there { IsPageAt self.old at page }
+        requires there { IsBlockAt self.old at page }
         requires first { first + 126 < 2 ^ 64 }
         requires from_one { 1 ≤ place }
         requires to_limit { place + count_ones units ≤ most_records + 1 }
-        requires before { (i : ℕ) → i < 64 → IsCellBefore place bags.now.count (cell_in self.old page i) }
+        requires before { (i : ℕ) → i < 64 → IsCellBefore place bags.now.count (cell_of_unit self.old page i) }
 
         ensures races { OnOk result (races.new.items ≡ races.old.items
-            ++ races_up_to bags.now.active first kind place units (cell_in self.old page) 64) }
-        ensures kept { OnOk result (HasPut page
-            (λ i. touched_at bags.now.active kind place units i (cell_in self.old page i)) self.old self.new) }
+            ++ races_up_to bags.now.active first kind place units (cell_of_unit self.old page) 64) }
+        ensures kept { OnOk result (HasPutUnits page
+            (λ i. touched_at bags.now.active kind place units i (cell_of_unit self.old page i)) self.old self.new) }
         // After an error too.
         ensures earlier { (i : ℕ) → i < 64
-            → IsCellBefore (place + count_ones units) bags.now.count (cell_in self.new page i) }
-        ensures others { (q k : ℕ) → q ≢ page → cell_in self.new q k ≡ cell_in self.old q k }
+            → IsCellBefore (place + count_ones units) bags.now.count (cell_of_unit self.new page i) }
+        ensures others { (q k : ℕ) → q ≢ page → cell_of_unit self.new q k ≡ cell_of_unit self.old q k }
     {
         match self.map.get_index_mut(at) {
             Some(page) => page.touch(bags, first, kind, place, units, races)?,

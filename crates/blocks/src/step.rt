@@ -5,7 +5,7 @@ ghost use Rattle.dag.specs.Bounds.{most_records};
 ghost use Rattle.shadow.specs.Before.{Executes, IsCellBefore, CanRace};
 ghost use Rattle.shadow.specs.Cells.{rival};
 ghost use Rattle.blocks.specs.Masks.{units_before};
-ghost use Rattle.blocks.specs.Steps.{is_step_in_p, has_rival, keeps_names, touched_names, cell_of};
+ghost use Rattle.blocks.specs.Steps.{is_step_in_p, has_rival, keeps_names, touched_names, named_cell};
 
 use crate::masks::count_before;
 use bags::Bags;
@@ -114,9 +114,9 @@ impl Names {
     ) -> Option<Access>
         requires executes { Executes bags.now executing }
         requires within { unit < 64 }
-        requires before { IsCellBefore place bags.now.count (cell_of self.now unit false) }
+        requires before { IsCellBefore place bags.now.count (named_cell self.now unit false) }
         requires to_limit { place ≤ most_records }
-        ensures first { result ≡ rival bags.now.active kind (cell_of self.now unit false) }
+        ensures first { result ≡ rival bags.now.active kind (named_cell self.now unit false) }
         ensures can_race { ForSome result (CanRace kind place) }
     {
         if self.writer.is_in_p(bags, executing) {

@@ -1,8 +1,7 @@
-use Rattle.std.proofs.Common.{◌≡◌, ◌∙◌, ◌+◌, ◌-◌, ℕ, true, get_or, drop, ap, sym, subst, arith}
+use Rattle.std.proofs.Common.{◌≡◌, ◌∙◌, ◌+◌, ◌-◌, get_or, drop, ap, sym, arith}
 use Rattle.std.proofs.lemmas.List.{get_or_read}
 use Rattle.blocks.specs.Masks.{has}
 use Rattle.blocks.specs.Groups.{names_at, no_group, AreKnown}
-use Rattle.blocks.specs.declared.groups.Group.{Group}
 use Rattle.blocks.proofs.Bits.{has_and}
 use Rattle.blocks.proofs.Renames.{known_here, and_first, and_second, rename_past, rename_stays, rename_changes}
 use Rattle.blocks.proofs.groups.follow.Goals as goal
@@ -29,7 +28,7 @@ loop-rest-preserved-then-not-stay c =
     let l = c.loop-rest.invariant in
     let is : c.index.result.now ≡ get_or c.loop-rest.groups.items (c.loop-rest.index - 1) no_group = get_or_read c.loop-rest.groups.items (c.loop-rest.index - 1) c.index.result.now (omega (arith, c.if-index-gt0.true, l.within, l.from_within)) c.index.ensures no_group in
     rw is (rename_changes c.args.bags.now.active c.args.kind c.args.step c.args.units c.args.groups.now.items c.loop-rest.index c.loop-rest.from c.in_ok-from.from c.loop-rest.rest c.loop-rest.groups.items c.rename.new.groups.items
-        c.if-index-gt0.true c.loop-rest.auto.rest-fits.fits (rw is at (sym c.stay.ensures ∙ c.if-not-stay.true)) c.in_ok-from.ensures.within.0 c.in_ok-from.ensures.within.1 c.in_ok-from.ensures.first (rw (c.touched-names.ensures, is) at c.in_ok-from.ensures.names) l)
+    c.if-index-gt0.true c.loop-rest.auto.rest-fits.fits (rw is at (sym c.stay.ensures ∙ c.if-not-stay.true)) c.in_ok-from.ensures.within.0 c.in_ok-from.ensures.within.1 c.in_ok-from.ensures.first (rw (c.touched-names.ensures, is) at c.in_ok-from.ensures.names) l)
 
 pub loop-rest-preserved-else-not-stay : goal.loop-rest-preserved-else-not-stay
 loop-rest-preserved-else-not-stay c =

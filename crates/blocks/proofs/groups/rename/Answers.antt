@@ -1,11 +1,10 @@
-use Rattle.std.proofs.Common.{◌≡◌, ◌∙◌, ℕ, suc, ◌+◌, ◌<◌, true, List, ◌∷◌, ◌++◌, take, drop, set, get_or, length, length-set, add-one, Some, None, cond, ap, sym, subst, refl, arith}
-use Rattle.std.proofs.lemmas.List.{get_or_read, take-set-le, get_or-take}
+use Rattle.std.proofs.Common.{◌≡◌, ◌∙◌, suc, ◌+◌, ◌<◌, ◌∷◌, ◌++◌, take, drop, set, get_or, length, length-set, add-one, Some, cond, ap, sym, arith}
+use Rattle.std.proofs.lemmas.List.{get_or_read, get_or-take}
 use Rattle.std.proofs.Math.Seq.{drop-cons}
 use Rattle.blocks.specs.Masks.{has}
 use Rattle.blocks.specs.Groups.{names_at, no_group, IsAlike}
 use Rattle.blocks.specs.declared.groups.Group.{Group}
-use Rattle.blocks.specs.declared.step.Names.{Names}
-use Rattle.blocks.proofs.Puts.{with_units, without_units, grown_behind, put_before, parted, gone, renamed, none_later, drop_set, behind_all}
+use Rattle.blocks.proofs.Puts.{with_units, without_units, grown_behind, put_before, parted, gone, none_later, drop_set, behind_all}
 use Rattle.blocks.proofs.Entries.{on_err}
 use Rattle.blocks.proofs.groups.rename.Goals as goal
 
@@ -25,10 +24,10 @@ returns-then-inside-units-clause-names c i h =
     let within_new : n < length hs = omega (arith, c.requires.within.0, c.put.ensures.within) in
     let is : c.index.result.now ≡ g = get_or_read gs n c.index.result.now within c.index.ensures no_group in
     let same : c.index_mut.result.now ≡ g = get_or_read hs n c.index_mut.result.now within_new c.index_mut.ensures.value no_group
-        ∙ sym (get_or-take c.args.from hs n no_group c.requires.within.0) ∙ ap (λ l. get_or l n no_group) c.put.ensures.first ∙ get_or-take c.args.from gs n no_group c.requires.within.0 in
+    ∙ sym (get_or-take c.args.from hs n no_group c.requires.within.0) ∙ ap (λ l. get_or l n no_group) c.put.ensures.first ∙ get_or-take c.args.from gs n no_group c.requires.within.0 in
     rw (is, same) (ap (λ l. names_at l i) (drop_set hs n (without_units c.args.inside g) within_new)
     ∙ parted g (drop (suc n) gs) (drop (suc n) hs) c.args.inside c.args.names i c.ranges.inside.fits h
-        (put_before gs hs (suc n) c.args.from (has c.args.inside i) c.args.names i (omega (arith, c.requires.within.0)) c.put.ensures.first (c.in_ok-put.ensures.put i h))
+    (put_before gs hs (suc n) c.args.from (has c.args.inside i) c.args.names i (omega (arith, c.requires.within.0)) c.put.ensures.first (c.in_ok-put.ensures.put i h))
     ∙ ap (λ l. cond (has c.args.inside i) (Some c.args.names) (names_at l i)) (sym (drop-cons gs n no_group within)))
 
 pub returns-in-Some-clause-names : goal.returns-in-Some-clause-names

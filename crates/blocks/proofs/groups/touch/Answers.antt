@@ -1,7 +1,7 @@
-use Rattle.std.proofs.Common.{◌≡◌, ◌∙◌, ◌<◌, ℕ, true, is_some, drop, ap, sym, arith}
+use Rattle.std.proofs.Common.{◌≡◌, ◌<◌, ℕ, is_some, arith}
 use Rattle.std.specs.Int.RustNames.{bit_or}
 use Rattle.blocks.specs.Masks.{has}
-use Rattle.blocks.specs.Steps.{touched_names, no_names}
+use Rattle.blocks.specs.Steps.{touched_names, no_steps}
 use Rattle.blocks.specs.Groups.{names_at, names_of, names_of_touched}
 use Rattle.blocks.proofs.Puts.{put_before, none_later}
 use Rattle.blocks.proofs.Renames.{all_touched, partly_of, partly_more, untouched_none, none_fresh}
@@ -21,7 +21,7 @@ returns-in_err-put-clause-partly c = rw c.in_err-put.ensures.err (partly_more c.
 with_put : (c : goal.In_ok-put) (i : ℕ) → i < 64 → (names_of c.put.new.groups.items i ≡ names_of_touched c.args.bags.now.active c.args.kind c.args.step i (names_of c.args.groups.now.items i)) × (has (bit_or c.args.touched c.args.step.units) i ≡ is_some (names_at c.put.new.groups.items i))
 with_put c i h =
     all_touched c.args.bags.now.active c.args.kind c.args.step c.args.touched c.args.groups.now.items c.follow.new.groups.items c.put.new.groups.items c.without-new.result i (c.requires.touched i h) (c.in_ok-from.ensures.names i h) (c.without-new.ensures i h)
-    (put_before c.follow.new.groups.items c.put.new.groups.items 0 c.in_ok-from.from (has c.without-new.result i) (touched_names c.args.kind c.args.step no_names) i (omega arith) c.put.ensures.first (rw c.touched-names.ensures at c.in_ok-put.ensures.put i h))
+    (put_before c.follow.new.groups.items c.put.new.groups.items 0 c.in_ok-from.from (has c.without-new.result i) (touched_names c.args.kind c.args.step no_steps) i (omega arith) c.put.ensures.first (rw c.touched-names.ensures at c.in_ok-put.ensures.put i h))
 
 pub returns-in_ok-put-clause-kept : goal.returns-in_ok-put-clause-kept
 returns-in_ok-put-clause-kept c i h = (with_put c i h).0
@@ -35,7 +35,7 @@ returns-in_ok-put-clause-touched c i h = (with_put c i h).1
 without_put : (c : goal.Else-new-ne0) (i : ℕ) → i < 64 → (names_of c.follow.new.groups.items i ≡ names_of_touched c.args.bags.now.active c.args.kind c.args.step i (names_of c.args.groups.now.items i)) × (has (bit_or c.args.touched c.args.step.units) i ≡ is_some (names_at c.follow.new.groups.items i))
 without_put c i h =
     all_touched c.args.bags.now.active c.args.kind c.args.step c.args.touched c.args.groups.now.items c.follow.new.groups.items c.follow.new.groups.items c.without-new.result i (c.requires.touched i h) (c.in_ok-from.ensures.names i h) (c.without-new.ensures i h)
-    (none_fresh c.follow.new.groups.items c.without-new.result i (touched_names c.args.kind c.args.step no_names) c.if-new-ne0.false)
+    (none_fresh c.follow.new.groups.items c.without-new.result i (touched_names c.args.kind c.args.step no_steps) c.if-new-ne0.false)
 
 pub returns-else-new-ne0-clause-kept : goal.returns-else-new-ne0-clause-kept
 returns-else-new-ne0-clause-kept c i h = (without_put c i h).0

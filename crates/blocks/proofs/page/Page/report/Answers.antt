@@ -1,11 +1,11 @@
-use Rattle.std.proofs.Common.{◌≡◌, ◌≢◌, ◌∙◌, ℕ, ◌+◌, ◌≤◌, true, false, List, Option, [], ◌∷◌, ◌++◌, Some, None, ap, sym, subst, refl, append-nil, append_assoc, add-one, arith}
+use Rattle.std.proofs.Common.{◌≡◌, ◌∙◌, ℕ, ◌+◌, false, List, Option, [], ◌∷◌, ◌++◌, ap, sym, refl, append-nil, append_assoc, add-one, arith}
 use Rattle.dag.specs.Accesses.{RaceAt}
 use Rattle.dag.specs.declared.records.Access.{Access}
 use Rattle.shadow.specs.Cells.{rival}
-use Rattle.blocks.specs.Masks.{has, units_before}
+use Rattle.blocks.specs.Masks.{has}
 use Rattle.blocks.specs.Groups.{names_of}
-use Rattle.blocks.specs.Steps.{cell_of}
-use Rattle.blocks.specs.Pages.{Page, cell_at, location_of, races_up_to}
+use Rattle.blocks.specs.Steps.{named_cell}
+use Rattle.blocks.specs.Pages.{Block, unit_cell, location_of, races_up_to}
 use Rattle.blocks.specs.declared.step.Names.{Names}
 use Rattle.blocks.specs.declared.groups.Group.{Group}
 use Rattle.blocks.proofs.Bits.{has_if, has_unless}
@@ -23,7 +23,7 @@ overflow_add-at c = omega (arith, c.requires.to_limit, c.count_before.ensures, b
 
 pub rival-rival-requires-clause-before : goal.rival-rival-requires-clause-before
 rival-rival-requires-clause-before c =
-    let groups : c.self.inside.groups.items ≡ c.args.self.now.groups = ap (λ (p : Page). p.groups) c.self.view_is in
+    let groups : c.self.inside.groups.items ≡ c.args.self.now.groups = ap (λ (p : Block). p.groups) c.self.view_is in
     rw (c.names_of.ensures, c.deref.ensures.value, groups)
     (cell_later c.args.place (c.args.place + c.count_before.result) c.args.bags.now.count (names_of c.args.self.now.groups c.loop-unit.unit) c.loop-unit.unit (has c.args.self.now.reported c.loop-unit.unit) false (omega arith) (c.requires.before c.loop-unit.unit c.loop-unit-test.true))
 
@@ -48,10 +48,10 @@ loop-unit-preserved c =
     let p = c.args.self.now in
     let unit = c.loop-unit.unit in
     let old = c.args.races.now.items in
-    let R : ℕ → List RaceAt = races_up_to c.args.bags.now.active c.args.first c.args.kind c.args.place c.args.units (cell_at p) in
-    let groups : c.self.inside.groups.items ≡ p.groups = ap (λ (q : Page). q.groups) c.self.view_is in
-    let rival_is : (o : Option Access) (n : Names) (g : List Group) → o ≡ rival c.args.bags.now.active c.args.kind (cell_of n unit false) → n ≡ names_of g unit → g ≡ c.self.inside.groups.items → o ≡ rival c.args.bags.now.active c.args.kind (cell_of (names_of p.groups unit) unit false)
-    = λ o n g e f h. e ∙ ap (λ x. rival c.args.bags.now.active c.args.kind (cell_of x unit false)) (f ∙ ap (λ l. names_of l unit) (h ∙ groups)) in
+    let R : ℕ → List RaceAt = races_up_to c.args.bags.now.active c.args.first c.args.kind c.args.place c.args.units (unit_cell p) in
+    let groups : c.self.inside.groups.items ≡ p.groups = ap (λ (q : Block). q.groups) c.self.view_is in
+    let rival_is : (o : Option Access) (n : Names) (g : List Group) → o ≡ rival c.args.bags.now.active c.args.kind (named_cell n unit false) → n ≡ names_of g unit → g ≡ c.self.inside.groups.items → o ≡ rival c.args.bags.now.active c.args.kind (named_cell (names_of p.groups unit) unit false)
+    = λ o n g e f h. e ∙ ap (λ x. rival c.args.bags.now.active c.args.kind (named_cell x unit false)) (f ∙ ap (λ l. names_of l unit) (h ∙ groups)) in
     rw add-one (elim c.if-racy-unit-eq1.branch [
       | then-racy-unit-eq1+in-Some+in_ok-push w ↦ rw w.races-is (w.in_ok-push.ensures.items ∙ ap (λ rs. rs ++ (record { location = location_of c.args.first unit; first = w.in-Some.rival; second = record { kind = c.args.kind; place = c.args.place + w.count_before.result } }) ∷ []) c.loop-unit.invariant
           ∙ append_assoc old (R unit) _ ∙ ap (λ rs. old ++ rs) (rw (w.in-Some.is, w.count_before.ensures) refl

@@ -1,6 +1,6 @@
 use Rattle.std.proofs.Common.{◌≡◌, ◌++◌}
-use Rattle.blocks.specs.Pages.{cell_at, races_up_to}
+use Rattle.blocks.specs.Pages.{unit_cell, races_up_to}
 use Rattle.blocks.proofs.page.Page.report.Given as goal
 
 abbrev pub invariant-loop-unit : goal.invariant-loop-unit
-invariant-loop-unit l = l.races.items ≡ l.initial.races.items ++ races_up_to l.bags.active l.first l.kind l.place l.units (cell_at l.self) l.unit
+invariant-loop-unit l = l.races.items ≡ l.initial.races.items ++ races_up_to l.bags.active l.first l.kind l.place l.units (unit_cell l.self) l.unit

@@ -3,17 +3,17 @@ use Rattle.std.proofs.lemmas.Bool.{eq-eqb}
 use Rattle.std.specs.Map.{lookup}
 use Rattle.indexmap.proofs.CallerLemmas.{insert_entry-new}
 use Rattle.dag.proofs.Lists.{slice_get-last}
-use Rattle.blocks.specs.Pages.{page_numbered, IsPageAt, Page, no_page}
+use Rattle.blocks.specs.Pages.{block_numbered, IsBlockAt, Block, no_block}
 use Rattle.blocks.proofs.pages.Pages.find_or_add.Goals as goal
 
 pub returns-clause-there : goal.returns-clause-there
 returns-clause-there g c =
-    let es : List (ℕ × Page) = c.self.inside.map.entries in
+    let es : List (ℕ × Block) = c.self.inside.map.entries in
     let page : ℕ = c.args.page in
-    let b : Page = c.untouched.result in
-    let none : lookup (nat_eq page) es ≡ None = ap (λ (xs : List (ℕ × Page)). lookup (nat_eq page) xs) c.self.view_is ∙ c.in_default.ensures in
+    let b : Block = c.untouched.result in
+    let none : lookup (nat_eq page) es ≡ None = ap (λ (xs : List (ℕ × Block)). lookup (nat_eq page) xs) c.self.view_is ∙ c.in_default.ensures in
     let last : c.insert.new.self.entries ≡ es ++ (page, b) ∷ [] = c.in_ok-insert.ensures.entries ∙ insert_entry-new nat_eq c.self.inside.map page b none in
-    let is : page_numbered c.insert.new.self.entries page ≡ b
-    = ap (λ (o : Option Page). unwrap_or o no_page) (c.in_ok-insert.ensures.updates.0 page ∙ ap (λ t. cond t (Some b) (lookup (nat_eq page) es)) (eq-eqb page page refl)) in
-    subst (λ (n : ℕ). IsPageAt c.insert.new.self.entries n page) (sym c.len-index.ensures.len)
-    (ap (λ (xs : List (ℕ × Page)). slice_get xs (length es)) last ∙ slice_get-last es (page, b) ∙ ap (λ (x : Page). Some (page, x)) (sym is))
+    let is : block_numbered c.insert.new.self.entries page ≡ b
+    = ap (λ (o : Option Block). unwrap_or o no_block) (c.in_ok-insert.ensures.updates.0 page ∙ ap (λ t. cond t (Some b) (lookup (nat_eq page) es)) (eq-eqb page page refl)) in
+    subst (λ (n : ℕ). IsBlockAt c.insert.new.self.entries n page) (sym c.len-index.ensures.len)
+    (ap (λ (xs : List (ℕ × Block)). slice_get xs (length es)) last ∙ slice_get-last es (page, b) ∙ ap (λ (x : Block). Some (page, x)) (sym is))
