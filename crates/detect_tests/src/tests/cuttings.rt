@@ -27,10 +27,8 @@ struct Cut<'a> {
 /// made.
 #[derive(Drop)]
 struct TwoPieces<'a> {
-    first: Pieces<'a>,
-    second: Pieces<'a>,
-    fails: bool,
-    failed: u64,
+    pieces: Pieces<'a>,
+    second: Option<&'a [u8]>,
 }
 
 impl<'a> TwoPieces<'a> {
@@ -38,27 +36,25 @@ impl<'a> TwoPieces<'a> {
         let (first, second) = cut.text.split_at(cut.place.min(cut.text.len()));
         let size = if cut.fails { 1 } else { 4096 };
         TwoPieces {
-            first: Pieces::of(first, size),
-            second: Pieces::of(second, size),
-            fails: cut.fails,
-            failed: 0,
+            pieces: Pieces {
+                fails: cut.fails,
+                ..Pieces::of(first, size)
+            },
+            second: Some(second),
         }
     }
 }
 
 impl<'a> Source for TwoPieces<'a> {
-    ghost state = { λ s. record { bytes = None; failures = s.failed } };
+    ghost state = { λ s. record { bytes = None; failures = s.pieces.failed } };
 
     fn get(&mut self, buffer: &mut [u8]) -> Result<usize, Failed> {
-        if !self.first.bytes.is_empty() {
-            return self.first.get(buffer);
+        if self.pieces.bytes.is_empty() && !self.pieces.fails {
+            if let Some(second) = self.second.take() {
+                self.pieces.bytes = second;
+            }
         }
-        if self.fails {
-            self.fails = false;
-            self.failed = self.failed.saturating_add(1);
-            return Err(Failed);
-        }
-        self.second.get(buffer)
+        self.pieces.get(buffer)
     }
 }
 

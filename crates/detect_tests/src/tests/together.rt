@@ -111,34 +111,37 @@ impl Gate for Noting {
 /// A reader that gives its second piece only after a shard has passed a record, which is one of the first.
 #[derive(Drop)]
 struct Following<'a> {
-    first: Pieces<'a>,
-    second: Pieces<'a>,
+    pieces: Pieces<'a>,
+    second: Option<&'a [u8]>,
     passed: &'a AtomicBool,
     missed: bool,
 }
 
 impl<'a> Following<'a> {
-    /// After the last look the run goes on, so that it ends.
-    fn wait_for_shard(&mut self) {
+    /// Whether a shard passes a record before the last look.
+    fn waits_for_shard(&self) -> bool {
         for _ in 0..LOOKS {
-            if self.missed || self.passed.load(Ordering::SeqCst) {
-                return;
+            if self.passed.load(Ordering::SeqCst) {
+                return true;
             }
             thread::yield_now();
         }
-        self.missed = true;
+        false
     }
 }
 
 impl<'a> Source for Following<'a> {
-    ghost state = { λ _. record { bytes = None; failures = 0 } };
+    ghost state = { λ s. record { bytes = None; failures = s.pieces.failed } };
 
     fn get(&mut self, buffer: &mut [u8]) -> Result<usize, Failed> {
-        if !self.first.bytes.is_empty() {
-            return self.first.get(buffer);
+        if self.pieces.bytes.is_empty() {
+            // After the last look the run goes on, so that it ends.
+            if let Some(second) = self.second.take() {
+                self.missed = !self.waits_for_shard();
+                self.pieces.bytes = second;
+            }
         }
-        self.wait_for_shard();
-        self.second.get(buffer)
+        self.pieces.get(buffer)
     }
 }
 
@@ -151,8 +154,8 @@ fn reader_follows_shard(rt: HostRuntime) -> Result<(), Fail> {
             passed: AtomicBool::new(false),
         };
         let mut reader = Following {
-            first: Pieces::of(first, 4096),
-            second: Pieces::of(second, 4096),
+            pieces: Pieces::of(first, 4096),
+            second: Some(second),
             passed: &gate.passed,
             missed: false,
         };
