@@ -472,9 +472,11 @@ def check_options():
     few = os.path.getsize("run.trace")
     found("global", options=("--keep", "run.trace", "--repeats"))
     assert os.path.getsize("run.trace") >= few
-    for command in ("spbags-run", "spbags-cc"):
+    for command, example in (("spbags-run", "spbags-cc -o fib fib.c"), ("spbags-cc", "spbags-cc -o fib fib.c"),
+                             ("spbags-lines", "spbags-lines ./program run.trace")):
         status, said, _ = run(os.path.join(TRACER, command), "--help")
-        same((0, True), (status, "spbags-cc -o fib fib.c" in said))
+        same((0, True), (status, example in said))
+    same(2, run(os.path.join(TRACER, "spbags-lines"), "./run")[0])
 
 
 # ---- What wasn't seen ----
