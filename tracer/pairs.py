@@ -48,8 +48,6 @@ class Noted:
     sides: list
     # Of each side the child that holds it, of those of the function where both meet; None for a child of Cilk.
     children: list
-    # Where the region is made that both are of, if its threads do the same.
-    threads: int = None
     # What races, but in blocks of the heap.
     places: list = field(default_factory=list)
     waits: tuple = None
@@ -162,9 +160,6 @@ class Notes:
     def take_child(self, of, code, first, last):
         self.pairs[-1].children[-1] = Child(of, int(code, 16), int(first), int(last))
 
-    def take_threads(self, code):
-        self.pairs[-1].threads = int(code, 16)
-
     def take_at(self, pair, location, units, address, *owners, borrowed=False):
         code, offset, data_code, data_offset = owners
         self.pairs[int(pair) - 1].places.append(Place(int(location), int(units), int(address, 16), int(code, 16),
@@ -204,7 +199,6 @@ class Notes:
                 yield from (int(word, 16) for word in stack if word != "spawn")
             yield from (noted.waits or ())[:1]
             yield from (child.code for child in noted.children if child)
-            yield from filter(None, [noted.threads])
             yield from (code for place in noted.places for code in (place.code, place.data_code) if code)
 
 
@@ -348,7 +342,8 @@ class Program:
         """The function in which both accesses meet: where it spawns the first, where it goes on to the second without a
         sync, and where it waits then."""
         spawn, continues_at = (side.at(noted.meeting) for side in sides)
-        if not spawn or not continues_at or spawn.role != "spawn":
+        is_of_threads = noted.children[0] and noted.children[0].of == "region"
+        if not spawn or not continues_at or spawn.role != "spawn" or is_of_threads:
             return None
         function = spawn.position.function
         # A function of OpenMP doesn't wait at its end.
@@ -361,16 +356,13 @@ class Program:
                 "syncs_at_return": ends and noted.children[0] is None}
 
     def siblings(self, noted):
-        """Threads of one region, two tasks from one place, or two shares of one loop or of the same sections, with
+        """Two threads of one region, two tasks from one place, or two shares of one loop or of the same sections, with
         their first and their last iterations or sections."""
-        if noted.threads:
-            return {"construct": "region", "position": source.leading(self.positions[noted.threads]), "first": None,
-                    "second": None}
         first, second = noted.children
         if not first or not second or first.of != second.of:
             return None
         position = source.leading(self.positions[first.code])
-        if first.of in ("task", "task_group"):
+        if first.of in ("task", "task_group", "region"):
             is_same = position == source.leading(self.positions[second.code])
             return {"construct": first.of, "position": position, "first": None, "second": None} if is_same else None
         return {"construct": first.of, "position": position, "first": list(first[2:]),

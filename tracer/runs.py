@@ -213,8 +213,8 @@ class Run:
         # What the report has to say beside the races; and what wasn't seen or modelled, in sentences and functions.
         self.reported, self.incomplete = texts_of(lines, "report"), texts_of(lines, "incomplete")
         self.unseen = [unseen_of(text) for text in texts_of(lines, "unseen")]
-        # Where loops ask for their thread's number; and of which races some may be none.
-        self.asks, self.seeming = texts_of(lines, "asks"), texts_of(lines, "seeming")
+        # Of which races some may be none.
+        self.seeming = texts_of(lines, "seeming")
         # How many records there were, and a digest of them.
         self.course = next((text.split(" ") for text in texts_of(lines, "course")), None)
 

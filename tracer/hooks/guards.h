@@ -99,16 +99,6 @@ static inline uint32_t guards_now(void) {
     return is_held_list(last_list) ? last_list : find_list();
 }
 
-/* Where an access stands: its code, and what is held there; in a run that looks, what is on the stack too. */
-struct standing {
-    uintptr_t code;
-    uint32_t node, guards;
-};
-/* Where the access at hand stood, if it is recorded later. */
-static const struct standing *stands;
-
-static inline uint32_t guards_of_access(void) { return stands ? stands->guards : guards_now(); }
-
 /* A lock for readers too has two guards: its address, and that with this bit for a reader. What one reader holds excludes
    no other one. */
 enum { READER = 1 };

@@ -6,10 +6,6 @@ static uintptr_t heap_at, heap_end;
 /* A library may have threads of its own. */
 static bool heap_locked;
 
-#ifdef SPBAGS_OPENMP
-static void note_block(uintptr_t block, size_t size);
-#endif
-
 /* At addresses of our own where the system has them free, so that runs are alike and locations have few digits. */
 static bool more_heap(size_t size) {
     size_t wanted = (size + CHUNK) & ~(size_t)4095;
@@ -43,10 +39,6 @@ static void *new_block(size_t alignment, size_t size) {
         ((size_t *)block)[-1] = size;
         heap_at = block + size;
     }
-#ifdef SPBAGS_OPENMP
-    if (watching && block != 0)
-        note_block(block, size);
-#endif
     __atomic_clear(&heap_locked, __ATOMIC_RELEASE);
     return (void *)block;
 }

@@ -108,7 +108,6 @@ static bool looking;
 #ifdef SPBAGS_OPENMP
 /* Libraries with OpenMP of their own have threads of their own. */
 #pragma GCC visibility push(hidden)
-#include "openmp_replicated.h"
 #include "openmp.h"
 #include "openmp_teams.h"
 #include "openmp_bodies.h"

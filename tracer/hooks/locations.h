@@ -79,7 +79,7 @@ static inline void note_unit(bool writes, uintptr_t address, uint32_t *mark, uns
 }
 
 #ifdef SPBAGS_OPENMP
-/* Whether accesses are looked at beside, as those of replicated code. They come here all. */
+/* Whether accesses are looked at beside, as those after an ordered region. They come here all. */
 static bool watching;
 static void watch_access(bool writes, uintptr_t address, size_t size, uintptr_t code);
 #else

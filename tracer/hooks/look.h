@@ -9,8 +9,7 @@ struct look {
     uint64_t place;
     uintptr_t code;
     uint32_t node, guards;
-    /* Of a copy: a thread of the team does what another one is recorded for. */
-    bool writes, is_narrow, is_copy;
+    bool writes, is_narrow;
 };
 
 /* Of memory of the stack: the code of the function that has it, on the way to the access, and how far from the
@@ -57,7 +56,7 @@ struct part {
     uintptr_t data;
     const char *of;
     uint64_t first, last;
-    /* A region whose members are shown in its place. */
+    /* Of a region and its members one has a row in a stack. */
     bool is_hidden;
 };
 static struct part *parts;
@@ -385,25 +384,16 @@ static void look_at_structure(void) {
     next_stop();
 }
 
-/* Where an access stands at which this code is. */
-static struct standing standing_now(uintptr_t code) {
-    if (!looking)
-        return (struct standing){.code = code, .guards = guards_now()};
-    return (struct standing){code_in(top_at(), code), node_of(top_at()), guards_now()};
-}
-
 static void look_at_access(bool writes, uint64_t location, uintptr_t address, uintptr_t code) {
     struct race *race = stops[stops_met].race;
     struct look *look = race->first.place == records ? &race->first : &race->second;
     if (look->writes != writes || race->location != location) {
         go_astray("a %s of location %" PRIu64, writes ? "write" : "read", location);
     } else {
-        struct standing now = stands ? *stands : standing_now(code);
-        look->node = now.node;
-        look->code = now.code;
-        look->guards = now.guards;
+        look->node = node_of(top_at());
+        look->code = code_in(top_at(), code);
+        look->guards = guards_now();
         look->is_narrow = bytes_left_out(address) != 0;
-        look->is_copy = stands != NULL;
         if (look == &race->second)
             add_race(race, address);
     }
@@ -434,7 +424,7 @@ static void put_stack(const char *name, uintptr_t code, uint32_t node) {
     for (; node != 0; node = nodes[node].parent) {
         if (nodes[node].is_shown)
             put(" %lx", nodes[node].code);
-        if (nodes[node].is_child)
+        if (nodes[node].is_child && !nodes[node].part.is_hidden)
             put(" spawn");
     }
     put("\n");
@@ -458,15 +448,6 @@ static void put_side(const char *name, const struct look *look, uint32_t meets) 
     put(" %d", guard_in(look->guards, ATOMIC) != NULL);
     put_stack("", look->code, look->node);
     put_child(look->node, meets);
-}
-
-/* Both are copies: the region whose threads make them. */
-static void put_threads(const struct race *race) {
-    uint32_t node = race->second.node;
-    while (node != 0 && nodes[node].part.of != region_name)
-        node = nodes[node].parent;
-    if (race->first.is_copy && race->second.is_copy && node != 0)
-        put("threads %lx\n", nodes[node].code);
 }
 
 static void put_owner(struct owner owner) {
@@ -509,7 +490,6 @@ static void put_pair(const struct pair *pair, const struct race *race) {
     put(" %d\n", pair->is_narrow);
     put_side("first", &race->first, meets);
     put_side("second", &race->second, meets);
-    put_threads(race);
     if (race->is_view)
         put("reducer\n");
     if (pair->waits != 0 && meets == pair->meeting)

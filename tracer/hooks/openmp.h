@@ -12,9 +12,8 @@ enum scope_kind { TEAM, MEMBER, TASK, GROUP, SHARE };
 struct loop {
     uint64_t start, step, end, count, begun, most;
     bool ordered, is_sections;
-    /* Where it begins; and where the loop before begins, if no barrier parts them and each thread has the same
-       iterations in both. */
-    uintptr_t code, alike;
+    /* Where it begins. */
+    uintptr_t code;
     bool is_static, has_no_barrier;
     /* Each member of the team does a block of its iterations, as one share. */
     bool in_blocks;
@@ -39,8 +38,8 @@ struct scope {
     uintptr_t others_code;
     /* The reductions that its tasks take part in. */
     uintptr_t *reductions;
-    /* What is done here is done by each thread of the team around, or stands after an ordered region. */
-    enum watch watch;
+    /* Whether what is done here stands after an ordered region. */
+    bool is_watched;
     /* Of a share: whether it is what follows a loop, up to its end. */
     bool follows_loop;
     /* Of a team: how many threads it has; and its members, if they are several. */
@@ -48,16 +47,15 @@ struct scope {
     struct team *team;
     /* Of a thread, which is a member or all of a team: its number, and which member it is. The stack memory below is
        its own. Its loop, how many shares and iterations of that it has begun, and the loops and single regions that it has
-       met in this phase. Whether it has replicated code, and whether the master has done something that nothing has
-       waited for. */
+       met in this phase. Whether the master has done something that nothing has waited for. */
     int thread;
     struct member *member;
     uintptr_t stack_end;
     struct loop *loop;
     uint64_t shares, taken;
     uint32_t loops_met, singles_met;
-    bool has_replicated, has_master;
-    /* Of a member: it is in the program's own code; and nothing of it is recorded. */
+    bool has_master;
+    /* It is in the program's own code of its region; or nothing of it is recorded. */
     bool in_body, is_silent;
     /* No other scope has this number. */
     uint64_t number;
@@ -86,11 +84,10 @@ static void note_outlived(uint64_t count, uintptr_t wait, uintptr_t code) {
 
 /* Accesses are looked at as the newest scope says. */
 static void follow_scope(void) {
-    enum watch wanted = tracing ? scopes[newest_scope].watch : UNWATCHED;
-    if (wanted == watch)
+    bool wanted = tracing && scopes[newest_scope].is_watched;
+    if (wanted == watching)
         return;
-    watch = wanted;
-    watching = watch != UNWATCHED;
+    watching = wanted;
     find_short_way();
 }
 
@@ -100,7 +97,7 @@ static struct scope *push_scope(enum scope_kind kind, bool owns) {
     const struct scope *around = &scopes[newest_scope - 1];
     scopes[newest_scope] = (struct scope){.kind = kind, .owns = owns, .number = ++scopes_begun,
                                           .threads_wanted = around->threads_wanted,
-                                          .watch = kind == SHARE ? UNWATCHED : around->watch};
+                                          .is_watched = kind != SHARE && around->is_watched};
     follow_scope();
     return &scopes[newest_scope];
 }
@@ -227,8 +224,6 @@ static void join_from(size_t first, uintptr_t code) {
         left += unsynced(scope);
         scope->children = scope->others = scope->following = 0;
         scope->has_master = false;
-        if (scope->loop)
-            scope->loop->is_static = false;
         if (at > first && scope->owns) {
             write_return(code);
             scope->owns = false;

@@ -14,25 +14,18 @@ void __spbags_body(int kind) {
 
 /* The compiler may give the call of the runtime another line than the body has. */
 static void begin_parallel_body(uintptr_t code) {
-    struct scope *team = &scopes[newest_scope];
+    struct scope *thread = &scopes[newest_scope];
     if (tracing && top[-1].kind >= CALLED)
         top[-1].code = code;
-    team->in_body = true;
+    if (thread->kind == MEMBER)
+        name_region(thread->team, code);
+    thread->in_body = true;
     be_silent(false);
-    if (team->alone || team->kind == MEMBER)
-        return;
-    region_code = code;
-    team->watch = REPLICATED;
-    team->has_replicated = true;
-    follow_scope();
 }
 
 static void end_parallel_body(void) {
     scopes[newest_scope].in_body = false;
     be_silent(true);
-    if (!scopes[newest_scope].alone)
-        scopes[newest_scope].watch = UNWATCHED;
-    follow_scope();
 }
 
 /* One thread of the team does this, beside what the others do. */

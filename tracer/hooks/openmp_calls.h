@@ -21,15 +21,14 @@ int omp_get_thread_limit(void) { return INT_MAX; }
 int omp_in_parallel(void) { return active_levels > 0; }
 
 int omp_get_max_threads(void) {
-    int wanted = current_task()->threads_wanted, most = team_size > 1 ? (int)team_size : INT_MAX;
-    return wanted > 0 ? (int)least((size_t)wanted, (size_t)most) : most < INT_MAX ? most : PROCESSORS;
+    int wanted = current_task()->threads_wanted;
+    return (int)(wanted > 0 ? least((size_t)wanted, team_size) : team_size);
 }
 
 int omp_get_thread_num(void) { return thread_now()->thread; }
 
-/* Where a share asks for its thread's number, which is 0 in all of them; and where a task does, whose thread may be
-   any. */
-static uintptr_t share_asks, task_asks;
+/* Where a task asks for its thread's number, which may be any; or an iteration, if its team has one thread. */
+static uintptr_t task_asks;
 
 /* A member may do what only one of its number does, so loops aren't all the first member's any more. */
 static void ask_in_team(struct scope *thread) {
@@ -44,14 +43,10 @@ int __spbags_thread_num(void) {
     size_t task = newest_scope;
     while (scopes[task].kind == GROUP)
         task--;
-    bool is_task = scopes[task].kind == TASK;
-    uintptr_t *asks = is_task ? &task_asks : &share_asks;
-    if (thread->kind == MEMBER && !is_task)
+    if (thread->kind == MEMBER && scopes[task].kind != TASK)
         ask_in_team(thread);
-    else if (watch == REPLICATED)
-        note_asking(CODE);
-    else if (*asks == 0 && active_levels > 0)
-        *asks = CODE;
+    else if (task_asks == 0 && active_levels > 0 && scopes[task].kind != TEAM)
+        task_asks = CODE;
     return thread->thread;
 }
 

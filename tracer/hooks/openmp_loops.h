@@ -17,11 +17,9 @@ static bool are_alike(const struct loop *one, const struct loop *other) {
            one->count == other->count;
 }
 
-/* OpenMP says which thread does what, and maybe the program relies on it; or it asks for the number of its thread. */
-static bool wants_blocks(const struct team *team, const struct loop *loop) {
-    const struct loop *before = loops_begun > team->first_loop ? &loops[loops_begun - 1] : NULL;
-    return !loop->ordered && (team->asks || (loop->is_static && loop->has_no_barrier) ||
-                              (before && before->in_blocks && are_alike(before, loop)));
+/* OpenMP says which thread does what, and maybe the program relies on it. BEFORE is the loop before, or NULL. */
+static bool is_promised(const struct loop *before, const struct loop *loop) {
+    return (loop->is_static && loop->has_no_barrier) || (before && before->in_blocks && are_alike(before, loop));
 }
 
 /* The loop that the thread comes to: the next of its team's, which another member may have begun. */
@@ -31,7 +29,8 @@ static struct loop *loop_of_team(struct scope *thread, struct loop loop) {
         return met;
     if (loops_begun == MOST_LOOPS)
         fail("there are more than %d loops without a barrier between them", MOST_LOOPS);
-    loop.in_blocks = wants_blocks(thread->team, &loop);
+    const struct loop *before = loops_begun > thread->team->first_loop ? met - 1 : NULL;
+    loop.in_blocks = !loop.ordered && (thread->team->asks || is_promised(before, &loop));
     loops_begun++;
     *met = loop;
     return met;
@@ -44,7 +43,7 @@ static void begin_loop(struct loop loop) {
         thread->loop = loop_of_team(thread, loop);
         return;
     }
-    loop.alike = are_alike(thread->loop, &loop) ? thread->loop->code : 0;
+    loop.in_blocks = !thread->alone && !loop.ordered && is_promised(thread->loop, &loop);
     *thread->loop = loop;
 }
 
@@ -90,17 +89,6 @@ static void end_share(struct scope *thread, uintptr_t code) {
         clear_below(thread->stack_end);
 }
 
-/* The first two loops that are alike. */
-static uintptr_t alike_before, alike_after;
-
-static void begin_first_share(struct loop *loop, uintptr_t code) {
-    loop->code = code;
-    if (loop->alike != 0 && alike_before == 0) {
-        alike_before = loop->alike;
-        alike_after = code;
-    }
-}
-
 /* The iterations of the share that has begun now go from this one to the newest. */
 static void note_share(const struct loop *loop, uint64_t first) {
     note_part((struct part){.of = loop->is_sections ? "sections" : "loop", .first = first,
@@ -112,7 +100,7 @@ static void begin_share(struct scope *thread, uint64_t first, uintptr_t stack_po
     struct loop *loop = thread->loop;
     be_silent(false);
     if (loop->code == 0)
-        begin_first_share(loop, code);
+        loop->code = code;
     if (thread->alone || loop->in_blocks)
         return;
     if (!loop->ordered)
@@ -125,8 +113,7 @@ static void begin_share(struct scope *thread, uint64_t first, uintptr_t stack_po
    it is done beside that, as a share is. */
 static void begin_following(const struct scope *thread, uintptr_t stack_pointer, uintptr_t code) {
     be_silent(true);
-    bool has_own_code = thread->kind == MEMBER ? thread->in_body && thread->thread == 0 : thread->has_replicated;
-    if (!has_own_code || thread->alone || !is_thread(&scopes[newest_scope]))
+    if (!thread->in_body || thread->thread != 0 || thread->alone || !is_thread(&scopes[newest_scope]))
         return;
     open_child(SHARE, code)->follows_loop = true;
     open_part(LOOP_PART, stack_pointer, code);
@@ -149,7 +136,7 @@ static void note_long_share(const struct scope *thread, uint64_t size) {
     if (thread->loop->in_blocks && blocks_of == 0) {
         blocks_of = thread->loop->code;
         blocks_team = thread->size;
-        blocks_asked = thread->team->asks;
+        blocks_asked = thread->team && thread->team->asks;
     }
     has_long_shares |= !thread->loop->in_blocks;
 }
@@ -249,8 +236,18 @@ void GOMP_ordered_start(void) {
 void GOMP_ordered_end(void) {
     struct scope *scope = &scopes[newest_scope];
     if (scope->kind == SHARE && thread_now()->loop->ordered)
-        scope->watch = AFTER_ORDERED;
+        scope->is_watched = true;
     follow_scope();
+}
+
+/* The first access to shared memory after an ordered region. */
+static uintptr_t after_ordered;
+
+static void watch_access(bool writes, uintptr_t address, size_t size, uintptr_t code) {
+    (void)writes, (void)size;
+    bool is_own = address >= running_first && address < thread_now()->stack_end;
+    if (!is_own && after_ordered == 0 && *mark_of(address & ~unit_mask, unit_shift) != own_mark)
+        after_ordered = code;
 }
 
 /* ---- Sections, numbered from 1 on ---- */

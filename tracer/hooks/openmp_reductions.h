@@ -79,8 +79,7 @@ unsigned GOMP_parallel_reductions(void (*run)(void *), void *data, unsigned thre
 
 static void begin_workshare(uintptr_t *reductions, void **memory) {
     if (reductions) {
-        push_scope(GROUP, false)->watch = UNWATCHED;
-        follow_scope();
+        push_scope(GROUP, false);
         register_reductions(reductions);
     }
     if (memory)

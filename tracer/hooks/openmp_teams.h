@@ -6,8 +6,12 @@
 /* What the program is told of the processors: more than one, so that it doesn't take a serial course. */
 enum { PROCESSORS = 8 };
 /* How many members a team has, unless the program wants fewer. */
-static uint64_t team_size = 1;
+static uint64_t team_size;
 static int active_levels, most_active_levels = 1;
+/* Whether teams in others may have several members, by SPBAGS_NESTED; and the first that the program wants to have some,
+   and that has one. */
+static bool nests;
+static uintptr_t inner_team;
 
 struct member {
     struct stack *stack;
@@ -207,7 +211,7 @@ static void run_member(struct team *team, struct member *member, uintptr_t end) 
     push_frame(TASK_PART, end);
     top->code = team->code;
     note_part((struct part){(uintptr_t)team->data, region_name, (uint64_t)member->scope.thread,
-                            (uint64_t)member->scope.thread, false});
+                            (uint64_t)member->scope.thread, team->whole != NULL});
     member->base = top;
     be_silent(true);
     if (team->whole)
@@ -296,57 +300,39 @@ static struct stack *next_stack(struct member *member, uint32_t node) {
 
 /* ---- Regions ---- */
 
-/* The threads of the team wait for one another: what replicated code did since the last wait, others have done too. */
-static void end_phase(uintptr_t code) {
-    if (replicas_count == 0 || scopes[newest_scope].kind != TEAM || scopes[newest_scope].alone)
-        return;
-    if (replicas_write) {
-        racy_region = racy_region ? racy_region : region_code;
-        open_child(SHARE, code);
-        record_replicas();
-        close_child(code);
-    }
-    if (unsynced(&scopes[newest_scope]) > 0)
-        record_replicas();
-    forget_replicas();
-}
-
-/* A team in another one has one thread, unless the program asks for more levels. */
-__attribute__((noreturn)) static void refuse_nested(uintptr_t code);
-
-/* What its threads do alike begins where the program's own code does. */
-static void begin_region(uintptr_t stack_pointer) {
-    scopes[newest_scope].watch = UNWATCHED;
-    follow_scope();
-    region_stack_end = stack_pointer;
-    region_asks = false;
-    forget_replicas();
-}
+/* The first region that wanted more threads than it got; how many these were, and how many it wanted. */
+static uintptr_t small_team;
+static uint64_t small_team_has, small_team_wants;
 
 /* How many threads there may be, where the program wants so many, or as many as there are. */
-static unsigned size_of_team(uint64_t wanted) {
-    uint64_t most = least(team_size, MOST_STACKS - stacks_used + 1);
-    return tracing ? (unsigned)(wanted > 0 ? least(wanted, most) : most) : 1;
+static unsigned size_of_team(uint64_t wanted, uintptr_t code) {
+    uint64_t most = tracing ? least(team_size, MOST_STACKS - stacks_used + 1) : 1;
+    if (wanted > most && small_team == 0) {
+        small_team = code;
+        small_team_has = most;
+        small_team_wants = wanted;
+    }
+    return (unsigned)(wanted > 0 ? least(wanted, most) : most);
 }
 
 static void begin_team(unsigned threads, void *data, uintptr_t stack_pointer, uintptr_t code) {
     uint64_t wanted = threads > 0 ? threads : (uint64_t)current_task()->threads_wanted;
-    bool alone = wanted == 1 || active_levels == most_active_levels;
-    if (!alone && active_levels > 0)
-        refuse_nested(code);
+    bool alone = wanted == 1 || active_levels >= most_active_levels;
+    if (!alone && active_levels > 0 && !nests) {
+        inner_team = inner_team ? inner_team : code;
+        alone = true;
+    }
     if (tracing)
         clear_below(stack_pointer);
     struct scope *team = push_scope(TEAM, false);
     team->alone = alone;
-    team->size = alone ? 1 : size_of_team(wanted);
+    team->size = alone ? 1 : size_of_team(wanted, code);
     team->stack_end = stack_pointer;
     team->loop = &loops[loops_begun++];
     *team->loop = (struct loop){0};
     active_levels += !alone;
-    if (!alone)
-        begin_region(stack_pointer);
     open_part(CALLED, stack_pointer, code);
-    note_part((struct part){.data = (uintptr_t)data, .of = region_name, .is_hidden = team->size > 1});
+    note_part((struct part){.data = (uintptr_t)data, .of = region_name});
 }
 
 static void end_team(uintptr_t stack_pointer, uintptr_t code) {
@@ -354,7 +340,6 @@ static void end_team(uintptr_t stack_pointer, uintptr_t code) {
     active_levels -= !team->alone;
     loops_begun = (uint32_t)(team->loop - loops);
     close_part(code);
-    end_phase(code);
     close_waiting(code);
     if (tracing)
         clear_below(stack_pointer);
@@ -367,6 +352,7 @@ static bool is_done(const struct team *team) {
 }
 
 static void run_members(struct team *team) {
+    note_part((struct part){.of = region_name, .is_hidden = !team->whole});
     uint32_t node = looking ? node_of(top_at()) : NONE;
     unsigned used = stacks_used, scope = (unsigned)newest_scope;
     for (unsigned number = 0; number < team->size; number++) {
@@ -402,6 +388,13 @@ static void run_team(void (*run)(void *), void *data, const struct loop *whole, 
     run_members(&team);
 }
 
+/* The region's body begins here, which is a better place to name it by. */
+static void name_region(struct team *team, uintptr_t code) {
+    if (small_team == team->code)
+        small_team = code;
+    team->code = code;
+}
+
 static void do_region(void (*run)(void *), void *data, unsigned threads, const struct loop *whole,
                       uintptr_t stack_pointer, uintptr_t code) {
     begin_team(threads, data, stack_pointer, code);
@@ -421,8 +414,8 @@ static void join_team(uintptr_t code) {
         wait_for_members(code);
         return;
     }
-    end_phase(code);
     join_from(thread_at(), code);
+    thread_now()->loop->is_static = false;
 }
 
 /* Where a loop's variable is private first and shared at its end, gcc puts a barrier into the loop's first share. */

@@ -38,7 +38,7 @@ static inline void follow_course(uint64_t record, uint64_t site) {
 }
 
 static inline uint64_t site_word(bool narrow, uintptr_t code) {
-    uint64_t list = guards_of_access();
+    uint64_t list = guards_now();
     if (__builtin_expect(list > MOST_SITE_LISTS, 0))
         list = MOST_SITE_LISTS;
     return code | list << LIST_SHIFT | (uint64_t)narrow << NARROW_SHIFT;

@@ -230,7 +230,7 @@ static void claim_threads(void) {
 
 #ifdef SPBAGS_OPENMP
 static uint64_t threads_of_team(void) {
-    uint64_t threads = number_from("SPBAGS_TEAM", "threads", 1);
+    uint64_t threads = number_from("SPBAGS_TEAM", "threads", 2);
     if (threads > MOST_STACKS)
         fail("SPBAGS_TEAM=%llu: a team has at most %d threads", (unsigned long long)threads, MOST_STACKS);
     return threads;
@@ -242,6 +242,8 @@ static size_t room_for_members(size_t *own_size) {
     uint64_t others = threads_of_team() - 1;
     if (others == 0)
         return 0;
+    if (choice("SPBAGS_NESTED", "01", 0) == 1)
+        others = MOST_STACKS - 1;
     *own_size = least(*own_size, whole / 2);
     member_stack_size = least(*own_size, ((whole - *own_size) / others - stack_gap) & ~(size_t)0xffff);
     return others * (member_stack_size + stack_gap);

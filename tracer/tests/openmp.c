@@ -81,33 +81,6 @@ static void numbered(void) {
         counts[omp_get_thread_num()]++; /* [numbered] */
 }
 
-/* A team of several threads gives no answer. */
-static void numbered_once(void) {
-#pragma omp parallel for
-    for (int i = 0; i < 8; i++) {
-        counts[omp_get_thread_num()]++; /* [numbered once] */
-        if (omp_get_num_threads() > 1)
-            abort();
-    }
-}
-
-/* Another run finds the file that this one leaves. */
-static void numbered_file(void) {
-    FILE *file = fopen("left", "wx");
-    if (!file)
-        return;
-    fclose(file);
-#pragma omp parallel for
-    for (int i = 0; i < 8; i++)
-        counts[omp_get_thread_num()]++; /* [numbered file] */
-}
-
-static void numbered_blocks(void) {
-#pragma omp parallel for
-    for (int i = 0; i < 16; i++)
-        counts[omp_get_thread_num()]++;
-}
-
 static void thread_memory(void) {
 #pragma omp parallel for
     for (int i = 0; i < 8; i++)
@@ -117,8 +90,11 @@ static void thread_memory(void) {
 static void nested(void) {
     omp_set_max_active_levels(2);
 #pragma omp parallel
-#pragma omp parallel /* [inner] */
-    one++;
+#pragma omp single
+    {
+#pragma omp parallel
+        one++; /* [inner thread] */
+    }
 }
 
 static void lock(void) {
@@ -130,7 +106,7 @@ static void lock(void) {
 #pragma omp taskwait
 }
 
-/* ---- What each thread of a team does, and the run does once ---- */
+/* ---- What each thread of a team does ---- */
 
 static void each_thread(void) {
 #pragma omp parallel /* [team] */
@@ -260,17 +236,18 @@ static void no_race(void) {
 }
 
 static void by_number(void) {
-#pragma omp parallel /* [unlike] */
+#pragma omp parallel
     {
-        int thread = omp_get_thread_num(); /* [asks] */
-        row[thread] = 1; /* [by number] */
+        int thread = omp_get_thread_num();
+        row[thread] = 1;
+        if (thread == 1)
+            one++;
     }
 }
 
-static void by_number_read(void) {
-#pragma omp parallel /* [unlike read] */
-    if (omp_get_thread_num() == 1) /* [asks read] */
-        one++;
+static void wants_more(void) {
+#pragma omp parallel num_threads(9) /* [wants] */
+    row[omp_get_thread_num()] = 1;
 }
 
 static void exits(void) {
@@ -313,11 +290,11 @@ static void alike(void) {
 #pragma omp parallel
     {
 #pragma omp for schedule(static) nowait
-        for (int i = 0; i < 1; i++) /* [one loop] */
-            row[i] = i; /* [one static] */
+        for (int i = 0; i < 4; i++)
+            row[i] = i;
 #pragma omp for schedule(static)
-        for (int i = 0; i < 1; i++) /* [other loop] */
-            row[i]++; /* [other static] */
+        for (int i = 0; i < 4; i++)
+            row[i]++;
     }
 }
 
@@ -340,9 +317,6 @@ int main(int count, char **words) {
         bool is_serial;
     } ways[] = {{"neighbours", neighbours, true},
                 {"numbered", numbered, true},
-                {"numbered_blocks", numbered_blocks, true},
-                {"numbered_once", numbered_once, true},
-                {"numbered_file", numbered_file, true},
                 {"thread_memory", thread_memory, true},
                 {"no_barrier", no_barrier, true},
                 {"nested", nested, true},
@@ -360,7 +334,7 @@ int main(int count, char **words) {
                 {"guarded", guarded, true},
                 {"no_race", no_race, true},
                 {"by_number", by_number, true},
-                {"by_number_read", by_number_read, true},
+                {"wants_more", wants_more, true},
                 {"exits", exits, true},
                 {"two_masters", two_masters, true},
                 {"after_ordered", after_ordered, true},

@@ -93,12 +93,9 @@ check_openmp_ways() {
     check_openmp_way neighbours 0 "" "4 $turn $turn"
     SPBAGS_ITERATIONS=2 check_openmp_way neighbours 0 'SPBAGS_ITERATIONS=2 makes' ""
     turn=$(line_of "$source" '[numbered]')
-    check_openmp_way numbered 0 "" "1 $turn $turn"
+    SPBAGS_TEAM=1 check_openmp_way numbered 0 "" "1 $turn $turn"
     SPBAGS_TEAM=3 check_openmp_way numbered 0 'each of 3 threads does a block of this loop' ""
     check_openmp_way thread_memory 0 'variables of which each thread has its own, 4 bytes' ""
-    ends_with 2 "openmp.c:$(line_of "$source" '[inner]'): OpenMP's nested teams can't be traced" \
-        env SPBAGS_TRACE=run.trace ./ways nested
-    count $? "tests/openmp.c: nested teams"
     ends_with 2 'waits for a lock that is never unset' env SPBAGS_TRACE=run.trace ./ways lock
     count $? "tests/openmp.c: a lock for ever"
     SPBAGS_VERSION=1 ends_with 2 'leave out SPBAGS_VERSION=1' env SPBAGS_TRACE=run.trace ./ways grouped
@@ -125,12 +122,12 @@ check_openmp_answer() {
     count $? "tests/openmp.c, $way: ${line:-all was modelled}"
 }
 
-# What each thread of a team does, and the run does once.
-check_openmp_replicated() {
-    local source=tracer/tests/openmp.c each="openmp.c:[0-9]*: each thread does what is in this parallel region"
+# What each thread of a team does, beside the others.
+check_openmp_threads() {
+    local source=tracer/tests/openmp.c each='"construct": "region"' blocks="threads does a block of this loop"
     "$here/spbags-cc" -fopenmp -Wall -Werror -o ways "$source"
     count $? "$source: compile without a warning"
-    check_openmp_answer each_thread 1 "${each/[0-9]\*/$(line_of "$source" '[team]')}" each each
+    check_openmp_answer each_thread 1 "$each" each each
     check_openmp_answer each_task 1 "$each" "each task" "each task"
     check_openmp_answer each_inner 1 "$each" "each inner" "each inner"
     check_openmp_answer late_thread 1 "" late single
@@ -139,27 +136,22 @@ check_openmp_replicated() {
     check_openmp_answer master_loop 1 "" masked "beside masked"
     check_openmp_answer summed_nowait 1 "" summed sum
     check_openmp_answer no_race 0 "" "" ""
-    check_openmp_answer by_number 3 "openmp.c:$(line_of "$source" '[unlike]'): .*openmp.c:$(line_of "$source" \
-        '[asks]'), .*thread 0 does. It then writes .*openmp.c:$(line_of "$source" '[by number]')" "" ""
-    check_openmp_answer by_number_read 3 "openmp.c:$(line_of "$source" '[unlike read]'): .*thread 0 does\"" "" ""
+    check_openmp_answer by_number 0 "" "" ""
+    check_openmp_answer wants_more 0 "openmp.c:$(line_of "$source" '[wants]'): this parallel region wants 9 threads" \
+        "" ""
     check_openmp_answer exits 3 "openmp.c:$(line_of "$source" '[exits]'): the run ends inside" "" ""
     check_openmp_answer two_masters 3 "openmp.c:$(line_of "$source" '[second master]'): there is no barrier" "" ""
     check_openmp_answer after_ordered 3 "openmp.c:$(line_of "$source" '[after ordered]'): this access" "" ""
     check_openmp_answer ordered_last 0 "" "" ""
-    check_openmp_answer alike 1 "openmp.c:$(line_of "$source" '[one loop]') and .*openmp.c:$(line_of "$source" \
-        '[other loop]'): there is no barrier" "one static" "other static"
+    check_openmp_answer alike 3 "each of 2 $blocks, since with schedule" "" ""
     check_openmp_answer lanes 0 "openmp.c:$(line_of "$source" '[lanes]'): a loop with simd alone" "" ""
     check_openmp_answer task_number 0 "" "" ""
-    check_openmp_answer numbered 0 "the report is that of a team of 8; .* 1 location would" "" ""
-    check_openmp_answer numbered_blocks 3 "each of 8 threads does a block of this loop" "" ""
-    SPBAGS_TEAM=1 check_openmp_answer numbered 1 "openmp.c:$(line_of "$source" '[numbered]'): a loop asks" \
+    check_openmp_answer numbered 3 "each of 2 $blocks, since its region asks" "" ""
+    check_openmp_answer nested 3 "a team inside another one has one thread" "" ""
+    SPBAGS_NESTED=1 check_openmp_answer nested 1 "" "inner thread" "inner thread"
+    SPBAGS_TEAM=1 check_openmp_answer numbered 1 "openmp.c:$(line_of "$source" '[numbered]'): a task or an iteration" \
         numbered numbered
     SPBAGS_TEAM=8 check_openmp_answer numbered 0 "" "" ""
-    check_openmp_answer numbered_once 1 "With that there is no answer: the program ended by signal 6" \
-        'numbered once' 'numbered once'
-    ends_with 1 "" "$here/spbags-run" --keep run.trace -- ./ways numbered_once
-    count $? "tests/openmp.c, numbered_once: with its trace kept"
-    check_openmp_answer numbered_file 1 "the program takes another path each time" 'numbered file' 'numbered file'
     same "atomic,the critical region without a name,the lock " \
         "$("$here/spbags-run" --json -- ./ways guarded | sed -n 's/^ *"guard": "\([^"]*\)".*/\1/p' |
             sed 's/at 0x[0-9a-f]*//' | sort | paste -sd,)"
@@ -424,6 +416,6 @@ start_openmp() {
     CC=gcc run_checks link_built check_cmake check_meson &
     run_checks random_cplusplus check_random_cplusplus &
     run_checks teams check_teams check_random_openmp &
-    run_checks openmp check_openmp_outputs check_openmp_ways check_openmp_replicated check_openmp_guards \
+    run_checks openmp check_openmp_outputs check_openmp_ways check_openmp_threads check_openmp_guards \
         check_openmp_refused check_containers check_tbb_refused check_tbb_groups &
 }
