@@ -111,19 +111,24 @@ static void open_outputs(const char *name) {
         open_places(places_name);
 }
 
-#ifdef SPBAGS_INSIDE
-/* The program's thread may end before the process, by pthread_exit. Without the detector's thread the process would end
-   with it. So it ends behind the program's own destructors. */
+/* The program's thread may end before the process, by pthread_exit. Without the threads of the detector and of a team's
+   members the process would end with it. So it ends behind the program's own destructors. */
 static pthread_key_t thread_end;
 
-static void end_with_thread(void *session) {
+static void end_with_thread(void *key) {
     static int rounds;
     if (is_traced() && ++rounds < PTHREAD_DESTRUCTOR_ITERATIONS)
-        pthread_setspecific(thread_end, session);
+        pthread_setspecific(thread_end, key);
     else if (is_traced())
         exit(0);
 }
 
+static void watch_thread_end(void) {
+    pthread_key_create(&thread_end, end_with_thread);
+    pthread_setspecific(thread_end, &thread_end);
+}
+
+#ifdef SPBAGS_INSIDE
 /* No signal comes to the detector's thread. What the library allocates for it isn't the program's, whose blocks have
    the same addresses as in a run without the detector. */
 static void start_thread(void) {
@@ -162,8 +167,6 @@ static void start_detector(void) {
     find_heap();
     session = reserve(spbags_room());
     start_thread();
-    pthread_key_create(&thread_end, end_with_thread);
-    pthread_setspecific(thread_end, session);
     detecting = true;
 }
 #endif
@@ -319,6 +322,7 @@ __attribute__((constructor(101))) static void start(void) {
     *top = (struct frame){.kind = ROOT, .end = UINTPTR_MAX};
     procedures = most_procedures = 1;
     traced_process = getpid();
+    watch_thread_end();
     pthread_atfork(tell_fork, NULL, stop_tracing);
     at_quick_exit(quick_end);
     on_exit(keep_status, NULL);

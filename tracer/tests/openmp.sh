@@ -163,7 +163,7 @@ check_openmp_threads() {
 # Whether a traced run of a team has races, and nothing that a thread mustn't see.
 check_team() {
     local threads=$1 way=$2 race=$3
-    SPBAGS_TEAM=$threads SPBAGS_TRACE=run.trace ./teams "$way" 2>/dev/null && "$spbags" check run.trace >report
+    SPBAGS_TEAM=$threads SPBAGS_TRACE=run.trace timeout 60 ./teams "$way" 2>/dev/null && "$spbags" check run.trace >report
     [ $? = "$([ "$race" = none ] && echo 0 || echo 1)" ]
     count $? "tests/teams.c $level, $way: a team of $threads"
 }

@@ -1,6 +1,7 @@
 /* Ways of OpenMP in which several threads do a region. Without a word it prints the name of each, and whether it has a
    race: `none`, `guarded`, or `data`. With a name it does that one, and aborts where a thread sees what it mustn't. */
 #include <omp.h>
+#include <pthread.h>
 #include <stdio.h>
 #include <stdlib.h>
 #include <string.h>
@@ -318,6 +319,13 @@ static void inner(void) {
     }
 }
 
+/* The other members' threads don't keep the process. */
+static void thread_ends(void) {
+#pragma omp parallel
+    row[omp_get_thread_num()]++;
+    pthread_exit(NULL);
+}
+
 static const struct {
     const char *name;
     void (*run)(void);
@@ -347,7 +355,8 @@ static const struct {
             {"shared_local", shared_local, "data"},
             {"sections", sections, "none"},
             {"in_order", in_order, "none"},
-            {"inner", inner, "none"}};
+            {"inner", inner, "none"},
+            {"thread_ends", thread_ends, "none"}};
 
 int main(int count, char **words) {
     for (size_t way = 0; way < sizeof ways / sizeof *ways; way++)
