@@ -4,7 +4,7 @@ ghost use Rattle.std.specs.Prelude.{None};
 
 use super::answers::{Hasher, answer_from, text_of};
 use super::faulty_rows::all_faulty;
-use super::reported_rows::{LIMITS, WRITE_WRITE, all_reported};
+use super::reported_rows::{LIMITS, Reported, WRITE_WRITE, all_reported};
 use detect::detect_plain;
 use shard::Open;
 use std::alloc::Global;
@@ -105,16 +105,32 @@ fn assert_answers<T: Threads + Wait + Clock + Sync + Abort>(
     }
 }
 
-#[test]
-fn reports_of_two_pieces(rt: HostRuntime) {
-    for row in all_reported() {
+/// The rows are shared out between two tests, since a test's time is limited.
+fn assert_reports<T: Threads + Wait + Clock + Sync + Abort>(
+    rt: &T,
+    alloc: Global,
+    rows: &[Reported],
+) {
+    for row in rows {
         let text = row.text;
         for place in 0..text.len() {
             let fails = false;
             let cut = Cut { text, place, fails };
-            assert_answers(&rt, rt.alloc(), LIMITS, cut, Ok(row.report));
+            assert_answers(rt, alloc, LIMITS, cut, Ok(row.report));
         }
     }
+}
+
+#[test]
+fn first_reports_of_two_pieces(rt: HostRuntime) {
+    let rows = all_reported();
+    assert_reports(&rt, rt.alloc(), &rows[..10]);
+}
+
+#[test]
+fn last_reports_of_two_pieces(rt: HostRuntime) {
+    let rows = all_reported();
+    assert_reports(&rt, rt.alloc(), &rows[10..]);
 }
 
 #[test]
