@@ -31,6 +31,8 @@ struct scope {
     bool alone, final;
     /* What omp_set_num_threads said last in this task, or around it. */
     int threads_wanted;
+    /* Of a team, how many threads the program wants it to have, or 0. */
+    uint64_t team_wanted;
     /* Of what this scope made and no sync has joined: the children, what a taskwait doesn't wait for, and what the
        compiler put behind loops. */
     uint64_t children, others, following;

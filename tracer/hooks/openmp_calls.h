@@ -33,6 +33,7 @@ static uintptr_t task_asks;
 /* A member may do what only one of its number does, so loops aren't all the first member's any more. */
 static void ask_in_team(struct scope *thread) {
     thread->team->asks = true;
+    note_asking_team(thread->team);
     if (scopes[newest_scope].kind == SHARE && thread->loop && !thread->loop->ordered)
         thread->loop->in_blocks = true;
 }

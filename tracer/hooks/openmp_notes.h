@@ -52,7 +52,11 @@ static void tell_shares(void) {
     if (has_long_shares)
         tell_incomplete("SPBAGS_ITERATIONS=%llu makes that many iterations one child: races between them aren't seen",
                         (unsigned long long)iterations);
-    if (small_team != 0)
+    if (small_team_asks)
+        tell_incomplete("%s: this parallel region has %llu threads, and asks for a thread's number: what only others do "
+                        "isn't run. SPBAGS_TEAM says how many there may be",
+                        source_line(small_team, before, ROOM), (unsigned long long)small_team_has);
+    else if (small_team != 0)
         tell_report("%s: this parallel region wants %llu threads, and has %llu: SPBAGS_TEAM says how many there may be",
                     source_line(small_team, before, ROOM), (unsigned long long)small_team_wants,
                     (unsigned long long)small_team_has);

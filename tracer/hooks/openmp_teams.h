@@ -7,6 +7,8 @@
 enum { PROCESSORS = 8 };
 /* How many members a team has, unless the program wants fewer. */
 static uint64_t team_size;
+/* Whether SPBAGS_TEAM says so. */
+static bool team_is_chosen;
 static int active_levels, most_active_levels = 1;
 /* Whether teams in others may have several members, by SPBAGS_NESTED; and the first that the program wants to have some,
    and that has one. */
@@ -32,6 +34,8 @@ struct team {
     const struct frame *region;
     struct member *members;
     unsigned size;
+    /* How many threads the program wants it to have, or 0. */
+    uint64_t wanted;
     /* The loops that have begun in this phase are those from here on; and how many single regions have. */
     uint32_t first_loop, singles;
     /* A member has asked for its number. */
@@ -300,9 +304,26 @@ static struct stack *next_stack(struct member *member, uint32_t node) {
 
 /* ---- Regions ---- */
 
-/* The first region that wanted more threads than it got; how many these were, and how many it wanted. */
+/* The first region that wanted more threads than it got, or the first of those that asked for a thread's number; how
+   many these were, and how many it wanted. */
 static uintptr_t small_team;
 static uint64_t small_team_has, small_team_wants;
+static bool small_team_asks;
+
+/* Where neither the program nor the user says how many threads there are, there may be more. */
+static bool is_as_wanted(const struct team *team) {
+    return team->wanted > 0 ? team->wanted <= team->size : team_is_chosen;
+}
+
+/* What only threads with other numbers do isn't run. */
+static void note_asking_team(const struct team *team) {
+    if (small_team_asks || is_as_wanted(team))
+        return;
+    small_team_asks = true;
+    small_team = team->code;
+    small_team_has = team->size;
+    small_team_wants = team->wanted;
+}
 
 /* How many threads there may be, where the program wants so many, or as many as there are. */
 static unsigned size_of_team(uint64_t wanted, uintptr_t code) {
@@ -327,6 +348,7 @@ static void begin_team(unsigned threads, void *data, uintptr_t stack_pointer, ui
     struct scope *team = push_scope(TEAM, false);
     team->alone = alone;
     team->size = alone ? 1 : size_of_team(wanted, code);
+    team->team_wanted = wanted;
     team->stack_end = stack_pointer;
     team->loop = &loops[loops_begun++];
     *team->loop = (struct loop){0};
@@ -383,7 +405,7 @@ static void run_team(void (*run)(void *), void *data, const struct loop *whole, 
     }
     struct member members[scope->size];
     struct team team = {.run = run, .data = data, .whole = whole, .code = code, .region = top, .members = members,
-                        .size = scope->size, .first_loop = loops_begun};
+                        .size = scope->size, .wanted = scope->team_wanted, .first_loop = loops_begun};
     scope->team = &team;
     run_members(&team);
 }

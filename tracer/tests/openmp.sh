@@ -136,8 +136,9 @@ check_openmp_threads() {
     check_openmp_answer master_loop 1 "" masked "beside masked"
     check_openmp_answer summed_nowait 1 "" summed sum
     check_openmp_answer no_race 0 "" "" ""
-    check_openmp_answer by_number 0 "" "" ""
-    check_openmp_answer wants_more 0 "openmp.c:$(line_of "$source" '[wants]'): this parallel region wants 9 threads" \
+    check_openmp_answer by_number 3 "this parallel region has 2 threads, and asks" "" ""
+    SPBAGS_TEAM=2 check_openmp_answer by_number 0 "" "" ""
+    check_openmp_answer wants_more 3 "openmp.c:$(line_of "$source" '[wants]'): this parallel region has 2 threads" \
         "" ""
     check_openmp_answer exits 3 "openmp.c:$(line_of "$source" '[exits]'): the run ends inside" "" ""
     check_openmp_answer two_masters 3 "openmp.c:$(line_of "$source" '[second master]'): there is no barrier" "" ""
