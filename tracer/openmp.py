@@ -13,9 +13,9 @@ CLOSING = {"(": ")", "[": "]", "{": "}"}
 # The words that a directive begins with; those that have more here can't be traced, and are called so.
 DIRECTIVES = {
     **dict.fromkeys(("parallel", "for", "simd", "sections", "single", "master", "masked", "task", "taskloop",
-                     "taskwait", "ordered", "declare", "begin", "end")),
-    "target": "target", "teams": "teams", "distribute": "distribute", "loop": "loop (write `for')", "cancel": "cancel",
-    "cancellation": "cancel", "allocate": "allocate", "allocators": "allocate", "depobj": "depend", "scan": "scan",
+                     "taskwait", "ordered", "declare", "begin", "end", "cancel", "cancellation")),
+    "target": "target", "teams": "teams", "distribute": "distribute", "loop": "loop (write `for')",
+    "allocate": "allocate", "allocators": "allocate", "depobj": "depend", "scan": "scan",
     "metadirective": "metadirective", "dispatch": "dispatch", "interop": "interop"}
 # The number of a body's kind in the hooks, by the last word of its directive.
 BODIES = {"parallel": 0, "single": 1, "master": 2, "masked": 2}
@@ -79,6 +79,15 @@ def without(text, clause):
     return text, ""
 
 
+def filtered(text):
+    """A directive that says to the hooks which thread a masked region is for."""
+    for name, start, end in clauses_of(text):
+        if name == "filter":
+            number = text[start:end].partition("(")[2][:-1]
+            return f"{text[:start]}filter(__spbags_filter({number})){text[end:]}"
+    return text
+
+
 def rescheduled(text):
     """A loop's directive with the schedule that the hooks need: 2 says that it was static, and 3 that it has no barrier
     besides."""
@@ -114,14 +123,15 @@ class Source:
             self.refuse(f"OpenMP's {why} can't be traced: #pragma omp{text}")
         clauses = clauses_of(text)
         names = leading(clauses)
+        if names[:1] == ["cancel"]:
+            return f"#pragma omp{text}\n"
         if "for" in names:
             return f"#pragma omp{rescheduled(text)}\n"
-        if "masked" in names:
-            # The thread with another number would do it, and the run has only one.
-            text, _ = without(text, "filter")
+        text = filtered(text)
         if names[:1] in (["master"], ["masked"]) and names[1:2] == ["taskloop"]:
-            rest = clauses[1][1]
-            master = with_body(f" {names[0]}", BODIES[names[0]], self.file, self.line)
+            text, thread = without(text, "filter")
+            rest = clauses_of(text)[1][1]
+            master = with_body(f" {names[0]} {thread}", BODIES[names[0]], self.file, self.line)
             return f'{master}# {self.line} "{self.file}"\n#pragma omp {text[rest:]}\n'
         if names == ["simd"]:
             return body(SIMD_BODY, self.file, self.line, self.line) + f"#pragma omp{text}\n"
@@ -152,7 +162,6 @@ def rewritten(text):
 UNKNOWN = (
     ("__kmpc_", "clang's OpenMP, where gcc's can be traced"),
     ("GOMP_target|GOACC|GOMP_offload|omp_target", "OpenMP's target"),
-    ("GOMP_cancel|GOMP_barrier_cancel|GOMP_.*_cancel$", "OpenMP's cancel"),
     ("GOMP_doacross|GOMP_loop.*_doacross|GOMP_taskwait_depend", "OpenMP's depend"),
     ("GOMP_teams|omp_.*teams", "OpenMP's teams"),
     ("omp_fulfill_event", "OpenMP's detach"),

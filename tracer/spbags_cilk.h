@@ -70,6 +70,8 @@ void __spbags_vector_unseen(const char *function, const char *file, int line);
    __spbags_goes_on();)`. */
 void __spbags_body(int kind);
 int __spbags_goes_on(void);
+/* What stands around the number of a masked region's thread. */
+int __spbags_filter(int number);
 
 #ifdef __cplusplus
 }

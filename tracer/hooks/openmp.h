@@ -135,6 +135,14 @@ static struct scope *current_task(void) {
     return &scopes[at];
 }
 
+/* The teams around, and of those the ones that could have several threads. */
+static int level(bool active) {
+    int count = 0;
+    for (size_t at = newest_scope; at > 0; at--)
+        count += scopes[at].kind == TEAM && !(active && scopes[at].alone);
+    return count;
+}
+
 static uint64_t unsynced(const struct scope *scope) {
     return scope->children + scope->others + scope->following;
 }
@@ -295,8 +303,8 @@ struct bounds {
     uint64_t first, end, last;
 };
 
-/* Copies the data of a task, and runs it. What its caller has below the stack pointer is dead before and after. With
-   BOUNDS the first two words of the data are those. */
+/* Copies the data of a task, and runs it. What its caller has below the stack pointer is dead before and after, and a
+   task that may run later holds none of the caller's locks. With BOUNDS the first two words of the data are those. */
 static void run_task(const struct task *task, const struct bounds *bounds, uintptr_t stack_pointer, uintptr_t code) {
     if (tracing)
         clear_below(stack_pointer);
@@ -307,6 +315,10 @@ static void run_task(const struct task *task, const struct bounds *bounds, uintp
     if (bounds)
         memcpy(data, bounds, offsetof(struct bounds, last));
     bool deferred = task->deferred && !is_final;
+    unsigned held = deferred ? guards_held : 0;
+    struct guard kept[held + 1];
+    memcpy(kept, guards, held * sizeof *kept);
+    guards_held -= held;
     struct scope *scope = deferred ? open_child(TASK, code) : push_scope(TASK, false);
     scope->final = is_final || task->final;
     open_part(deferred ? TASK_PART : CALLED, stack_pointer, code);
@@ -318,6 +330,8 @@ static void run_task(const struct task *task, const struct bounds *bounds, uintp
         close_child(code);
     else
         end_included(code);
+    memcpy(guards, kept, held * sizeof *kept);
+    guards_held = deferred ? held : guards_held;
     if (tracing)
         clear_below(stack_pointer);
 }

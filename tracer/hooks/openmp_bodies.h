@@ -3,6 +3,9 @@
 
 /* Where a master region waits for what the team has made before, as one thread does all of them. */
 static uintptr_t second_master;
+/* The first masked region for a thread that its team doesn't have; which thread, and how many there are. */
+static uintptr_t masked_out;
+static int masked_thread, masked_team;
 /* The first loop with simd alone. */
 static uintptr_t simd_loop;
 
@@ -15,10 +18,12 @@ void __spbags_body(int kind) {
 /* The compiler may give the call of the runtime another line than the body has. */
 static void begin_parallel_body(uintptr_t code) {
     struct scope *thread = &scopes[newest_scope];
-    if (tracing && top[-1].kind >= CALLED)
+    if (tracing && top[-1].kind >= CALLED) {
+        name_region(top[-1].code, code);
         top[-1].code = code;
+    }
     if (thread->kind == MEMBER)
-        name_region(thread->team, code);
+        thread->team->code = code;
     thread->in_body = true;
     be_silent(false);
 }
@@ -26,6 +31,18 @@ static void begin_parallel_body(uintptr_t code) {
 static void end_parallel_body(void) {
     scopes[newest_scope].in_body = false;
     be_silent(true);
+}
+
+/* A masked region is for the thread of this number. One that the program's own wish leaves out is done by nobody. */
+int __spbags_filter(int number) {
+    const struct scope *team = team_now();
+    bool has_it = number < (int)team->size || team->alone;
+    if (!has_it && masked_out == 0 && (team->team_wanted == 0 || (uint64_t)number < team->team_wanted)) {
+        masked_out = CODE;
+        masked_thread = number;
+        masked_team = (int)team->size;
+    }
+    return number;
 }
 
 /* One thread of the team does this, beside what the others do. */

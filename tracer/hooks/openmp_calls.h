@@ -1,5 +1,4 @@
-/* What omp.h declares, for a team of one. What is asked of devices, places and cancellation is answered as where there
-   are none. */
+/* What omp.h declares. What is asked of devices and places is answered as where there are none. */
 
 static double seconds(clockid_t clock, int (*ask)(clockid_t, struct timespec *)) {
     struct timespec time;
@@ -51,14 +50,7 @@ int __spbags_thread_num(void) {
     return thread->thread;
 }
 
-/* ---- Levels: the teams around, and of those the ones that could have several threads ---- */
-
-static int level(bool active) {
-    int count = 0;
-    for (size_t at = newest_scope; at > 0; at--)
-        count += scopes[at].kind == TEAM && !(active && scopes[at].alone);
-    return count;
-}
+/* ---- Levels ---- */
 
 int omp_get_level(void) { return level(false); }
 int omp_get_active_level(void) { return level(true); }
@@ -104,13 +96,32 @@ int omp_get_device_num(void) { return 0; }
 int omp_is_initial_device(void) { return 1; }
 int omp_get_num_teams(void) { return 1; }
 int omp_get_team_num(void) { return 0; }
-int omp_get_cancellation(void) { return 0; }
 int omp_get_max_task_priority(void) { return 0; }
 int omp_in_final(void) { return current_task()->final; }
 int omp_get_proc_bind(void) { return 0; }
 int omp_get_num_places(void) { return 0; }
 int omp_get_place_num(void) { return -1; }
 int omp_get_partition_num_places(void) { return 0; }
+
+/* ---- Cancellation: all is done as where nothing is cancelled ---- */
+
+/* Whether OMP_CANCELLATION allows it; and the first region that is cancelled then. */
+static bool may_cancel;
+static uintptr_t cancelled;
+
+int omp_get_cancellation(void) { return may_cancel; }
+
+bool GOMP_cancel(int what, bool cancels) {
+    (void)what;
+    if (cancels && may_cancel && cancelled == 0)
+        cancelled = CODE;
+    return false;
+}
+
+bool GOMP_cancellation_point(int what) {
+    (void)what;
+    return false;
+}
 
 /* ---- Locks. Who waits for one that isn't free would wait for ever ---- */
 

@@ -226,6 +226,10 @@ static void end_loop(uintptr_t code) {
 }
 
 void GOMP_loop_end(void) { end_loop(CODE); }
+bool GOMP_loop_end_cancel(void) {
+    end_loop(CODE);
+    return false;
+}
 void GOMP_loop_end_nowait(void) { end_following(CODE); }
 
 void GOMP_ordered_start(void) {
@@ -275,4 +279,8 @@ void GOMP_parallel_sections(void (*run)(void *), void *data, unsigned threads, u
 }
 
 void GOMP_sections_end(void) { end_loop(CODE); }
+bool GOMP_sections_end_cancel(void) {
+    end_loop(CODE);
+    return false;
+}
 void GOMP_sections_end_nowait(void) { end_following(CODE); }

@@ -49,6 +49,16 @@ static void tell_shares(void) {
     if (inner_team != 0)
         tell_incomplete("%s: a team inside another one has one thread: SPBAGS_NESTED=1 gives it several",
                         source_line(inner_team, before, ROOM));
+    if (alone_by_variable != 0)
+        tell_incomplete("%s: this parallel region has one thread by OMP_NUM_THREADS, so nothing in it is parallel",
+                        source_line(alone_by_variable, before, ROOM));
+    if (masked_out != 0)
+        tell_incomplete("%s: this region is for thread %d, and its team has %d: it isn't run. SPBAGS_TEAM says how "
+                        "many there may be",
+                        source_line(masked_out, before, ROOM), masked_thread, masked_team);
+    if (cancelled != 0)
+        tell_incomplete("%s: OMP_CANCELLATION lets this cancel what is done, but here all of it is done",
+                        source_line(cancelled, before, ROOM));
     if (has_long_shares)
         tell_incomplete("SPBAGS_ITERATIONS=%llu makes that many iterations one child: races between them aren't seen",
                         (unsigned long long)iterations);

@@ -1,5 +1,32 @@
 /* The beginning of a run with OpenMP. */
 
+static bool is_true(const char *variable) {
+    const char *value = getenv(variable);
+    return value && strcasecmp(value, "true") == 0;
+}
+
+/* Numbers with commas between. */
+static void set_threads_of_levels(void) {
+    const char *name = "OMP_NUM_THREADS", *value = getenv(name), *at = value;
+    while (at && *at) {
+        char *rest;
+        long threads = strtol(at, &rest, 10);
+        rest += strspn(rest, " ");
+        if (threads < 1 || threads > INT_MAX || (*rest != '\0' && (*rest != ',' || rest[1] == '\0')))
+            fail("%s=%s: expected numbers of threads, at least 1, with commas between", name, value);
+        if (levels_named < MOST_LEVELS)
+            threads_of_level[levels_named++] = (int)threads;
+        at = rest + (*rest == ',');
+    }
+}
+
+/* How many regions around one another may have several threads: as many as the environment says, or 1. */
+static int levels_of_teams(void) {
+    bool is_nested = nests || levels_named > 1 || is_true("OMP_NESTED");
+    uint64_t levels = number_from("OMP_MAX_ACTIVE_LEVELS", "levels", is_nested ? INT_MAX : 1);
+    return nests ? INT_MAX : (int)least(levels, INT_MAX);
+}
+
 __attribute__((constructor(102))) static void start_openmp(void) {
     scopes = reserve(MOST_SCOPES * sizeof *scopes);
     bodies = reserve(MOST_SCOPES * sizeof *bodies);
@@ -8,7 +35,10 @@ __attribute__((constructor(102))) static void start_openmp(void) {
     team_size = threads_of_team();
     team_is_chosen = getenv("SPBAGS_TEAM") && *getenv("SPBAGS_TEAM");
     nests = choice("SPBAGS_NESTED", "01", 0) == 1;
-    most_active_levels = nests ? INT_MAX : 1;
+    set_threads_of_levels();
+    scopes[0].threads_wanted = threads_by_variable(0);
+    most_active_levels = levels_of_teams();
+    may_cancel = is_true("OMP_CANCELLATION");
     iterations = number_from("SPBAGS_ITERATIONS", "iterations", 1);
     own[COPIES].first = own[COPIES].end = (uintptr_t)reserve(most_copies);
     dl_iterate_phdr(find_thread_memory, &own[THREAD]);

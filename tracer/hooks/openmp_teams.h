@@ -9,6 +9,11 @@ enum { PROCESSORS = 8 };
 static uint64_t team_size;
 /* Whether SPBAGS_TEAM says so. */
 static bool team_is_chosen;
+/* How many OMP_NUM_THREADS says that a team wants where the program itself doesn't say, by the number of teams around;
+   and the first region that has one thread by that. */
+enum { MOST_LEVELS = 64 };
+static int threads_of_level[MOST_LEVELS], levels_named;
+static uintptr_t alone_by_variable;
 static int active_levels, most_active_levels = 1;
 /* Whether teams in others may have several members, by SPBAGS_NESTED; and the first that the program wants to have some,
    and that has one. */
@@ -336,16 +341,32 @@ static unsigned size_of_team(uint64_t wanted, uintptr_t code) {
     return (unsigned)(wanted > 0 ? least(wanted, most) : most);
 }
 
+/* What OMP_NUM_THREADS says, or 0. */
+static int threads_by_variable(int around) { return around < levels_named ? threads_of_level[around] : 0; }
+
+/* Whether a team that wants so many threads, or as many as there are, has one and no more. */
+static bool is_alone(uint64_t wanted, uintptr_t code) {
+    if (active_levels >= most_active_levels)
+        return true;
+    if (wanted == 1) {
+        if (threads_by_variable(level(false)) == 1 && alone_by_variable == 0)
+            alone_by_variable = code;
+        return true;
+    }
+    if (active_levels == 0 || nests)
+        return false;
+    inner_team = inner_team ? inner_team : code;
+    return true;
+}
+
 static void begin_team(unsigned threads, void *data, uintptr_t stack_pointer, uintptr_t code) {
     uint64_t wanted = threads > 0 ? threads : (uint64_t)current_task()->threads_wanted;
-    bool alone = wanted == 1 || active_levels >= most_active_levels;
-    if (!alone && active_levels > 0 && !nests) {
-        inner_team = inner_team ? inner_team : code;
-        alone = true;
-    }
+    bool alone = is_alone(wanted, code);
     if (tracing)
         clear_below(stack_pointer);
     struct scope *team = push_scope(TEAM, false);
+    int inner = threads_by_variable(level(false));
+    team->threads_wanted = inner > 0 ? inner : team->threads_wanted;
     team->alone = alone;
     team->size = alone ? 1 : size_of_team(wanted, code);
     team->team_wanted = wanted;
@@ -410,11 +431,12 @@ static void run_team(void (*run)(void *), void *data, const struct loop *whole, 
     run_members(&team);
 }
 
-/* The region's body begins here, which is a better place to name it by. */
-static void name_region(struct team *team, uintptr_t code) {
-    if (small_team == team->code)
-        small_team = code;
-    team->code = code;
+/* The body of the region with this code begins here, which is a better place to name it by. */
+static void name_region(uintptr_t region, uintptr_t code) {
+    uintptr_t *places[] = {&small_team, &inner_team, &alone_by_variable};
+    for (size_t at = 0; at < sizeof places / sizeof *places; at++)
+        if (*places[at] == region)
+            *places[at] = code;
 }
 
 static void do_region(void (*run)(void *), void *data, unsigned threads, const struct loop *whole,
@@ -441,15 +463,21 @@ static void join_team(uintptr_t code) {
 }
 
 /* Where a loop's variable is private first and shared at its end, gcc puts a barrier into the loop's first share. */
-void GOMP_barrier(void) {
+static void wait_at_barrier(uintptr_t code) {
     const struct scope *newest = &scopes[newest_scope];
     bool in_share = newest->kind == SHARE && !thread_now()->loop->ordered;
     if (in_share)
-        close_child(CODE);
+        close_child(code);
     if (in_share || newest->kind != SHARE)
-        join_team(CODE);
+        join_team(code);
     if (in_share)
-        open_child(SHARE, CODE);
+        open_child(SHARE, code);
+}
+
+void GOMP_barrier(void) { wait_at_barrier(CODE); }
+bool GOMP_barrier_cancel(void) {
+    wait_at_barrier(CODE);
+    return false;
 }
 
 /* The first thread that comes does it. */

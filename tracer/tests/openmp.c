@@ -268,6 +268,56 @@ static void two_masters(void) {
     }
 }
 
+static void masked_out(void) {
+#pragma omp parallel
+    {
+#pragma omp masked filter(5) /* [masked out] */
+        one++;
+    }
+#pragma omp parallel num_threads(2)
+    {
+#pragma omp masked filter(2)
+        one++;
+    }
+}
+
+static void cancels(void) {
+#pragma omp parallel
+    {
+#pragma omp for
+        for (int i = 0; i < 4; i++) {
+            row[i] = 1;
+#pragma omp cancel for if (i == 2) /* [cancels] */
+#pragma omp cancellation point for
+        }
+#pragma omp sections
+        {
+#pragma omp section
+            {
+#pragma omp cancel sections
+            }
+        }
+#pragma omp cancel parallel if (row[3] == 0)
+#pragma omp barrier
+    }
+    if (row[3] != 1)
+        abort();
+}
+
+/* Each thread's task runs later, without what its thread holds. */
+static void task_of_critical(void) {
+#pragma omp parallel
+    {
+#pragma omp critical
+        {
+#pragma omp task
+            one++; /* [in a task] */
+#pragma omp task if (0)
+            other++;
+        }
+    }
+}
+
 static void after_ordered(void) {
 #pragma omp parallel for ordered
     for (int i = 0; i < 4; i++) {
@@ -337,6 +387,9 @@ int main(int count, char **words) {
                 {"wants_more", wants_more, true},
                 {"exits", exits, true},
                 {"two_masters", two_masters, true},
+                {"masked_out", masked_out, true},
+                {"cancels", cancels, true},
+                {"task_of_critical", task_of_critical, true},
                 {"after_ordered", after_ordered, true},
                 {"ordered_last", ordered_last, true},
                 {"alike", alike, true},

@@ -138,10 +138,18 @@ check_openmp_threads() {
     check_openmp_answer no_race 0 "" "" ""
     check_openmp_answer by_number 3 "this parallel region has 2 threads, and asks" "" ""
     SPBAGS_TEAM=2 check_openmp_answer by_number 0 "" "" ""
+    OMP_NUM_THREADS=2 check_openmp_answer by_number 0 "" "" ""
+    OMP_NUM_THREADS=9 check_openmp_answer by_number 3 "this parallel region has 2 threads, and asks" "" ""
+    SPBAGS_TEAM=9 OMP_NUM_THREADS=1 check_openmp_answer by_number 3 "has one thread by OMP_NUM_THREADS" "" ""
+    OMP_NUM_THREADS=2,0 ends_with 2 'OMP_NUM_THREADS=2,0: expected numbers' ./ways by_number
+    count $? "tests/openmp.c: OMP_NUM_THREADS"
     check_openmp_answer wants_more 3 "openmp.c:$(line_of "$source" '[wants]'): this parallel region has 2 threads" \
         "" ""
     check_openmp_answer exits 3 "openmp.c:$(line_of "$source" '[exits]'): the run ends inside" "" ""
     check_openmp_answer two_masters 3 "openmp.c:$(line_of "$source" '[second master]'): there is no barrier" "" ""
+    check_openmp_answer masked_out 3 "openmp.c:$(line_of "$source" '[masked out]'): this region is for thread 5" "" ""
+    check_openmp_answer cancels 0 "" "" ""
+    OMP_CANCELLATION=true check_openmp_answer cancels 3 "openmp.c:$(line_of "$source" '[cancels]'): OMP_CANC" "" ""
     check_openmp_answer after_ordered 3 "openmp.c:$(line_of "$source" '[after ordered]'): this access" "" ""
     check_openmp_answer ordered_last 0 "" "" ""
     check_openmp_answer alike 3 "each of 2 $blocks, since with schedule" "" ""
@@ -150,6 +158,9 @@ check_openmp_threads() {
     check_openmp_answer numbered 3 "each of 2 $blocks, since its region asks" "" ""
     check_openmp_answer nested 3 "a team inside another one has one thread" "" ""
     SPBAGS_NESTED=1 check_openmp_answer nested 1 "" "inner thread" "inner thread"
+    OMP_NUM_THREADS=2,2 check_openmp_answer each_inner 1 "a team inside another one has one thread" "each inner" \
+        "each inner"
+    OMP_NUM_THREADS=2,1 SPBAGS_NESTED=1 check_openmp_answer nested 3 "has one thread by OMP_NUM_THREADS" "" ""
     SPBAGS_TEAM=1 check_openmp_answer numbered 1 "openmp.c:$(line_of "$source" '[numbered]'): a task or an iteration" \
         numbered numbered
     SPBAGS_TEAM=8 check_openmp_answer numbered 0 "" "" ""
@@ -159,6 +170,10 @@ check_openmp_threads() {
     count $? "tests/openmp.c, guarded: what is held"
     ends_with 0 "" "$here/spbags-run" --data-races -- ./ways guarded
     count $? "tests/openmp.c, guarded: no data race"
+    ends_with 1 "" "$here/spbags-run" --data-races --json -- ./ways task_of_critical
+    same "1 $source:$(line_of "$source" '[in a task]') $source:$(line_of "$source" '[in a task]')" \
+        "$("$here/tests/run.py" brief <output)"
+    count $? "tests/openmp.c, task_of_critical: the task doesn't hold what its thread held"
 }
 
 # Whether a traced run of a team has races, and nothing that a thread mustn't see.

@@ -14,12 +14,6 @@ int main(void) {
     a = 2;
 #pragma omp teams /* [refused] */
     a = 3;
-#pragma omp parallel for
-    for (int i = 0; i < 8; i++) {
-        row[i] = i;
-#pragma omp cancel for /* [refused] */
-#pragma omp cancellation point for /* [refused] */
-    }
     int depend = 1;
 #pragma omp parallel allocate(a) private(a) /* [refused] */
     a = 4;

@@ -94,6 +94,27 @@ static void master_and_loop(void) {
     }
 }
 
+static void masked(void) {
+#pragma omp parallel
+    {
+        int last = omp_get_num_threads() - 1;
+#pragma omp masked filter(last)
+        one = omp_get_thread_num();
+#pragma omp barrier
+        demand(one == last);
+    }
+}
+
+static void masked_twice(void) {
+#pragma omp parallel
+    {
+#pragma omp masked filter(1)
+        one = 1;
+#pragma omp masked
+        one = 2;
+    }
+}
+
 static void copied(void) {
 #pragma omp parallel
     {
@@ -338,6 +359,8 @@ static const struct {
             {"master_and_barrier", master_and_barrier, "none"},
             {"master_alone", master_alone, "data"},
             {"master_and_loop", master_and_loop, "data"},
+            {"masked", masked, "none"},
+            {"masked_twice", masked_twice, "data"},
             {"copied", copied, "none"},
             {"nobody_waits", nobody_waits, "data"},
             {"by_number", by_number, "none"},
