@@ -3,8 +3,11 @@
 Each iteration of a loop is a child, whose body has to be a function of its own: then its variables are no other
 iteration's, and its syncs wait for its own children. gcc makes such a function of a task of OpenMP, clang of what it
 calls a captured statement, and in C++ it is a lambda. What the parent evaluates, the end and the step, comes first."""
-from tokens import Refused, is_in_block
+from tokens import CONTROLS, Refused, is_in_block, outside, own_words, piece, statement_start
 
+# What stands before a block, and before the body of a function behind its parameters.
+BEFORE_BLOCKS = {"else", "do", "try", "_Cilk_scope"}
+QUALIFIERS = {"noexcept", "throw", "alignas", "__attribute__"}
 CYCLES, CHOICES = {"for", "while", "do", "_Cilk_for"}, {"switch"}
 COMPARISONS = {"<": ">", ">": "<", "<=": ">=", ">=": "<=", "!=": "!="}
 # What would end a comparison's side, since it binds less.
@@ -68,16 +71,31 @@ def function_start(tokens, at):
 
 
 def begins_function(tokens, opening):
-    """Whether this brace begins the body of a lambda, or of a member of a local class."""
+    """Whether this brace begins the body of a function or of a lambda."""
+    before = before_qualifiers(tokens, opening)
+    text = tokens[before].text
+    if text in ("->", "::", ">", "*"):
+        return any(tokens[at].text in ("->", "requires") and tokens[at].around == tokens[opening].around
+                   for at in range(statement_start(tokens, opening), opening))
+    named = tokens[tokens[before].partner - 1] if text in (")", "}") else None
+    if text == "}" and before == opening - 1:  # of a constructor's member `x{..}`
+        return named.text == ">" or named.kind == "word" and named.text not in BEFORE_BLOCKS
+    return text == "]" or text == ")" and named.text not in CONTROLS | {"catch", "constexpr"}
+
+
+def before_qualifiers(tokens, opening):
+    """The last token before this brace, the words, the attributes and the marks of references left out."""
     before = opening - 1
-    while tokens[before].kind == "word" and tokens[before].text not in ("else", "do", "try", "_Cilk_scope"):
-        before -= 1
-    if tokens[before].text in ("->", "::", ">", "*", "&"):
-        return True
-    if tokens[before].text == "]":
-        return True
-    return tokens[before].text == ")" and tokens[tokens[before].partner - 1].text not in (
-        "if", "for", "while", "switch", "catch", "_Cilk_for", "constexpr")
+    while True:
+        token, partner = tokens[before], tokens[before].partner
+        if token.kind == "word" and token.text not in BEFORE_BLOCKS or token.text in ("&", "&&"):
+            before -= 1
+        elif token.text == ")" and tokens[partner - 1].text in QUALIFIERS:
+            before = partner - 2
+        elif token.text == "]" and tokens[partner + 1].text == "[":
+            before = partner - 1
+        else:
+            return before
 
 
 def is_in_inner(tokens, at, first, found):
@@ -152,12 +170,13 @@ class Loop:
         raise Refused(self.tokens[self.at], f"{why} in 'cilk_for'")
 
     def direct(self, first, end):
-        """The indexes of those of these tokens that no bracket holds."""
-        return [at for at in range(first, end) if self.tokens[at].around == self.opening]
+        """Those of these tokens that stand in no brackets, and in no template's arguments."""
+        return {self.tokens[at].text for at in outside(self.tokens, first, end)}
 
     def parts(self):
         """The three parts of the header, each from its first token to the one behind its last."""
-        marks = [at for at in self.direct(self.opening + 1, self.closing) if self.tokens[at].text == ";"]
+        marks = [at for at in range(self.opening, self.closing)
+                 if self.tokens[at].text == ";" and self.tokens[at].around == self.opening]
         if any(token.text.startswith("_Cilk_") for token in self.tokens[self.opening:self.closing]):
             self.refuse("no keyword of Cilk may stand in the header")
         if len(marks) != 2:
@@ -171,27 +190,27 @@ class Loop:
 
     def piece(self, first, end):
         """A piece of the program, on its own lines; what follows is on the loop's."""
-        user = self.text[self.tokens[first].start:self.tokens[end - 1].end]
-        return self.tokens[first].marker() + user + self.here
+        return piece(self.text, self.tokens[first], self.tokens[end - 1]) + self.here
 
     def declare(self, first, end):
-        direct = self.direct(first, end)
-        sign = next((at for at in direct if self.tokens[at].text == "="), None)
+        sign = next((at for at in outside(self.tokens, first, end) if self.tokens[at].text == "="), None)
+        if sign is None and self.language == "c++":
+            sign = self.tokens[end - 1].partner
         if sign is None or self.tokens[sign - 1].kind != "word":
             self.refuse("expected a declaration `type name = value' of the loop control variable")
-        if any(self.tokens[at].text == "," for at in direct if at > sign):
+        if "," in self.direct(sign, end):
             self.refuse("cannot declare more than one loop control variable")
-        words = {self.tokens[at].text for at in direct if at < sign}
         if sign - 1 == first or (self.tokens[first].text == "*"):
             self.refuse("the loop control variable has to be declared")
-        if words & {"static", "extern", "register", "const", "volatile", "_Thread_local", "thread_local", "&", "&&"}:
+        own = {token.text for token in own_words(self.tokens, first, sign)}
+        if self.direct(first, sign) & {"static", "extern", "register", "_Thread_local", "thread_local"} or \
+                own & {"const", "volatile", "&", "&&"}:
             self.refuse("loop control variable must be a plain automatic variable")
         self.name = self.tokens[sign - 1].text
         self.declaration = self.piece(first, end)
 
     def compare(self, first, end):
-        direct = [self.tokens[at].text for at in self.direct(first, end)]
-        if not set(direct) & set(COMPARISONS):
+        if not any(token.text in COMPARISONS for token in self.tokens[first:end]):
             self.refuse("loop condition operator must be one of '<', '<=', '>', '>=', or '!='")
         if self.tokens[first].text == self.name and self.tokens[first + 1].text in COMPARISONS:
             self.comparison, limit = self.tokens[first + 1].text, (first + 2, end)
@@ -200,7 +219,7 @@ class Loop:
         else:
             self.refuse(f"loop condition does not test control variable '{self.name}'")
         looser = LOOSER if self.language == "c++" else LOOSER | set(COMPARISONS)
-        if limit[0] == limit[1] or {self.tokens[at].text for at in self.direct(*limit)} & looser:
+        if limit[0] == limit[1] or self.direct(*limit) & looser:
             self.refuse("loop condition has to be one comparison")
         if any(token.text == self.name for token in self.tokens[limit[0]:limit[1]]):
             self.refuse(f"loop condition may name control variable '{self.name}' only once")
@@ -210,12 +229,11 @@ class Loop:
         texts = [token.text for token in self.tokens[first:end]]
         self.step = None
         if sorted(texts) in (sorted([self.name, "++"]), sorted([self.name, "--"])):
-            self.operator = "++" if "++" in texts else "--"
+            self.operator, self.moved = texts[texts[0] == self.name], "".join(texts)
         elif texts[0] == self.name and texts[1] in ("+=", "-="):
-            self.operator = texts[1]
+            self.operator, self.moved = texts[1], f"{self.name}{texts[1]} __spbags_step"
             self.step = self.piece(first + 2, end)
-            direct = {self.tokens[at].text for at in self.direct(first + 2, end)}
-            if direct & {",", "=", "+=", "-="} or self.name in texts[2:]:
+            if self.direct(first + 2, end) & {",", "=", "+=", "-="} or self.name in texts[2:]:
                 self.refuse(f"loop increment has to be one assignment, whose step doesn't name '{self.name}',")
         elif self.name in texts:
             self.refuse("loop increment operator must be one of operators '++', '--', '+=', or '-='")
@@ -233,9 +251,8 @@ class Loop:
         made = [f"{{ {self.declaration};", f"{auto} __spbags_end = {value.format(self.limit)};"]
         if self.step:
             made.append(f"{auto} __spbags_step = {value.format(self.step)};")
-        moved = f"{name}{self.operator}{' __spbags_step' if self.step else ''}"
         made += [f"{entered(self.tokens[self.at])} {self.keeps(self.at)} long __spbags_number = 0;",
-                 f"for (; {name} {self.comparison} __spbags_end; {moved}, (void)0, __spbags_number++) {{"]
+                 f"for (; {name} {self.comparison} __spbags_end; {self.moved}, (void)0, __spbags_number++) {{"]
         made += self.lambda_header() if is_cplusplus else self.outlined_header()
         return self.here + " ".join(made) + self.tokens[self.closing].marker()
 

@@ -1,6 +1,7 @@
 """Reducers that are members of structs: which struct has one, and where an expression names it. Whether an expression
 `x.name` or `X::name` names such a member the compiler finds out: in C by the type of `x`, in C++ by a function that the
 class has beside the member."""
+from loops import begins_function
 from tokens import Refused, statement_start
 
 CLASSES = {"struct", "union", "class"}
@@ -78,8 +79,10 @@ def bodies_of(tokens, brace):
                 tokens[token.around].text != "{":
             continue
         after = at + 2
-        while after < len(tokens) and tokens[after].text not in (";", "{", "}"):
-            after = tokens[after].partner + 1 if tokens[after].text in ("(", "[") else after + 1
+        while after < len(tokens) and tokens[after].text not in (";", "}"):
+            if tokens[after].text == "{" and begins_function(tokens, after):
+                break
+            after = tokens[after].partner + 1 if tokens[after].text in ("(", "[", "{") else after + 1
         if after < len(tokens) and tokens[after].text == "{":
             yield after, tokens[after].partner
 

@@ -7,7 +7,7 @@ hands its address to a function, updates the view, and so does `if (.. name ..) 
 reads or sets the value."""
 import re
 
-from loops import statement_end
+from loops import begins_function, statement_end
 from members import bodies_of, is_call, note_of, note_of_class, operand_start, owner_of, qualified_start, spelled
 from tokens import (CONTROLS, Refused, after_postfixes, arguments_of, is_in_block, statement_start, tokens_of)
 
@@ -57,7 +57,7 @@ def header_start(tokens, brace):
 
 def is_of(tokens, brace, words):
     """Whether this brace opens what one of these words begins."""
-    if tokens[brace].text != "{" or tokens[brace - 1].text == ")":
+    if tokens[brace].text != "{" or begins_function(tokens, brace):
         return False
     return any(token.text in words for token in tokens[header_start(tokens, brace):brace])
 

@@ -11,11 +11,12 @@ import loops
 import reducers
 import source
 import spawns_cplusplus
-from tokens import (CONTROLS, Refused, after_postfixes, arguments_of, call_after, is_in_block, is_lvalue, statement_start,
-                    tokens_of)
+from tokens import (CONTROLS, Refused, after_postfixes, arguments_of, call_after, is_in_block, is_lvalue,
+                    own_constants, piece, statement_start, tokens_of)
 
 ASSIGNMENTS = {"=", "+=", "-=", "*=", "/=", "%=", "&=", "|=", "^=", "<<=", ">>="}
 LITERALS = {"string", "character", "number"}
+NO_LOCALS = {"static", "extern", "typedef", "__auto_type"}
 
 # A function that spawns and is put into its caller would have no end to sync at.
 INLINED = {"always_inline", "__always_inline__"}
@@ -26,8 +27,8 @@ UNSEEN = {f"{sign}{name}{sign}" for sign in ("", "__")
 # A source without any of these stays as it is.
 TOUCHED = re.compile("_Cilk_|_Hyperobject|always_inline|no_sanitize|disable_sanitizer|cilk_(?:spawn|sync|for|scope)")
 
-# The program's pragmas of OpenMP, which its compiler would ignore.
-IGNORED = re.compile(r"^[ \t]*#[ \t]*pragma[ \t]+omp\b.*", re.MULTILINE)
+# The program's pragmas of OpenMP, which its compiler would ignore, and those of Cilk, of a loop's grain size.
+IGNORED = re.compile(r"^[ \t]*#[ \t]*pragma[ \t]+(?:omp|cilk)\b.*", re.MULTILINE)
 
 SHAPES = "write `cilk_spawn f(..);', `x = cilk_spawn f(..);' or `x += cilk_spawn f(..);' as a statement of its own"
 REFUSED = {
@@ -50,7 +51,7 @@ def check_target(tokens, first, spawn):
         raise Refused(tokens[spawn], f"a spawn inside a larger expression can't be traced: {SHAPES}")
     if is_lvalue(tokens, first, sign):
         return False
-    if target[-1].kind != "word" or tokens[sign].text != "=" or any(token.text in ("static", "extern", "typedef") for token in target):
+    if target[-1].kind != "word" or tokens[sign].text != "=" or any(token.text in NO_LOCALS for token in target):
         raise Refused(tokens[spawn], "a spawn can't be traced in this declaration: declare the variable before it")
     return True
 
@@ -70,10 +71,9 @@ class Spawn:
         self.first = statement_start(tokens, spawn)
         self.last = self.closing + 1
 
-    def piece(self, first, last):
+    def piece(self, first, last, without=()):
         """A piece of the program, on its own lines; what follows is on the spawn's."""
-        user = self.text[self.tokens[first].start:self.tokens[last].end]
-        return self.tokens[first].marker() + user + self.here
+        return piece(self.text, self.tokens[first], self.tokens[last], without) + self.here
 
     def arguments(self):
         """A declaration for each argument that has to be evaluated first, and what to hand over."""
@@ -93,7 +93,7 @@ class Spawn:
             return "", []
         declared, named = "", (self.first, self.spawn - 2)
         if check_target(self.tokens, self.first, self.spawn):
-            declared = self.piece(*named) + ";"
+            declared = self.piece(*named, own_constants(self.tokens, *named)) + ";"
             named = (self.spawn - 2, self.spawn - 2)
         return declared, [f"__auto_type __spbags_at = &({self.piece(*named)});"]
 
@@ -233,9 +233,9 @@ def rewritten(text, language):
     if language != "gcc" and not TOUCHED.search(text):
         return text, []
     text, refused_reducers = reducers.rewritten(text, language)
-    has_tasks = language == "gcc" and "_Cilk_for" in text
-    if has_tasks:
+    has_loops = "_Cilk_for" in text
+    if has_loops:
         text = IGNORED.sub("", text)
     text, faults = Rewriting(text, language).rewritten()
     faults = sorted(faults + refused_reducers, key=lambda line: int(re.search(r":(\d+): error: ", line)[1]))
-    return (text + loops.INSTEAD_OF_TASK if has_tasks else text), faults
+    return (text + loops.INSTEAD_OF_TASK if has_loops and language == "gcc" else text), faults

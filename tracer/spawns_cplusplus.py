@@ -6,7 +6,8 @@ the program stays where it is, in one full expression, and the compiler chooses 
 import re
 
 from loops import KEEPS, begins_function, entered, is_in_inner
-from tokens import CONTROLS, Refused, arguments_of, is_in_block, statement_start
+from tokens import (CONTROLS, Refused, after_angles, arguments_of, is_in_block, outside, own_constants, piece,
+                    statement_start)
 
 SHAPES = ("write `cilk_spawn f(..);', `x = cilk_spawn f(..);', `x += cilk_spawn f(..);' or "
           "`T x = cilk_spawn f(..);' as a statement of its own")
@@ -20,18 +21,6 @@ NO_LOCALS = {"static", "extern", "typedef", "using", "thread_local", "_Thread_lo
 STATEMENT = "[&](__spbags_spawned) __attribute__((noipa))"
 OUTSIDE = "__attribute__((no_sanitize_thread))"
 FORWARDED = "static_cast<decltype(__spbags_p) &&>(__spbags_p)..."
-
-
-def after_angles(tokens, at):
-    """The token behind the template's arguments that begin here, or None where none do."""
-    deep = 0
-    while at < len(tokens) and tokens[at].text not in (";", "{", "}", ")", "]"):
-        text = tokens[at].text
-        deep += {"<": 1, ">": -1, ">>": -2}.get(text, 0)
-        if deep <= 0:
-            return at + 1 if deep == 0 else None
-        at = tokens[at].partner + 1 if text in ("(", "[") and tokens[at].partner else at + 1
-    return None
 
 
 def after_name(tokens, at):
@@ -78,7 +67,8 @@ def after_primary(tokens, at):
 
 # ---- What children throw ----
 
-KEEPER = "class __spbags_frame"
+# What the headers have for C++11 and later, and for C++14.
+KEEPER, SPAWNED = "class __spbags_frame", "struct __spbags_spawned"
 
 
 def waits_at(tokens, at):
@@ -139,6 +129,8 @@ class Spawn:
         self.text, self.tokens, self.spawn = text, tokens, spawn
         self.keeps = waits_at(tokens, spawn) in waiting
         self.here = tokens[spawn].marker(" 3")
+        if SPAWNED not in text:
+            self.refuse("a spawn needs C++14, as by -std=c++14")
         self.callee = Postfix(tokens, spawn + 1)
         self.opening = self.callee.call
         if self.opening is None or not is_statement(tokens, spawn):
@@ -157,10 +149,7 @@ class Spawn:
 
     def piece(self, first, last, without=()):
         """A piece of the program, on its own lines; what follows is on the spawn's."""
-        start, user = self.tokens[first].start, self.text[self.tokens[first].start:self.tokens[last].end]
-        for token in without:
-            user = user[:token.start - start] + " " * len(token.text) + user[token.end - start:]
-        return self.tokens[first].marker() + user + self.here
+        return piece(self.text, self.tokens[first], self.tokens[last], without) + self.here
 
     def count(self):
         """How many arguments there are, where the text says it."""
@@ -226,7 +215,7 @@ class Spawn:
         if before in ([], ["(", "void", ")"]):
             return "(void)", "", None
         sign = self.spawn - 1
-        direct = {token.text for token in self.tokens[self.first:sign] if token.around == self.tokens[sign].around}
+        direct = {self.tokens[at].text for at in outside(self.tokens, self.first, sign)}
         if not self.is_braced and (before[-1] not in ASSIGNMENTS or sign == self.first or
                                    (ASSIGNMENTS | {",", "?", "return", "throw", "<<", ">>"}) & direct):
             self.refuse(f"a spawn inside a larger expression can't be traced: {SHAPES}")
@@ -240,16 +229,12 @@ class Spawn:
 
     def declaration(self, sign):
         """Of a variable, which the statement's function returns."""
-        words = self.tokens[self.first:sign - 1]
-        texts = [token.text for token in words if token.around == self.tokens[self.first].around]
-        if not words or self.tokens[sign - 1].kind != "word" or self.tokens[sign].text not in ("=", "{") or \
+        texts = [self.tokens[at].text for at in outside(self.tokens, self.first, sign - 1)]
+        if not texts or self.tokens[sign - 1].kind != "word" or self.tokens[sign].text not in ("=", "{") or \
                 NO_LOCALS & set(texts) or texts[-1] in ("&", "&&", ".", "->", "::") or "(" in texts:
             self.refuse("a spawn can't be traced in this declaration: declare the variable before it")
         # No hook sees the read of what is declared to be constant.
-        behind = max((at for at in range(self.first, sign) if self.tokens[at].text == "*"), default=self.first)
-        declared = self.piece(self.first, sign - 2, [token for token in words if token.text == "const" and
-                                                     token.start >= self.tokens[behind].start and
-                                                     token.around == self.tokens[self.first].around])
+        declared = self.piece(self.first, sign - 2, own_constants(self.tokens, self.first, sign - 1))
         if "auto" in texts:
             return "return ", "", f"{'volatile ' if 'volatile' in texts else ''}decltype({self.function(True)}({{}}))"
         plain = f"typename __spbags_plain<{self.piece(self.first, sign - 2)}>::type"

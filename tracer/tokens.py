@@ -133,6 +133,49 @@ def call_after(tokens, before):
     return last if last is not None and tokens[last].text == "(" and tokens[end].text == ";" else None
 
 
+def after_angles(tokens, at):
+    """The token behind the template's arguments that begin here, or None where none do."""
+    deep = 0
+    while at < len(tokens) and tokens[at].text not in (";", "{", "}", ")", "]"):
+        text = tokens[at].text
+        deep += {"<": 1, ">": -1, ">>": -2}.get(text, 0)
+        if deep <= 0:
+            return at + 1 if deep == 0 else None
+        at = tokens[at].partner + 1 if text in ("(", "[") and tokens[at].partner else at + 1
+    return None
+
+
+def outside(tokens, first, end):
+    """The indexes of those of these tokens that stand in no brackets, and in no template's arguments."""
+    at = first
+    while at < end:
+        yield at
+        if tokens[at].text == "<":
+            at = after_angles(tokens, at) or at + 1
+        else:
+            at = tokens[at].partner + 1 if tokens[at].text in ("(", "[", "{") and tokens[at].partner else at + 1
+
+
+def own_words(tokens, first, name):
+    """The tokens of a declaration that say of the variable itself, and not of what it points to, how it is."""
+    direct = list(outside(tokens, first, name))
+    behind = max((at for at in direct if tokens[at].text == "*"), default=first)
+    return [tokens[at] for at in direct if at >= behind]
+
+
+def own_constants(tokens, first, name):
+    """The words by which such a variable is constant: no hook sees the read of one."""
+    return [token for token in own_words(tokens, first, name) if token.text == "const"]
+
+
+def piece(text, first, last, without=()):
+    """The program's text from one token to another, on its own lines, with space in place of some tokens."""
+    start, found = first.start, text[first.start:last.end]
+    for token in without:
+        found = found[:token.start - start] + " " * len(token.text) + found[token.end - start:]
+    return first.marker() + found
+
+
 def arguments_of(tokens, opening):
     """The first and last index of each argument."""
     arguments, first = [], opening + 1

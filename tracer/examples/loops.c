@@ -21,6 +21,7 @@ static int set(int *at, int to) {
 
 static int squares(int count) {
     int square[N], last = 0, sum = 0;
+#pragma cilk grainsize 2
     cilk_for (int i = 0; i < count; i++) {
         int own = 0;
         set(&own, i * i); /* The variable of an iteration is no other's. */
@@ -61,8 +62,8 @@ static int spawning(void) {
 
 /* A loop waits for its iterations, and not for older children. */
 static int beside(void) {
-    int older, sum[N];
-    older = cilk_spawn answer(); /* [older] */
+    int sum[N];
+    const int older = cilk_spawn answer(); /* [older] */
     cilk_for (int i = 0; i < N; i++)
         cilk_spawn set(&sum[i], i);
     int all = sum[1] + sum[3];

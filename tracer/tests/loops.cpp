@@ -37,6 +37,26 @@ static long nested(void) {
     return sums[0] + sums[1] + sums[2] + 0 * shared;
 }
 
+/* An iterator that has no more than a loop needs, and one to what is constant. */
+struct Step {
+    int *at;
+    explicit Step(int *at) : at(at) {}
+    Step &operator++() { return at++, *this; }
+    bool operator!=(const Step &other) const { return at != other.at; }
+};
+
+static int iterators(void) {
+    int numbers[] = {1, 2, 3, 4}, doubled[4], last = 0;
+    cilk_for (Step step(numbers); step != Step(numbers + 4); ++step) {
+        *step.at += 1;
+        if (racy)
+            last = *step.at; /* [step] */
+    }
+    cilk_for (const int *at = numbers; at != numbers + 4; at++)
+        doubled[at - numbers] = 2 * *at;
+    return doubled[3] + 0 * last;
+}
+
 static int thrower(int number) {
     if (number > 1)
         throw number;
@@ -102,12 +122,13 @@ static int nested_thrown(void) {
 int main(int, char **words) {
     racy = std::strcmp(words[1], "racy") == 0;
     if (std::strcmp(words[1], "thrown") == 0) {
-        std::printf("%d %d\n", thrown(), nested_thrown());
+        std::printf("%d %d %d\n", thrown(), nested_thrown(), iterators());
         return 0;
     }
     Sums sums;
     sums.fill(std::vector<int>{1, 2, 3});
     nested();
+    iterators();
     thrown();
     std::printf("%ld %ld %ld\n", sums.found[0], sums.found[1], sums.found[2]);
 }

@@ -248,6 +248,8 @@ check_openmp_refused() {
         "$("$here/spbags-c++" -c -o refused.o "$source" 2>&1 |
             sed -n 's/.*refused\.cpp:\([0-9]*\): error: .*/\1/p' | uniq)"
     count $? "spawns of C++ that can't be rewritten"
+    ends_with 1 'error: a spawn needs C++14' "$here/spbags-c++" -std=c++11 -c -o refused.o "$source"
+    count $? "spawns in C++11"
 }
 
 # The bytes that race by the tags of such a source, and their two lines, the lesser first.
@@ -290,10 +292,10 @@ check_cilk_cplusplus() {
     count $? "$source, $level"
     same "" "$(found_by_run ./loops clean)"
     count $? "$source, clean"
-    same "$(for tag in last shared thrower; do line_of "$source" "[$tag]"; done)" \
+    same "$(for tag in last shared step thrower; do line_of "$source" "[$tag]"; done)" \
         "$(found_by_run ./loops racy | sed "s,.* $source:,," | sort -n)"
     count $? "$source, racy"
-    ends_with 0 "" "$here/spbags-run" -- ./loops thrown && same '218 2222' "$(grep -v '^races' output)"
+    ends_with 0 "" "$here/spbags-run" -- ./loops thrown && same '218 2222 10' "$(grep -v '^races' output)"
     count $? "$source, exceptions that loops throw again"
     printf 'int main() {\ntry {\ncilk_for (int i = 0; i < 2; i++) throw i;\n} catch (int) {}\n}\n' >thrown.cpp
     "$here/spbags-c++" "$level" -std=c++11 -include cilk/cilk.h -o loops thrown.cpp && "$here/spbags-run" -- ./loops
@@ -323,7 +325,7 @@ check_spawns_cplusplus() {
     ends_with 3 "" "$here/spbags-run" -- ./spawns thrown &&
         grep -q "$source:$(line_of "$source" '[thrown]'): an exception leaves a child here" output
     count $? "$source, $level: an exception"
-    ends_with 0 "" "$here/spbags-run" -- ./spawns kept && same $'22 221 221 15 7 1 8 10\n1' "$(grep -v '^races' output)"
+    ends_with 0 "" "$here/spbags-run" -- ./spawns kept && same $'22 221 221 15 7 1 8 6 10\n1' "$(grep -v '^races' output)"
     count $? "$source, $level: exceptions that a sync throws again"
     if [ "$has_inside" ]; then
         "$here/spbags-c++" "$level" --inside -o inside "$source" && SPBAGS_UNIT=1 has_same_report ./inside racy

@@ -71,6 +71,21 @@ public:
     long get() { return of_[1]; }
 };
 void Counts::add(int number) { of_[number % 2] += number; }
+struct Begun {
+    int first;
+    long cilk_reducer(zero, plus) sum = 0;
+    explicit Begun(int from);
+};
+Begun::Begun(int from) : first{from} {
+    cilk_for (int i = 0; i < 4; i++)
+        sum += first + i;
+}
+template <class T> static long sum_to(T end) noexcept {
+    long cilk_reducer(zero, plus) sum = 0;
+    cilk_for (T i = 0; i < end; i++)
+        sum += i;
+    return sum;
+}
 struct More : Counts {
     long sum = 0;
 };
@@ -100,7 +115,7 @@ static void opencilk() {
          [&] { table[1][0] = table[0][0] + 3; });
     tally.add(1);
     more.add(3);
-    std::printf(" %ld %ld %ld\n", tally.get(), more.get(), table[1][1]);
+    std::printf(" %ld %ld %ld %ld %ld\n", tally.get(), more.get(), table[1][1], Begun(5).sum, sum_to(5));
     std::printf("%ld %ld %ld %d %g\n", everywhere, local, static_cast<long>(library), static_cast<int>(totals.sum),
                 totals.older.get_value());
 }

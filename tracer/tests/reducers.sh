@@ -88,7 +88,7 @@ check_reducers_cplusplus() {
     "$here/spbags-c++" "$level" -Wall -Wextra -Werror -o reducers "$source"
     count $? "$source $level"
     reports 0 "" --unseen-ok 'std::allocator*' -- ./reducers clean &&
-        same $'out 7 12 3 4\n10 15 10 4 10\n21 20 12 20\n11 24 f0 7 4 4 1 1 6 4\n and 8\n4 eeeeeeeeeeeeeeeeeeee tbbbbbbbbbbccccccccccddddddddddeeeeeeeeee' \
+        same $'out 7 12 3 4 26 10\n10 15 10 4 10\n21 20 12 20\n11 24 f0 7 4 4 1 1 6 4\n and 8\n4 eeeeeeeeeeeeeeeeeeee tbbbbbbbbbbccccccccccddddddddddeeeeeeeeee' \
             "$(grep -v -e '^races' -e '^not seen' output)"
     count $? "$source $level, clean"
     same "$(grep -nF '[update]' "$source" | cut -d: -f1 | awk '{ print $1, $1 + 1 }' | sort)" "$(racy_lines ./reducers racy)"

@@ -37,6 +37,7 @@ int refused(int n, int *p) {
     int c = 1, d = cilk_spawn f(1); /* [refused] */
     int e[1] = {cilk_spawn f(1)}; /* [refused] */
     static int s = cilk_spawn f(1); /* [refused] */
+    __auto_type o = cilk_spawn f(1); /* [refused] */
     for (x = cilk_spawn f(0); x < n; x++) /* [refused] */
         y++;
     for (x = 0; x < n; cilk_spawn f(x)) /* [refused] */

@@ -29,6 +29,11 @@ struct Pair {
     int a, b;
 };
 static Pair pair(int number) { return {number, number}; }
+template <class A, class B> struct Both {
+    A a;
+    B b;
+};
+static Both<int *, Both<int, int>> both(int number) { return {nullptr, {number, number}}; }
 
 static void results() {
     int declared = cilk_spawn one(1); // [4 declared first]
@@ -36,12 +41,14 @@ static void results() {
     long braced{cilk_spawn one(3)};   // [8 braced first]
     Pair made = cilk_spawn pair(1);   // [4 made first]
     const Pair fixed = cilk_spawn pair(1); // [4 fixed first]
+    const Both<int *, Both<int, int>> mixed = cilk_spawn both(1); // [4 mixed first]
     WAIT;
     keep(declared); // [4 declared second]
     keep(deduced);  // [4 deduced second]
     keep(braced);   // [8 braced second]
     keep(made.b);   // [4 made second]
     keep(fixed.a);  // [4 fixed second]
+    keep(mixed.b.b); // [4 mixed second]
     cilk_sync;
     int numbers[2] = {0, 5}, at = 0;
     Pair set = {1, 2};
@@ -360,6 +367,10 @@ static void throw_at_end() {
     cilk_spawn thrower(7);
     ended++;
 }
+template <class T> struct Braced {
+    T value;
+    explicit Braced(int number) : value{number} { cilk_spawn thrower(number); }
+};
 template <class Function> static int thrown_by(Function function) {
     try {
         function();
@@ -382,6 +393,7 @@ static void exceptions() {
         }
         ended += at;
     }));
+    std::printf("%d ", thrown_by([] { Braced<int>(6); }));
     std::printf("%d\n", thrown_by([] {
         cilk_spawn thrower(9);
         throw 10;
