@@ -13,14 +13,14 @@ CLOSING = {"(": ")", "[": "]", "{": "}"}
 # The words that a directive begins with; those that have more here can't be traced, and are called so.
 DIRECTIVES = {
     **dict.fromkeys(("parallel", "for", "simd", "sections", "single", "master", "masked", "task", "taskloop",
-                     "taskwait", "ordered", "declare", "begin", "end", "cancel", "cancellation")),
+                     "taskwait", "ordered", "declare", "begin", "end", "cancel", "cancellation", "depobj")),
     "target": "target", "teams": "teams", "distribute": "distribute", "loop": "loop (write `for')",
-    "allocate": "allocate", "allocators": "allocate", "depobj": "depend", "scan": "scan",
+    "allocate": "allocate", "allocators": "allocate", "scan": "scan",
     "metadirective": "metadirective", "dispatch": "dispatch", "interop": "interop"}
 # The number of a body's kind in the hooks, by the last word of its directive.
 BODIES = {"parallel": 0, "single": 1, "master": 2, "masked": 2}
 SIMD_BODY = 3
-REFUSED_CLAUSES = {"depend": "depend", "doacross": "depend", "detach": "detach", "allocate": "allocate"}
+REFUSED_CLAUSES = {"detach": "detach", "allocate": "allocate"}
 
 
 def clauses_of(text):
@@ -63,6 +63,8 @@ def refusal(text):
     for name in names:
         if DIRECTIVES[name]:
             return DIRECTIVES[name]
+    if names == ["ordered"] and {"depend", "doacross"} & {name for name, _, _ in clauses}:
+        return "depend"
     for name, start, end in clauses[len(names):]:
         if name in REFUSED_CLAUSES:
             return REFUSED_CLAUSES[name]
@@ -162,7 +164,7 @@ def rewritten(text):
 UNKNOWN = (
     ("__kmpc_", "clang's OpenMP, where gcc's can be traced"),
     ("GOMP_target|GOACC|GOMP_offload|omp_target", "OpenMP's target"),
-    ("GOMP_doacross|GOMP_loop.*_doacross|GOMP_taskwait_depend", "OpenMP's depend"),
+    ("GOMP_doacross|GOMP_loop.*_doacross", "OpenMP's depend"),
     ("GOMP_teams|omp_.*teams", "OpenMP's teams"),
     ("omp_fulfill_event", "OpenMP's detach"),
     ("GOMP_alloc|GOMP_free|omp_.*alloc|omp_free", "OpenMP's allocate"),

@@ -109,6 +109,7 @@ static bool looking;
 /* Libraries with OpenMP of their own have threads of their own. */
 #pragma GCC visibility push(hidden)
 #include "openmp.h"
+#include "openmp_depend.h"
 #include "openmp_teams.h"
 #include "openmp_bodies.h"
 #include "openmp_calls.h"

@@ -38,6 +38,8 @@ struct scope {
     uint64_t children, others, following;
     /* Where the first of the others came from. */
     uintptr_t others_code;
+    /* How often it has waited for what it made. */
+    uint64_t waits;
     /* The reductions that its tasks take part in. */
     uintptr_t *reductions;
     /* Whether what is done here stands after an ordered region. */
@@ -234,6 +236,7 @@ static void join_from(size_t first, uintptr_t code) {
         left += unsynced(scope);
         scope->children = scope->others = scope->following = 0;
         scope->has_master = false;
+        scope->waits++;
         if (at > first && scope->owns) {
             write_return(code);
             scope->owns = false;
@@ -259,6 +262,7 @@ static void close_waiting(uintptr_t code) {
 
 enum task_flag {
     FINAL = 1 << 1,
+    DEPEND = 1 << 3,
     COUNTS_UP = 1 << 8,
     GRAIN_SIZE = 1 << 9,
     DEFERRED = 1 << 10,
@@ -336,14 +340,8 @@ static void run_task(const struct task *task, const struct bounds *bounds, uintp
         clear_below(stack_pointer);
 }
 
-void GOMP_task(void (*run)(void *), void *data, void (*copy)(void *, void *), long size, long alignment, bool deferred,
-               unsigned flags, void **depend, int priority, void *detach) {
-    (void)depend, (void)priority, (void)detach;
-    struct task task = {run, data, copy, (size_t)size, (size_t)alignment, deferred, (flags & FINAL) != 0};
-    run_task(&task, NULL, STACK_POINTER, CODE);
-}
-
-void GOMP_taskwait(void) {
+/* Whether there was a task to wait for. */
+static bool wait_for_tasks(uintptr_t code) {
     uint64_t children = 0, others = 0;
     uintptr_t others_code = 0;
     size_t at = newest_scope + 1;
@@ -354,11 +352,14 @@ void GOMP_taskwait(void) {
         others_code = scope->others > 0 ? scope->others_code : others_code;
     } while (scopes[at].kind == GROUP);
     if (children == 0)
-        return;
-    join_from(at, CODE);
+        return false;
+    join_from(at, code);
     if (others > 0)
-        note_outlived(others, CODE, others_code);
+        note_outlived(others, code, others_code);
+    return true;
 }
+
+void GOMP_taskwait(void) { wait_for_tasks(CODE); }
 
 void GOMP_taskyield(void) {}
 

@@ -39,6 +39,17 @@ static void tell_waits(void) {
                         source_line(after_ordered, wait, ROOM));
 }
 
+static void tell_depend(void) {
+    char line[ROOM];
+    if (depend_wait != 0)
+        tell_incomplete("%s: this depends on a task, and waits for all before it by SPBAGS_DEPEND=order: races of what "
+                        "comes before with what comes after aren't seen",
+                        source_line(depend_wait, line, ROOM));
+    if (first_depend != 0 && depend_way == IGNORED)
+        tell_seeming("%s: by SPBAGS_DEPEND=ignore nothing waits for data: what depend orders may look like a race",
+                     source_line(first_depend, line, ROOM));
+}
+
 static void tell_shares(void) {
     char before[ROOM];
     if (blocks_of != 0)
@@ -82,6 +93,7 @@ static void tell_shares(void) {
 
 static void tell_openmp_notes(void) {
     tell_waits();
+    tell_depend();
     tell_unfinished();
     tell_shares();
     if (own[THREAD].end > own[THREAD].first)

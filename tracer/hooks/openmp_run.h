@@ -38,6 +38,7 @@ __attribute__((constructor(102))) static void start_openmp(void) {
     set_threads_of_levels();
     scopes[0].threads_wanted = threads_by_variable(0);
     most_active_levels = levels_of_teams();
+    set_depend_way();
     may_cancel = is_true("OMP_CANCELLATION");
     iterations = number_from("SPBAGS_ITERATIONS", "iterations", 1);
     own[COPIES].first = own[COPIES].end = (uintptr_t)reserve(most_copies);

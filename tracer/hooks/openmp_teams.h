@@ -160,6 +160,7 @@ static void end_part(uintptr_t code) {
     member->scope = *scope;
     member->scope.children = member->scope.others = member->scope.following = 0;
     member->scope.has_master = false;
+    member->scope.waits++;
     close_child(code);
 }
 

@@ -355,6 +355,37 @@ static void lanes(void) {
             row[i] = row[i - 1];
 }
 
+/* The last task waits for the first one, and not for the second. */
+static void depends(void) {
+#pragma omp task depend(in : one)
+    printf("%d\n", one); /* [reads first] */
+#pragma omp task
+    printf("%d\n", one);
+#pragma omp task depend(out : one) /* [depends] */
+    one = 1; /* [writes last] */
+}
+
+static void depends_on_none(void) {
+    for (int i = 0; i < 2; i++)
+#pragma omp task depend(inout : row[i])
+        other = row[i]++; /* [apart] */
+}
+
+/* One by a wait for data, and one by an object that names it. */
+static void depends_on_one(void) {
+#pragma omp task depend(out : one)
+    one = 1;
+#pragma omp taskwait depend(in : one)
+    one = 2;
+    omp_depend_t named;
+#pragma omp depobj(named) depend(inout : one)
+#pragma omp task depend(depobj : named)
+    one = 3;
+#pragma omp task depend(depobj : named)
+    one = 4;
+#pragma omp depobj(named) destroy
+}
+
 static void task_number(void) {
 #pragma omp task
     counts[omp_get_thread_num()] = 1; /* [task asks] */
@@ -394,6 +425,9 @@ int main(int count, char **words) {
                 {"ordered_last", ordered_last, true},
                 {"alike", alike, true},
                 {"lanes", lanes, true},
+                {"depends", depends, false},
+                {"depends_on_none", depends_on_none, false},
+                {"depends_on_one", depends_on_one, false},
                 {"task_number", task_number, false}};
     const char *word = count > 1 ? words[1] : "";
     for (size_t way = 0; way < sizeof ways / sizeof *ways; way++)

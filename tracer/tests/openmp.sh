@@ -176,6 +176,20 @@ check_openmp_threads() {
     count $? "tests/openmp.c, task_of_critical: the task doesn't hold what its thread held"
 }
 
+# Tasks that wait for data.
+check_openmp_depend() {
+    local source=tracer/tests/openmp.c
+    "$here/spbags-cc" -fopenmp -o ways "$source"
+    ends_with 2 "openmp.c:.* what depend orders can't be traced" env SPBAGS_TRACE=run.trace ./ways depends
+    count $? "tests/openmp.c, depends: refused"
+    SPBAGS_DEPEND=all ends_with 2 'SPBAGS_DEPEND=all: expected ignore or order' ./ways depends
+    count $? "tests/openmp.c: SPBAGS_DEPEND"
+    SPBAGS_DEPEND=ignore check_openmp_answer depends 1 "nothing waits for data" "reads first" "writes last"
+    SPBAGS_DEPEND=order check_openmp_answer depends 3 "this depends on a task, and waits for all before it" "" ""
+    SPBAGS_DEPEND=order check_openmp_answer depends_on_none 1 "" apart apart
+    SPBAGS_DEPEND=order check_openmp_answer depends_on_one 3 "this depends on a task" "" ""
+}
+
 # Whether a traced run of a team has races, and nothing that a thread mustn't see.
 check_team() {
     local threads=$1 way=$2 race=$3
@@ -435,5 +449,5 @@ start_openmp() {
     run_checks random_cplusplus check_random_cplusplus &
     run_checks teams check_teams check_random_openmp &
     run_checks openmp check_openmp_outputs check_openmp_ways check_openmp_threads check_openmp_guards \
-        check_openmp_refused check_containers check_tbb_refused check_tbb_groups &
+        check_openmp_depend check_openmp_refused check_containers check_tbb_refused check_tbb_groups &
 }

@@ -4,9 +4,6 @@
 static int a, b, row[8];
 
 int main(void) {
-#pragma omp task depend(out : a) /* [refused] */
-    a = 1;
-#pragma omp taskwait depend(in : a) /* [refused] */
     omp_event_handle_t event;
 #pragma omp task detach(event) /* [refused] */
     b = 1;

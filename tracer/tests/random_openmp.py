@@ -2,13 +2,16 @@
 """Random OpenMP programs, traced and judged. Each is a parallel region that is written as C for spbags-cc, and run by a
 model of its own: that does what each thread does, keeps the dag of the strands with all its paths, and says by
 definition which variables race. The model knows nothing of traces, bags or stacks; their names have to be those of the
-locations that `spbags check` reports.
+locations that `spbags check` reports. If accesses are under critical regions, locks or atomic, and all races of a
+variable are of two under one of these, or none is, then `spbags-run` has to say so. With `depend` a program is judged
+twice, by SPBAGS_DEPEND=order and =ignore, and what the program itself has must be between both.
 
     random_openmp.py [--count 200] [--seed 1] [--seconds 60]
 
 SPBAGS names the checker. It stops after so many seconds, and its last line says how many programs it tried and how many
 of them were wrong."""
 import argparse
+import json
 import os
 import random
 import subprocess
@@ -27,6 +30,7 @@ HEAD = """\
 #include <stdlib.h>
 typedef volatile int number;
 static number *shown;
+static omp_lock_t locks[2];
 static void use(int value) { if (value == -77) abort(); }
 """
 
@@ -36,8 +40,8 @@ static void use(int value) { if (value == -77) abort(); }
 class Dag:
     """Strands, each with the set of those before it, as the bits of a number; and what they access."""
 
-    def __init__(self):
-        self.before, self.accesses = [], {}
+    def __init__(self, way):
+        self.before, self.accesses, self.way = [], {}, way
 
     def strand(self, *after):
         bits = 1 << len(self.before)
@@ -46,12 +50,15 @@ class Dag:
         self.before.append(bits)
         return len(self.before) - 1
 
-    def access(self, strand, variable, writes):
-        self.accesses.setdefault(variable, set()).add((strand, writes))
+    def access(self, strand, variable, writes, guard):
+        self.accesses.setdefault(variable, set()).add((strand, writes, guard))
 
     def racy(self):
-        return {variable for variable, accesses in self.accesses.items()
-                if any(self.race(one, other) for one in accesses for other in accesses)}
+        """By variable the guards of its races, where None is a race of two that share none."""
+        found = {variable: {one[2] if one[2] == other[2] else None
+                            for one in accesses for other in accesses if self.race(one, other)}
+                 for variable, accesses in self.accesses.items()}
+        return {variable: guards for variable, guards in found.items() if guards}
 
     def race(self, one, other):
         first, second = one[0], other[0]
@@ -60,24 +67,37 @@ class Dag:
 
 
 class Procedure:
-    """What runs now, and the last strands of its children that nothing has waited for."""
+    """What runs now, and the last strands of its children that nothing has waited for; of those that are tasks with
+    `depend`, whether they write a variable, and their own last strand."""
 
     def __init__(self, dag, now):
-        self.dag, self.now, self.children, self.tasks, self.has_master = dag, now, [], 0, False
+        self.dag, self.now, self.children, self.tasks, self.has_master, self.named = dag, now, [], 0, False, []
 
-    def access(self, variable, writes):
-        self.dag.access(self.now, variable, writes)
+    def access(self, variable, writes, guard=None):
+        self.dag.access(self.now, variable, writes, guard)
 
-    def spawn(self, does, *words):
-        child = Procedure(self.dag, self.dag.strand(self.now))
+    def spawn(self, does, *words, after=()):
+        child = Procedure(self.dag, self.dag.strand(self.now, *after))
         self.now = self.dag.strand(self.now)
         does(child, *words)
+        ended = child.now
         child.sync()
         self.children.append(child.now)
+        return ended
 
     def sync(self):
         self.now = self.dag.strand(self.now, *self.children)
-        self.children, self.tasks, self.has_master = [], 0, False
+        self.children, self.tasks, self.has_master, self.named = [], 0, False, []
+
+    def task(self, does, depend):
+        """A task that names these variables. The way says what `depend` does, or is None for what it means."""
+        older = [ended for name, writes, ended in self.named
+                 if any(name == other and (writes or also) for other, also in depend)]
+        if older and self.dag.way == "order":
+            self.sync()
+        ended = self.spawn(does, after=older if self.dag.way is None else ())
+        self.named += [(name, writes, ended) for name, writes in depend]
+        self.tasks += 1
 
 
 class Team:
@@ -118,12 +138,14 @@ class Member:
     def do(self, procedure, item):
         """What has no barrier, in a part of this member or in a child."""
         if item.kind == "task":
-            procedure.spawn(lambda child: [self.do(child, inner) for inner in item.inner])
-            procedure.tasks += 1
+            procedure.task(lambda child: [self.do(child, inner) for inner in item.inner], item.depend)
         elif item.kind == "taskwait" and procedure.tasks > 0:
             procedure.sync()
         elif item.kind == "access":
-            procedure.access(self.place(item.variable, 0), item.writes)
+            procedure.access(self.place(item.variable, 0), item.writes, item.guard)
+        elif item.kind == "guarded":
+            for inner in item.inner:
+                self.do(procedure, inner)
 
     def place(self, variable, iteration):
         array = variable.partition("[")
@@ -140,7 +162,7 @@ class Member:
         self.do(self.part, item)
         yield from ()
 
-    taskwait = task
+    taskwait = guarded = task
 
     def numbered(self, item):
         """What only the thread of a number does."""
@@ -234,6 +256,7 @@ class Writer:
 
     def __init__(self, number, source):
         self.random, self.number, self.lines = source, number, []
+        self.has_guards = self.has_depend = False
         self.globals = [f"p{number}_g{at}" for at in range(GLOBALS)]
         self.slots, self.local = f"p{number}_s", "local"
 
@@ -246,8 +269,8 @@ class Writer:
         self.items = [self.item(deep=0) for _ in range(self.random.randint(1, 7))]
         inner, self.lines = self.lines[1:], self.lines[:1]
         # gcc copies a variable without an address into a region and back.
-        self.line(f"static void p{self.number}(void) {{ number local; shown = &local;")
-        self.line(f"#pragma omp parallel num_threads({self.threads})")
+        self.line(f"static void p{self.number}(void) {{ int value; number local; shown = &local;")
+        self.line(f"#pragma omp parallel num_threads({self.threads}) private(value)")
         self.line("{")
         self.lines += inner
         self.line("}")
@@ -266,23 +289,47 @@ class Writer:
             return f"{self.slots}[{index}{self.random.choice(('', ' + 1'))}]"
         return f"{self.slots}[thread]" if self.chance(0.4) else self.random.choice(self.globals)
 
-    def access(self, index=None, in_child=False):
+    def access(self, index=None, in_child=False, guard=None):
         variable, writes = self.variable(index), self.chance(0.4)
         if in_child and "thread" in variable:
             variable = self.globals[0]
         name = variable.replace("thread", "omp_get_thread_num()")
-        self.line(f"{name} = 1;" if writes else f"use({name});")
-        return Item("access", variable=variable, writes=writes)
+        if in_child and guard is None and self.chance(0.1):
+            guard, self.has_guards = "atomic", True
+            self.line(f"#pragma omp atomic {'write' if writes else 'read'}")
+            self.line(f"{name} = 1;" if writes else f"value = {name};")
+        else:
+            self.line(f"{name} = 1;" if writes else f"use({name});")
+        return Item("access", variable=variable, writes=writes, guard=guard)
+
+    def guarded(self, deep):
+        """Accesses under a critical region or a lock, and maybe a task, which isn't."""
+        guard, self.has_guards = self.random.choice(("critical", "critical(a)", "locks[0]", "locks[1]")), True
+        is_lock = guard.startswith("locks")
+        self.line(f"omp_set_lock(&{guard});" if is_lock else f"#pragma omp {guard}")
+        self.line("{")
+        inner = [self.access(in_child=True, guard=guard) for _ in range(self.random.randint(1, 2))]
+        if deep < 2 and self.chance(0.3):
+            inner.append(self.task(2))
+        self.line("}")
+        self.lines += [f"omp_unset_lock(&{guard});"] * is_lock
+        return Item("guarded", inner=inner)
 
     def inner(self, count, deep):
         """What a child does: accesses and tasks."""
         return [self.task(deep + 1) if deep < 2 and self.chance(0.2) else
-                self.taskwait() if self.chance(0.1) else self.access(in_child=True) for _ in range(count)]
+                self.taskwait() if self.chance(0.1) else
+                self.guarded(deep) if deep < 2 and self.chance(0.15) else
+                self.access(in_child=True) for _ in range(count)]
 
     def task(self, deep):
-        self.line("#pragma omp task shared(local)")
-        self.line("{")
-        item = Item("task", inner=self.inner(self.random.randint(1, 2), deep))
+        kinds = {name: self.random.choice(("in", "in", "out", "inout"))
+                 for name in self.random.sample(self.globals[:2], self.random.randint(1, 2) if self.chance(0.3) else 0)}
+        self.has_depend |= bool(kinds)
+        self.line("#pragma omp task shared(local)" + "".join(f" depend({kinds[name]} : {name})" for name in kinds))
+        self.line("{ int value;")
+        item = Item("task", depend=[(name, kind != "in") for name, kind in kinds.items()],
+                    inner=self.inner(self.random.randint(1, 2), deep))
         self.line("}")
         return item
 
@@ -292,9 +339,9 @@ class Writer:
 
     def item(self, deep):
         kind = self.random.choice(("access", "access", "barrier", "single", "master", "loop", "loop", "sections", "task",
-                                   "taskwait", "numbered"))
-        return {"access": self.access, "taskwait": self.taskwait, "task": lambda: self.task(deep)}.get(
-            kind, getattr(self, "make_" + kind, None))()
+                                   "taskwait", "numbered", "guarded"))
+        return {"access": self.access, "taskwait": self.taskwait, "task": lambda: self.task(deep),
+                "guarded": lambda: self.guarded(deep)}.get(kind, getattr(self, "make_" + kind, None))()
 
     def make_barrier(self):
         self.line("#pragma omp barrier")
@@ -346,8 +393,8 @@ class Writer:
         self.line("}")
         return Item("loop", nowait=nowait, count=count, static=schedule == "static", sum=sum, inner=inner)
 
-    def racy(self):
-        dag = Dag()
+    def racy(self, way):
+        dag = Dag(way)
         around = Procedure(dag, dag.strand())
         Team(dag, around, self.threads).run(self.items)
         return dag.racy()
@@ -366,13 +413,14 @@ class Batch:
             writer.write()
             lines += writer.lines
         calls = " ".join(f"case {writer.number}: p{writer.number}(); break;" for writer in self.writers)
-        lines.append(f"int main(int count, char **words) {{ switch (atoi(words[1])) {{ {calls} }} }}")
+        lines.append("int main(int count, char **words) { omp_init_lock(locks); omp_init_lock(locks + 1); "
+                     f"switch (atoi(words[1])) {{ {calls} }} }}")
         with open(self.name + ".c", "w", encoding="utf-8") as file:
             file.write("\n".join(lines) + "\n")
 
-    def run(self, *words, **settings):
+    def run(self, *words, statuses=(0,), **settings):
         done = subprocess.run(words, capture_output=True, text=True, env={**os.environ, **settings})
-        if done.returncode not in (0, 1) or (done.returncode and words[0] != SPBAGS):
+        if done.returncode not in statuses:
             sys.exit(f"random_openmp.py: {' '.join(words)}: {done.stderr}")
         return done.stdout
 
@@ -386,28 +434,50 @@ class Batch:
         """By location. All of the stack is the local variable."""
         slots = self.addresses[writer.slots]
         found = {self.addresses[name] // 4 * 2: name for name in writer.globals}
-        return {**found, **{(slots + 4 * at) // 4 * 2: f"{writer.slots}[{at}]" for at in range(SLOTS)}}
+        found.update({(slots + 4 * at) // 4 * 2: f"{writer.slots}[{at}]" for at in range(SLOTS)})
+        return lambda location: writer.local if location % 2 else found.get(location, "?")
 
-    def found(self, writer):
+    def found(self, writer, way):
         trace = f"{self.name}.{writer.number}"
-        self.run(self.name, str(writer.number), SPBAGS_TRACE=trace, SPBAGS_TEAM=str(writer.threads))
-        locations = [int(line.split()[1]) for line in self.run(SPBAGS, "check", trace).splitlines()[1:]]
+        self.run(self.name, str(writer.number), SPBAGS_TRACE=trace, SPBAGS_TEAM=str(writer.threads), SPBAGS_DEPEND=way)
+        lines = self.run(SPBAGS, "check", trace, statuses=(0, 1)).splitlines()[1:]
         os.remove(trace)
         os.remove(trace + ".places")
-        names = self.names(writer)
-        return sorted(writer.local if location % 2 else names.get(location, "?") for location in locations)
+        return sorted(map(self.names(writer), (int(line.split()[1]) for line in lines)))
+
+    def falsely_guarded(self, writer):
+        """The variables that have races under one guard only, and aren't told so, or no such races, and are."""
+        report = self.run(os.path.join(TRACER, "spbags-run"), "--json", "--most", "1000", "--", self.name,
+                          str(writer.number), statuses=(0, 1, 3), SPBAGS_TEAM=str(writer.threads),
+                          SPBAGS_DEPEND="ignore")
+        wanted, name_of = writer.racy("ignore"), self.names(writer)
+        told = [(name_of(pair["location"]), pair["guard"] is not None) for pair in json.loads(report)["pairs"]]
+        return [name for name, is_guarded in told
+                if (None not in wanted[name] and not is_guarded) or (wanted[name] == {None} and is_guarded)]
+
+    def faults(self, writer):
+        """What the runs say and the model doesn't."""
+        ways = ("order", "ignore") if writer.has_depend else ("ignore",)
+        wanted, found = [sorted(writer.racy(way)) for way in ways], [self.found(writer, way) for way in ways]
+        own = set(writer.racy(None))
+        if wanted != found:
+            yield f"wanted {wanted}, found {found}"
+        if not own <= set(found[-1]) or (writer.has_depend and not set(found[0]) <= own):
+            yield f"the program has {sorted(own)}, found {found}"
+        # It runs such a program twice, and takes long.
+        is_asked = writer.has_guards and writer.number % 4 == 0 and wanted == found
+        if is_asked and (names := self.falsely_guarded(writer)):
+            yield f"the guards of {names}"
 
     def wrong(self):
         """The programs whose races aren't those that the model names."""
         self.build()
         wrong = []
-        self.racy = 0
+        self.racy = sum(bool(writer.racy(None)) for writer in self.writers)
         for writer in self.writers:
-            wanted, found = sorted(writer.racy()), self.found(writer)
-            self.racy += bool(wanted)
-            if wanted != found:
+            if faults := list(self.faults(writer)):
                 print("\n".join(writer.lines), file=sys.stderr)
-                print(f"program {writer.number}: wanted {wanted}, found {found}", file=sys.stderr)
+                print(f"program {writer.number}: {'; '.join(faults)}", file=sys.stderr)
                 wrong.append(writer.number)
         return wrong
 

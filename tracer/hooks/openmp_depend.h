@@ -1,0 +1,105 @@
+/* Order by data. By `depend` a task waits for some of those that its parent made before, which no spawn and no sync can
+   say. SPBAGS_DEPEND says what is done instead. With `ignore` nothing waits: what `depend` orders may look like a race,
+   and where there is none the program has none. With `order` a task that depends on another one waits for all that its
+   parent made before: each race is one of the program's, and others aren't seen. */
+enum depend_way { REFUSED, IGNORED, ORDERED };
+static enum depend_way depend_way;
+/* The first task with `depend`, and the first that waited. */
+static uintptr_t first_depend, depend_wait;
+
+/* What tasks of one parent name: whether one of them writes it since the parent has waited so often. */
+enum { DEPENDENCE_BITS = 22, MOST_DEPENDENCES = 1 << DEPENDENCE_BITS };
+static struct dependence {
+    uintptr_t address;
+    uint64_t parent, waits;
+    bool is_used, writes;
+} *dependences;
+static size_t dependences_used;
+
+static struct dependence *dependence_of(uintptr_t address, uint64_t parent) {
+    const uint64_t mixing = 0x9e3779b97f4a7c15u;
+    size_t slot = (address + parent * mixing) * mixing >> (64 - DEPENDENCE_BITS);
+    while (dependences[slot].is_used && (dependences[slot].address != address || dependences[slot].parent != parent))
+        slot = (slot + 1) % MOST_DEPENDENCES;
+    return &dependences[slot];
+}
+
+/* An address of gcc's list. One form of the list has the number of all and that of those that are written before it. The
+   other one begins with 0, the number of all, and how many are written, are exclusive, and are read; what comes then are
+   objects, of which each has an address and whether it is read. */
+static uintptr_t named_at(void **list, size_t at, bool *writes) {
+    size_t *counts = (size_t *)list;
+    if (counts[0] != 0) {
+        *writes = at < counts[1];
+        return (uintptr_t)list[2 + at];
+    }
+    const uintptr_t *object = list[5 + at];
+    bool is_object = at >= counts[2] + counts[3] + counts[4];
+    *writes = is_object ? object[1] != 1 : at < counts[2] + counts[3];
+    return is_object ? object[0] : (uintptr_t)object;
+}
+
+static size_t names_in(void **list) { return (size_t)(list[0] ? list[0] : list[1]); }
+
+static bool depends_on_older(void **list, const struct scope *parent) {
+    for (size_t at = 0; at < names_in(list); at++) {
+        bool writes;
+        const struct dependence *named = dependence_of(named_at(list, at, &writes), parent->number);
+        if (named->is_used && named->waits == parent->waits && (writes || named->writes))
+            return true;
+    }
+    return false;
+}
+
+static void name_all(void **list, const struct scope *parent) {
+    for (size_t at = 0; at < names_in(list); at++) {
+        bool writes;
+        uintptr_t address = named_at(list, at, &writes);
+        struct dependence *named = dependence_of(address, parent->number);
+        if (!named->is_used && ++dependences_used > MOST_DEPENDENCES / 2)
+            fail("tasks depend on more than %d addresses", MOST_DEPENDENCES / 2);
+        writes |= named->is_used && named->waits == parent->waits && named->writes;
+        *named = (struct dependence){address, parent->number, parent->waits, true, writes};
+    }
+}
+
+static void follow_depend(void **list, bool is_named, uintptr_t code) {
+    char line[400];
+    if (!tracing)
+        return;
+    if (depend_way == REFUSED)
+        fail("%s: what depend orders can't be traced: SPBAGS_DEPEND=ignore leaves it out, and with SPBAGS_DEPEND=order "
+             "a task that depends on another one waits for all before it",
+             source_line(code, line, sizeof line));
+    first_depend = first_depend ? first_depend : code;
+    if (depend_way == IGNORED)
+        return;
+    const struct scope *parent = &scopes[newest_scope];
+    while (parent->kind == GROUP)
+        parent--;
+    if (depends_on_older(list, parent) && wait_for_tasks(code))
+        depend_wait = depend_wait ? depend_wait : code;
+    if (is_named)
+        name_all(list, parent);
+}
+
+void GOMP_task(void (*run)(void *), void *data, void (*copy)(void *, void *), long size, long alignment, bool deferred,
+               unsigned flags, void **depend, int priority, void *detach) {
+    (void)priority, (void)detach;
+    struct task task = {run, data, copy, (size_t)size, (size_t)alignment, deferred, (flags & FINAL) != 0};
+    if ((flags & DEPEND) != 0)
+        follow_depend(depend, deferred, CODE);
+    run_task(&task, NULL, STACK_POINTER, CODE);
+}
+
+void GOMP_taskwait_depend(void **depend) { follow_depend(depend, false, CODE); }
+
+static void set_depend_way(void) {
+    const char *name = "SPBAGS_DEPEND", *value = getenv(name);
+    if (!value || !*value)
+        return;
+    depend_way = strcmp(value, "ignore") == 0 ? IGNORED : strcmp(value, "order") == 0 ? ORDERED : REFUSED;
+    if (depend_way == REFUSED)
+        fail("%s=%s: expected ignore or order", name, value);
+    dependences = depend_way == ORDERED ? reserve(MOST_DEPENDENCES * sizeof *dependences) : NULL;
+}
