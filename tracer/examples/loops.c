@@ -21,7 +21,6 @@ static int set(int *at, int to) {
 
 static int squares(int count) {
     int square[N], last = 0, sum = 0;
-#pragma cilk grainsize 2
     cilk_for (int i = 0; i < count; i++) {
         int own = 0;
         set(&own, i * i); /* The variable of an iteration is no other's. */
@@ -97,6 +96,30 @@ static int added(void) {
     return one.sum; /* [after_added] */
 }
 
+/* A spawn may be any statement. */
+static int placed(int count) {
+    int at[N + 1], i = 0;
+    if (count == 0)
+        at[0] = 0;
+    else
+        at[0] = cilk_spawn answer(); /* [else] */
+    do
+        at[1] = cilk_spawn answer(); /* [do] */
+    while (i++ < 0);
+    for (; i < 2; i++)
+        at[i + 1] = cilk_spawn answer(); /* [for] */
+    switch (count) {
+    case N:
+        at[3] = cilk_spawn answer(); /* [case] */
+        goto last;
+    }
+last:
+    at[N] = cilk_spawn answer(); /* [last_label] */
+    SYNC;
+    return at[0] + at[1] + at[2] + at[3] + at[N]; /* [after_placed] */
+}
+
 int main(void) {
-    printf("%d %d %d %d %d %d\n", squares(N), nested(), spawning(), beside(), scoped(), added());
+    printf("%d %d %d %d %d ", squares(N), nested(), spawning(), beside(), scoped());
+    printf("%d %d\n", added(), placed(N));
 }

@@ -26,6 +26,8 @@ sys.path.insert(0, TRACER)
 import answers
 SPBAGS = os.path.realpath(os.environ.get("SPBAGS", os.path.join(TRACER, "..", "spbags")))
 BATCH, GLOBALS, MOST_STEPS = 25, 4, 400
+# Of a loop with two iterations, with the numbers 0 and 1.
+HEADERS = ("int i = 0; i < 2; i++", "long i = 1; i >= 0; --i", "unsigned i = 0; 2 != i; i += 1", "short i = 1; i > -1; i -= 1")
 
 HEAD = """\
 #include <cilk/cilk.h>
@@ -59,6 +61,7 @@ struct Other : Holder {
 };
 static void take(Holder by) { *by.at = 1; }
 static Holder made(number *at) { return Holder(at); }
+static Holder thrown(number *at) { *at = 1; throw 1; }
 """
 
 
@@ -184,10 +187,13 @@ class Function:
         elif kind == 8:
             self.reduce()
         elif kind == 7 and deep < 2:
-            self.random.choice((self.loop, self.parallel_loop, self.scope))(deep + 1)
+            self.random.choice(self.blocks())(deep + 1)
         else:
             self.access()
         self.steps += 1
+
+    def blocks(self):
+        return self.loop, self.parallel_loop, self.scope
 
     def statements(self, deep):
         for _ in range(self.random.randint(1, 3)):
@@ -206,8 +212,9 @@ class Function:
     def parallel_loop(self, deep, iteration=None):
         """Each iteration is a child, with a function's locals and syncs, and the loop is a function that is called."""
         before, known, known_sums = self.steps, len(self.locals), len(self.sums)
-        self.writer.line("cilk_for (int i = 0; i < 2; i++) {",
-                         "enter(); for (int i = 0; i < 2; i++) { spawn(); enter();")
+        header = self.random.choice(HEADERS)
+        self.writer.line("#pragma cilk grainsize 2", "")
+        self.writer.line(f"cilk_for ({header}) {{", f"enter(); for ({header}) {{ spawn(); enter();")
         self.declare()
         (iteration or self.statements)(deep)
         self.writer.line("}", self.ends(known_sums) + "leave(); spawned(); } leave();")
@@ -238,6 +245,9 @@ class CplusplusFunction(Function):
     def statement(self, deep):
         self.deep = deep
         super().statement(deep)
+
+    def blocks(self):
+        return *super().blocks(), self.holder
 
     def sync(self):
         self.writer.line("cilk_sync;", f"sync_children(); {self.handler}")
@@ -318,6 +328,19 @@ class CplusplusFunction(Function):
             (f"Other kept({at}); Holder *some = &kept; cilk_spawn some->set(1); cilk_sync;", wrote,
              f"sync_children(); {read} {self.handler}")))
         self.writer.line(f"{{ {spawn} }}", f"spawn(); {child} spawned(); {behind}")
+
+    def holder(self, deep):
+        """A variable without a default, which is a child's result and is destroyed behind a sync, unless the child throws."""
+        at, _, judged = self.variable()
+        outer, throws = self.handler, self.handler and self.random.random() < 0.5
+        child, end = (f"touch({judged}, true);", "") if throws else ("", f"touch({judged}, false);")
+        self.writer.line(f"{{ Holder kept = cilk_spawn {'thrown' if throws else 'made'}({at});",
+                         f"{{ spawn(); {child} spawned();")
+        self.handler = outer and f"{{ {end} {outer} }}"
+        self.statements(deep)
+        self.sync()
+        self.handler = outer
+        self.writer.line("}", f"{end} }}")
 
     def spawn_result(self):
         """The child stores into a variable that begins with that."""

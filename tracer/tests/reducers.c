@@ -38,6 +38,7 @@ static void add_to(int *sum, int n) { *sum += n; /* [added] */ }
 static void scalars(void) {
     static int cilk_reducer(zero, add) calls;
     int cilk_reducer(zero, add) sum = 1;
+#pragma cilk grainsize 1
     cilk_for (int i = 0; i < 4; i++)
         if (racy && i == 2)
             kept = total; /* [value] */

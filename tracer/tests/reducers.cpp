@@ -23,6 +23,7 @@
 static bool racy;
 
 template <class Update, class Value> static void both(Update update, Value value) {
+#pragma cilk grainsize = 1
     cilk_for (int i = 0; i < 4; i++) {
         update(i + 1);
         if (racy && i == 2)

@@ -260,9 +260,38 @@ static void callees() {
     std::printf("%d %d %d\n", sum, d, e);
 }
 
-// ---- Blocks and exceptions ----
+// ---- Statements, blocks and exceptions ----
+static void statements(int number) {
+    int at[4] = {};
+    if (number == 0)
+        at[0] = 1;
+    else
+        at[0] = cilk_spawn one(1); // [4 else first]
+    do
+        at[1] = cilk_spawn one(2); // [4 do first]
+    while (number == 0);
+    for (int i = 2; i < 3; i++)
+        at[i] = cilk_spawn one(3); // [4 for first]
+    switch (number) {
+    case 1:
+        at[3] = cilk_spawn one(4); // [4 case first]
+    }
+    WAIT;
+    keep(at[0]); // [4 else second]
+    keep(at[1]); // [4 do second]
+    keep(at[2]); // [4 for second]
+    keep(at[3]); // [4 case second]
+}
+
 static void blocks() {
-    int outer = 0, tried = 0;
+    int outer = 0, tried = 0, scoped[2] = {};
+    cilk_scope {
+        scoped[0] = cilk_spawn one(1); // [4 scope first]
+        WAIT;
+        keep(scoped[0]); // [4 scope second]
+        scoped[1] = cilk_spawn one(2);
+    }
+    keep(scoped[1]);
     cilk_spawn [&] { outer = 1; }(); // [4 outer first]
     WAIT;
     try {
@@ -426,6 +455,7 @@ int main(int, char **words) {
     arguments();
     members();
     callees();
+    statements(1);
     blocks();
     beside_thrower();
     std::printf("%d\n", before_the_child());
