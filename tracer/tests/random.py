@@ -277,12 +277,21 @@ class CplusplusFunction(Function):
 
     def iteration_of_thrower(self, deep):
         """A child throws, and so its sync does."""
-        _, this, judged = self.variable()
         label = f"next_{len(self.writer.cilk)}"
         self.handler = f"goto {label};"
-        self.writer.line(f"cilk_spawn throwing({this});", f"spawn(); touch({judged}, true); spawned();")
+        self.writer.line(*self.thrower())
         self.statements(deep)
         self.writer.line("", f"{label}:;")
+
+    def thrower(self):
+        """A child writes and throws, in place of a result that has no default, or of none."""
+        at, this, judged = self.variable()
+        spawn = self.random.choice((f"cilk_spawn throwing({this});", f"Holder kept = cilk_spawn thrown({at});"))
+        return spawn, f"spawn(); touch({judged}, true); spawned();"
+
+    def writes(self):
+        _, this, judged = self.variable()
+        return f"cilk_spawn by_reference({this});", f"spawn(); touch({judged}, true); spawned();"
 
     def call(self, spawns):
         if spawns and self.random.random() < 0.7:
@@ -330,12 +339,10 @@ class CplusplusFunction(Function):
         self.writer.line(f"{{ {spawn} }}", f"spawn(); {child} spawned(); {behind}")
 
     def holder(self, deep):
-        """A variable without a default, which is a child's result and is destroyed behind a sync, unless the child throws."""
+        """A child's result that has no default is destroyed behind a sync, also if that throws."""
         at, _, judged = self.variable()
-        outer, throws = self.handler, self.handler and self.random.random() < 0.5
-        child, end = (f"touch({judged}, true);", "") if throws else ("", f"touch({judged}, false);")
-        self.writer.line(f"{{ Holder kept = cilk_spawn {'thrown' if throws else 'made'}({at});",
-                         f"{{ spawn(); {child} spawned();")
+        outer, end = self.handler, f"touch({judged}, false);"
+        self.writer.line(f"{{ Holder kept = cilk_spawn made({at});", "{ spawn(); spawned();")
         self.handler = outer and f"{{ {end} {outer} }}"
         self.statements(deep)
         self.sync()
@@ -358,13 +365,12 @@ class CplusplusFunction(Function):
 
     def scope(self, deep):
         """A block of `try` with a spawn waits before its handler, and throws what a child has thrown where it waits."""
-        _, this, judged = self.variable()
         child_throws = self.random.random() < 0.3
         throws = not child_throws and self.random.random() < 0.5
         outer, label = self.handler, f"out_{len(self.writer.cilk)}"
         self.handler = f"goto {label};" if child_throws else ""
-        self.writer.line(f"try {{ cilk_spawn {'throwing' if child_throws else 'by_reference'}({this});",
-                         f"enter(); spawn(); touch({judged}, true); spawned(); {{")
+        spawn, told = self.thrower() if child_throws else self.writes()
+        self.writer.line(f"try {{ {spawn}", f"enter(); {told} {{")
         self.statements(deep)
         self.writer.line(f"{'throw 1; ' if throws else ''}}} catch (int) {{",
                          f"}} {label}: leave(); if ({int(child_throws or throws)}) {{")
