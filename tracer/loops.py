@@ -219,7 +219,9 @@ class Loop:
         else:
             self.refuse(f"loop condition does not test control variable '{self.name}'")
         looser = LOOSER if self.language == "c++" else LOOSER | set(COMPARISONS)
-        if limit[0] == limit[1] or self.direct(*limit) & looser:
+        # An `&` that comes first takes an address.
+        if limit[0] == limit[1] or any(self.tokens[at].text in looser for at in outside(self.tokens, *limit)
+                                       if at > limit[0]):
             self.refuse("loop condition has to be one comparison")
         if any(token.text == self.name for token in self.tokens[limit[0]:limit[1]]):
             self.refuse(f"loop condition may name control variable '{self.name}' only once")

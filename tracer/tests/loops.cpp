@@ -52,7 +52,7 @@ static int iterators(void) {
         if (racy)
             last = *step.at; /* [step] */
     }
-    cilk_for (const int *at = numbers; at != numbers + 4; at++)
+    cilk_for (const int *at = numbers; at != &numbers[4]; at++)
         doubled[at - numbers] = 2 * *at;
     return doubled[3] + 0 * last;
 }
