@@ -272,7 +272,9 @@ class Loop:
 
     def lambda_header(self):
         keeps = self.keeps(self.closing)
-        return [f"auto __spbags_body = [&, {self.name}]() mutable __attribute__((noipa)) {{ {keeps} do"]
+        # By the number, no narrow variable shares a unit with its copy.
+        copied = f"{self.name}, __spbags_number"
+        return [f"auto __spbags_body = [&, {copied}]() mutable __attribute__((noipa)) {{ {keeps} do"]
 
     def footer(self):
         end = "while (0); } __spbags_return(0, 0); } }"
