@@ -3,6 +3,8 @@ of two lines' accesses, and read where the program doesn't. So spbags-cc has cla
 optimized yet, as LLVM's text, and optimize that: no call of a hook moves past another.
 
 A variable of a function whose address no other code gets will be in a register, and needs no hooks."""
+import bisect
+import os
 import re
 
 FUNCTION = re.compile(r"^define .*?^}$", re.MULTILINE | re.DOTALL)
@@ -17,6 +19,33 @@ PLAIN_USE = re.compile(r"  (?:%[\w.]+ = load|store) (?!volatile|atomic).* (%[\w.
 DESCRIPTION = re.compile(r" +(?:call void @llvm\.dbg\.declare\(metadata|#dbg_declare\()")
 # The same address as another type, which clang 14 puts before a hook.
 OTHER_TYPE = re.compile(r"  (%[\w.]+) = bitcast .* (%[\w.]+) to ")
+
+
+# A file, and the description of a function: its name, its file and its line.
+FILE = re.compile(r'^(!\d+) = !DIFile\(filename: "([^"]*)", directory: "([^"]*)"', re.MULTILINE)
+DESCRIBED = re.compile(r'!DISubprogram\((?:linkageN|n)ame: "([^"]*)", .*?\bfile: (!\d+), line: (\d+),'
+                       r".*DISPFlagDefinition")
+# What clang makes of OpenMP, beside functions with the program's code: others that call them.
+CALLS = re.compile(r"^define internal \w+ @(\.omp_task_entry\.[.\d]*|"
+                   r"\.omp_outlined\.[.\d]*(?=.*\n(?:  .*\n|\n)*?  call void @\.omp_outlined\._debug__))\(",
+                   re.MULTILINE)
+CALLER = "__spbags_outlined"
+
+
+def named(text):
+    """The text with the parts that OpenMP makes of a function under that function's name."""
+    described, callers = list(DESCRIBED.finditer(text)), set(CALLS.findall(text))
+    files = {number: os.path.join(directory, name) for number, name, directory in FILE.findall(text)}
+    places = [(files.get(found[2], ""), int(found[3]), found[1]) for found in described]
+    functions = sorted(place for place in places if not place[2].startswith(".omp"))
+    pieces, done = [], 0
+    for found, (file, line, name) in zip(described, places):
+        at = bisect.bisect_right(functions, (file, line, "\x7f")) - 1
+        if name.startswith(".omp") and at >= 0 and functions[at][0] == file:
+            shown = CALLER if name in callers else functions[at][2]
+            pieces += [text[done:found.start()], f'!DISubprogram(name: "{shown}"']
+            done = found.end(1) + 1
+    return "".join(pieces) + text[done:]
 
 
 def hooked(text):

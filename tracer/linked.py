@@ -15,7 +15,7 @@ SYSTEM = re.compile(r"(?:lib(?:c|m|mvec|pthread|dl|rt|util|resolv|crypt|nsl|anl|
 # What these give out is code that nothing is known of either.
 GIVES_CODE = {"dlsym", "dlvsym"}
 PARALLEL = re.compile("GOMP_|GOACC_|__kmpc_")
-OPENMP = re.compile("GOMP_|omp_|__spbags_thread_num$")
+OPENMP = re.compile("GOMP_|__kmpc_|omp_|__spbags_thread_num$")
 # By nm: functions, and what isn't defined.
 FUNCTIONS, UNDEFINED = "TWi", "Uwv"
 OBJECT, SHARED = 1, 3

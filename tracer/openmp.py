@@ -4,6 +4,7 @@ import re
 
 MARKER = re.compile(r'#(?:line)? *([0-9]+) *("(?:\\.|[^"\\])*")?')
 PRAGMA = re.compile(r"[ \t]*#[ \t]*pragma[ \t]+omp\b(.*)")
+SECTION = re.compile(r"[ \t]*#[ \t]*pragma[ \t]+omp[ \t]+section\b")
 ATTRIBUTE = re.compile(r"\[\[\s*(?:using\s+)?omp\b")
 WORD = re.compile(r"[A-Za-z_]\w*")
 PIECE = re.compile(r"\"(?:\\.|[^\"\\\n])*\"|'(?:\\.|[^'\\\n])*'|[(){}\[\];]|[A-Za-z_]\w*|.", re.DOTALL)
@@ -13,13 +14,13 @@ CLOSING = {"(": ")", "[": "]", "{": "}"}
 # The words that a directive begins with; those that have more here can't be traced, and are called so.
 DIRECTIVES = {
     **dict.fromkeys(("parallel", "for", "simd", "sections", "single", "master", "masked", "task", "taskloop",
-                     "taskwait", "ordered", "declare", "begin", "end", "cancel", "cancellation", "depobj")),
+                     "taskwait", "section", "ordered", "declare", "begin", "end", "cancel", "cancellation", "depobj")),
     "target": "target", "teams": "teams", "distribute": "distribute", "loop": "loop (write `for')",
     "allocate": "allocate", "allocators": "allocate", "scan": "scan",
     "metadirective": "metadirective", "dispatch": "dispatch", "interop": "interop"}
 # The number of a body's kind in the hooks, by the last word of its directive.
 BODIES = {"parallel": 0, "single": 1, "master": 2, "masked": 2}
-SIMD_BODY = 3
+SIMD_BODY, SECTION_BODY = 3, 4
 REFUSED_CLAUSES = {"detach": "detach", "allocate": "allocate"}
 
 
@@ -112,8 +113,10 @@ def with_body(text, kind, file, line):
 class Source:
     """A preprocessed source that is read line by line."""
 
-    def __init__(self):
-        self.file, self.line, self.faults = "?", 1, []
+    def __init__(self, is_clang):
+        self.file, self.line, self.faults, self.is_clang = "?", 1, [], is_clang
+        # What comes next of clang's sections: the brace around them, or the first of them.
+        self.awaits = None
 
     def refuse(self, why):
         self.faults.append(f"{self.file}:{self.line}: error: {why}")
@@ -135,41 +138,58 @@ class Source:
             rest = clauses_of(text)[1][1]
             master = with_body(f" {names[0]} {thread}", BODIES[names[0]], self.file, self.line)
             return f'{master}# {self.line} "{self.file}"\n#pragma omp {text[rest:]}\n'
+        if self.is_clang and names[-1:] == ["sections"]:
+            self.awaits = "brace"
+        if self.is_clang and names == ["section"]:
+            return with_body(text, SECTION_BODY, self.file, self.line)
         if names == ["simd"]:
             return body(SIMD_BODY, self.file, self.line, self.line) + f"#pragma omp{text}\n"
         if names and names[-1] in BODIES:
             return with_body(text, BODIES[names[-1]], self.file, self.line)
         return f"#pragma omp{text}\n"
 
+    def first_section(self, line):
+        """What stands before the rest of a line, with the directive of the first section if that is left out; and the
+        rest."""
+        before = ""
+        if self.awaits == "brace" and "{" in line and not PRAGMA.match(line):
+            before, brace, line = line.partition("{")
+            before, self.awaits = before + brace, "section"
+        if self.awaits == "section" and line.strip():
+            self.awaits = None
+            if not SECTION.match(line):
+                before += "\n#pragma omp section\n" + body(SECTION_BODY, self.file, self.line, self.line)
+        return before, line
+
     def rewritten(self, line):
         marker, pragma = MARKER.match(line), PRAGMA.match(line)
         if marker:
             self.line, self.file = int(marker[1]), marker[2][1:-1] if marker[2] else self.file
             return line
+        before, line = self.first_section(line)
         if pragma:
             line = self.directive(pragma[1])
         elif ATTRIBUTE.search(line):
             self.refuse("attributes of OpenMP can't be traced: write #pragma omp")
         self.line += 1
-        return line
+        return before + line
 
 
-def rewritten(text):
+def rewritten(text, is_clang=False):
     """The source with its loops rewritten, and a line for each directive that can't be traced."""
-    source = Source()
+    source = Source(is_clang)
     return "".join(map(source.rewritten, re.findall(r"[^\n]*\n|[^\n]+", text))), source.faults
 
 
 # What the hooks of OpenMP don't have, by its name.
 UNKNOWN = (
-    ("__kmpc_", "clang's OpenMP, where gcc's can be traced"),
     ("GOMP_target|GOACC|GOMP_offload|omp_target", "OpenMP's target"),
     ("GOMP_doacross|GOMP_loop.*_doacross", "OpenMP's depend"),
     ("GOMP_teams|omp_.*teams", "OpenMP's teams"),
     ("omp_fulfill_event", "OpenMP's detach"),
     ("GOMP_alloc|GOMP_free|omp_.*alloc|omp_free", "OpenMP's allocate"),
     ("GOMP_loop|GOMP_parallel_loop", "a loop that the tracer's compiler didn't compile"),
-    ("GOMP_|omp_", "a part of OpenMP"))
+    ("GOMP_|omp_|__kmpc_", "a part of OpenMP"))
 UNDEFINED = re.compile("^(?:\\S*ld: )?(.*?):? undefined reference to [`'](\\w+)'", re.MULTILINE)
 
 

@@ -22,6 +22,10 @@ UNKNOWN = Position("?", 0, "?")
 OUTLINED = re.compile(r"(?:\._omp_(?:cpy)?fn\.[0-9]+| \[clone [^]]*\])+$")
 # What clang makes of a loop's body.
 CAPTURED = re.compile(r"__captured_stmt(?:\.[0-9]+)?")
+# The lock of a critical region of OpenMP: gcc's, and clang's, which has one too if the region has no name.
+CRITICAL = re.compile(r"\.gomp_critical_user_(.*?)(?:\.var)?")
+# What clang.py calls functions that call others that OpenMP is made into.
+CALLER = "__spbags_outlined"
 SYSTEM = ("/usr/include/", "/usr/local/include/", "/usr/lib")
 # The headers of the tracer itself.
 OWN = os.path.join(os.path.dirname(os.path.realpath(__file__)), "include", "")
@@ -82,7 +86,8 @@ def positions_of(program, codes):
     starts = [number for number, line in enumerate(found) if line.startswith("0x")]
     positions = {}
     for code, start, end in zip(ordered, starts, [*starts[1:], len(found)]):
-        positions[code] = [position_of(found[at], found[at + 1]) for at in range(start + 1, end, 2)]
+        there = [position_of(found[at], found[at + 1]) for at in range(start + 1, end, 2)]
+        positions[code] = [position for position in there if position.function != CALLER] or there
     if len(positions) != len(ordered):
         raise Failure("addr2line gave no answer")
     return positions
@@ -154,4 +159,6 @@ class Variables:
         start, size, name = self.rows[number]
         # A static of a function has a number behind its name with gcc, and the function before it with clang.
         name = re.sub(r"\.[0-9]+$", "", name).rpartition(".")[2] or name
+        critical = CRITICAL.fullmatch(self.rows[number][2])
+        name = (critical[1] or "without a name") if critical else name
         return Variable(name, address - start, size) if address < start + size else None

@@ -116,6 +116,7 @@ static bool looking;
 #include "openmp_loops.h"
 #include "openmp_reductions.h"
 #include "openmp_taskloops.h"
+#include "openmp_clang.h"
 #include "openmp_notes.h"
 #pragma GCC visibility pop
 #endif

@@ -1,5 +1,5 @@
 /* ---- Bodies. spbags-cc puts `for (__spbags_body(KIND); __spbags_goes_on();)` before each of these: of a parallel
-   region, of a single one, and of a master's, and a loop with simd alone ---- */
+   region, of a single one, and of a master's, a loop with simd alone, and with clang a section ---- */
 
 /* Where a master region waits for what the team has made before, as one thread does all of them. */
 static uintptr_t second_master;
@@ -15,13 +15,20 @@ void __spbags_body(int kind) {
     bodies[newest_body] = (struct body){.kind = (enum body_kind)kind};
 }
 
-/* The compiler may give the call of the runtime another line than the body has. */
+/* The compiler may give the call of the runtime another line than the body has. clang makes two functions of a body. */
+static void name_part(uintptr_t code) {
+    struct frame *part = top - 1;
+    part -= part->kind < CALLED;
+    if (part->kind < CALLED)
+        return;
+    name_region(part->code, code);
+    part->code = code;
+}
+
 static void begin_parallel_body(uintptr_t code) {
     struct scope *thread = &scopes[newest_scope];
-    if (tracing && top[-1].kind >= CALLED) {
-        name_region(top[-1].code, code);
-        top[-1].code = code;
-    }
+    if (tracing)
+        name_part(code);
     if (thread->kind == MEMBER)
         thread->team->code = code;
     thread->in_body = true;
@@ -48,7 +55,7 @@ int __spbags_filter(int number) {
 /* One thread of the team does this, beside what the others do. */
 static void begin_child_body(struct body *body, uintptr_t stack_pointer, uintptr_t code) {
     struct scope *team = &scopes[newest_scope];
-    body->is_child = is_thread(team) && !team->alone;
+    body->is_child = is_thread(team) && !team->alone && (body->kind != SECTION_BODY || !team->loop->in_blocks);
     if (!body->is_child)
         return;
     if (body->kind == MASTER_BODY && team->has_master) {
@@ -58,7 +65,9 @@ static void begin_child_body(struct body *body, uintptr_t stack_pointer, uintptr
     team->has_master |= body->kind == MASTER_BODY;
     open_child(SHARE, code);
     open_part(LOOP_PART, stack_pointer, code);
-    note_part((struct part){.of = body->kind == MASTER_BODY ? "master" : "single"});
+    const char *names[] = {[SINGLE_BODY] = "single", [MASTER_BODY] = "master", [SECTION_BODY] = "sections"};
+    uint64_t number = body->kind == SECTION_BODY ? ++team->shares : 0;
+    note_part((struct part){.of = names[body->kind], .first = number, .last = number});
 }
 
 static void end_child_body(uintptr_t code) {

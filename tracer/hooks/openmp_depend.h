@@ -24,46 +24,32 @@ static struct dependence *dependence_of(uintptr_t address, uint64_t parent) {
     return &dependences[slot];
 }
 
-/* An address of gcc's list. One form of the list has the number of all and that of those that are written before it. The
-   other one begins with 0, the number of all, and how many are written, are exclusive, and are read; what comes then are
-   objects, of which each has an address and whether it is read. */
-static uintptr_t named_at(void **list, size_t at, bool *writes) {
-    size_t *counts = (size_t *)list;
-    if (counts[0] != 0) {
-        *writes = at < counts[1];
-        return (uintptr_t)list[2 + at];
-    }
-    const uintptr_t *object = list[5 + at];
-    bool is_object = at >= counts[2] + counts[3] + counts[4];
-    *writes = is_object ? object[1] != 1 : at < counts[2] + counts[3];
-    return is_object ? object[0] : (uintptr_t)object;
-}
+/* What a task names. */
+struct named {
+    uintptr_t address;
+    bool writes;
+};
 
-static size_t names_in(void **list) { return (size_t)(list[0] ? list[0] : list[1]); }
-
-static bool depends_on_older(void **list, const struct scope *parent) {
-    for (size_t at = 0; at < names_in(list); at++) {
-        bool writes;
-        const struct dependence *named = dependence_of(named_at(list, at, &writes), parent->number);
-        if (named->is_used && named->waits == parent->waits && (writes || named->writes))
+static bool depends_on_older(const struct named *names, size_t count, const struct scope *parent) {
+    for (size_t at = 0; at < count; at++) {
+        const struct dependence *older = dependence_of(names[at].address, parent->number);
+        if (older->is_used && older->waits == parent->waits && (names[at].writes || older->writes))
             return true;
     }
     return false;
 }
 
-static void name_all(void **list, const struct scope *parent) {
-    for (size_t at = 0; at < names_in(list); at++) {
-        bool writes;
-        uintptr_t address = named_at(list, at, &writes);
-        struct dependence *named = dependence_of(address, parent->number);
-        if (!named->is_used && ++dependences_used > MOST_DEPENDENCES / 2)
+static void name_all(const struct named *names, size_t count, const struct scope *parent) {
+    for (size_t at = 0; at < count; at++) {
+        struct dependence *older = dependence_of(names[at].address, parent->number);
+        if (!older->is_used && ++dependences_used > MOST_DEPENDENCES / 2)
             fail("tasks depend on more than %d addresses", MOST_DEPENDENCES / 2);
-        writes |= named->is_used && named->waits == parent->waits && named->writes;
-        *named = (struct dependence){address, parent->number, parent->waits, true, writes};
+        bool writes = names[at].writes || (older->is_used && older->waits == parent->waits && older->writes);
+        *older = (struct dependence){names[at].address, parent->number, parent->waits, true, writes};
     }
 }
 
-static void follow_depend(void **list, bool is_named, uintptr_t code) {
+static void follow_depend(const struct named *names, size_t count, bool is_named, uintptr_t code) {
     char line[400];
     if (!tracing)
         return;
@@ -77,10 +63,31 @@ static void follow_depend(void **list, bool is_named, uintptr_t code) {
     const struct scope *parent = &scopes[newest_scope];
     while (parent->kind == GROUP)
         parent--;
-    if (depends_on_older(list, parent) && wait_for_tasks(code))
+    if (depends_on_older(names, count, parent) && wait_for_tasks(code))
         depend_wait = depend_wait ? depend_wait : code;
     if (is_named)
-        name_all(list, parent);
+        name_all(names, count, parent);
+}
+
+/* gcc's list has one of two forms. One has the number of all and that of those that are written, before the addresses.
+   The other one begins with 0, the number of all, and how many are written, are exclusive, and are read; what comes
+   then are objects, of which each has an address and whether it is read. */
+static struct named named_at(void **list, size_t at) {
+    const size_t *counts = (const size_t *)list;
+    if (counts[0] != 0)
+        return (struct named){(uintptr_t)list[2 + at], at < counts[1]};
+    const uintptr_t *object = list[5 + at];
+    if (at < counts[2] + counts[3] + counts[4])
+        return (struct named){(uintptr_t)object, at < counts[2] + counts[3]};
+    return (struct named){object[0], object[1] != 1};
+}
+
+static void follow_list(void **list, bool is_named, uintptr_t code) {
+    size_t count = (size_t)(list[0] ? list[0] : list[1]);
+    struct named names[count + 1];
+    for (size_t at = 0; at < count; at++)
+        names[at] = named_at(list, at);
+    follow_depend(names, count, is_named, code);
 }
 
 void GOMP_task(void (*run)(void *), void *data, void (*copy)(void *, void *), long size, long alignment, bool deferred,
@@ -88,11 +95,11 @@ void GOMP_task(void (*run)(void *), void *data, void (*copy)(void *, void *), lo
     (void)priority, (void)detach;
     struct task task = {run, data, copy, (size_t)size, (size_t)alignment, deferred, (flags & FINAL) != 0};
     if ((flags & DEPEND) != 0)
-        follow_depend(depend, deferred, CODE);
+        follow_list(depend, deferred, CODE);
     run_task(&task, NULL, STACK_POINTER, CODE);
 }
 
-void GOMP_taskwait_depend(void **depend) { follow_depend(depend, false, CODE); }
+void GOMP_taskwait_depend(void **depend) { follow_list(depend, false, CODE); }
 
 static void set_depend_way(void) {
     const char *name = "SPBAGS_DEPEND", *value = getenv(name);

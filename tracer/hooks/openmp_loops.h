@@ -143,17 +143,15 @@ static void note_long_share(const struct scope *thread, uint64_t size) {
 
 /* Gives the next share's first counter and its end, where one is left. A loop may become one of blocks in its first
    share, which goes on then as a block. */
-static bool next_share(uint64_t *first, uint64_t *end, uintptr_t stack_pointer, uintptr_t code) {
+static bool take_share(uint64_t *first, uint64_t *end, uintptr_t stack_pointer, uintptr_t code) {
     struct scope *thread = thread_now();
     struct loop *loop = thread->loop;
     uint64_t size = next_size(thread);
     bool goes_on = loop->in_blocks && size > 0;
     if (thread->shares > 0 && !goes_on && scopes[newest_scope].kind == SHARE)
         end_share(thread, code);
-    if (size == 0) {
-        begin_following(thread, stack_pointer, code);
+    if (size == 0)
         return false;
-    }
     *first = loop->start + loop->begun * loop->step;
     loop->begun += size;
     *end = loop->begun == loop->count ? loop->end : loop->start + loop->begun * loop->step;
@@ -162,6 +160,13 @@ static bool next_share(uint64_t *first, uint64_t *end, uintptr_t stack_pointer, 
     thread->taken += size;
     note_long_share(thread, loop->in_blocks ? thread->taken : size);
     return true;
+}
+
+static bool next_share(uint64_t *first, uint64_t *end, uintptr_t stack_pointer, uintptr_t code) {
+    bool is_left = take_share(first, end, stack_pointer, code);
+    if (!is_left)
+        begin_following(thread_now(), stack_pointer, code);
+    return is_left;
 }
 
 /* What the wrapper makes of schedule(static), and of that with nowait. */
@@ -232,10 +237,12 @@ bool GOMP_loop_end_cancel(void) {
 }
 void GOMP_loop_end_nowait(void) { end_following(CODE); }
 
-void GOMP_ordered_start(void) {
+static void begin_ordered_region(uintptr_t code) {
     if (scopes[newest_scope].kind == SHARE)
-        join_from(newest_scope, CODE);
+        join_from(newest_scope, code);
 }
+
+void GOMP_ordered_start(void) { begin_ordered_region(CODE); }
 
 void GOMP_ordered_end(void) {
     struct scope *scope = &scopes[newest_scope];

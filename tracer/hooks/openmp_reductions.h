@@ -16,24 +16,30 @@ static uintptr_t own_block(size_t alignment, size_t size) {
     return block;
 }
 
-static void register_reductions(uintptr_t *data) {
-    struct scope *scope = &scopes[newest_scope];
+/* Memory for the copies of all threads, or those of the first thread that came here. */
+static void reserve_copies(uintptr_t *array, const uintptr_t *first) {
+    size_t size = array[SIZE] * threads_now();
+    array[MEMORY] = first ? first[MEMORY] : own_block(array[MEMORY], size);
+    array[END] = array[MEMORY] + size;
+}
+
+/* Those of this scope. FIRST are the first thread's, or NULL. */
+static void register_reductions(size_t scope, uintptr_t *data, const uintptr_t *first) {
     uintptr_t *array = data;
-    for (;; array = (uintptr_t *)array[NEXT_ARRAY]) {
-        size_t size = array[SIZE] * threads_now();
-        array[MEMORY] = own_block(array[MEMORY], size);
-        array[END] = array[MEMORY] + size;
-        if (array[NEXT_ARRAY] == 0)
-            break;
+    reserve_copies(array, first);
+    while (array[NEXT_ARRAY] != 0) {
+        array = (uintptr_t *)array[NEXT_ARRAY];
+        first = first ? (const uintptr_t *)first[NEXT_ARRAY] : NULL;
+        reserve_copies(array, first);
     }
-    size_t at = newest_scope;
+    size_t at = scope;
     while (at > 0 && !scopes[at].reductions)
         at--;
     array[NEXT_ARRAY] = (uintptr_t)scopes[at].reductions;
-    scope->reductions = data;
+    scopes[scope].reductions = data;
 }
 
-void GOMP_taskgroup_reduction_register(uintptr_t *data) { register_reductions(data); }
+void GOMP_taskgroup_reduction_register(uintptr_t *data) { register_reductions(newest_scope, data, NULL); }
 void GOMP_taskgroup_reduction_unregister(uintptr_t *data) { (void)data; }
 
 /* Finds the variable of an array that has this address, or whose copy of any thread it is; or null. */
@@ -68,7 +74,7 @@ void GOMP_task_reduction_remap(size_t count, size_t originals, void **addresses)
 unsigned GOMP_parallel_reductions(void (*run)(void *), void *data, unsigned threads, unsigned flags) {
     (void)flags;
     begin_team(threads, data, STACK_POINTER, CODE);
-    register_reductions(*(uintptr_t **)data);
+    register_reductions(newest_scope, *(uintptr_t **)data, NULL);
     run_team(run, data, NULL, CODE);
     unsigned copies = (unsigned)threads_now();
     end_team(STACK_POINTER, CODE);
@@ -77,13 +83,23 @@ unsigned GOMP_parallel_reductions(void (*run)(void *), void *data, unsigned thre
 
 /* ---- Loops, sections and scopes with such reductions: a group around them ---- */
 
-static void begin_workshare(uintptr_t *reductions, void **memory) {
+/* The group around a loop, or 0. */
+static size_t begin_workshare(const uintptr_t *reductions) {
+    if (!reductions)
+        return 0;
+    push_scope(GROUP, false);
+    return newest_scope;
+}
+
+/* The loop has begun. The copies and the memory of the first thread that came are for all. */
+static void share_memory(size_t group, uintptr_t *reductions, void **memory) {
+    struct loop *loop = thread_now()->loop;
     if (reductions) {
-        push_scope(GROUP, false);
-        register_reductions(reductions);
+        register_reductions(group, reductions, loop->reductions);
+        loop->reductions = loop->reductions ? loop->reductions : reductions;
     }
     if (memory)
-        *memory = (void *)own_block(1, (size_t)*memory);
+        *memory = loop->memory = loop->memory ? loop->memory : (void *)own_block(1, (size_t)*memory);
 }
 
 void GOMP_workshare_task_reduction_unregister(bool cancelled) {
@@ -92,11 +108,16 @@ void GOMP_workshare_task_reduction_unregister(bool cancelled) {
     join_team(CODE);
 }
 
-void GOMP_scope_start(uintptr_t *reductions) { begin_workshare(reductions, NULL); }
+void GOMP_scope_start(uintptr_t *reductions) {
+    size_t group = begin_workshare(reductions);
+    begin_loop(sections(0));
+    share_memory(group, reductions, NULL);
+}
 
 unsigned GOMP_sections2_start(unsigned count, uintptr_t *reductions, void **memory) {
-    begin_workshare(reductions, memory);
+    size_t group = begin_workshare(reductions);
     begin_loop(sections(count));
+    share_memory(group, reductions, memory);
     return next_section(STACK_POINTER, CODE);
 }
 
@@ -104,8 +125,9 @@ unsigned GOMP_sections2_start(unsigned count, uintptr_t *reductions, void **memo
     bool NAME(long start, long end, long step, long schedule, long most, long *first, long *first_end, \
               uintptr_t *reductions, void **memory) { \
         (void)schedule; \
-        begin_workshare(reductions, memory); \
+        size_t group = begin_workshare(reductions); \
         BEGIN(signed_loop(start, end, step, most)); \
+        share_memory(group, reductions, memory); \
         return next_share((uint64_t *)first, (uint64_t *)first_end, STACK_POINTER, CODE); \
     }
 #define UNSIGNED_LOOP_START(NAME, BEGIN) \
@@ -113,8 +135,9 @@ unsigned GOMP_sections2_start(unsigned count, uintptr_t *reductions, void **memo
               unsigned long long most, unsigned long long *first, unsigned long long *first_end, \
               uintptr_t *reductions, void **memory) { \
         (void)schedule; \
-        begin_workshare(reductions, memory); \
+        size_t group = begin_workshare(reductions); \
         BEGIN(unsigned_loop(up, start, end, step, (long)most)); \
+        share_memory(group, reductions, memory); \
         return next_share((uint64_t *)first, (uint64_t *)first_end, STACK_POINTER, CODE); \
     }
 LOOP_START(GOMP_loop_start, begin_loop) LOOP_START(GOMP_loop_ordered_start, BEGIN_ORDERED)

@@ -48,7 +48,7 @@ static void do_taskloop(const struct task *task, struct loop loop, unsigned flag
     if (has_group)
         push_scope(GROUP, false);
     if (reductions)
-        register_reductions(reductions);
+        register_reductions(newest_scope, reductions, NULL);
     run_taskloop(task, split, stack_pointer, code);
     if (has_group)
         close_waiting(code);

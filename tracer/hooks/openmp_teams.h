@@ -59,7 +59,7 @@ static void begin_loop(struct loop loop);
 /* ---- Stacks ---- */
 
 /* What spbags-cc puts before some parts of OpenMP. */
-enum body_kind { PARALLEL_BODY, SINGLE_BODY, MASTER_BODY, SIMD_BODY };
+enum body_kind { PARALLEL_BODY, SINGLE_BODY, MASTER_BODY, SIMD_BODY, SECTION_BODY };
 
 /* Whether it has begun, and is a child. */
 struct body {
@@ -192,14 +192,27 @@ static struct member *member_after(struct team *team, const struct member *membe
     return next ? next : team->members;
 }
 
+/* The tasks of its groups are done too, and the groups go on after it. */
 static void wait_for_members(uintptr_t code) {
+    size_t thread = thread_at(), groups = newest_scope - thread;
+    struct scope kept[groups + 1];
+    memcpy(kept, &scopes[thread], sizeof kept);
+    while (newest_scope > thread) {
+        const struct scope *group = pop_scope();
+        if (group->owns)
+            write_return(code);
+        else
+            leave_others(unsynced(group), code);
+    }
     struct team *team = team_now()->team;
-    struct member *member = scopes[newest_scope].member;
+    struct member *member = scopes[thread].member;
     end_part(code);
     struct member *next = member_after(team, member, code);
     if (next != member)
         switch_to(next->stack);
     begin_part(member, code);
+    for (size_t group = 1; group <= groups; group++)
+        push_scope(GROUP, false)->reductions = kept[group].reductions;
 }
 
 /* What the compiler puts beside the program's own code into a region each member does, as copies of variables, or what
@@ -455,7 +468,10 @@ void GOMP_parallel(void (*run)(void *), void *data, unsigned threads, unsigned f
 /* ---- Barriers and single regions ---- */
 
 static void join_team(uintptr_t code) {
-    if (scopes[newest_scope].kind == MEMBER) {
+    size_t at = newest_scope;
+    while (scopes[at].kind == GROUP)
+        at--;
+    if (scopes[at].kind == MEMBER) {
         wait_for_members(code);
         return;
     }

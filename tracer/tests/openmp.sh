@@ -51,6 +51,13 @@ check_openmp_outputs() {
     done
 }
 
+# clang has `masked` in a later version of OpenMP than its usual one.
+compile_openmp() {
+    local version=()
+    [ "$CC" != clang ] || version=(-fopenmp-version=51)
+    "$here/spbags-cc" -fopenmp "${version[@]}" "$@"
+}
+
 # Runs tests/openmp.c in one of its ways, which has to end with this status and say this; and its races have to be these
 # pairs of tagged lines.
 check_openmp_way() {
@@ -70,7 +77,7 @@ check_openmp_way() {
 check_openmp_ways() {
     local source=tracer/tests/openmp.c turn wait
     turn=$(line_of "$source" '[turn]')
-    "$here/spbags-cc" -fopenmp -o ways "$source"
+    compile_openmp -o ways "$source"
     count $? "$source: compile"
     wait="openmp.c:$(line_of "$source" '[waits]').* wait for 2 .* from .*openmp.c:$(line_of "$source" '[makes]')"
     check_openmp_way outlives 0 "$wait" ""
@@ -125,7 +132,7 @@ check_openmp_answer() {
 # What each thread of a team does, beside the others.
 check_openmp_threads() {
     local source=tracer/tests/openmp.c each='"construct": "region"' blocks="threads does a block of this loop"
-    "$here/spbags-cc" -fopenmp -Wall -Werror -o ways "$source"
+    compile_openmp -Wall -Werror -o ways "$source"
     count $? "$source: compile without a warning"
     check_openmp_answer each_thread 1 "$each" each each
     check_openmp_answer each_task 1 "$each" "each task" "each task"
@@ -179,7 +186,7 @@ check_openmp_threads() {
 # Tasks that wait for data.
 check_openmp_depend() {
     local source=tracer/tests/openmp.c
-    "$here/spbags-cc" -fopenmp -o ways "$source"
+    compile_openmp -o ways "$source"
     ends_with 2 "openmp.c:.* what depend orders can't be traced" env SPBAGS_TRACE=run.trace ./ways depends
     count $? "tests/openmp.c, depends: refused"
     SPBAGS_DEPEND=all ends_with 2 'SPBAGS_DEPEND=all: expected ignore or order' ./ways depends
@@ -202,7 +209,7 @@ check_team() {
 check_teams() {
     local level threads way race
     for level in -O0 -O1; do
-        "$here/spbags-cc" "$level" -fopenmp -Wall -Werror -o teams tracer/tests/teams.c
+        compile_openmp "$level" -Wall -Werror -o teams tracer/tests/teams.c
         count $? "tests/teams.c $level: compile without a warning"
         for threads in 2 3; do
             while read -r way race; do
@@ -220,9 +227,35 @@ check_teams() {
 }
 
 check_random_openmp() {
-    "$here/tests/random_openmp.py" --count "$programs" --seconds 60 2>&1 | sed "s/^/tracer: OpenMP: /" >&2
+    "$here/tests/random_openmp.py" --count "$programs" --seconds 60 2>&1 | sed "s/^/tracer: $CC, OpenMP: /" >&2
     [ "${PIPESTATUS[0]}" = 0 ]
-    count $? "OpenMP: random programs"
+    count $? "$CC, OpenMP: random programs"
+}
+
+# The first section may have no directive.
+check_clang_sections() {
+    cat >sections.c <<'END'
+int x, y;
+int main(void) {
+#pragma omp parallel sections
+    { x = 1;
+#pragma omp section
+        { y = 1; x++; }
+    }
+#pragma omp parallel
+    {
+#pragma omp sections
+        {
+            { x = 2; }
+#pragma omp section
+            y = 2;
+        }
+    }
+}
+END
+    "$here/spbags-cc" -fopenmp -o sections sections.c
+    same "1 sections.c:4 sections.c:6" "$(found_by_run ./sections)"
+    count $? "clang: sections"
 }
 
 # With --data-races what both do under one guard is left out.
@@ -246,15 +279,10 @@ check_openmp_refused() {
     ends_with 1 'unknown.c:3: omp_display_env can.t be traced: it is a part of OpenMP' \
         "$here/spbags-cc" -fopenmp -o unknown unknown.c
     count $? "what the hooks don't know"
-    printf 'void __kmpc_barrier(void);\nint main(void) {\n__kmpc_barrier();\n}\n' >unknown.c
-    ends_with 1 'unknown.c:3: __kmpc_barrier can.t be traced: it is clang.s OpenMP' \
+    printf 'void __kmpc_begin(void);\nint main(void) {\n__kmpc_begin();\n}\n' >unknown.c
+    ends_with 1 'unknown.c:3: __kmpc_begin can.t be traced: it is a part of OpenMP' \
         "$here/spbags-cc" -fopenmp -o unknown unknown.c
-    count $? "an object of clang's OpenMP"
-    if clang --version >/dev/null 2>&1; then
-        CC=clang ends_with 1 'OpenMP can be traced only with gcc' \
-            "$here/spbags-cc" -fopenmp -o unknown unknown.c
-        count $? "clang's OpenMP"
-    fi
+    count $? "what the hooks don't know of clang's"
     ends_with 1 'fib.c:8: error: Cilk can.t be traced together with OpenMP' "$here/spbags-cc" -fopenmp -c fib.c
     count $? "Cilk beside OpenMP"
     source=tracer/tests/refused.cpp
@@ -447,7 +475,11 @@ start_openmp() {
         check_options check_shared_libraries &
     CC=gcc run_checks link_built check_cmake check_meson &
     run_checks random_cplusplus check_random_cplusplus &
-    run_checks teams check_teams check_random_openmp &
+    CC=gcc run_checks teams check_teams check_random_openmp &
+    if clang --version >/dev/null 2>&1; then
+        CC=clang run_checks openmp_clang check_teams check_openmp_ways check_openmp_threads check_openmp_depend \
+            check_clang_sections check_random_openmp &
+    fi
     run_checks openmp check_openmp_outputs check_openmp_ways check_openmp_threads check_openmp_guards \
         check_openmp_depend check_openmp_refused check_containers check_tbb_refused check_tbb_groups &
 }

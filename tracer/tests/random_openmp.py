@@ -432,9 +432,11 @@ class Batch:
 
     def names(self, writer):
         """By location. All of the stack is the local variable."""
-        slots = self.addresses[writer.slots]
-        found = {self.addresses[name] // 4 * 2: name for name in writer.globals}
-        found.update({(slots + 4 * at) // 4 * 2: f"{writer.slots}[{at}]" for at in range(SLOTS)})
+        places = {**{name: (name, 0) for name in writer.globals},
+                  **{f"{writer.slots}[{at}]": (writer.slots, 4 * at) for at in range(SLOTS)}}
+        # The program has no variable that it doesn't use.
+        found = {(self.addresses[of] + offset) // 4 * 2: name for name, (of, offset) in places.items()
+                 if of in self.addresses}
         return lambda location: writer.local if location % 2 else found.get(location, "?")
 
     def found(self, writer, way):

@@ -287,6 +287,24 @@ static void tasks(void) {
     }
 }
 
+/* The barrier waits for the group's task, and the group goes on. */
+static void barrier_in_group(void) {
+#pragma omp parallel
+    {
+#pragma omp taskgroup
+        {
+#pragma omp task
+            row[omp_get_thread_num()] = 1;
+#pragma omp barrier
+            demand(row[0] + row[1] == 2);
+#pragma omp for
+            for (int i = 2; i < 9; i++)
+                row[i] = row[0];
+            demand(row[8] == 1);
+        }
+    }
+}
+
 static void shared_local(void) {
     int local = 0;
 #pragma omp parallel
@@ -375,6 +393,7 @@ static const struct {
             {"own_variables", own_variables, "none"},
             {"own_memory", own_memory, "none"},
             {"tasks", tasks, "none"},
+            {"barrier_in_group", barrier_in_group, "none"},
             {"shared_local", shared_local, "data"},
             {"sections", sections, "none"},
             {"in_order", in_order, "none"},
