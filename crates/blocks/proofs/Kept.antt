@@ -6,8 +6,8 @@ use Rattle.dag.specs.declared.records.Kind.{Kind}
 use Rattle.bags.specs.Procedures.{Active}
 use Rattle.shadow.specs.Cells.{Cell}
 use Rattle.shadow.specs.Before.{IsCellBefore}
-use Rattle.blocks.specs.Pages.{Block, cell_of_unit, race_at_unit, races_up_to, HasPutUnits, HasSameUnits}
-use Rattle.blocks.specs.Blocks.{block_of, unit_of, Blocks, IsBlocksBefore}
+use Rattle.blocks.specs.Pages.{Block, location_of, cell_of_unit, race_at_unit, races_up_to, HasPutUnits, HasSameUnits}
+use Rattle.blocks.specs.Blocks.{block_of, unit_of, first_of, Blocks, IsBlocksBefore}
 use Rattle.blocks.proofs.Named.{unit_later}
 
 -- cells that are of earlier places than one are of earlier ones than each later place
@@ -44,3 +44,15 @@ races_of_same fs first kind place units c d zero h = refl
 races_of_same fs first kind place units c d (suc n) h =
     ap (λ rs. rs ++ option_to_list (race_at_unit fs first kind place units n (c n))) (races_of_same fs first kind place units c d n (λ k l. h k (omega (arith, l))))
     ∙ ap (λ x. races_up_to fs first kind place units d n ++ option_to_list (race_at_unit fs first kind place units n x)) (h n (omega arith))
+
+-- and at those of the locations of a page
+location_page : (page n : ℕ) → n < 64 → block_of (location_of (first_of page) n) ≡ page
+location_page page n h = omega (arith, h)
+
+location_unit : (page n : ℕ) → n < 64 → unit_of (location_of (first_of page) n) ≡ n
+location_unit page n h = omega (arith, h)
+
+pub races_at_locations : (fs : List Active) (kind : Kind) (place units : ℕ) (pages : List (ℕ × Block)) (page : ℕ) → races_up_to fs (first_of page) kind place units (cell_of_unit pages page) 64
+    ≡ races_up_to fs (first_of page) kind place units (λ unit. cell_of_unit pages (block_of (location_of (first_of page) unit)) (unit_of (location_of (first_of page) unit))) 64
+races_at_locations fs kind place units pages page = races_of_same fs (first_of page) kind place units (cell_of_unit pages page) (λ unit. cell_of_unit pages (block_of (location_of (first_of page) unit)) (unit_of (location_of (first_of page) unit))) 64
+    (λ k h. sym (ap (λ q. cell_of_unit pages q (unit_of (location_of (first_of page) k))) (location_page page k h) ∙ ap (cell_of_unit pages page) (location_unit page k h)))

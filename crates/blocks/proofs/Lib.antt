@@ -7,4 +7,3 @@ pub mod Raced
 pub mod Entries
 pub mod Kept
 pub mod Renames
-pub mod OneByOne

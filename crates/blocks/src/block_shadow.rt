@@ -1,10 +1,9 @@
 //! Shadow memory of the accesses of strands, by blocks of 64 units.
-ghost use Rattle.std.specs.Prelude.{◌≡◌, ℕ, ◌+◌, ◌≤◌, List, ◌++◌, OnOk};
-ghost use Rattle.dag.specs.declared.records.Placed.{Placed};
+ghost use Rattle.std.specs.Prelude.{◌≡◌, ℕ, ◌+◌, ◌≤◌, ◌++◌, OnOk};
 ghost use Rattle.dag.specs.Bounds.{most_records};
 ghost use Rattle.shadow.specs.Cells.{untouched};
 ghost use Rattle.std.specs.Int.RustNames.{count_ones};
-ghost use Rattle.blocks.specs.Blocks.{accesses, HaveSeenBlocks, AddsRaces};
+ghost use Rattle.blocks.specs.Blocks.{block_of, kept_after_units, races_in_block};
 
 use crate::pages::Pages;
 use bags::Bags;
@@ -68,12 +67,13 @@ impl<S: BuildHasher> BlockShadow<S> {
         requires to_limit { place + count_ones units ≤ most_records + 1 }
         requires no_fewer { count_of_blocks self.old ≤ bags.now.count }
 
-        ensures seen { OnOk result ((u : List Placed) → HaveSeenBlocks u bags.now self.old
-            → HaveSeenBlocks (u ++ accesses location kind place units) bags.now self.new) }
-        ensures found { OnOk result ((u : List Placed) → HaveSeenBlocks u bags.now self.old
-            → AddsRaces u (accesses location kind place units) races.old.items races.new.items) }
-        ensures next_place { OnOk result (next_place_of self.new ≡ place + count_ones units) }
-        ensures least_count { OnOk result (count_of_blocks self.new ≡ bags.now.count) }
+        ensures kept { OnOk result ((l : ℕ) → kept_in_blocks self.new l ≡ kept_after_units bags.now.active kind place
+            units (block_of location) (kept_in_blocks self.old) l) }
+        ensures races { OnOk result (races.new.items ≡ races.old.items ++ races_in_block bags.now.active kind place
+            units (block_of location) (kept_in_blocks self.old)) }
+        // After an error too.
+        ensures next_place { next_place_of self.new ≤ place + count_ones units }
+        ensures least_count { count_of_blocks self.new ≤ bags.now.count }
     {
         let page = location / 128 * 2 + location % 2;
         let first = location / 128 * 128 + location % 2;

@@ -7,3 +7,5 @@ mod masks;
 mod page;
 mod pages;
 mod step;
+
+pub use block_shadow::BlockShadow;

@@ -4,6 +4,7 @@ use base.Fraction.{full_share}
 use base.Fml.{Fml, ftrue, fsep, fex}
 use denote.RattleType.{RattleType}
 use denote.RawPtr.{Ptr, lies_at}
+use Rattle.std.specs.Int.RustNames.{count_ones}
 use Rattle.dag.specs.Bounds.{most_records}
 use Rattle.trace.specs.Faults.{HasEnded}
 use Rattle.dag.specs.Traces.{placed}
@@ -11,7 +12,8 @@ use Rattle.dag.specs.declared.records.Record.{Record}
 use Rattle.dag.specs.declared.records.Record.TheVariants.{Spawn, Call, Return, Sync, Read, Write}
 use Rattle.shadow.specs.Found.{found, by_location}
 use Rattle.collect.specs.ReportText.{rtext}
-use Rattle.serial.specs.Detected.{IsAfter, MayWant}
+use Rattle.online.specs.Accesses.{block_records}
+use Rattle.online.specs.Online.{IsAfter, MayWant}
 use Rattle.inside.specs.declared.session.Session.{Session}
 use Rattle.inside.specs.declared.session.Session.TheVariants.{Taking, Giving, Stopped}
 
@@ -105,6 +107,29 @@ abbrev pub HaveStepped : Session → List (ℕ × ℕ) → Session → ℕ → T
 HaveStepped before [] after status = (after ≡ before) × (status ≡ taken)
 HaveStepped before (r ∷ rs) after status = (between : Session) × (s : ℕ) × HasStepped before r.0 r.1 between s
     × (((s ≡ taken) × HaveStepped between rs after status) ⊎ ((s ≢ taken) × (after ≡ between) × (status ≡ s)))
+
+-- What the call does that takes accesses to units of a block, where `status` is as for a step.
+pub record HasTakenBlock (before : Session) (location reads writes : ℕ) (after : Session) (status : ℕ) : Type 0 where
+  -- it took them all
+  pub took : status ≡ taken → (u : List Record) → HasTaken u before
+      → HasTaken (u ++ block_records location reads writes) after
+  -- or none of them, which changes nothing, but for a refused growth, which stops it for good
+  pub unchanged : status ≢ taken → status ≢ no_memory → after ≡ before
+  pub stops : status ≡ no_memory → after ≡ Stopped
+  pub stopped : before ≡ Stopped → status ≡ no_memory
+  pub ended : status ≡ after_end → (u : List Record) → HasTaken u before → HasEnded u
+  pub many : status ≡ too_many → (u : List Record) → HasTaken u before
+      → most_records < length u + (count_ones reads + count_ones writes)
+  -- and none that it could take is refused so
+  pub is_full : (u : List Record) → HasTaken u before
+      → most_records < length u + (count_ones reads + count_ones writes) → status ≡ too_many
+  pub is_ended : (u : List Record) → HasTaken u before → HasEnded u
+      → length u + (count_ones reads + count_ones writes) ≤ most_records → status ≡ after_end
+  -- it answers so after the report was made, and only then
+  pub giving : (text : List ℕ) (count : ℕ) → HasGiven text count before → status ≡ given
+  pub taking : (u : List Record) → HasTaken u before → status ≢ given
+  pub known : status ≢ unknown_kind
+  pub within : status < 6
 
 -- What the call does that makes the text of the report.
 pub record HasReported (before after : Session) (status : ℕ) : Type 0 where

@@ -9,7 +9,8 @@ ghost use denote.Builtin.{u64};
 ghost use Rattle.std.specs.Ptr.{lies_at, room_at};
 ghost use Rattle.inside.specs.declared.session.Session.{Session};
 ghost use Rattle.inside.specs.contracts.session.Session.{the_row};
-ghost use Rattle.inside.specs.Sessions.{held, unpacked, HasTaken, HasStepped, HaveStepped, HasReported, HasNext};
+ghost use Rattle.inside.specs.Sessions.{held, unpacked, HasTaken, HasStepped, HaveStepped, HasTakenBlock};
+ghost use Rattle.inside.specs.Sessions.{HasReported, HasNext};
 
 use crate::session::Session;
 use std::alloc::Global;
@@ -55,6 +56,17 @@ pub unsafe extern "C" fn spbags_steps(handle: *mut u8, records: *const u64, coun
         &mut *(handle as *mut Session),
         std::slice::from_raw_parts(records, count),
     )
+}
+
+/// Takes a strand's accesses to units of the even location's block: the reads of the units that the first mask has, and
+/// then the writes of those of the second, each by ascending locations. It takes all of them or none.
+#[unsafe(no_mangle)]
+pub unsafe extern "C" fn spbags_block(handle: *mut u8, location: u64, reads: u64, writes: u64) -> u8
+    ghost before: { Session }
+    requires* { sem 𝓛 (lies_at the_row full_share handle before) }
+    ensures* { sem 𝓛 (held the_row handle (λ after. HasTakenBlock before location reads writes after result)) }
+{
+    Session::block(&mut *(handle as *mut Session), location, reads, writes)
 }
 
 /// Makes the text of the report.

@@ -1,15 +1,15 @@
 //! A session: it takes records, and then gives the text of their report.
 ghost use Rattle.std.specs.Prelude.{◌≡◌, ◌≢◌, ℕ, ◌<◌, List, [], map, IfOk, IfSome};
 ghost use Rattle.dag.specs.declared.records.Record.{Record};
-ghost use Rattle.serial.specs.Detected.{IsAfter};
+ghost use Rattle.online.specs.Online.{IsAfter};
 ghost use Rattle.inside.specs.declared.session.Session.{Session};
 ghost use Rattle.inside.specs.Naming.{named_with};
 ghost use Rattle.inside.specs.Sessions.{unpacked, no_memory, IsNamed, HasTaken, report_text};
-ghost use Rattle.inside.specs.Sessions.{HasStepped, HaveStepped, HasReported, HasNext};
+ghost use Rattle.inside.specs.Sessions.{HasStepped, HaveStepped, HasTakenBlock, HasReported, HasNext};
 
 use crate::text::Text;
 use collect::write_report;
-use serial::Refusal;
+use online::Refusal;
 use std::alloc::Global;
 use std::hash::{BuildHasherDefault, FoldHasher};
 use trace::{NoMemory, Record};
@@ -33,7 +33,7 @@ const AT_END: u16 = 256;
 
 const NO_TEXT: u16 = 257;
 
-type Detector = serial::Detector<BuildHasherDefault<FoldHasher>>;
+type Detector = online::Detector<BuildHasherDefault<FoldHasher>>;
 
 /// What lies at a handle.
 #[derive(Drop)]
@@ -51,7 +51,11 @@ impl Session {
     pub(crate) fn new(alloc: Global) -> Session
         ensures { result ≢ Session.Stopped → HasTaken [] result }
     {
-        match Detector::new(alloc, BuildHasherDefault::default()) {
+        match Detector::new(
+            alloc,
+            BuildHasherDefault::default(),
+            BuildHasherDefault::default(),
+        ) {
             Ok(detector) => Session::Taking(detector, alloc),
             Err(NoMemory) => Session::Stopped,
         }
@@ -94,11 +98,28 @@ impl Session {
             Session::Taking(detector, _) => match record_of(kind, location) {
                 None => UNKNOWN_KIND,
                 Some(what) => match detector.take(what) {
-                    Ok(_) => TAKEN,
+                    Ok(()) => TAKEN,
                     Err(Refusal::AfterEnd) => AFTER_END,
                     Err(Refusal::TooMany) => TOO_MANY,
                     Err(Refusal::NoMemory) => self.stop(),
                 },
+            },
+            Session::Giving(..) => GIVEN,
+            Session::Stopped => NO_MEMORY,
+        }
+    }
+
+    /// Takes accesses to units of the even location's block: the reads of these units, and then the writes, each by
+    /// ascending locations.
+    pub(crate) fn block(&mut self, location: u64, reads: u64, writes: u64) -> u8
+        ensures { HasTakenBlock self.old location reads writes self.new result }
+    {
+        match self {
+            Session::Taking(detector, _) => match detector.take_block(location, reads, writes) {
+                Ok(()) => TAKEN,
+                Err(Refusal::AfterEnd) => AFTER_END,
+                Err(Refusal::TooMany) => TOO_MANY,
+                Err(Refusal::NoMemory) => self.stop(),
             },
             Session::Giving(..) => GIVEN,
             Session::Stopped => NO_MEMORY,

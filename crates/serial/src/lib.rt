@@ -5,5 +5,4 @@ mod detector;
 pub mod laws;
 mod plain;
 
-pub use detector::{Detector, Refusal};
 pub use plain::{detect_plain, detect_plain_part};

@@ -5,7 +5,6 @@ ghost use Rattle.serial.specs.Reported.{IsReportOf, IsPartReportOf};
 
 use crate::detector::{Detector, PartDetector};
 use collect::Report;
-use shadow::Shadow;
 use std::alloc::Global;
 use std::hash::BuildHasher;
 use trace::{Fault, Limits, Part, Source, read_to_end};
@@ -28,7 +27,7 @@ pub fn detect_plain<R: Source, S: BuildHasher + Drop>(
     ensures { EndsReading IsWantOfMemory limits.records limits.depth (R.state source.old ⇝ R.state source.new)
         (λ report w. IsReportOf w report) result }
 {
-    let mut detector = Detector::over(alloc, Shadow::with_hasher(alloc, hasher))?;
+    let mut detector = Detector::new(alloc, hasher)?;
     read_to_end(limits, source, &mut detector)?;
     Ok(detector.finish()?)
 }
@@ -46,7 +45,7 @@ pub fn detect_plain_part<R: Source, S: BuildHasher + Drop>(
     ensures { EndsReading IsWantOfMemory limits.records limits.depth (R.state source.old ⇝ R.state source.new)
         (λ report w. IsPartReportOf part w report) result }
 {
-    let detector = Detector::over(alloc, Shadow::with_hasher(alloc, hasher))?;
+    let detector = Detector::new(alloc, hasher)?;
     let mut watch = PartDetector { part, detector };
     read_to_end(limits, source, &mut watch)?;
     let numbered = watch.detector.finish()?;

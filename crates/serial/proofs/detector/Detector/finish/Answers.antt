@@ -1,13 +1,13 @@
 use Rattle.std.proofs.Common.{sym, subst}
 use Rattle.std.proofs.lemmas.Result.{IfOk-weaker}
-use Rattle.serial.specs.Detected.{HasDetected, IsAfter}
+use Rattle.serial.specs.Detected.{HasFollowed, HasSeenTrace}
 use Rattle.serial.proofs.Detected.{reported, report_of}
 use Rattle.serial.proofs.detector.Detector.finish.Goals as goal
 
 pub returns-clause-races : goal.returns-clause-races
 returns-clause-races g c = IfOk-weaker c.finish.result _ _
-    (λ rs collected u h. reported u _ rs (subst (HasDetected u) (sym c.self.view_is) h) collected) c.finish.ensures.ok
+    (λ rs collected u h. reported u _ _ _ rs (subst (HasFollowed u) (sym c.self.view_is) h) collected) c.finish.ensures.ok
 
 pub returns-clause-report : goal.returns-clause-report
 returns-clause-report g c = IfOk-weaker c.finish.result _ _
-    (λ rs collected u records depths h nested. report_of u rs nested (reported _ _ rs (subst (IsAfter u) (sym c.self.view_is) h).detected collected)) c.finish.ensures.ok
+    (λ rs collected u records depths h nested. report_of u rs nested (reported _ _ _ _ rs (subst (HasSeenTrace u) (sym c.self.view_is) h).detected collected)) c.finish.ensures.ok

@@ -1,7 +1,6 @@
-use Rattle.serial.proofs.Detected.{after_next}
+use Rattle.shadow.proofs.StateLemmas.{map_OnOk}
+use Rattle.serial.proofs.Detected.{read_next}
 use Rattle.serial.proofs.detector.DetectorWatch.see.Goals as goal
 
 pub returns : goal.returns
-returns g c first u h after =
-    let said = c.in_ok-follow.ensures in
-    after_next u c.args.placed _ _ after h (said.detected _) said.last said.ended said.going
+returns g c = map_OnOk c.follow.result _ _ (λ follows first u h after. read_next u c.args.placed c.args.self.now c.follow.new.self after h follows c.follow.ensures.last) c.follow.ensures.followed

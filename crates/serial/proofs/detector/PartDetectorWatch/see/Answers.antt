@@ -2,6 +2,7 @@ use Rattle.std.proofs.Common.{◌≡◌, [], ◌∷◌, subst}
 use Rattle.std.specs.Option.{option_to_list}
 use Rattle.dag.specs.declared.part.Part.{Part}
 use Rattle.dag.specs.Parts.{records_of}
+use Rattle.shadow.proofs.StateLemmas.{map_OnOk}
 use Rattle.serial.proofs.PartRecords.{own_place}
 use Rattle.serial.proofs.Detected.{part_passed, part_followed}
 use Rattle.serial.proofs.detector.PartDetectorWatch.see.Goals as goal
@@ -11,9 +12,8 @@ returns-in-None g c first u h after =
     let P : Part → Type 0 = λ part. option_to_list c.of_record.result ≡ records_of part (c.args.placed ∷ []) in
     (h.0, part_passed first.part u c.args.placed c.of_record.result _ c.in-None.is (subst P h.0 c.of_record.ensures) after h.1)
 
-pub returns-in_ok-follow-in-Some : goal.returns-in_ok-follow-in-Some
-returns-in_ok-follow-in-Some g c first u h after =
+pub returns-in-Some : goal.returns-in-Some
+returns-in-Some g c = map_OnOk c.follow.result _ _ (λ follows first u h after.
     let P : Part → Type 0 = λ part. option_to_list c.of_record.result ≡ records_of part (c.args.placed ∷ []) in
     let place = own_place c.args.self.now.part c.args.placed c.in-Some.own c.of_record.result c.in-Some.is c.of_record.ensures in
-    let said = c.in_ok-follow-in-Some.ensures in
-    (h.0, part_followed first.part u c.args.placed c.in-Some.own c.of_record.result _ _ c.in-Some.is (subst P h.0 c.of_record.ensures) place after said.detected said.last h.1)
+    (h.0, part_followed first.part u c.args.placed c.in-Some.own c.of_record.result c.args.self.now.detector c.follow.new.self c.in-Some.is (subst P h.0 c.of_record.ensures) place after follows c.follow.ensures.last h.1)) c.follow.ensures.followed

@@ -1,0 +1,257 @@
+-- How far a run has come after more records, and the records of a block at their places.
+use Rattle.std.proofs.Common.{◌≡◌, ◌↔◌, ℕ, zero, suc, ◌+◌, ◌<◌, ◌≤◌, ◌^◌, nat_eq, true, false, Bool, List, [], ◌∷◌, ◌++◌, cond, length, map, ◌⊎◌, inl, inr, ⊎_elim, refl, sym, ◌∙◌, ap, subst, arith, length-append}
+use Rattle.std.specs.Int.{bit_at}
+use Rattle.std.proofs.lemmas.Nat.Bits.{bit_at-lt}
+use Rattle.std.proofs.lemmas.Bool.{cases_Bool, eqb-true}
+use Rattle.std.proofs.lemmas.List.{append-nil, append_assoc, map-append}
+use Rattle.std.proofs.lemmas.List.Sums.{sum_by-append}
+use Rattle.std.specs.Int.RustNames.{count_ones}
+use Rattle.dag.specs.declared.records.Kind.{Kind}
+use Rattle.dag.specs.declared.records.Kind.TheVariants as kinds
+use Rattle.dag.specs.declared.records.Record.{Record}
+use Rattle.dag.specs.declared.records.Record.TheVariants.{Spawn, Call, Return, Sync, Read, Write}
+use Rattle.dag.specs.declared.records.Placed.{Placed}
+use Rattle.dag.specs.Bounds.{most_records}
+use Rattle.dag.specs.Races.{access}
+use Rattle.dag.specs.Traces.{placed, depth, opens, closes}
+use Rattle.trace.specs.Faults.{HasEnded}
+use Rattle.trace.proofs.Places.{depth-next, ended_before, ended_by, ended_after}
+use Rattle.bags.specs.Procedures.{Procedures, Active, at_start, after_sync, after_return}
+use Rattle.shadow.specs.Cells.{untouched}
+use Rattle.shadow.specs.Found.{State, state_after, after_record}
+use Rattle.shadow.proofs.FoundLaws.{state_after-push}
+use Rattle.collect.specs.Collected.{KeepsBest}
+use Rattle.serial.proofs.Detected.{placed-next, detected_nothing}
+use Rattle.blocks.specs.Masks.{has, units_before}
+use Rattle.blocks.specs.Pages.{location_of}
+use Rattle.blocks.specs.Blocks.{block_of, first_of}
+use Rattle.online.specs.Accesses.{access_of, accesses, accesses_up_to, even, block_records}
+use Rattle.blocks.proofs.Counts.{all_units}
+use Rattle.online.specs.Online.{Online, HasTakenPlaced, IsActiveCount, IsRunning, IsAfter, kept_in_both}
+
+-- ---- how many procedures are active
+
+after_a_return : (fs : List Active) → 1 ≤ length fs → (length fs ≡ 1 → ⊥) → (1 ≤ length (after_return fs)) × (length (after_return fs) + 1 ≡ length fs + 0)
+after_a_return [] some others = absurd (omega arith)
+after_a_return (f ∷ []) some others = absurd (others refl)
+after_a_return (g ∷ f ∷ fs) some others = (omega arith, omega arith)
+
+after_a_sync : (fs : List Active) → 1 ≤ length fs → (1 ≤ length (after_sync fs)) × (length (after_sync fs) + 0 ≡ length fs + 0)
+after_a_sync [] some = absurd (omega arith)
+after_a_sync (f ∷ fs) some = (some, refl)
+
+-- after a record that isn't the root's return
+still_active : (s : State) (place : ℕ) (r : Record) → 1 ≤ length s.bags.active → (r ≡ Return → length s.bags.active ≡ 1 → ⊥)
+    → (1 ≤ length (after_record s place r).bags.active) × (length (after_record s place r).bags.active + closes r ≡ length s.bags.active + opens r)
+still_active s place Spawn some others = (omega arith, omega arith)
+still_active s place Call some others = (omega arith, omega arith)
+still_active s place Return some others = after_a_return s.bags.active some (others refl)
+still_active s place Sync some others = after_a_sync s.bags.active some
+still_active s place (Read l) some others = (some, refl)
+still_active s place (Write l) some others = (some, refl)
+
+-- ---- before the first record
+
+none_ended : HasEnded [] → ⊥
+none_ended (i, p, e) = let a = p.0 in let b = p.1 in omega arith
+
+pub after_none : (d : Online) → d.bags ≡ at_start → ((l : ℕ) → kept_in_both d.cells d.blocks l ≡ untouched) → KeepsBest [] d.kept → d.last_place ≡ 0 → d.ended ≡ false → d.stopped ≡ false → IsAfter [] d
+after_none d bags_are kept_are keeps first runs going = record {
+  met = detected_nothing d.bags (kept_in_both d.cells d.blocks) d.kept bags_are kept_are keeps;
+  last = first;
+  within = omega arith;
+  runs = record {
+    by_return = ((λ e. absurd (cc)), (λ e. absurd (none_ended e)));
+    counted = λ _.
+        let one : length d.bags.active ≡ 1 = ap (λ (b : Procedures). length b.active) bags_are in
+        record { some = omega arith; balance = omega arith };
+  };
+  going = going;
+}
+
+-- ---- one more
+
+module _ (u : List Record) (p : Placed) (d e : Online) (place : p.place ≡ length u + 1) (limit : p.place ≤ most_records) (h : IsAfter u d)
+    (meets : HasTakenPlaced (placed u) d → HasTakenPlaced (placed u ++ p ∷ []) e) (last : e.last_place ≡ p.place)
+    (ended : (e.ended ≡ true) ↔ ((d.ended ≡ true) ⊎ ((p.what ≡ Return) × (length d.bags.active ≡ 1)))) (going : e.stopped ≡ d.stopped) where
+  abbrev v : List Record
+  v = u ++ p.what ∷ []
+
+  longer : length v ≡ length u + 1
+  longer = length-append u (p.what ∷ [])
+
+  more : HasTakenPlaced (placed u ++ p ∷ []) e
+  more = meets h.met
+
+  were : length d.bags.active ≡ length (state_after (placed u)).bags.active
+  were = ap (λ (b : Procedures). length b.active) h.met.bags_are
+
+  are : length e.bags.active ≡ length (after_record (state_after (placed u)) p.place p.what).bags.active
+  are = ap (λ (b : Procedures). length b.active) (more.bags_are ∙ ap (λ (s : State). s.bags) (state_after-push (placed u) p))
+
+  active : e.ended ≡ false → IsActiveCount v (length e.bags.active)
+  active runs =
+      let ran : d.ended ≡ false = ⊎_elim (λ t. absurd (let z = ended.1 (inl t) in cc)) (λ f. f) (cases_Bool d.ended) in
+      let before = h.runs.counted ran in
+      let next = still_active (state_after (placed u)) p.place p.what (omega (arith, before.some, were)) (λ is one. absurd (let z = ended.1 (inr (is, were ∙ one)) in cc)) in
+      record { some = omega (arith, next.0, are); balance = omega (arith, before.balance, were, are, next.1, sum_by-append opens u (p.what ∷ []), sum_by-append closes u (p.what ∷ [])) }
+
+  to_end : e.ended ≡ true → HasEnded v
+  to_end t = ⊎_elim
+      (λ before. ended_before u p.what (h.runs.by_return.0 before))
+      (λ root. ⊎_elim
+      (λ before. ended_before u p.what (h.runs.by_return.0 before))
+      (λ ran.
+      let flat : depth u (suc (length u)) ≡ 0 = omega (arith, depth-next u, (h.runs.counted ran).balance, root.1) in
+      let P : Record → Type 0 = λ r. HasEnded (u ++ r ∷ []) in
+      subst P (sym root.0) (ended_by u flat))
+      (cases_Bool d.ended))
+      (ended.0 t)
+
+  from_end : HasEnded v → e.ended ≡ true
+  from_end t = ⊎_elim
+      (λ before. ended.1 (inl (h.runs.by_return.1 before)))
+      (λ now. ⊎_elim
+      (λ before. ended.1 (inl before))
+      (λ ran. let were_active = h.runs.counted ran in ended.1 (inr (now.0, omega (arith, now.1, depth-next u, were_active.balance, were_active.some))))
+      (cases_Bool d.ended))
+      (ended_after u p.what t)
+
+  pub after_next : IsAfter v e
+  after_next =
+      let P : List Placed → Type 0 = λ w. HasTakenPlaced w e in
+      record {
+        met = subst P (sym (placed-next u p place)) more;
+        last = last ∙ place ∙ sym longer;
+        within = omega (arith, longer, place, limit);
+        runs = record { by_return = (to_end, from_end); counted = active };
+        going = going ∙ h.going;
+      }
+
+-- ---- a block
+
+-- the records of accesses
+abbrev pub whats : List Placed → List Record
+whats v = map (λ p. p.what) v
+
+no_return : (kind : Kind) (l : ℕ) → access kind l ≡ Return → ⊥
+no_return kinds.Read l e = cc
+no_return kinds.Write l e = cc
+
+moves_none : (kind : Kind) (l : ℕ) → (opens (access kind l) ≡ 0) × (closes (access kind l) ≡ 0)
+moves_none kinds.Read l = (refl, refl)
+moves_none kinds.Write l = (refl, refl)
+
+runs_access : (u : List Record) (kind : Kind) (l : ℕ) (ended : Bool) (active : ℕ) → IsRunning u ended active → IsRunning (u ++ access kind l ∷ []) ended active
+runs_access u kind l ended active h = record {
+  by_return = ((λ t. ended_before u (access kind l) (h.by_return.0 t)), (λ t. ⊎_elim h.by_return.1 (λ now. absurd (no_return kind l now.0)) (ended_after u (access kind l) t)));
+  counted = λ runs.
+      let c = h.counted runs in
+      let none = moves_none kind l in
+      record { some = c.some; balance = omega (arith, c.balance, none.0, none.1, sum_by-append opens u (access kind l ∷ []), sum_by-append closes u (access kind l ∷ [])) };
+}
+
+not_one : (x : ℕ) → x < 2 → nat_eq x 1 ≡ false → x ≡ 0
+not_one zero h e = refl
+not_one (suc zero) h e = absurd (cc)
+not_one (suc (suc x)) h e = absurd (omega (arith, h))
+
+-- the accesses up to a unit, as records that follow others
+record FollowUpTo (u : List Record) (first : ℕ) (kind : Kind) (place units n : ℕ) : Type 0 where
+  run : (ended : Bool) (active : ℕ) → IsRunning u ended active → IsRunning (u ++ whats (accesses_up_to first kind 1 units n)) ended active
+  many : length (whats (accesses_up_to first kind 1 units n)) ≡ units_before units n
+  places : placed (u ++ whats (accesses_up_to first kind 1 units n)) ≡ placed u ++ accesses_up_to first kind place units n
+
+no_accesses : (u : List Record) (first : ℕ) (kind : Kind) (place units : ℕ) → FollowUpTo u first kind place units 0
+unfolding accesses_up_to
+no_accesses u first kind place units = record {
+  run = λ ended active h. subst (λ w. IsRunning w ended active) (sym (append-nil u)) h;
+  many = refl;
+  places = ap placed (append-nil u) ∙ sym (append-nil (placed u));
+}
+
+module _ (u : List Record) (first : ℕ) (kind : Kind) (place units n : ℕ) (next : place ≡ length u + 1) (f : FollowUpTo u first kind place units n) where
+  abbrev at : ℕ → List Placed
+  at q = accesses_up_to first kind q units n
+
+  abbrev one : ℕ → Placed
+  one q = access_of first kind q units n
+
+  unit_left_out : has units n ≡ false → FollowUpTo u first kind place units (suc n)
+  unfolding accesses_up_to
+  unit_left_out e =
+      let same : (q : ℕ) → at q ++ cond (has units n) (one q ∷ []) [] ≡ at q = λ q. ap (λ b. at q ++ cond b (one q ∷ []) []) e ∙ append-nil (at q) in
+      let none : bit_at units n ≡ 0 = not_one (bit_at units n) (bit_at-lt units n) e in
+      record {
+        run = λ ended active h. subst (λ v. IsRunning (u ++ whats v) ended active) (sym (same 1)) (f.run ended active h);
+        many = ap (λ v. length (whats v)) (same 1) ∙ f.many ∙ omega (arith, none);
+        places = ap (λ v. placed (u ++ whats v)) (same 1) ∙ f.places ∙ ap (λ v. placed u ++ v) (sym (same place));
+      }
+
+  unit_accessed : has units n ≡ true → FollowUpTo u first kind place units (suc n)
+  unfolding accesses_up_to
+  unit_accessed e =
+      let more : (q : ℕ) → at q ++ cond (has units n) (one q ∷ []) [] ≡ at q ++ one q ∷ [] = λ q. ap (λ b. at q ++ cond b (one q ∷ []) []) e in
+      let w : List Record = u ++ whats (at 1) in
+      let r : Record = (one 1).what in
+      let longer : u ++ whats (at 1 ++ one 1 ∷ []) ≡ w ++ r ∷ [] = ap (λ l. u ++ l) (map-append (λ (p : Placed). p.what) (at 1) (one 1 ∷ [])) ∙ sym (append_assoc u (whats (at 1)) (r ∷ [])) in
+      let single : bit_at units n ≡ 1 = eqb-true (bit_at units n) 1 e in
+      let here : (one place).place ≡ length w + 1 = omega (arith, next, f.many, length-append u (whats (at 1))) in
+      record {
+        run = λ ended active h. subst (λ v. IsRunning (u ++ whats v) ended active) (sym (more 1)) (subst (λ v. IsRunning v ended active) (sym longer) (runs_access w kind (location_of first n) ended active (f.run ended active h)));
+        many = ap (λ v. length (whats v)) (more 1) ∙ ap length (map-append (λ (p : Placed). p.what) (at 1) (one 1 ∷ [])) ∙ length-append (whats (at 1)) (r ∷ []) ∙ omega (arith, f.many, single);
+        places = ap (λ v. placed (u ++ whats v)) (more 1) ∙ ap placed longer ∙ placed-next w (one place) here ∙ ap (λ v. v ++ one place ∷ []) f.places
+            ∙ append_assoc (placed u) (at place) (one place ∷ []) ∙ ap (λ v. placed u ++ v) (sym (more place));
+      }
+
+follow_one : (u : List Record) (first : ℕ) (kind : Kind) (place units n : ℕ) → place ≡ length u + 1 → (b : Bool) → has units n ≡ b → FollowUpTo u first kind place units n → FollowUpTo u first kind place units (suc n)
+follow_one u first kind place units n next true e f = unit_accessed u first kind place units n next f e
+follow_one u first kind place units n next false e f = unit_left_out u first kind place units n next f e
+
+follow_all : (u : List Record) (first : ℕ) (kind : Kind) (place units n : ℕ) → place ≡ length u + 1 → FollowUpTo u first kind place units n
+follow_all u first kind place units zero next = no_accesses u first kind place units
+follow_all u first kind place units (suc n) next = follow_one u first kind place units n next (has units n) refl (follow_all u first kind place units n next)
+
+-- a block behind the records u
+module _ (u : List Record) (location reads writes : ℕ) (d e : Online) (some : reads < 2 ^ 64) (others : writes < 2 ^ 64) (limit : d.last_place + (count_ones reads + count_ones writes) ≤ most_records) (h : IsAfter u d)
+    (meets : HasTakenPlaced (placed u) d → HasTakenPlaced ((placed u ++ accesses (even location) kinds.Read (d.last_place + 1) reads) ++ accesses (even location) kinds.Write (d.last_place + count_ones reads + 1) writes) e)
+    (last : e.last_place ≡ d.last_place + (count_ones reads + count_ones writes)) (bags : e.bags ≡ d.bags) (ended : e.ended ≡ d.ended) (going : e.stopped ≡ d.stopped) where
+  abbrev page_first : ℕ
+  page_first = first_of (block_of (even location))
+
+  abbrev reading : List Record
+  reading = whats (accesses (even location) kinds.Read 1 reads)
+
+  abbrev writing : List Record
+  writing = whats (accesses (even location) kinds.Write 1 writes)
+
+  reads_follow : FollowUpTo u page_first kinds.Read (d.last_place + 1) reads 64
+  reads_follow = follow_all u page_first kinds.Read (d.last_place + 1) reads 64 (ap (λ n. n + 1) h.last)
+
+  after_reads : length (u ++ reading) ≡ length u + count_ones reads
+  after_reads = length-append u reading ∙ ap (λ n. length u + n) (reads_follow.many ∙ all_units reads some)
+
+  writes_follow : FollowUpTo (u ++ reading) page_first kinds.Write (d.last_place + count_ones reads + 1) writes 64
+  writes_follow = follow_all (u ++ reading) page_first kinds.Write (d.last_place + count_ones reads + 1) writes 64 (omega (arith, after_reads, h.last))
+
+  longest : length ((u ++ reading) ++ writing) ≡ length u + (count_ones reads + count_ones writes)
+  longest = omega (arith, length-append (u ++ reading) writing, after_reads, writes_follow.many, all_units writes others)
+
+  all : u ++ block_records location reads writes ≡ (u ++ reading) ++ writing
+  all = ap (λ l. u ++ l) (map-append (λ (p : Placed). p.what) (accesses (even location) kinds.Read 1 reads) (accesses (even location) kinds.Write 1 writes)) ∙ sym (append_assoc u reading writing)
+
+  places : placed ((u ++ reading) ++ writing) ≡ (placed u ++ accesses (even location) kinds.Read (d.last_place + 1) reads) ++ accesses (even location) kinds.Write (d.last_place + count_ones reads + 1) writes
+  places = writes_follow.places ∙ ap (λ v. v ++ accesses (even location) kinds.Write (d.last_place + count_ones reads + 1) writes) reads_follow.places
+
+  after_both : IsAfter ((u ++ reading) ++ writing) e
+  after_both = record {
+    met = subst (λ v. HasTakenPlaced v e) (sym places) (meets h.met);
+    last = last ∙ ap (λ n. n + (count_ones reads + count_ones writes)) h.last ∙ sym longest;
+    within = omega (arith, longest, limit, h.last);
+    runs = subst (λ b. IsRunning ((u ++ reading) ++ writing) b (length e.bags.active)) (sym ended)
+        (subst (λ (b : Procedures). IsRunning ((u ++ reading) ++ writing) d.ended (length b.active)) (sym bags) (writes_follow.run d.ended (length d.bags.active) (reads_follow.run d.ended (length d.bags.active) h.runs)));
+    going = going ∙ h.going;
+  }
+
+  pub after_block : IsAfter (u ++ block_records location reads writes) e
+  after_block = subst (λ v. IsAfter v e) (sym all) after_both

@@ -1,0 +1,346 @@
+//! The detector and its answers.
+ghost use Rattle.std.specs.Prelude.{◌≡◌, ◌≢◌, ◌↔◌, ◌⊎◌, ℕ, ◌+◌, ◌<◌, ◌≤◌, true, false, List, [], ◌∷◌, ◌++◌, length};
+ghost use Rattle.std.specs.Prelude.{IfOk, IfErr, IsErr, OnOk, OnErr, map, ◌*◌, ◌/◌, ◌%◌, ◌^◌};
+ghost use Rattle.std.specs.Int.RustNames.{count_ones};
+ghost use Rattle.dag.specs.Bounds.{most_records};
+ghost use Rattle.dag.specs.declared.back.Back.{Back};
+ghost use Rattle.dag.specs.declared.records.Kind.{Kind};
+ghost use Rattle.dag.specs.Races.{access};
+ghost use Rattle.dag.specs.declared.records.Record.{Record};
+ghost use Rattle.dag.specs.declared.records.Placed.{Placed};
+ghost use Rattle.dag.specs.Traces.{placed, IsWellNested};
+ghost use Rattle.trace.specs.Faults.{HasEnded};
+ghost use Rattle.shadow.specs.Found.{by_location, found};
+ghost use Rattle.collect.specs.Collected.{KeepsBest};
+ghost use Rattle.serial.specs.Reported.{IsReportOf};
+ghost use Rattle.bags.specs.Procedures.{event};
+ghost use Rattle.shadow.specs.Shadow.{last_place_of};
+ghost use Rattle.blocks.specs.Blocks.{next_place_of};
+ghost use Rattle.online.specs.Accesses.{accesses, block_records};
+ghost use Rattle.online.specs.Online.{HasTakenPlaced, IsAfter, IsStopped, WantsMemory, MayWant};
+
+use bags::Bags;
+use blocks::BlockShadow;
+use collect::{Collector, Report};
+use dag::{Kind, MOST_RECORDS};
+use shadow::Shadow;
+use std::alloc::Global;
+use std::hash::BuildHasher;
+use std::marker::Model;
+use trace::{Back, NoMemory, Race, Record};
+
+/// Why the detector didn't take a record.
+#[derive(Clone, Copy, Debug, PartialEq, Eq)]
+pub enum Refusal {
+    /// The root has returned, so no record may come.
+    AfterEnd,
+    /// With these records the detector would have taken more than 2^48.
+    TooMany,
+    /// The allocator refused a growth, at this record or an earlier one.
+    NoMemory,
+}
+
+/// A detector of a run that is under way. The records have the places 1, 2, 3 and so on.
+///
+/// Odd locations have cells of their own, which is quicker where a strand accesses single ones. Even locations are in
+/// blocks, which is quicker where it accesses many.
+#[derive(Drop)]
+pub struct Detector<S: BuildHasher + Drop> {
+    alloc: Global,
+    bags: Bags,
+    cells: Shadow<S>,
+    blocks: BlockShadow<S>,
+    collector: Collector,
+    last_place: u64,
+    /// Whether the root has returned.
+    ended: bool,
+    /// Whether the allocator has refused a growth.
+    stopped: bool,
+}
+
+impl<S: BuildHasher + Drop> Model for Detector<S> {
+    ghost use Rattle.std.specs.Coded.{codes};
+    ghost use Rattle.bags.specs.Procedures.{coded_procedures};
+    ghost use Rattle.online.specs.Online.{Online};
+    ghost use Rattle.online.specs.Ready.{AreReadyBehind};
+
+    ghost Value = { Online };
+
+    ghost coded = { Prim.hlevel (codes, coded_procedures) };
+
+    ghost view = { λ d. record {
+      bags = d.bags;
+      cells = d.cells;
+      blocks = d.blocks;
+      kept = d.collector;
+      last_place = d.last_place;
+      ended = d.ended;
+      stopped = d.stopped;
+    } };
+
+    ghost invariant = { λ d. AreReadyBehind d.bags d.cells d.blocks d.last_place };
+}
+
+impl<S: BuildHasher + Drop> Detector<S> {
+    /// A detector that has taken no record, with a hasher for each of its shadow memories. It needs the least memory if
+    /// the locations that a strand accesses are two apart, as those of the tracer's arrays.
+    pub fn new(alloc: Global, of_cells: S, of_blocks: S) -> Result<Detector<S>, NoMemory>
+        ensures { IfOk result (IsAfter []) }
+    {
+        Ok(Detector {
+            alloc,
+            bags: Bags::new(alloc)?,
+            cells: Shadow::for_program(alloc, of_cells),
+            blocks: BlockShadow::with_hasher(alloc, of_blocks),
+            collector: Collector::new(alloc),
+            last_place: 0,
+            ended: false,
+            stopped: false,
+        })
+    }
+
+    /// Takes the next record.
+    ///
+    /// After a refused growth the detector stays stopped: it takes no record, and gives no report.
+    #[inline(always)]
+    pub fn take(&mut self, what: Record) -> Result<(), Refusal>
+        ensures taken { OnOk result ((u : List Record) → IsAfter u self.old → IsAfter (u ++ what ∷ []) self.new) }
+
+        // A record that may not come changes nothing.
+        ensures after_end { (u : List Record) → IsAfter u self.old
+            → (result ≡ Err Refusal.AfterEnd) ↔ (HasEnded u × (length u < most_records)) }
+        ensures too_many { (u : List Record) → IsAfter u self.old
+            → (result ≡ Err Refusal.TooMany) ↔ (length u ≡ most_records) }
+        ensures unchanged { IfErr result (λ refusal. refusal ≢ Refusal.NoMemory → self.new ≡ self.old) }
+
+        // The allocator can refuse a growth only if the record may need memory. Then the detector is stopped for
+        // good.
+        ensures want { (u : List Record) → IsAfter u self.old → result ≡ Err Refusal.NoMemory → MayWant u what }
+        ensures stops { result ≡ Err Refusal.NoMemory → IsStopped self.new }
+        ensures stopped { IsStopped self.old → result ≡ Err Refusal.NoMemory }
+    {
+        self.admit(1)?;
+        let followed = self.follow(what);
+        self.settle(followed)
+    }
+
+    /// Takes accesses to units of the location's block: the reads of these, and then the writes, each by ascending
+    /// locations. The location is even; an odd one stands for the one before it. A block that may not come is refused
+    /// whole.
+    #[inline(always)]
+    pub fn take_block(&mut self, location: u64, reads: u64, writes: u64) -> Result<(), Refusal>
+        ensures taken { OnOk result ((u : List Record) → IsAfter u self.old
+            → IsAfter (u ++ block_records location reads writes) self.new) }
+
+        ensures after_end { (u : List Record) → IsAfter u self.old → (result ≡ Err Refusal.AfterEnd)
+            ↔ (HasEnded u × (length u + (count_ones reads + count_ones writes) ≤ most_records)) }
+        ensures too_many { (u : List Record) → IsAfter u self.old → (result ≡ Err Refusal.TooMany)
+            ↔ (most_records < length u + (count_ones reads + count_ones writes)) }
+        ensures unchanged { IfErr result (λ refusal. refusal ≢ Refusal.NoMemory → self.new ≡ self.old) }
+
+        ensures stops { result ≡ Err Refusal.NoMemory → IsStopped self.new }
+        ensures stopped { IsStopped self.old → result ≡ Err Refusal.NoMemory }
+    {
+        self.admit(u64::from(reads.count_ones() + writes.count_ones()))?;
+        let followed = self.touch_both(location / 2 * 2, reads, writes);
+        self.settle(followed)
+    }
+
+    // Whether so many more records may come.
+    #[inline(always)]
+    fn admit(&self, count: u64) -> Result<(), Refusal>
+        requires { count ≤ 128 }
+        ensures ok { OnOk result ((self.now.stopped ≡ false) × (self.now.ended ≡ false)
+            × (self.now.last_place + count ≤ most_records)) }
+        ensures no_memory { (result ≡ Err Refusal.NoMemory) ↔ (self.now.stopped ≡ true) }
+        ensures too_many { (result ≡ Err Refusal.TooMany)
+            ↔ ((self.now.stopped ≡ false) × (most_records < self.now.last_place + count)) }
+        ensures after_end { (result ≡ Err Refusal.AfterEnd) ↔ ((self.now.stopped ≡ false)
+            × (self.now.ended ≡ true) × (self.now.last_place + count ≤ most_records)) }
+    {
+        if self.stopped {
+            return Err(Refusal::NoMemory);
+        }
+        if self.last_place > MOST_RECORDS - count {
+            return Err(Refusal::TooMany);
+        }
+        if self.ended {
+            return Err(Refusal::AfterEnd);
+        }
+        Ok(())
+    }
+
+    // After a refused growth the detector is stopped.
+    #[inline(always)]
+    fn settle(&mut self, followed: Result<(), NoMemory>) -> Result<(), Refusal>
+        ensures ok { OnOk result ((self.new ≡ self.old) × (followed ≡ Ok tt)) }
+        ensures err { IfErr result (λ refusal. (refusal ≡ Refusal.NoMemory) × (self.new.stopped ≡ true)) }
+        ensures refused { OnErr result (IsErr followed) }
+    {
+        if followed.is_err() {
+            self.stopped = true;
+            return Err(Refusal::NoMemory);
+        }
+        Ok(())
+    }
+
+    // Takes a record at the next place.
+    #[inline(always)]
+    fn follow(&mut self, what: Record) -> Result<(), NoMemory>
+        requires { self.old.last_place < most_records }
+        ensures met { OnOk result ((u : List Placed) → HasTakenPlaced u self.old
+            → HasTakenPlaced (u ++ record { place = self.old.last_place + 1; what = what } ∷ []) self.new) }
+        ensures last { OnOk result (self.new.last_place ≡ self.old.last_place + 1) }
+        ensures ended { OnOk result ((self.new.ended ≡ true) ↔ ((self.old.ended ≡ true)
+            ⊎ ((what ≡ Record.Return) × (length self.old.bags.active ≡ 1)))) }
+        ensures going { self.new.stopped ≡ self.old.stopped }
+        ensures want { OnErr result ((u : List Placed) → HasTakenPlaced u self.old
+            → WantsMemory u (record { place = self.old.last_place + 1; what = what })) }
+    {
+        self.last_place += 1;
+        let place = self.last_place;
+        match what {
+            Record::Spawn => self.bags.spawn(),
+            Record::Call => self.bags.call(),
+            Record::Sync => {
+                self.bags.sync();
+                Ok(())
+            }
+            Record::Return => {
+                self.go_back();
+                Ok(())
+            }
+            Record::Read(location) => self.access(location, Kind::Read, place),
+            Record::Write(location) => self.access(location, Kind::Write, place),
+        }
+    }
+
+    // Takes an access at this place, which is that of the last record.
+    #[inline(always)]
+    fn access(&mut self, location: u64, kind: Kind, place: u64) -> Result<(), NoMemory>
+        requires later { last_place_of self.old.cells < place }
+        requires next { next_place_of self.old.blocks ≤ place }
+        requires from_one { 1 ≤ place }
+        requires last { place ≡ self.old.last_place }
+        requires to_limit { place ≤ most_records }
+        ensures met { OnOk result ((u : List Placed) → HasTakenPlaced u self.old
+            → HasTakenPlaced (u ++ record { place = place; what = access kind location } ∷ []) self.new) }
+        ensures bags { self.new.bags ≡ self.old.bags }
+        ensures last { self.new.last_place ≡ self.old.last_place }
+        ensures ended { self.new.ended ≡ self.old.ended }
+        ensures going { self.new.stopped ≡ self.old.stopped }
+        ensures want { OnErr result ((u : List Placed) → HasTakenPlaced u self.old
+            → WantsMemory u (record { place = place; what = access kind location })) }
+    {
+        if location % 2 == 0 {
+            return self.touch(location, kind, place, unit_of(location));
+        }
+        match self.cells.touch(&self.bags, location, kind, place)? {
+            None => Ok(()),
+            Some(race) => self.collector.take(Back::Race(race)),
+        }
+    }
+
+    // The executing procedure returns. The root's return changes no bag.
+    #[inline(always)]
+    fn go_back(&mut self)
+        ensures bags { self.new.bags ≡ event self.old.bags Record.Return }
+        ensures ended { (self.new.ended ≡ true) ↔ ((self.old.ended ≡ true) ⊎ (length self.old.bags.active ≡ 1)) }
+        ensures cells { self.new.cells ≡ self.old.cells }
+        ensures blocks { self.new.blocks ≡ self.old.blocks }
+        ensures kept { self.new.kept ≡ self.old.kept }
+        ensures last { self.new.last_place ≡ self.old.last_place }
+        ensures going { self.new.stopped ≡ self.old.stopped }
+    {
+        if self.bags.active() > 1 {
+            self.bags.ret();
+        } else {
+            self.ended = true;
+        }
+    }
+
+    #[inline(always)]
+    fn touch_both(&mut self, location: u64, reads: u64, writes: u64) -> Result<(), NoMemory>
+        requires even { location % 2 ≡ 0 }
+        requires to_limit { self.old.last_place + (count_ones reads + count_ones writes) ≤ most_records }
+        ensures met { OnOk result ((u : List Placed) → HasTakenPlaced u self.old
+            → HasTakenPlaced ((u ++ accesses location Kind.Read (self.old.last_place + 1) reads)
+            ++ accesses location Kind.Write (self.old.last_place + count_ones reads + 1) writes) self.new) }
+        ensures last { OnOk result (self.new.last_place
+            ≡ self.old.last_place + (count_ones reads + count_ones writes)) }
+        ensures bags { self.new.bags ≡ self.old.bags }
+        ensures ended { self.new.ended ≡ self.old.ended }
+        ensures going { self.new.stopped ≡ self.old.stopped }
+    {
+        let first = self.last_place + 1;
+        let second = first + u64::from(reads.count_ones());
+        self.last_place += u64::from(reads.count_ones() + writes.count_ones());
+        self.touch(location, Kind::Read, first, reads)?;
+        self.touch(location, Kind::Write, second, writes)
+    }
+
+    // Takes accesses to units of the even location's block, the first of them at this place.
+    #[inline(always)]
+    fn touch(&mut self, location: u64, kind: Kind, place: u64, units: u64) -> Result<(), NoMemory>
+        requires even { location % 2 ≡ 0 }
+        requires later { next_place_of self.old.blocks ≤ place }
+        requires from_one { 1 ≤ place }
+        requires within { place + count_ones units ≤ self.old.last_place + 1 }
+        requires to_limit { self.old.last_place ≤ most_records }
+        ensures met { OnOk result ((u : List Placed) → HasTakenPlaced u self.old
+            → HasTakenPlaced (u ++ accesses location kind place units) self.new) }
+        ensures later { next_place_of self.new.blocks ≤ place + count_ones units }
+        ensures bags { self.new.bags ≡ self.old.bags }
+        ensures last { self.new.last_place ≡ self.old.last_place }
+        ensures ended { self.new.ended ≡ self.old.ended }
+        ensures going { self.new.stopped ≡ self.old.stopped }
+    {
+        if units == 0 {
+            return Ok(());
+        }
+        let mut races = Vec::new(self.alloc);
+        self.blocks
+            .touch(&self.bags, location, kind, place, units, &mut races)?;
+        if races.is_empty() {
+            return Ok(());
+        }
+        take_all(&mut self.collector, races.as_slice())
+    }
+
+    /// The report of the records taken. It refuses if the allocator has refused a growth.
+    pub fn finish(self) -> Result<Report, NoMemory>
+        ensures races { IfOk result (λ report. (u : List Placed) → HasTakenPlaced u self
+            → report ≡ by_location (found u)) }
+        // Of a well nested trace it is the report by the dag.
+        ensures report { IfOk result (λ report. (u : List Record) (records depths : ℕ) → IsAfter u self
+            → IsWellNested u records depths → IsReportOf u report) }
+        ensures stopped { IsStopped self → IsErr result }
+    {
+        if self.stopped {
+            return Err(NoMemory);
+        }
+        self.collector.finish()
+    }
+}
+
+// The mask of the location's unit in its block.
+#[inline(always)]
+fn unit_of(location: u64) -> u64
+    ensures one { count_ones result ≡ 1 }
+    ensures alone { (kind : Kind) (place : ℕ)
+        → accesses location kind place result ≡ record { place = place; what = access kind location } ∷ [] }
+{
+    1 << (location / 2 % 64) as u32
+}
+
+#[cold]
+#[inline(never)]
+fn take_all(collector: &mut Collector, races: &[Race]) -> Result<(), NoMemory>
+    ensures { OnOk result ((g : List Back) → KeepsBest g collector.old
+        → KeepsBest (g ++ map Back.Race races.now) collector.new) }
+{
+    for race in races {
+        collector.take(Back::Race(*race))?;
+    }
+    Ok(())
+}
