@@ -68,13 +68,36 @@ fn many_steps(rt: HostRuntime) -> Result<(), Fail> {
     Ok(())
 }
 
+// The child reads location 0 and writes location 2, and the root, which doesn't wait for it, writes both.
+#[test]
+fn blocks(rt: HostRuntime) -> Result<(), Fail> {
+    let mut session = Session::new(rt.alloc());
+    assert_eq!(rt; session.step(SPAWN, 0), TAKEN);
+    assert_eq!(rt; session.block(0, 1, 2), TAKEN);
+    assert_eq!(rt; session.step(RETURN, 0), TAKEN);
+    assert_eq!(rt; session.block(1, 0, 3), TAKEN);
+    assert_eq!(rt; session.step(RETURN, 0), TAKEN);
+    assert_eq!(rt; session.block(0, 1, 0), AFTER_END);
+    gives(
+        &rt,
+        &mut session,
+        b"races 2\nrace 0 read 2 write 5\nrace 2 write 3 write 6\n",
+    );
+    assert_eq!(rt; session.block(0, 1, 0), GIVEN);
+    session.close();
+    Ok(())
+}
+
 // `rt try --test --fail-alloc N` refuses growth N. A refusal stops the session for good.
 #[test]
 fn refused(rt: HostRuntime) -> Result<(), Fail> {
     let mut session = Session::new(rt.alloc());
     let mut is_refused = false;
     for record in [0, 61, 2, 61, 2] {
-        let status = session.steps(&[record]);
+        let mut status = session.steps(&[record]);
+        if record == 61 && status == TAKEN {
+            status = session.block(0, 0, 3);
+        }
         if is_refused || status != TAKEN {
             assert_eq!(rt; status, NO_MEMORY);
             is_refused = true;
