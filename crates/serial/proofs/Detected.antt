@@ -106,7 +106,7 @@ none_on : (l : ℕ) (rs : List RaceAt) → AllByRecursion (λ q. l ≢ q.locatio
 none_on l [] h = tt
 none_on l (q ∷ rs) h = (λ e. h.0 (sym e), none_on l rs h.1)
 
-apart : (rs : List RaceAt) → Apart rs → AreApart rs
+pub apart : (rs : List RaceAt) → Apart rs → AreApart rs
 apart [] h = tt
 apart (r ∷ rs) h = (none_on r.location rs h.0, apart rs h.1)
 

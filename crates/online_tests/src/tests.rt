@@ -1,9 +1,20 @@
 //! Worked traces, taken record by record.
 
-use serial::{Detector, Refusal};
+use online::{Detector, Refusal};
+use std::alloc::Global;
 use std::hash::{BuildHasherDefault, FoldHasher};
 use std::test::Fail;
-use trace::{Access, Kind, Race, Record};
+use trace::{Access, Kind, NoMemory, Race, Record};
+
+type Hasher = BuildHasherDefault<FoldHasher>;
+
+fn new_detector(alloc: Global) -> Result<Detector<Hasher>, NoMemory> {
+    Detector::new(
+        alloc,
+        BuildHasherDefault::default(),
+        BuildHasherDefault::default(),
+    )
+}
 
 // The child and the root, which doesn't wait for it, write location 5.
 #[test]
@@ -14,13 +25,16 @@ fn write_write(rt: HostRuntime) -> Result<(), Fail> {
         first: Access { kind, place: 2 },
         second: Access { kind, place: 4 },
     };
-    let hasher = BuildHasherDefault::<FoldHasher>::default();
-    let mut detector = Detector::new(rt.alloc(), hasher)?;
-    for what in [Record::Spawn, Record::Write(5), Record::Return] {
-        assert_eq!(rt; detector.take(what), Ok(None));
+    let mut detector = new_detector(rt.alloc())?;
+    for what in [
+        Record::Spawn,
+        Record::Write(5),
+        Record::Return,
+        Record::Write(5),
+        Record::Return,
+    ] {
+        assert_eq!(rt; detector.take(what), Ok(()));
     }
-    assert_eq!(rt; detector.take(Record::Write(5)), Ok(Some(race)));
-    assert_eq!(rt; detector.take(Record::Return), Ok(None));
     assert_eq!(rt; detector.take(Record::Sync), Err(Refusal::AfterEnd));
     let report = detector.finish()?;
     assert_eq!(rt; report.races(), [race].as_slice());
@@ -30,8 +44,7 @@ fn write_write(rt: HostRuntime) -> Result<(), Fail> {
 // Here the root waits.
 #[test]
 fn write_sync_write(rt: HostRuntime) -> Result<(), Fail> {
-    let hasher = BuildHasherDefault::<FoldHasher>::default();
-    let mut detector = Detector::new(rt.alloc(), hasher)?;
+    let mut detector = new_detector(rt.alloc())?;
     for what in [
         Record::Spawn,
         Record::Write(5),
@@ -40,7 +53,7 @@ fn write_sync_write(rt: HostRuntime) -> Result<(), Fail> {
         Record::Write(5),
         Record::Return,
     ] {
-        assert_eq!(rt; detector.take(what), Ok(None));
+        assert_eq!(rt; detector.take(what), Ok(()));
     }
     assert!(rt; detector.finish()?.races().is_empty());
     Ok(())
