@@ -70,7 +70,7 @@ static inline void end_step(void) {
 }
 
 /* Between both of these. */
-static inline void step(enum spbags_kind kind, uint64_t location) {
+static inline void step(unsigned kind, uint64_t location) {
     *next_record++ = spbags_record(kind, location);
     if (__builtin_expect(next_record == bundle_end, 0))
         next_bundle();
@@ -96,10 +96,66 @@ __attribute__((noinline, cold, noreturn)) static void refuse_step(unsigned statu
     fail("the detector rejected a record with status %u, so the run ends here without a report", status);
 }
 
-static void take_bundle(const struct bundle *bundle) {
-    uint8_t status = spbags_steps(session, bundle->records, bundle->used);
+/* For a library that lacks it. */
+__attribute__((weak)) uint8_t spbags_block(void *handle, uint64_t location, uint64_t reads, uint64_t writes) {
+    uint64_t units[2 * BLOCK_UNITS], block = block_with(location);
+    size_t count = 0;
+    for (; reads != 0; reads &= reads - 1)
+        units[count++] = spbags_record(SPBAGS_READ, location_in(block, (unsigned)__builtin_ctzll(reads)));
+    for (; writes != 0; writes &= writes - 1)
+        units[count++] = spbags_record(SPBAGS_WRITE, location_in(block, (unsigned)__builtin_ctzll(writes)));
+    return spbags_steps(handle, units, count);
+}
+
+static void take_records(const uint64_t *first, const uint64_t *end) {
+    uint8_t status = spbags_steps(session, first, (size_t)(end - first));
     if (status != SPBAGS_TAKEN)
         refuse_step(status);
+}
+
+/* What the strand has touched that the detector hasn't taken. */
+static struct strand gathered;
+
+static void take_strand(void) {
+    size_t used = next_part(&gathered);
+    for (const struct touched *touched = gathered.list; touched < gathered.list + used; touched++) {
+        uint8_t status = spbags_block(session, location_in(touched->block, 0), touched->reads, touched->writes);
+        if (status != SPBAGS_TAKEN)
+            refuse_step(status);
+    }
+}
+
+/* Takes the bundle's records up to this end, and what is gathered. Others go to the bundle's beginning then. */
+static uint64_t *take_all(struct bundle *bundle, const uint64_t *end) {
+    take_records(bundle->records, end);
+    take_strand();
+    return bundle->records;
+}
+
+static void take_bundle(struct bundle *bundle) {
+    uint64_t *end = bundle->records;
+    for (const uint64_t *at = end, *last = at + bundle->used; at < last; at++) {
+        uint64_t kind = *at & 7, location = *at >> 3;
+        bool is_access = kind == SPBAGS_READ || kind == SPBAGS_WRITE;
+        if (is_access && is_gathered(location)) {
+            struct touched *touched = touched_with(&gathered, location);
+            if (__builtin_expect(!touched, 0)) {
+                end = take_all(bundle, end);
+                touched = touched_with(&gathered, location);
+            }
+            *(kind == SPBAGS_WRITE ? &touched->writes : &touched->reads) |= bit_in_block(location);
+            continue;
+        }
+        if (!is_access && gathered.used > 0)
+            end = take_all(bundle, end);
+        if (kind != strand_ends)
+            *end++ = *at;
+        if (!is_access)
+            next_part(&gathered);
+        else if (ends_part(&gathered))
+            end = take_all(bundle, end);
+    }
+    take_records(bundle->records, end);
 }
 
 /* Whether the report, once it is made, is more than the line `races 0`. */
@@ -143,7 +199,7 @@ static void start_detector(void) {}
 static inline void begin_step(void) {}
 static inline void end_step(void) {}
 static inline bool has_new_step(void) { return false; }
-static inline void step(enum spbags_kind kind, uint64_t location) { (void)kind, (void)location; }
+static inline void step(unsigned kind, uint64_t location) { (void)kind, (void)location; }
 static void end_detector(void) {}
 #endif
 

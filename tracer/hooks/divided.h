@@ -34,11 +34,7 @@ static struct divided *slot_of_unit(uint64_t location) {
 
 static void put_byte(struct divided *unit, size_t byte, bool writes, uintptr_t address, uintptr_t code) {
     uint64_t around = unit->fresh[byte] != 0 ? unit->fresh[byte] : unit->location;
-    uint64_t location = first_byte + MOST_BYTES * around + byte;
-    if (looking)
-        count_access(writes, location, address, code);
-    else
-        put_access(writes, location, site_word(true, code));
+    take_access(writes, first_byte + MOST_BYTES * around + byte, address, code, site_word(true, code));
 }
 
 /* The run's course is that of the units. */
@@ -46,7 +42,7 @@ static void follow_unit(struct divided *unit, bool writes, uintptr_t address, ui
     if (is_repeat(writes, unit->mark))
         return;
     unit->mark = new_mark(writes);
-    if (has_places)
+    if (has_places || looking)
         follow_access(writes, unit->location, address, site_of_access(address, code));
 }
 

@@ -31,6 +31,7 @@ static void end_trace(void) {
     sigprocmask(SIG_BLOCK, &all, &before);
     stop_tracing();
     tell_course();
+    put_strand();
     trace.most = next_place = last_record = UINT64_MAX;
     while (procedures > 0)
         close_procedure(0);
@@ -77,6 +78,7 @@ static void end_racy(void) {
 
 static void stop_at_limit(void) {
     uint64_t most = trace.most;
+    next_part(&pending);
     end_trace();
     fail("the trace has reached its limit of %llu bytes, so the run ends here, and the trace has what came before: "
          "SPBAGS_MAX_BYTES sets another limit",

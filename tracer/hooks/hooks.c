@@ -3,8 +3,8 @@
    file instead of the sanitizer's own runtime. This file is compiled without that flag. The program runs on one thread,
    in the serial order: a spawned child runs at once, as an ordinary call.
 
-   Each part stands on those before it: what goes out; the detector and its heap, where SPBAGS_INSIDE is defined; what
-   is held; places; stacks; what a strand has done; records; locations, and bytes; procedures; a look at the races'
+   Each part stands on those before it: what goes out; the order in a strand; the detector and its heap, where
+   SPBAGS_INSIDE is defined; what is held; places; stacks; what a strand has done; records; locations, and bytes; procedures; a look at the races'
    places; reducers; scopes and loops of Cilk; the hooks of accesses, of C++'s spawns, of library functions and of jumps;
    a watch for waits without end; the hooks of locks; the heap; those of C++, of its parallel libraries and, where
    SPBAGS_OPENMP is defined, of OpenMP; functions that nothing is known of, and what of the code has no hook of the
@@ -81,6 +81,7 @@ static uintptr_t unit_mask;
 static bool looking;
 
 #include "output.h"
+#include "strands.h"
 #include "detector.h"
 #include "detector_heap.h"
 #include "guards.h"

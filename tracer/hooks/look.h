@@ -29,10 +29,16 @@ struct race {
     struct owner frame, data;
     /* Whether it is of a reducer's view. */
     bool is_view;
+    /* The function in which both accesses meet; where it waits next, the code address; and whether it ends there. */
+    uint32_t meeting;
+    uintptr_t waits;
+    bool ends;
+    /* The next race that waits for the same function, and the next one that may be pending. */
+    struct race *next, *next_pending;
 };
 static bool is_view(uintptr_t address);
 
-static struct race *races;
+static struct race *races, *newest_pending;
 static size_t races_count;
 
 /* The races' accesses by place, and how many of them were met as the report says. */
@@ -69,8 +75,9 @@ struct node {
     /* The address after the call, in the caller; of a child, none. */
     uintptr_t code;
     bool is_shown, is_child;
-    /* The newest pair whose accesses meet in this function, and haven't been waited for. */
-    uint32_t pair;
+    /* The newest race whose accesses meet in this function, and haven't been waited for: the first of a pair, or one
+       that may be pending. */
+    struct race *race;
     struct part part;
 };
 enum { MOST_NODES = 1 << 26 };
@@ -283,12 +290,6 @@ struct pair {
     const struct guard *guard;
     /* Of a block of the heap, where that was allocated, or 0. */
     uint64_t site;
-    /* The function in which both meet, and where it waits next: the code address, and whether it ends there. */
-    uint32_t meeting;
-    uintptr_t waits;
-    bool ends;
-    /* The next pair that waits for the same function. */
-    uint32_t next;
     /* The newest of the others with other stacks that went out for it, and how many these are. */
     uint32_t newest;
     uint32_t more;
@@ -327,10 +328,15 @@ static bool is_counted(const struct race *race, uint32_t pair) {
     return false;
 }
 
-/* Both accesses of a race are noted: the stack is that of the second. */
-static void add_race(struct race *race, uintptr_t address) {
+static void wait_in_meeting(struct race *race) {
+    race->next = nodes[race->meeting].race;
+    nodes[race->meeting].race = race;
+}
+
+/* Both accesses of a race have gone out. */
+static void add_race(struct race *race) {
     const struct guard *guard = common_guard(race->first.guards, race->second.guards);
-    const struct block *block = block_of(address);
+    const struct block *block = block_of(race->address);
     uint64_t site = block ? block->site : 0;
     uint32_t *slot = slot_of(race, guard, site);
     if (*slot == 0 && last_pair + 1 == MOST_PAIRS) {
@@ -339,26 +345,64 @@ static void add_race(struct race *race, uintptr_t address) {
     }
     if (*slot == 0) {
         *slot = ++last_pair;
-        uint32_t meets = meeting(race->first.node, race->second.node);
-        pairs[last_pair] = (struct pair){.race = race, .guard = guard, .site = site, .meeting = meets,
-                                         .next = nodes[meets].pair};
-        nodes[meets].pair = last_pair;
+        pairs[last_pair] = (struct pair){.race = race, .guard = guard, .site = site};
+        if (race->waits == 0)
+            wait_in_meeting(race);
     }
     pairs[*slot].count += !is_counted(race, *slot);
     pairs[*slot].is_narrow |= race->first.is_narrow || race->second.is_narrow;
     race->pair = *slot;
-    race->address = address;
-    race->frame = frame_owner(address, &race->second);
-    race->data = data_owner(address, &race->second);
-    race->is_view = is_view(address);
 }
 
 /* This function waits for its children, and maybe ends with that. */
 __attribute__((noinline, cold)) static void look_at_wait(const struct frame *frame, uintptr_t code, bool ends) {
-    uint32_t *pair = &nodes[frame->node].pair;
-    for (; *pair != 0; *pair = pairs[*pair].next) {
-        pairs[*pair].waits = code;
-        pairs[*pair].ends = ends;
+    struct race **race = &nodes[frame->node].race;
+    for (; *race; *race = (*race)->next) {
+        (*race)->waits = code;
+        (*race)->ends = ends;
+    }
+}
+
+/* ---- Accesses of races ---- */
+
+static void take_look(struct race *race, struct look *look, uintptr_t address, uintptr_t code) {
+    look->node = node_of(top_at());
+    look->code = code_in(top_at(), code);
+    look->guards = guards_now();
+    look->is_narrow = bytes_left_out(address) != 0;
+    if (look == &race->first)
+        return;
+    race->address = address;
+    race->frame = frame_owner(address, look);
+    race->data = data_owner(address, look);
+    race->is_view = is_view(address);
+    race->meeting = meeting(race->first.node, look->node);
+    race->waits = 0;
+}
+
+/* It may be one of the report, if that has its location and its kind at one of the places that what is pending gets. */
+static void note_pending(bool writes, uint64_t location, uintptr_t address, uintptr_t code) {
+    const uint64_t most_pending = 2 * BLOCK_UNITS * MOST_BLOCKS + MOST_ODD;
+    struct race *race = next_place - records <= most_pending ? &races[race_from(location)] : NULL;
+    if (!race || race == races + races_count || race->location != location)
+        return;
+    struct look *look = race->first.place > records ? &race->first : &race->second;
+    if (look->writes != writes || look->place <= records || look->place - records > most_pending)
+        return;
+    take_look(race, look, address, code);
+    if (look == &race->second) {
+        race->next_pending = newest_pending;
+        newest_pending = race;
+        wait_in_meeting(race);
+    }
+}
+
+/* All that is pending goes out. The races of a function that are pending stand before its others. */
+static void forget_pending(void) {
+    for (; newest_pending; newest_pending = newest_pending->next_pending) {
+        struct race **first = &nodes[newest_pending->meeting].race;
+        if (*first == newest_pending)
+            *first = newest_pending->next;
     }
 }
 
@@ -390,12 +434,10 @@ static void look_at_access(bool writes, uint64_t location, uintptr_t address, ui
     if (look->writes != writes || race->location != location) {
         go_astray("a %s of location %" PRIu64, writes ? "write" : "read", location);
     } else {
-        look->node = node_of(top_at());
-        look->code = code_in(top_at(), code);
-        look->guards = guards_now();
-        look->is_narrow = bytes_left_out(address) != 0;
+        if (!is_gathered(location))
+            take_look(race, look, address, code);
         if (look == &race->second)
-            add_race(race, address);
+            add_race(race);
     }
     next_stop();
 }
@@ -492,8 +534,8 @@ static void put_pair(const struct pair *pair, const struct race *race) {
     put_side("second", &race->second, meets);
     if (race->is_view)
         put("reducer\n");
-    if (pair->waits != 0 && meets == pair->meeting)
-        put("%s %lx\n", pair->ends ? "ends" : "waits", pair->waits);
+    if (pair->race->waits != 0 && meets == pair->race->meeting)
+        put("%s %lx\n", pair->race->ends ? "ends" : "waits", pair->race->waits);
     if (pair->guard) {
         put("guard %lx ", pair->guard->id);
         put_text(pair->guard->name);

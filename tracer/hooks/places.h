@@ -21,7 +21,7 @@ static bool has_places;
 static struct {
     uint64_t records, digest;
 } course;
-/* The run ends behind so many records; one that looks, at the last place that it looks at. */
+/* The run ends behind so many records; one that looks, at the last place that it looks at, if that comes before. */
 static uint64_t last_record = UINT64_MAX;
 
 static void tell_course(void) {
@@ -65,10 +65,9 @@ static inline uint16_t site_number(uint64_t word) {
     return __builtin_expect(site_keys[slot] == word + 1, 1) ? site_numbers[slot] : find_site(word);
 }
 
-static inline void write_place(uint64_t word) {
+static inline void write_place(uint16_t site) {
     if (places.file < 0)
         return;
-    uint16_t site = site_number(word);
     __builtin_memcpy(room(&places), &site, sizeof site);
     places.used += sizeof site;
 }

@@ -62,7 +62,7 @@ static inline void count_procedures(enum spbags_kind kind) {
 }
 
 OTHERWISE void other_structure(enum spbags_kind kind, uintptr_t code) {
-    begin_change();
+    begin_record();
     other_structure_record(kind, code);
     count_procedures(kind);
     end_change();
@@ -141,6 +141,9 @@ static inline void leave_children(uintptr_t code) {
 __attribute__((noinline, cold)) static void leave_left(uintptr_t address, uintptr_t code) {
     leave_below(address, code);
     leave_children(code);
+    begin_record();
+    end_strand();
+    end_change();
     begin_strand();
 }
 

@@ -50,39 +50,13 @@ static const struct line lines[] = {[SPBAGS_SPAWN] = LINE("spawn"), [SPBAGS_CALL
 static uint64_t records, next_place = UINT64_MAX;
 static void look_at_structure(void);
 static void look_at_access(bool writes, uint64_t location, uintptr_t address, uintptr_t code);
-
-__attribute__((noinline, cold)) static void count_structure(void) {
-    if (++records == next_place)
-        look_at_structure();
-}
-
-__attribute__((noinline, cold)) static void count_access(bool writes, uint64_t location, uintptr_t address,
-                                                         uintptr_t code) {
-    if (++records == next_place)
-        look_at_access(writes, location, address, code);
-}
+static void note_pending(bool writes, uint64_t location, uintptr_t address, uintptr_t code);
+static void forget_pending(void);
 
 static inline void write_structure(enum spbags_kind kind) {
     __builtin_memcpy(room(&trace), lines[kind].bytes, sizeof lines[kind].bytes);
     in_order();
     trace.used += lines[kind].length;
-}
-
-OTHERWISE void other_structure_record(enum spbags_kind kind, uintptr_t code) {
-    if (__builtin_expect(looking, 0)) {
-        count_structure();
-        return;
-    }
-    if (has_places) {
-        follow_course(kind, code);
-        write_place(code);
-    }
-    if (detecting) {
-        begin_step();
-        step(kind, 0);
-        end_step();
-    } else
-        write_structure(kind);
 }
 
 /* From 00 to 99. */
@@ -118,6 +92,99 @@ static inline void step_access(bool writes, uint64_t location) {
     end_step();
 }
 
+/* ---- What goes out when the strand has ended, in a run that does more than detect ---- */
+
+/* What the strand has touched that hasn't gone out, and the number of the site of each access. */
+static struct strand pending;
+static uint16_t pending_sites[MOST_BLOCKS][2][BLOCK_UNITS];
+
+static inline void begin_record(void) {
+    if (__builtin_expect(changes > 0, 0) && tracing)
+        fail("a signal handler of the program interrupted the tracer, so the run ends here without a %s", made());
+    begin_change();
+}
+
+/* Of one that was pending a look needs neither the address nor the code. */
+static inline void put_access(bool writes, uint64_t location, uintptr_t address, uintptr_t code, uint16_t site) {
+    if (looking && ++records == next_place)
+        look_at_access(writes, location, address, code);
+    if (has_places)
+        write_place(site);
+    if (!detecting && !looking)
+        write_access(writes, location);
+}
+
+static void put_accesses(struct touched *touched, bool writes) {
+    uint64_t *units = writes ? &touched->writes : &touched->reads;
+    const uint16_t *sites = pending_sites[touched - pending.list][writes];
+    for (; *units != 0; *units &= *units - 1) {
+        unsigned unit = (unsigned)__builtin_ctzll(*units);
+        put_access(writes, location_in(touched->block, unit), 0, 0, sites[unit]);
+    }
+}
+
+/* Where the run ends meanwhile, as a signal handler may end it, the rest goes out then. */
+static void put_strand(void) {
+    static size_t at;
+    if (looking)
+        forget_pending();
+    for (; at < pending.used; at++) {
+        put_accesses(&pending.list[at], false);
+        put_accesses(&pending.list[at], true);
+    }
+    at = 0;
+    next_part(&pending);
+}
+
+/* A strand ends without a record of the structure. */
+static void end_strand(void) {
+    if (detecting) {
+        begin_step();
+        step(strand_ends, 1);
+        end_step();
+    }
+    put_strand();
+}
+
+/* The access goes out when its strand has ended. */
+static void keep_access(bool writes, uint64_t location, uintptr_t address, uintptr_t code, uint16_t site) {
+    struct touched *touched = touched_with(&pending, location);
+    if (__builtin_expect(!touched, 0)) {
+        put_strand();
+        touched = touched_with(&pending, location);
+    }
+    uint64_t *units = writes ? &touched->writes : &touched->reads, bit = bit_in_block(location);
+    if ((*units & bit) != 0)
+        return;
+    *units |= bit;
+    if (has_places)
+        pending_sites[touched - pending.list][writes][location / 2 % BLOCK_UNITS] = site;
+    if (looking)
+        note_pending(writes, location, address, code);
+}
+
+/* ---- Records as they come ---- */
+
+/* How many there were, but for those of the stack's memory, which each call of a function has anew. */
+static uint64_t news;
+
+OTHERWISE void other_structure_record(enum spbags_kind kind, uintptr_t code) {
+    put_strand();
+    news++;
+    if (has_places || looking)
+        follow_course(kind, code);
+    if (looking && ++records == next_place)
+        look_at_structure();
+    if (has_places)
+        write_place(site_number(code));
+    if (detecting) {
+        begin_step();
+        step(kind, 0);
+        end_step();
+    } else if (!looking)
+        write_structure(kind);
+}
+
 static inline uint64_t site_of_access(uintptr_t unit, uintptr_t code) {
     return site_word(bytes_left_out(unit) != 0, code);
 }
@@ -129,28 +196,34 @@ static inline void follow_access(bool writes, uint64_t location, uintptr_t unit,
                   site);
 }
 
-static inline void put_access(bool writes, uint64_t location, uint64_t site) {
-    if (has_places)
-        write_place(site);
+static inline void take_access(bool writes, uint64_t location, uintptr_t address, uintptr_t code, uint64_t site) {
+    uint16_t number = has_places ? site_number(site) : NO_SITE;
     if (detecting)
         step_access(writes, location);
-    else
-        write_access(writes, location);
+    if (is_gathered(location)) {
+        if (!detecting || has_places)
+            keep_access(writes, location, address, code, number);
+        return;
+    }
+    put_access(writes, location, address, code, number);
+    if (ends_part(&pending))
+        put_strand();
 }
 
 OTHERWISE void other_access_record(bool writes, uint64_t location, uintptr_t address, uintptr_t code) {
-    if (__builtin_expect(divides, 0) && divide_access(writes, location, address, code))
-        ;
-    else if (__builtin_expect(looking, 0))
-        count_access(writes, location, address, code);
-    else {
+    begin_record();
+    news += location % 2 == 0;
+    if (!__builtin_expect(divides, 0) || !divide_access(writes, location, address, code)) {
         uint64_t site = has_places ? site_of_access(address, code) : 0;
-        if (has_places)
+        if (has_places || looking)
             follow_access(writes, location, address, site);
-        put_access(writes, location, site);
+        take_access(writes, location, address, code, site);
     }
-    if (writes_repeats)
+    if (writes_repeats) {
+        end_strand();
         begin_strand();
+    }
+    end_change();
     end_at_last();
 }
 

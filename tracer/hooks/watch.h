@@ -18,28 +18,12 @@ static uint64_t time_of(clockid_t clock) {
     return (uint64_t)now.tv_sec * SECOND + (uint64_t)now.tv_nsec;
 }
 
-/* ---- Whether there was a record, other than of the stack's memory, which each call of a function has anew ---- */
-
-/* The lines of the trace from this byte of its buffer on. Such locations are odd. */
-static bool has_new_line(size_t at) {
-    for (; at < trace.used; at++)
-        if (trace.bytes[at] == '\n' && (trace.bytes[at - 1] > '9' || trace.bytes[at - 1] % 2 == 0))
-            return true;
-    return false;
-}
-
-/* Since this was asked last, as far as records haven't gone out since then. */
+/* Whether there was a record since this was asked last, other than of the stack's memory. */
 static bool has_new_record(void) {
     static uint64_t seen;
     uint64_t before = seen;
-    if (detecting)
-        return has_new_step();
-    if (looking) {
-        seen = records;
-        return seen != before;
-    }
-    seen = trace.written + trace.used;
-    return has_new_line(before > trace.written ? (size_t)(before - trace.written) : 0);
+    seen = news;
+    return only_detects ? has_new_step() : news != before;
 }
 
 /* ---- Where the program is ---- */

@@ -41,6 +41,10 @@ static inline uint64_t spbags_record(enum spbags_kind kind, uint64_t location) {
    below 2^60; `records` isn't null, even if `count` is 0; and nothing writes the records during the call. */
 uint8_t spbags_steps(void *handle, const uint64_t *records, size_t count);
 
+/* Takes accesses in the block of an even location: that has, for some b, the locations 128 * b + 2 * i with i below 64.
+   A read of each whose bit i is set in `reads` comes by ascending i, then the same of `writes`: all or none. */
+uint8_t spbags_block(void *handle, uint64_t location, uint64_t reads, uint64_t writes);
+
 /* Makes the text of the report of all records that were taken. No record is taken after that. */
 uint8_t spbags_report(void *handle);
 

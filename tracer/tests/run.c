@@ -143,6 +143,18 @@ static void of_one_guard(void) {
     guarded = 2; /* [no turn] */
 }
 
+/* What the strand goes on with isn't held. */
+static void turn_first(void) {
+    turn(); /* [turn first] */
+    guarded = 2; /* [turn over] */
+    table[0] = 1; /* [no lock] */
+}
+
+static void of_one_strand(void) {
+    cilk_spawn turn_first(); /* [spawn turn first] */
+    turn_first(); /* [turns first] */
+}
+
 /* Which run this is here: each makes a file longer. */
 static off_t run_number(void) {
     int file = open("ran", O_WRONLY | O_CREAT | O_APPEND, 0666);
@@ -266,6 +278,7 @@ static const struct {
     {"header", of_a_header}, {"file", of_a_file}, {"later", of_a_file_later}, {"guards file", of_a_file_of_guards},
     {"small disk", of_a_small_disk}, {"more neighbours", of_more_neighbours}, {"flags", of_flags},
     {"doubles", of_doubles}, {"letters file", of_a_file_of_letters}, {"third", of_a_third_run},
+    {"one strand", of_one_strand},
 };
 
 /* Runs those that the words name, and ends with their number. */

@@ -577,6 +577,18 @@ def check_guards():
     same((1, [None]), (status, [pair["guard"] for pair in report["pairs"]]))
 
 
+def check_guards_in_one_strand():
+    """An access has the guards and the stack of its strand's first access to that location, though it goes out later."""
+    first = [("write", "[turn]"), ("call", "[turn first]")]
+    last = [("call", "[turns first]"), MAIN]
+    report = found("one strand")[1]
+    same({"guarded": "the lock lock", "table": None}, {pair["variable"]["name"]: pair["guard"] for pair in report["pairs"]})
+    [pair] = [pair for pair in report["pairs"] if pair["guard"]]
+    same([[*first, ("spawn", "[spawn turn first]"), MAIN], [*first, *last]], sides_of(pair))
+    same(1, len(found("one strand", options=("--data-races",))[1]["pairs"]))
+    same(2, len(found("one strand", options=("--data-races", "--repeats"))[1]["pairs"]))
+
+
 # ---- What goes wrong ----
 
 def check_failure(line, *words, env=None, before=""):
