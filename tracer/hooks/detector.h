@@ -96,17 +96,6 @@ __attribute__((noinline, cold, noreturn)) static void refuse_step(unsigned statu
     fail("the detector rejected a record with status %u, so the run ends here without a report", status);
 }
 
-/* For a library that lacks it. */
-__attribute__((weak)) uint8_t spbags_block(void *handle, uint64_t location, uint64_t reads, uint64_t writes) {
-    uint64_t units[2 * BLOCK_UNITS], block = block_with(location);
-    size_t count = 0;
-    for (; reads != 0; reads &= reads - 1)
-        units[count++] = spbags_record(SPBAGS_READ, location_in(block, (unsigned)__builtin_ctzll(reads)));
-    for (; writes != 0; writes &= writes - 1)
-        units[count++] = spbags_record(SPBAGS_WRITE, location_in(block, (unsigned)__builtin_ctzll(writes)));
-    return spbags_steps(handle, units, count);
-}
-
 static void take_records(const uint64_t *first, const uint64_t *end) {
     uint8_t status = spbags_steps(session, first, (size_t)(end - first));
     if (status != SPBAGS_TAKEN)
@@ -132,9 +121,18 @@ static uint64_t *take_all(struct bundle *bundle, const uint64_t *end) {
     return bundle->records;
 }
 
+/* While nothing is gathered, such records stay where they are in the bundle. */
+static inline bool stays(uint64_t record) {
+    uint64_t kind = record & 7;
+    return kind < SPBAGS_READ || (kind != strand_ends && !is_gathered(record >> 3));
+}
+
 static void take_bundle(struct bundle *bundle) {
     uint64_t *end = bundle->records;
-    for (const uint64_t *at = end, *last = at + bundle->used; at < last; at++) {
+    const uint64_t *last = end + bundle->used;
+    while (gathered.used == 0 && end < last && stays(*end))
+        end++;
+    for (const uint64_t *at = end; at < last; at++) {
         uint64_t kind = *at & 7, location = *at >> 3;
         bool is_access = kind == SPBAGS_READ || kind == SPBAGS_WRITE;
         if (is_access && is_gathered(location)) {

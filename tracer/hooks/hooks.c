@@ -4,11 +4,11 @@
    in the serial order: a spawned child runs at once, as an ordinary call.
 
    Each part stands on those before it: what goes out; the order in a strand; the detector and its heap, where
-   SPBAGS_INSIDE is defined; what is held; places; stacks; what a strand has done; records; locations, and bytes; procedures; a look at the races'
-   places; reducers; scopes and loops of Cilk; the hooks of accesses, of C++'s spawns, of library functions and of jumps;
-   a watch for waits without end; the hooks of locks; the heap; those of C++, of its parallel libraries and, where
-   SPBAGS_OPENMP is defined, of OpenMP; functions that nothing is known of, and what of the code has no hook of the
-   compiler's; the ends of the run, and its beginning. */
+   SPBAGS_INSIDE is defined; what is held; places; stacks; what a strand has done; records; locations, and bytes;
+   procedures; a look at the races' places; reducers; scopes and loops of Cilk; the hooks of accesses, of C++'s spawns,
+   of library functions and of jumps; a watch for waits without end; the hooks of locks; the heap; those of C++, of its
+   parallel libraries and, where SPBAGS_OPENMP is defined, of OpenMP; functions that nothing is known of, and what of the
+   code has no hook of the compiler's; the ends of the run, and its beginning. */
 #define _GNU_SOURCE
 #include <ctype.h>
 #include <dlfcn.h>

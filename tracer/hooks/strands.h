@@ -1,7 +1,7 @@
 /* The accesses of a strand to even locations, which aren't of the stack, go out when it has ended, in blocks of 64
    locations: the blocks in the order of their first touch, and of each first the reads, by ascending location, and then
-   the writes. Those to odd locations go out at once. A strand with so many blocks, or so many odd accesses, goes out in
-   parts. All kinds of runs have their records in this order. */
+   the writes. Those to odd locations go out at once. A strand with so many blocks, or so many odd accesses behind the
+   first of them, goes out in parts. All kinds of runs have their records in this order. */
 enum { BLOCK_UNITS = 64 };
 #ifndef MOST_BLOCKS
 #define MOST_BLOCKS 1024
@@ -17,7 +17,7 @@ struct touched {
     uint64_t block, reads, writes, slot;
 };
 
-/* The blocks of a part in their order, and how many odd accesses it had. A slot has the place of a block in the list,
+/* The blocks of a part in their order, and how many odd accesses came behind the first. A slot has the place of a block in the list,
    if that says that it is its slot. */
 enum { BLOCK_SLOTS = 4 * MOST_BLOCKS };
 struct strand {
@@ -42,7 +42,7 @@ static inline size_t next_part(struct strand *strand) {
 }
 
 /* An odd access: whether the part ends with it. */
-static inline bool ends_part(struct strand *strand) { return ++strand->odd == MOST_ODD; }
+static inline bool ends_part(struct strand *strand) { return strand->used > 0 && ++strand->odd == MOST_ODD; }
 
 static inline uint64_t first_slot(uint64_t block) { return (block * 0x9e3779b97f4a7c15u >> 32) % BLOCK_SLOTS; }
 
