@@ -17,8 +17,8 @@ struct touched {
     uint64_t block, reads, writes, slot;
 };
 
-/* The blocks of a part in their order, and how many odd accesses came behind the first. A slot has the place of a block in the list,
-   if that says that it is its slot. */
+/* The blocks of a part in their order, and how many odd accesses came behind the first. A slot has the place of a block
+   in the list, if that says that it is its slot. */
 enum { BLOCK_SLOTS = 4 * MOST_BLOCKS };
 struct strand {
     size_t used, odd;

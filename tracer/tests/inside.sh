@@ -186,7 +186,10 @@ race 5 write 2 write 4
 races 1
 race 18446744073709551615 write 2 write 4
 races 1
-race 5 write 2 write 4'
+race 5 write 2 write 4
+races 2
+race 128 write 2 read 5
+race 254 write 3 read 68'
     [ "$has_inside" ] || return 0
     "$CC" -o steps tracer/tests/steps.c "$here/../crates/inside/out/libinside.a" && same "$wanted" "$(./steps)"
     count $? "$CC: inside: a program that calls the library"

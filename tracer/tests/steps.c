@@ -1,5 +1,6 @@
 /* The detector's library by its header alone: a child and its parent write one location, by a call for each record and by
-   one call for all. Compiled by the plain compiler. */
+   one call for all; and the child writes two locations of a block, of which the parent reads all. Compiled by the plain
+   compiler. */
 #include "../include/spbags_inside.h"
 #include <inttypes.h>
 #include <stdio.h>
@@ -51,6 +52,16 @@ static void all_at_once(void *session, uint64_t location) {
     expect("steps", SPBAGS_AFTER_END, spbags_steps(session, records, RECORDS + 1));
 }
 
+static void in_blocks(void *session, uint64_t location) {
+    const uint64_t ends = 1 | (uint64_t)1 << 63;
+    expect("a spawn", SPBAGS_TAKEN, spbags_step(session, SPBAGS_SPAWN, 0));
+    expect("a block of writes", SPBAGS_TAKEN, spbags_block(session, location, 0, ends));
+    expect("the child's return", SPBAGS_TAKEN, spbags_step(session, SPBAGS_RETURN, 0));
+    expect("a block of reads", SPBAGS_TAKEN, spbags_block(session, location, UINT64_MAX, 0));
+    expect("the root's return", SPBAGS_TAKEN, spbags_step(session, SPBAGS_RETURN, 0));
+    expect("a block after the end", SPBAGS_AFTER_END, spbags_block(session, location, ends, 0));
+}
+
 static void print_report(void (*run)(void *session, uint64_t location), uint64_t location) {
     void *session = aligned_alloc(16, (spbags_room() + 15) / 16 * 16);
     spbags_new(session);
@@ -69,5 +80,6 @@ int main(void) {
     print_report(step_by_step, 5);
     print_report(step_by_step, UINT64_MAX);
     print_report(all_at_once, 5);
+    print_report(in_blocks, 128);
     return 0;
 }
