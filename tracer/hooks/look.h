@@ -397,12 +397,14 @@ static void note_pending(bool writes, uint64_t location, uintptr_t address, uint
     }
 }
 
-/* All that is pending goes out. The races of a function that are pending stand before its others. */
+/* All that is pending goes out. Of a function's races only those of this strand may stand before one that is pending. */
 static void forget_pending(void) {
     for (; newest_pending; newest_pending = newest_pending->next_pending) {
-        struct race **first = &nodes[newest_pending->meeting].race;
-        if (*first == newest_pending)
-            *first = newest_pending->next;
+        struct race **at = &nodes[newest_pending->meeting].race;
+        while (*at && *at != newest_pending)
+            at = &(*at)->next;
+        if (*at)
+            *at = newest_pending->next;
     }
 }
 
