@@ -239,8 +239,8 @@ class Member:
 
     @staticmethod
     def combine(child, variable):
-        child.access(variable, False)
-        child.access(variable, True)
+        child.access(variable, False, "atomic")
+        child.access(variable, True, "atomic")
 
 
 # ---- Programs ----
@@ -315,16 +315,16 @@ class Writer:
         self.lines += [f"omp_unset_lock(&{guard});"] * is_lock
         return Item("guarded", inner=inner)
 
-    def inner(self, count, deep):
+    def inner(self, count, deep, tasks=0.2):
         """What a child does: accesses and tasks."""
-        return [self.task(deep + 1) if deep < 2 and self.chance(0.2) else
+        return [self.task(deep + 1) if deep < 2 and self.chance(tasks) else
                 self.taskwait() if self.chance(0.1) else
                 self.guarded(deep) if deep < 2 and self.chance(0.15) else
                 self.access(in_child=True) for _ in range(count)]
 
     def task(self, deep):
         kinds = {name: self.random.choice(("in", "in", "out", "inout"))
-                 for name in self.random.sample(self.globals[:2], self.random.randint(1, 2) if self.chance(0.3) else 0)}
+                 for name in self.random.sample(self.globals[:2], self.random.randint(1, 2) if self.chance(0.5) else 0)}
         self.has_depend |= bool(kinds)
         self.line("#pragma omp task shared(local)" + "".join(f" depend({kinds[name]} : {name})" for name in kinds))
         self.line("{ int value;")
@@ -351,7 +351,7 @@ class Writer:
         nowait = self.chance(0.5)
         self.line("#pragma omp single" + " nowait" * nowait)
         self.line("{")
-        item = Item("single", nowait=nowait, inner=self.inner(2, 0))
+        item = Item("single", nowait=nowait, inner=self.inner(self.random.randint(2, 4), 0, 0.6))
         self.line("}")
         return item
 
