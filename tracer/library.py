@@ -1,6 +1,6 @@
 #!/usr/bin/env python3
-"""What library.table says, as the hooks' wrappers in C and as a page: `library.py` prints the page, and with the word
-`names` the functions' names."""
+"""What library.table says, as the hooks' wrappers in C and as a page: `library.py` prints the page, with the word `names`
+the functions' names, and with `names.h` or `wrappers.h` the headers library_names.h and library_wrappers.h."""
 import os
 import re
 import sys
@@ -216,4 +216,6 @@ def row(function):
 
 
 if __name__ == "__main__":
-    print("\n".join(Table().names()) if sys.argv[1:] == ["names"] else Table().page(), end="")
+    TABLE = Table()
+    PRINTS = {"names": lambda: "\n".join(TABLE.names()), "names.h": TABLE.declarations, "wrappers.h": TABLE.wrappers}
+    print(PRINTS[sys.argv[1]]() if sys.argv[1:] else TABLE.page(), end="")

@@ -2,14 +2,14 @@
 read of one that is an argument. A text alone doesn't say which arguments are structs; the functions' declarations do."""
 import re
 
-import spawns
+from tokens import CONTROLS, arguments_of, tokens_of
 
 # A parameter, and a name that may be that of a struct: so much a text without its tokens says.
 PARAMETER = re.compile(r"[(,]\s*(?:const\s+)?(?:(struct|union)\s+)?(\w+)(?:\s+\w+)?\s*(?=[,)])")
 NAMED = re.compile(r"\}[^;{}()]*?(\w+)\s*;|\btypedef\s+(?:const\s+)?(?:struct\s+|union\s+)?\w+\s+(\w+)\s*;")
 # What brackets stand behind that are no function's.
-KEYWORDS = spawns.CONTROLS | set("return case else do goto sizeof typeof __typeof __typeof__ _Alignof __alignof__ asm "
-                                 "__asm__ _Alignas _Generic _Static_assert __attribute__ __extension__".split())
+KEYWORDS = CONTROLS | set("return case else do goto sizeof typeof __typeof __typeof__ _Alignof __alignof__ asm "
+                          "__asm__ _Alignas _Generic _Static_assert __attribute__ __extension__".split())
 KINDS = {"struct", "union"}
 QUALIFIERS = {"const", "volatile", "register", "restrict", "__restrict", "__const"}
 # The read of parts that the function doesn't use stays too.
@@ -58,7 +58,7 @@ def declared(tokens, types):
     for at, token in enumerate(tokens):
         if token.text != "(" or token.partner is None or at == 0:
             continue
-        structs = {number for number, (first, last) in enumerate(spawns.arguments_of(tokens, at))
+        structs = {number for number, (first, last) in enumerate(arguments_of(tokens, at))
                    if is_struct(tokens[first:last + 1], types)}
         name = name_before(tokens, at) if structs else None
         if name and name not in KEYWORDS and not name.startswith("__builtin_"):
@@ -133,7 +133,7 @@ def rewritten(text):
     """The source with a copy of each struct that it passes."""
     if not may_pass(text):
         return text
-    tokens = spawns.tokens_of(text)
+    tokens = tokens_of(text)
     functions, brackets = declared(tokens, types_of(tokens))
     add_typed(tokens, functions)
     added = []
@@ -142,7 +142,7 @@ def rewritten(text):
                 tokens[opening - 1].system or not is_in_function(tokens, opening):
             continue
         structs = set().union(*(functions.get(name, ()) for name in called(tokens, opening)))
-        for number, (first, last) in enumerate(spawns.arguments_of(tokens, opening) if structs else ()):
+        for number, (first, last) in enumerate(arguments_of(tokens, opening) if structs else ()):
             if number in structs:
                 added += [(tokens[first].start, 1, BEFORE), (tokens[last].end, 0, AFTER)]
     made, done = [], 0

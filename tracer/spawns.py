@@ -11,8 +11,8 @@ import loops
 import reducers
 import source
 import spawns_cplusplus
-from tokens import (CONTROLS, Refused, after_postfixes, arguments_of, call_after, is_in_block, is_lvalue,
-                    own_constants, piece, statement_start, tokens_of)
+from tokens import (Refused, arguments_of, call_after, is_in_block, is_lvalue, own_constants, piece, statement_start,
+                    tokens_of)
 
 ASSIGNMENTS = {"=", "+=", "-=", "*=", "/=", "%=", "&=", "|=", "^=", "<<=", ">>="}
 LITERALS = {"string", "character", "number"}

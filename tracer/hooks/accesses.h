@@ -9,8 +9,8 @@ static inline bool are_repeats(bool writes, const uint32_t *mark, size_t units) 
 
 /* Whether these are some whole units of one region, and all of them repeats. */
 static inline bool is_old(bool writes, uintptr_t at, size_t size) {
-    return ((at | size) & unit_mask) == 0 && size <= region_mask - (at & region_mask) &&
-           regions[region_of(at)] != 0 && are_repeats(writes, mark_at(at, unit_shift), size >> unit_shift);
+    return ((at | size) & unit_mask) == 0 && size <= region_mask - (at & region_mask) && regions[region_of(at)] != 0 &&
+           are_repeats(writes, mark_at(at, unit_shift), size >> unit_shift);
 }
 
 /* Between a spawn and the entry of what it calls, and between its exit and the return, compilers copy arguments and the
@@ -101,10 +101,8 @@ __attribute__((noinline)) static void library_write(uintptr_t at, size_t size, _
 #define OFTEN(WRITES, AT, SIZE) usual_access(WRITES, (uintptr_t)(AT), SIZE, STACK_POINTER, CODE)
 #define READ(AT, SIZE) any_access(false, (uintptr_t)(AT), SIZE, NULL, STACK_POINTER, CODE)
 #define WRITE(AT, SIZE) any_access(true, (uintptr_t)(AT), SIZE, NULL, STACK_POINTER, CODE)
-#define LIBRARY_READ(AT, SIZE, SELF) \
-    library_read((uintptr_t)(AT), SIZE, (__spbags_function)SELF, STACK_POINTER, CODE)
-#define LIBRARY_WRITE(AT, SIZE, SELF) \
-    library_write((uintptr_t)(AT), SIZE, (__spbags_function)SELF, STACK_POINTER, CODE)
+#define LIBRARY_READ(AT, SIZE, SELF) library_read((uintptr_t)(AT), SIZE, (__spbags_function)SELF, STACK_POINTER, CODE)
+#define LIBRARY_WRITE(AT, SIZE, SELF) library_write((uintptr_t)(AT), SIZE, (__spbags_function)SELF, STACK_POINTER, CODE)
 
 /* With clang those of coverage stand beside the accesses instead of the sanitizer's. */
 #define ACCESSES(SIZE) \
@@ -114,7 +112,11 @@ __attribute__((noinline)) static void library_write(uintptr_t at, size_t size, _
     void __tsan_unaligned_write##SIZE(void *at) { WRITE(at, SIZE); } \
     void __sanitizer_cov_load##SIZE(void *at) { OFTEN(false, at, SIZE); } \
     void __sanitizer_cov_store##SIZE(void *at) { OFTEN(true, at, SIZE); }
-ACCESSES(1) ACCESSES(2) ACCESSES(4) ACCESSES(8) ACCESSES(16)
+ACCESSES(1)
+ACCESSES(2)
+ACCESSES(4)
+ACCESSES(8)
+ACCESSES(16)
 
 /* What the text in inline_checks.s calls for the only unit of such an access: it has this mark, and is no repeat. */
 void __spbags_first_read(void *at, uint32_t *mark) { note_usual(false, (uintptr_t)at, mark, CODE); }
@@ -140,8 +142,8 @@ void __tsan_init(void) {}
         return old; \
     }
 #define COMPARE(BITS, TYPE, NAME) \
-    int __tsan_atomic##BITS##_compare_exchange_##NAME( \
-        volatile TYPE *at, TYPE *expected, TYPE value, int order, int failing) { \
+    int __tsan_atomic##BITS##_compare_exchange_##NAME(volatile TYPE *at, TYPE *expected, TYPE value, int order, \
+                                                      int failing) { \
         (void)order, (void)failing; \
         ATOMICALLY(READ(at, sizeof *at)); \
         TYPE old = *at; \
@@ -167,14 +169,14 @@ void __tsan_init(void) {}
     UPDATE(BITS, TYPE, exchange, value) \
     UPDATE(BITS, TYPE, fetch_add, old + value) \
     UPDATE(BITS, TYPE, fetch_sub, old - value) \
-    UPDATE(BITS, TYPE, fetch_and, old & value) \
+    UPDATE(BITS, TYPE, fetch_and, (old & value)) \
     UPDATE(BITS, TYPE, fetch_or, old | value) \
     UPDATE(BITS, TYPE, fetch_xor, old ^ value) \
     UPDATE(BITS, TYPE, fetch_nand, ~(old & value)) \
     COMPARE(BITS, TYPE, strong) \
     COMPARE(BITS, TYPE, weak) \
-    TYPE __tsan_atomic##BITS##_compare_exchange_val( \
-        volatile TYPE *at, TYPE expected, TYPE value, int order, int failing) { \
+    TYPE __tsan_atomic##BITS##_compare_exchange_val(volatile TYPE *at, TYPE expected, TYPE value, int order, \
+                                                    int failing) { \
         (void)order, (void)failing; \
         ATOMICALLY(READ(at, sizeof *at)); \
         TYPE old = *at; \
@@ -184,7 +186,10 @@ void __tsan_init(void) {}
         } \
         return old; \
     }
-ATOMICS(8, uint8_t) ATOMICS(16, uint16_t) ATOMICS(32, uint32_t) ATOMICS(64, uint64_t)
+ATOMICS(8, uint8_t)
+ATOMICS(16, uint16_t)
+ATOMICS(32, uint32_t)
+ATOMICS(64, uint64_t)
 ATOMICS(128, unsigned __int128)
 
 void __tsan_atomic_thread_fence(int order) { (void)order; }

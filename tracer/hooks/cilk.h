@@ -15,7 +15,8 @@ void __spbags_leave(const char *const *place) {
         return;
     leave_jumped(STACK_POINTER, CODE);
     if (top->kind == CHILD)
-        tell_incomplete("%s: an exception leaves a child here, and what comes until it is waited for isn't run", *place);
+        tell_incomplete("%s: an exception leaves a child here, and what comes until it is waited for isn't run",
+                        *place);
     leave_children(CODE);
     if (top->kind == SCOPE)
         leave_top(CODE);

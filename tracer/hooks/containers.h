@@ -214,8 +214,7 @@ void __wrap__ZSt29_Rb_tree_insert_and_rebalancebPSt18_Rb_tree_node_baseS0_RS_(bo
     insert(left ? LEFT : RIGHT, node, above, head);
 }
 
-struct tree *__wrap__ZSt28_Rb_tree_rebalance_for_erasePSt18_Rb_tree_node_baseRS_(struct tree *node,
-                                                                                 struct tree *head) {
+struct tree *__wrap__ZSt28_Rb_tree_rebalance_for_erasePSt18_Rb_tree_node_baseRS_(struct tree *node, struct tree *head) {
     ENTER(_ZSt28_Rb_tree_rebalance_for_erasePSt18_Rb_tree_node_baseRS_);
     erase(node, head);
     return node;
@@ -304,11 +303,11 @@ size_t __wrap__ZNKSt8__detail20_Prime_rehash_policy11_M_next_bktEm(struct policy
 
 #define NEED_REHASH _ZNKSt8__detail20_Prime_rehash_policy14_M_need_rehashEmmm
 __attribute__((weak)) struct answer REAL(NEED_REHASH)(struct policy *, size_t, size_t, size_t);
-struct answer WRAP(NEED_REHASH)(struct policy *policy, size_t size, size_t count, size_t more) {
+struct answer WRAP(NEED_REHASH)(struct policy *policy, size_t size, size_t count, size_t wanted) {
     ENTER(_ZNKSt8__detail20_Prime_rehash_policy14_M_need_rehashEmmm);
     size_t next = GET(policy->next);
-    struct answer answer = REAL(NEED_REHASH)(policy, size, count, more);
-    if (count + more > next) {
+    struct answer answer = REAL(NEED_REHASH)(policy, size, count, wanted);
+    if (count + wanted > next) {
         note_field(false, &policy->most, sizeof policy->most);
         note_field(true, &policy->next, sizeof policy->next);
     }

@@ -14,10 +14,18 @@ void __tsan_vptr_read(void *at) { OFTEN(false, at, sizeof at); }
         if (tracing && is_program(CODE)) \
             LIBRARY_WRITE(block, (malloc_usable_size(block) + 7) & ~(size_t)7, NAME); \
     }
-DELETE(_ZdlPv) DELETE(_ZdlPvm) DELETE(_ZdlPvSt11align_val_t) DELETE(_ZdlPvmSt11align_val_t)
-DELETE(_ZdlPvRKSt9nothrow_t) DELETE(_ZdlPvSt11align_val_tRKSt9nothrow_t)
-DELETE(_ZdaPv) DELETE(_ZdaPvm) DELETE(_ZdaPvSt11align_val_t) DELETE(_ZdaPvmSt11align_val_t)
-DELETE(_ZdaPvRKSt9nothrow_t) DELETE(_ZdaPvSt11align_val_tRKSt9nothrow_t)
+DELETE(_ZdlPv)
+DELETE(_ZdlPvm)
+DELETE(_ZdlPvSt11align_val_t)
+DELETE(_ZdlPvmSt11align_val_t)
+DELETE(_ZdlPvRKSt9nothrow_t)
+DELETE(_ZdlPvSt11align_val_tRKSt9nothrow_t)
+DELETE(_ZdaPv)
+DELETE(_ZdaPvm)
+DELETE(_ZdaPvSt11align_val_t)
+DELETE(_ZdaPvmSt11align_val_t)
+DELETE(_ZdaPvRKSt9nothrow_t)
+DELETE(_ZdaPvSt11align_val_tRKSt9nothrow_t)
 
 /* A local static is initialised by whoever comes first, and all others wait for that. A trace has no way to say so, and
    nothing is recorded meanwhile. */

@@ -46,8 +46,7 @@ static void follow_unit(struct divided *unit, bool writes, uintptr_t address, ui
         follow_access(writes, unit->location, address, site_of_access(address, code));
 }
 
-__attribute__((noinline)) static bool divide_access(bool writes, uint64_t location, uintptr_t address,
-                                                    uintptr_t code) {
+__attribute__((noinline)) static bool divide_access(bool writes, uint64_t location, uintptr_t address, uintptr_t code) {
     struct divided *unit = slot_of_unit(location);
     if (unit->location == 0)
         return false;
@@ -86,7 +85,8 @@ static void divide_units(int file) {
     if (fstat(file, &about) != 0)
         fail("SPBAGS_DIVIDE: %s", strerror(errno));
     size_t count = (size_t)about.st_size / sizeof(uint64_t);
-    const uint64_t *locations = count > 0 ? mmap(NULL, count * sizeof *locations, PROT_READ, MAP_PRIVATE, file, 0) : NULL;
+    const uint64_t *locations =
+        count > 0 ? mmap(NULL, count * sizeof *locations, PROT_READ, MAP_PRIVATE, file, 0) : NULL;
     if (locations == MAP_FAILED)
         fail("out of memory: %s", strerror(errno));
     for (divided_slots = 2; divided_slots < 2 * count; divided_slots *= 2)

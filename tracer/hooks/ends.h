@@ -209,7 +209,7 @@ static sighandler_t set_handler(sighandler_t set(int, sighandler_t), int number,
         return __wrap_sigaction(number, &usual, &before) == 0 ? before.sa_handler : SIG_ERR;
     leave_signal(number);
     sighandler_t replaced = set(number, wanted);
-    return replaced == (sighandler_t)on_signal ? SIG_DFL : replaced;
+    return (void *)replaced == (void *)on_signal ? SIG_DFL : replaced;
 }
 
 sighandler_t __wrap_signal(int number, sighandler_t wanted) { return set_handler(__real_signal, number, wanted); }

@@ -89,9 +89,7 @@ int posix_memalign(void **block, size_t alignment, size_t size) {
 }
 
 /* Whoever may still use a block while the program gives it back has a race, as if all of it were written. */
-void __wrap_free(void *block) {
-    LIBRARY_WRITE(block, (malloc_usable_size(block) + 7) & ~(size_t)7, __wrap_free);
-}
+void __wrap_free(void *block) { LIBRARY_WRITE(block, (malloc_usable_size(block) + 7) & ~(size_t)7, __wrap_free); }
 
 void *__wrap_realloc(void *block, size_t size) {
     LIBRARY_WRITE(block, (malloc_usable_size(block) + 7) & ~(size_t)7, __wrap_realloc);

@@ -13,7 +13,9 @@ __attribute__((used)) static void write_jump_buffer(void *at, uintptr_t code, ui
             "\tmovq 24(%rsp), %rsi\n\tleaq 32(%rsp), %rdx\n\tcall write_jump_buffer\n" \
             "\taddq $8, %rsp\n\tpopq %rsi\n\tpopq %rdi\n\t.cfi_adjust_cfa_offset -24\n\tjmp __real_" NAME "\n" \
             "\t.cfi_endproc\n");
-SETS("setjmp") SETS("_setjmp") SETS("__sigsetjmp")
+SETS("setjmp")
+SETS("_setjmp")
+SETS("__sigsetjmp")
 
 #define JUMPS(NAME) \
     __attribute__((noreturn)) void __real_##NAME(void *at, int value); \
@@ -23,4 +25,7 @@ SETS("setjmp") SETS("_setjmp") SETS("__sigsetjmp")
         hide_updates(0); \
         __real_##NAME(at, value); \
     }
-JUMPS(longjmp) JUMPS(_longjmp) JUMPS(siglongjmp) JUMPS(__longjmp_chk)
+JUMPS(longjmp)
+JUMPS(_longjmp)
+JUMPS(siglongjmp)
+JUMPS(__longjmp_chk)

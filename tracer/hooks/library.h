@@ -12,8 +12,8 @@ static size_t until(const void *from, int byte, size_t most) {
     return found ? (size_t)(found - (const char *)from) + 1 : most;
 }
 
-static size_t found(const void *from, const void *at, size_t more, size_t otherwise) {
-    return at ? (size_t)((const char *)at - (const char *)from) + more : otherwise;
+static size_t found(const void *from, const void *at, size_t behind, size_t otherwise) {
+    return at ? (size_t)((const char *)at - (const char *)from) + behind : otherwise;
 }
 
 static char *after(const void *from, const void *at) { return (char *)(at ? at : from); }
@@ -143,9 +143,9 @@ static size_t wide_characters(const wchar_t *from, size_t most) {
     char room[MB_LEN_MAX];
     size_t count = 0;
     for (size_t bytes = 0; bytes < most; count++) {
-        size_t more = wcrtomb(room, from[count], &state);
-        bytes += more;
-        if (more > MB_LEN_MAX || bytes > most || from[count] == L'\0') {
+        size_t letter = wcrtomb(room, from[count], &state);
+        bytes += letter;
+        if (letter > MB_LEN_MAX || bytes > most || from[count] == L'\0') {
             count++;
             break;
         }
@@ -155,9 +155,7 @@ static size_t wide_characters(const wchar_t *from, size_t most) {
 }
 
 /* What a conversion to at most so many wrote: the zero too, if it had room. */
-static size_t written(size_t result, size_t most) {
-    return result == (size_t)-1 ? 0 : result + (result < most);
-}
+static size_t written(size_t result, size_t most) { return result == (size_t)-1 ? 0 : result + (result < most); }
 
 /* Where the slashes at the path's end are cut off, or none. */
 static char *trimmed(char *path) {
@@ -223,10 +221,14 @@ enum { KIND_READ = false, KIND_WRITE = true };
 
 /* ---- The functions ---- */
 
+#ifndef __clang__
 #pragma GCC push_options
 #pragma GCC optimize("O1")
+#endif
 #include "library_wrappers.h"
+#ifndef __clang__
 #pragma GCC pop_options
+#endif
 
 #include "library_by_hand.h"
 

@@ -75,7 +75,8 @@ BY_HAND(size_t, iconv, iconv_t with, char **from, size_t *n, char **to, size_t *
             LIBRARY_READ(path, all(path), __wrap_##NAME); \
         return __real_##NAME(path, flags, last); \
     }
-OPENS(open) OPENS(open64)
+OPENS(open)
+OPENS(open64)
 
 #define OPENS_AT(NAME) \
     BY_HAND(int, NAME, int folder, const char *path, int flags, ...) { \
@@ -84,7 +85,8 @@ OPENS(open) OPENS(open64)
             LIBRARY_READ(path, all(path), __wrap_##NAME); \
         return __real_##NAME(folder, path, flags, last); \
     }
-OPENS_AT(openat) OPENS_AT(openat64)
+OPENS_AT(openat)
+OPENS_AT(openat64)
 
 BY_HAND(mqd_t, mq_open, const char *path, int flags, ...) {
     va_list list;
@@ -130,7 +132,8 @@ static size_t control_writes(int command) {
             LIBRARY_WRITE(last, control_writes(command), __wrap_##NAME); \
         return result; \
     }
-CONTROLS(fcntl) CONTROLS(fcntl64)
+CONTROLS(fcntl)
+CONTROLS(fcntl64)
 
 /* ---- Buffers of streams ---- */
 

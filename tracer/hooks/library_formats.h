@@ -162,7 +162,8 @@ static void note_by_number(const char *format, va_list *list, struct caller by) 
     }
     for (struct conversion next; (next = next_conversion(&format, false)).kind != '\0';) {
         int digits = next.digits_are_argument && next.digits_number > 0 && next.digits_number < MOST_NUMBERED
-            ? (int)values[next.digits_number] : next.digits;
+                         ? (int)values[next.digits_number]
+                         : next.digits;
         if (takes_argument(next.kind) && next.number > 0 && next.number < MOST_NUMBERED)
             note_printed(&next, values[next.number], digits, by);
     }
@@ -205,8 +206,9 @@ static void note_fields(const char *format, va_list *list, int stored, struct ca
             continue;
         if (next.kind != 'n' && stored-- == 0)
             return;
-        uintptr_t value = !by_number ? va_arg(*list, uintptr_t)
-            : next.number > 0 && next.number < MOST_NUMBERED ? values[next.number] : 0;
+        uintptr_t value = !by_number                                       ? va_arg(*list, uintptr_t)
+                          : next.number > 0 && next.number < MOST_NUMBERED ? values[next.number]
+                                                                           : 0;
         if (value != 0)
             any_access(true, value, scanned_size(&next, value), by.self, by.stack_pointer, by.code);
     }

@@ -92,8 +92,7 @@ static bool is_between(uintptr_t code, const char *first, const char *end) {
 }
 
 static bool is_program(uintptr_t code) {
-    return is_between(code, __executable_start, etext) &&
-           !is_between(code, __start_spbags_hooks, __stop_spbags_hooks);
+    return is_between(code, __executable_start, etext) && !is_between(code, __start_spbags_hooks, __stop_spbags_hooks);
 }
 
 static size_t top_at(void) { return (size_t)(top - frames); }
@@ -142,7 +141,9 @@ static void add_node(size_t at) {
         is_shown = false;
     uint32_t parent = frames[at - 1].node;
     uintptr_t code = has_part ? frame->code : is_shown ? code_in(at - 1, *(uintptr_t *)(frame->end - 8)) : 0;
-    nodes[++last_node] = (struct node){.parent = parent, .functions = nodes[parent].functions + is_shown, .code = code,
+    nodes[++last_node] = (struct node){.parent = parent,
+                                       .functions = nodes[parent].functions + is_shown,
+                                       .code = code,
                                        .is_shown = is_shown && parent != 0,
                                        .is_child = !is_of_function(frame) && frame->kind != CALLED};
     if (has_part)
@@ -383,11 +384,11 @@ static void take_look(struct race *race, struct look *look, uintptr_t address, u
 /* It may be one of the report, if that has its location and its kind at one of the places that what is pending gets. */
 static void note_pending(bool writes, uint64_t location, uintptr_t address, uintptr_t code) {
     const uint64_t most_pending = 2 * BLOCK_UNITS * MOST_BLOCKS + MOST_ODD;
-    struct race *race = next_place - records <= most_pending ? &races[race_from(location)] : NULL;
+    struct race *race = next_place - place_now <= most_pending ? &races[race_from(location)] : NULL;
     if (!race || race == races + races_count || race->location != location)
         return;
-    struct look *look = race->first.place > records ? &race->first : &race->second;
-    if (look->writes != writes || look->place <= records || look->place - records > most_pending)
+    struct look *look = race->first.place > place_now ? &race->first : &race->second;
+    if (look->writes != writes || look->place <= place_now || look->place - place_now > most_pending)
         return;
     take_look(race, look, address, code);
     if (look == &race->second) {
@@ -432,7 +433,7 @@ static void look_at_structure(void) {
 
 static void look_at_access(bool writes, uint64_t location, uintptr_t address, uintptr_t code) {
     struct race *race = stops[stops_met].race;
-    struct look *look = race->first.place == records ? &race->first : &race->second;
+    struct look *look = race->first.place == place_now ? &race->first : &race->second;
     if (look->writes != writes || race->location != location) {
         go_astray("a %s of location %" PRIu64, writes ? "write" : "read", location);
     } else {
@@ -551,22 +552,22 @@ static void put_pair(const struct pair *pair, const struct race *race) {
 }
 
 /* A row of races with stacks of its own, of so many units. */
-struct more {
+struct row {
     const struct race *race;
     size_t units;
     uint32_t pair;
     uint32_t before;
 };
-enum { MOST_MORE = 64 };
-static struct more *more;
-static uint32_t last_more;
+enum { MOST_ROWS = 64 };
+static struct row *rows;
+static uint32_t last_row;
 
 static bool is_same_owner(struct owner one, struct owner other) {
     return one.code == other.code && one.offset == other.offset;
 }
 
 /* Whether these are the same locals, of maybe another call of their function. */
-static bool are_same_locals(const struct race *race, size_t units, const struct more *other) {
+static bool are_same_locals(const struct race *race, size_t units, const struct row *other) {
     return (race->frame.code != 0 || race->data.code != 0) && units == other->units &&
            is_same_owner(race->frame, other->race->frame) && is_same_owner(race->data, other->race->data);
 }
@@ -577,15 +578,15 @@ static uint32_t pair_for(const struct race *race, size_t units) {
     struct pair *pair = &pairs[race->pair];
     if (has_stacks_of(race, pair->race))
         return race->pair;
-    for (uint32_t at = pair->newest; at != 0; at = more[at].before)
-        if (are_same_locals(race, units, &more[at]))
-            return more[at].pair;
-    if (pair->more == MOST_MORE || last_more + 1 == MOST_PAIRS)
+    for (uint32_t at = pair->newest; at != 0; at = rows[at].before)
+        if (are_same_locals(race, units, &rows[at]))
+            return rows[at].pair;
+    if (pair->more == MOST_ROWS || last_row + 1 == MOST_PAIRS)
         return 0;
     pair->more++;
     put_pair(pair, race);
-    more[++last_more] = (struct more){race, units, ++pairs_put, pair->newest};
-    pair->newest = last_more;
+    rows[++last_row] = (struct row){race, units, ++pairs_put, pair->newest};
+    pair->newest = last_row;
     return pairs_put;
 }
 
@@ -703,7 +704,7 @@ static void start_look(int file) {
     nodes = reserve(MOST_NODES * sizeof *nodes);
     dl_iterate_phdr(find_thread_memory, &thread_memory);
     pairs = reserve(MOST_PAIRS * sizeof *pairs);
-    more = reserve(MOST_PAIRS * sizeof *more);
+    rows = reserve(MOST_PAIRS * sizeof *rows);
     slots = reserve(PAIR_SLOTS * sizeof *slots);
     note_guards();
     read_report(text, text + about.st_size);

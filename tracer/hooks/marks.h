@@ -82,9 +82,7 @@ static void make_marks(uintptr_t first, uintptr_t end) {
 
 /* What each thread has of its own: the program's variables that are local to a thread, and copies for reductions. */
 enum { THREAD, COPIES };
-static struct own_memory {
-    uintptr_t first, end;
-} own[2];
+static struct own_memory { uintptr_t first, end; } own[2];
 
 /* Whatever is thread_local, or threadprivate, in the program itself. */
 static int find_thread_memory(struct dl_phdr_info *about, size_t size, void *found) {

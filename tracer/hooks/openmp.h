@@ -99,7 +99,9 @@ static struct scope *push_scope(enum scope_kind kind, bool owns) {
     if (++newest_scope == MOST_SCOPES)
         fail("tasks nest deeper than %d", MOST_SCOPES);
     const struct scope *around = &scopes[newest_scope - 1];
-    scopes[newest_scope] = (struct scope){.kind = kind, .owns = owns, .number = ++scopes_begun,
+    scopes[newest_scope] = (struct scope){.kind = kind,
+                                          .owns = owns,
+                                          .number = ++scopes_begun,
                                           .threads_wanted = around->threads_wanted,
                                           .is_watched = kind != SHARE && around->is_watched};
     follow_scope();
@@ -145,9 +147,7 @@ static int level(bool active) {
     return count;
 }
 
-static uint64_t unsynced(const struct scope *scope) {
-    return scope->children + scope->others + scope->following;
-}
+static uint64_t unsynced(const struct scope *scope) { return scope->children + scope->others + scope->following; }
 
 /* Whether something older than the newest scope is unsynced in its procedure. */
 static bool has_older(void) {

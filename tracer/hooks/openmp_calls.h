@@ -82,12 +82,12 @@ int omp_get_nested(void) { return most_active_levels > 1; }
 
 /* ---- Settings that change nothing here ---- */
 
-static int dynamic_threads, schedule = 2, schedule_size = 1, default_device;
+static int dynamic_threads, chosen_schedule = 2, schedule_size = 1, default_device;
 
 void omp_set_dynamic(int dynamic) { dynamic_threads = dynamic != 0; }
 int omp_get_dynamic(void) { return dynamic_threads; }
-void omp_set_schedule(int kind, int size) { schedule = kind, schedule_size = size; }
-void omp_get_schedule(int *kind, int *size) { *kind = schedule, *size = schedule_size; }
+void omp_set_schedule(int kind, int size) { chosen_schedule = kind, schedule_size = size; }
+void omp_get_schedule(int *kind, int *size) { *kind = chosen_schedule, *size = schedule_size; }
 void omp_set_default_device(int device) { default_device = device; }
 int omp_get_default_device(void) { return default_device; }
 int omp_get_num_devices(void) { return 0; }
@@ -107,14 +107,14 @@ int omp_get_partition_num_places(void) { return 0; }
 
 /* Whether OMP_CANCELLATION allows it; and the first region that is cancelled then. */
 static bool may_cancel;
-static uintptr_t cancelled;
+static uintptr_t first_cancelled;
 
 int omp_get_cancellation(void) { return may_cancel; }
 
 bool GOMP_cancel(int what, bool cancels) {
     (void)what;
-    if (cancels && may_cancel && cancelled == 0)
-        cancelled = CODE;
+    if (cancels && may_cancel && first_cancelled == 0)
+        first_cancelled = CODE;
     return false;
 }
 

@@ -79,8 +79,8 @@ int32_t __kmpc_cancel_barrier(CLANG) {
 
 int32_t __kmpc_cancel(CLANG, int32_t what) {
     IGNORE, (void)what;
-    if (may_cancel && cancelled == 0)
-        cancelled = CODE;
+    if (may_cancel && first_cancelled == 0)
+        first_cancelled = CODE;
     return 0;
 }
 
@@ -161,8 +161,10 @@ static void begin_dispatch(struct loop loop, int32_t schedule, uintptr_t code) {
     void __kmpc_dispatch_fini_##SUFFIX(CLANG) { IGNORE; }
 #define BY_SIGN signed_loop(first, (long)last + (step > 0 ? 1 : -1), step, most)
 #define UPWARDS unsigned_loop(true, first, (uint64_t)last + 1, (uint64_t)step, most)
-DISPATCH(4, int32_t, int32_t, BY_SIGN) DISPATCH(4u, uint32_t, int32_t, UPWARDS)
-DISPATCH(8, int64_t, int64_t, BY_SIGN) DISPATCH(8u, uint64_t, int64_t, UPWARDS)
+DISPATCH(4, int32_t, int32_t, BY_SIGN)
+DISPATCH(4u, uint32_t, int32_t, UPWARDS)
+DISPATCH(8, int64_t, int64_t, BY_SIGN)
+DISPATCH(8u, uint64_t, int64_t, UPWARDS)
 
 void __kmpc_for_static_init_4(CLANG, int32_t schedule, int32_t *is_last, int32_t *first, int32_t *last, int32_t *step,
                               int32_t by, int32_t most) {
@@ -264,7 +266,11 @@ static void run_clang_task(void *of) {
 
 static void do_clang_task(struct clang_task *block, uintptr_t stack_pointer, uintptr_t code) {
     struct clang_data data = {.task = block};
-    struct task task = {.run = run_clang_task, .data = &data, .size = sizeof data, .alignment = 16, .deferred = true,
+    struct task task = {.run = run_clang_task,
+                        .data = &data,
+                        .size = sizeof data,
+                        .alignment = 16,
+                        .deferred = true,
                         .final = (header_of(block)->flags & CLANG_FINAL) != 0};
     run_task(&task, NULL, stack_pointer, code);
 }
@@ -371,8 +377,12 @@ void __kmpc_taskloop(CLANG, struct clang_task *block, int32_t is_deferred, const
                      void (*copy)(struct clang_task *, struct clang_task *, int32_t)) {
     enum { SAYS_SIZE = 1 };
     struct clang_data data = {.task = block, .copy = copy};
-    struct task task = {.run = run_clang_loop_task, .data = &data, .copy = copy_clang_data, .size = sizeof data,
-                        .alignment = 16, .deferred = is_deferred != 0,
+    struct task task = {.run = run_clang_loop_task,
+                        .data = &data,
+                        .copy = copy_clang_data,
+                        .size = sizeof data,
+                        .alignment = 16,
+                        .deferred = is_deferred != 0,
                         .final = (header_of(block)->flags & CLANG_FINAL) != 0};
     unsigned flags = (has_no_group ? NO_GROUP : 0) | (says == SAYS_SIZE ? GRAIN_SIZE : 0);
     IGNORE;

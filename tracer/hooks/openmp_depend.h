@@ -9,11 +9,12 @@ static uintptr_t first_depend, depend_wait;
 
 /* What tasks of one parent name: whether one of them writes it since the parent has waited so often. */
 enum { DEPENDENCE_BITS = 22, MOST_DEPENDENCES = 1 << DEPENDENCE_BITS };
-static struct dependence {
+struct dependence {
     uintptr_t address;
     uint64_t parent, waits;
     bool is_used, writes;
-} *dependences;
+};
+static struct dependence *dependences;
 static size_t dependences_used;
 
 static struct dependence *dependence_of(uintptr_t address, uint64_t parent) {

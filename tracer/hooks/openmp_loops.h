@@ -91,7 +91,8 @@ static void end_share(struct scope *thread, uintptr_t code) {
 
 /* The iterations of the share that has begun now go from this one to the newest. */
 static void note_share(const struct loop *loop, uint64_t first) {
-    note_part((struct part){.of = loop->is_sections ? "sections" : "loop", .first = first,
+    note_part((struct part){.of = loop->is_sections ? "sections" : "loop",
+                            .first = first,
                             .last = loop->start + (loop->begun - 1) * loop->step});
 }
 
@@ -179,8 +180,13 @@ static struct loop signed_loop(long start, long end, long step, long most) {
         count = count_steps(last - first, size);
     if (step < 0 && start > end)
         count = count_steps(first - last, -size);
-    return (struct loop){.start = first, .step = size, .end = last, .count = count, .most = iterations,
-                         .is_static = is_static(most), .has_no_barrier = is_static_nowait(most)};
+    return (struct loop){.start = first,
+                         .step = size,
+                         .end = last,
+                         .count = count,
+                         .most = iterations,
+                         .is_static = is_static(most),
+                         .has_no_barrier = is_static_nowait(most)};
 }
 
 static struct loop unsigned_loop(bool up, uint64_t start, uint64_t end, uint64_t step, long most) {
@@ -189,8 +195,13 @@ static struct loop unsigned_loop(bool up, uint64_t start, uint64_t end, uint64_t
         count = count_steps(end - start, step);
     if (!up && start > end)
         count = count_steps(start - end, -step);
-    return (struct loop){.start = start, .step = step, .end = end, .count = count, .most = iterations,
-                         .is_static = is_static(most), .has_no_barrier = is_static_nowait(most)};
+    return (struct loop){.start = start,
+                         .step = step,
+                         .end = end,
+                         .count = count,
+                         .most = iterations,
+                         .is_static = is_static(most),
+                         .has_no_barrier = is_static_nowait(most)};
 }
 
 #define NEXT(NAME, TYPE) \
@@ -211,9 +222,11 @@ static struct loop unsigned_loop(bool up, uint64_t start, uint64_t end, uint64_t
     } \
     NEXT(NAME, unsigned long long)
 #define BEGIN_ORDERED(LOOP) begin_ordered(LOOP, CODE)
-LOOP(GOMP_loop_dynamic, begin_loop) LOOP(GOMP_loop_nonmonotonic_dynamic, begin_loop)
+LOOP(GOMP_loop_dynamic, begin_loop)
+LOOP(GOMP_loop_nonmonotonic_dynamic, begin_loop)
 LOOP(GOMP_loop_ordered_dynamic, BEGIN_ORDERED)
-UNSIGNED_LOOP(GOMP_loop_ull_dynamic, begin_loop) UNSIGNED_LOOP(GOMP_loop_ull_nonmonotonic_dynamic, begin_loop)
+UNSIGNED_LOOP(GOMP_loop_ull_dynamic, begin_loop)
+UNSIGNED_LOOP(GOMP_loop_ull_nonmonotonic_dynamic, begin_loop)
 UNSIGNED_LOOP(GOMP_loop_ull_ordered_dynamic, BEGIN_ORDERED)
 
 #define PARALLEL_LOOP(NAME) \
@@ -223,7 +236,8 @@ UNSIGNED_LOOP(GOMP_loop_ull_ordered_dynamic, BEGIN_ORDERED)
         struct loop whole = signed_loop(start, end, step, most); \
         do_region(run, data, threads, &whole, STACK_POINTER, CODE); \
     }
-PARALLEL_LOOP(GOMP_parallel_loop_dynamic) PARALLEL_LOOP(GOMP_parallel_loop_nonmonotonic_dynamic)
+PARALLEL_LOOP(GOMP_parallel_loop_dynamic)
+PARALLEL_LOOP(GOMP_parallel_loop_nonmonotonic_dynamic)
 
 static void end_loop(uintptr_t code) {
     end_following(code);

@@ -67,16 +67,17 @@ static void tell_shares(void) {
         tell_incomplete("%s: this region is for thread %d, and its team has %d: it isn't run. SPBAGS_TEAM says how "
                         "many there may be",
                         source_line(masked_out, before, ROOM), masked_thread, masked_team);
-    if (cancelled != 0)
+    if (first_cancelled != 0)
         tell_incomplete("%s: OMP_CANCELLATION lets this cancel what is done, but here all of it is done",
-                        source_line(cancelled, before, ROOM));
+                        source_line(first_cancelled, before, ROOM));
     if (has_long_shares)
         tell_incomplete("SPBAGS_ITERATIONS=%llu makes that many iterations one child: races between them aren't seen",
                         (unsigned long long)iterations);
     if (small_team_asks)
-        tell_incomplete("%s: this parallel region has %llu threads, and asks for a thread's number: what only others do "
-                        "isn't run. SPBAGS_TEAM says how many there may be",
-                        source_line(small_team, before, ROOM), (unsigned long long)small_team_has);
+        tell_incomplete(
+            "%s: this parallel region has %llu threads, and asks for a thread's number: what only others do "
+            "isn't run. SPBAGS_TEAM says how many there may be",
+            source_line(small_team, before, ROOM), (unsigned long long)small_team_has);
     else if (small_team != 0)
         tell_report("%s: this parallel region wants %llu threads, and has %llu: SPBAGS_TEAM says how many there may be",
                     source_line(small_team, before, ROOM), (unsigned long long)small_team_wants,

@@ -140,5 +140,7 @@ unsigned GOMP_sections2_start(unsigned count, uintptr_t *reductions, void **memo
         share_memory(group, reductions, memory); \
         return next_share((uint64_t *)first, (uint64_t *)first_end, STACK_POINTER, CODE); \
     }
-LOOP_START(GOMP_loop_start, begin_loop) LOOP_START(GOMP_loop_ordered_start, BEGIN_ORDERED)
-UNSIGNED_LOOP_START(GOMP_loop_ull_start, begin_loop) UNSIGNED_LOOP_START(GOMP_loop_ull_ordered_start, BEGIN_ORDERED)
+LOOP_START(GOMP_loop_start, begin_loop)
+LOOP_START(GOMP_loop_ordered_start, BEGIN_ORDERED)
+UNSIGNED_LOOP_START(GOMP_loop_ull_start, begin_loop)
+UNSIGNED_LOOP_START(GOMP_loop_ull_ordered_start, BEGIN_ORDERED)

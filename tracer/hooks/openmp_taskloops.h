@@ -58,8 +58,8 @@ static void do_taskloop(const struct task *task, struct loop loop, unsigned flag
     void NAME(void (*run)(void *), void *data, void (*copy)(void *, void *), long size, long alignment, \
               unsigned flags, unsigned long wanted, int priority, __VA_ARGS__) { \
         (void)priority; \
-        struct task task = {run, data, copy, (size_t)size, (size_t)alignment, (flags & DEFERRED) != 0, \
-                            (flags & FINAL) != 0}; \
+        struct task task = { \
+            run, data, copy, (size_t)size, (size_t)alignment, (flags & DEFERRED) != 0, (flags & FINAL) != 0}; \
         do_taskloop(&task, LOOP, flags, wanted, STACK_POINTER, CODE); \
     }
 TASKLOOP(GOMP_taskloop, signed_loop(start, end, step, 0), long start, long end, long step)

@@ -415,9 +415,15 @@ static void run_members(struct team *team) {
     for (unsigned number = 0; number < team->size; number++) {
         struct member *member = &team->members[number];
         *member = (struct member){.stack = number == 0 ? running : next_stack(member, node)};
-        member->scope = (struct scope){.kind = MEMBER, .owns = true, .size = team->size, .team = team, .member = member,
-                                       .thread = (int)number, .stack_end = member->stack->end,
-                                       .threads_wanted = scopes[scope].threads_wanted, .number = ++scopes_begun};
+        member->scope = (struct scope){.kind = MEMBER,
+                                       .owns = true,
+                                       .size = team->size,
+                                       .team = team,
+                                       .member = member,
+                                       .thread = (int)number,
+                                       .stack_end = member->stack->end,
+                                       .threads_wanted = scopes[scope].threads_wanted,
+                                       .number = ++scopes_begun};
     }
     team->members[0].scope.stack_end = scopes[scope].stack_end;
     run_member(team, team->members, top->end - 1);
@@ -439,18 +445,25 @@ static void run_team(void (*run)(void *), void *data, const struct loop *whole, 
         return;
     }
     struct member members[scope->size];
-    struct team team = {.run = run, .data = data, .whole = whole, .code = code, .region = top, .members = members,
-                        .size = scope->size, .wanted = scope->team_wanted, .first_loop = loops_begun};
+    struct team team = {.run = run,
+                        .data = data,
+                        .whole = whole,
+                        .code = code,
+                        .region = top,
+                        .members = members,
+                        .size = scope->size,
+                        .wanted = scope->team_wanted,
+                        .first_loop = loops_begun};
     scope->team = &team;
     run_members(&team);
 }
 
 /* The body of the region with this code begins here, which is a better place to name it by. */
 static void name_region(uintptr_t region, uintptr_t code) {
-    uintptr_t *places[] = {&small_team, &inner_team, &alone_by_variable};
-    for (size_t at = 0; at < sizeof places / sizeof *places; at++)
-        if (*places[at] == region)
-            *places[at] = code;
+    uintptr_t *named[] = {&small_team, &inner_team, &alone_by_variable};
+    for (size_t at = 0; at < sizeof named / sizeof *named; at++)
+        if (*named[at] == region)
+            *named[at] = code;
 }
 
 static void do_region(void (*run)(void *), void *data, unsigned threads, const struct loop *whole,

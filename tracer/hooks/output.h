@@ -45,15 +45,15 @@ static struct output places = {.file = -1, .room = LONGEST, .most = UINT64_MAX};
 
 /* Where lines about the run go: SPBAGS_SAYS names another file than standard error, where a line begins with what it
    is, and no signal comes of it that nobody reads. */
-static int says = STDERR_FILENO;
+static int says_file = STDERR_FILENO;
 
 /* No stream and no block of the heap: a signal may come while the program's heap is locked, and a line more moves none of
    its blocks. */
 static void put_line(const char *what, const char *line) {
     char whole[1100], *left = whole;
-    int length = snprintf(whole, sizeof whole, "%s: %s\n", says == STDERR_FILENO ? "spbags" : what, line);
+    int length = snprintf(whole, sizeof whole, "%s: %s\n", says_file == STDERR_FILENO ? "spbags" : what, line);
     while (length > 0) {
-        ssize_t wrote = write(says, left, (size_t)length);
+        ssize_t wrote = write(says_file, left, (size_t)length);
         if (wrote == 0 || (wrote < 0 && errno != EINTR))
             return;
         if (wrote > 0) {
@@ -205,7 +205,7 @@ __attribute__((unused)) static void tell_unseen(const char *name, const char *sh
     snprintf(line, sizeof line, "not seen: %.700s (%.200s), called %llu time%s", shown, library,
              (unsigned long long)count, count == 1 ? "" : "s");
     snprintf(fields, sizeof fields, "%.700s %.200s %llu", name, library, (unsigned long long)count);
-    put_line("unseen", says == STDERR_FILENO ? line : fields);
+    put_line("unseen", says_file == STDERR_FILENO ? line : fields);
     keep_note(line);
     incomplete_lines++;
 }

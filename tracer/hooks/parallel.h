@@ -27,23 +27,23 @@ unsigned long __spbags_child_number(void) {
 
 /* Each place of the source is told once for one reason. To ask for a line takes long, so each code asks once. */
 enum { MOST_TOLD = 1000 };
-static struct told {
+static struct telling {
     const char *what;
     uintptr_t code;
     char line[400];
-} told[MOST_TOLD];
+} tellings[MOST_TOLD];
 static unsigned told_count;
 
 static bool is_told(uintptr_t code, const char *what) {
     for (unsigned at = 0; at < told_count; at++)
-        if (told[at].code == code && strcmp(told[at].what, what) == 0)
+        if (tellings[at].code == code && strcmp(tellings[at].what, what) == 0)
             return true;
     return false;
 }
 
 static bool is_line_told(const char *line, const char *what) {
     for (unsigned at = 0; at < told_count; at++)
-        if (strcmp(told[at].what, what) == 0 && strcmp(told[at].line, line) == 0)
+        if (strcmp(tellings[at].what, what) == 0 && strcmp(tellings[at].line, line) == 0)
             return true;
     return false;
 }
@@ -51,7 +51,7 @@ static bool is_line_told(const char *line, const char *what) {
 static void tell_at(uintptr_t code, const char *what) {
     if (told_count == MOST_TOLD || is_told(code, what))
         return;
-    struct told *this = &told[told_count];
+    struct telling *this = &tellings[told_count];
     source_line(code, this->line, sizeof this->line);
     if (!is_line_told(this->line, what))
         tell_incomplete("%s: %s", this->line, what);
@@ -87,13 +87,14 @@ void __spbags_leave_parallel(const char *const *unused) {
 /* A group has a `call` of the trace from its first task to its wait, and its tasks are the children of that. A task may
    be run by any function, and isn't waited for at that one's end, but at the end of the child around: HOLDER is that
    child's function, or a scope in it. */
-static struct task_group {
+struct task_group {
     const void *id;
     struct frame *holder;
     uint32_t procedure;
     /* The holder has it for a procedure with its children, so that its end comes to leave_groups. */
     bool marks;
-} *groups;
+};
+static struct task_group *task_groups;
 static size_t newest_group;
 
 static struct frame *holder_now(void) {
@@ -106,8 +107,8 @@ static struct frame *holder_now(void) {
 static void open_group(const void *id, struct frame *holder, uintptr_t code) {
     if (version == 1)
         fail("a group of tasks needs version 2 of the trace: leave out SPBAGS_VERSION=1");
-    if (!groups)
-        groups = reserve(MOST_DEPTH * sizeof *groups);
+    if (!task_groups)
+        task_groups = reserve(MOST_DEPTH * sizeof *task_groups);
     if (++newest_group == MOST_DEPTH)
         fail("groups of tasks nest deeper than %d", MOST_DEPTH);
 #ifdef SPBAGS_OPENMP
@@ -117,17 +118,17 @@ static void open_group(const void *id, struct frame *holder, uintptr_t code) {
     if (marks)
         holder->children = procedures;
     open_procedure(SPBAGS_CALL, code);
-    groups[newest_group] = (struct task_group){id, holder, procedures, marks};
+    task_groups[newest_group] = (struct task_group){id, holder, procedures, marks};
     grouped = holder;
 }
 
 static void close_group(uintptr_t code) {
-    const struct task_group *group = &groups[newest_group--];
+    const struct task_group *group = &task_groups[newest_group--];
     while (procedures >= group->procedure)
         close_procedure(code);
     if (group->marks)
         group->holder->children = NONE;
-    grouped = newest_group > 0 ? groups[newest_group].holder : NULL;
+    grouped = newest_group > 0 ? task_groups[newest_group].holder : NULL;
 }
 
 /* Whether what holds the group is itself one of its tasks. Then whoever waits for that waits for these too. */
@@ -136,11 +137,12 @@ static bool is_in_own_task(const struct task_group *group) {
 }
 
 static void leave_groups(uintptr_t code) {
-    while (newest_group > 0 && groups[newest_group].holder >= top) {
-        if (!is_in_own_task(&groups[newest_group]) && groups[newest_group].holder[-1].kind == CHILD)
-            tell_at(groups[newest_group].holder[-1].code,
-                    "tasks outlive the child here that runs them in a group from outside, and in the trace end with it: "
-                    "races with what follows aren't seen");
+    while (newest_group > 0 && task_groups[newest_group].holder >= top) {
+        if (!is_in_own_task(&task_groups[newest_group]) && task_groups[newest_group].holder[-1].kind == CHILD)
+            tell_at(
+                task_groups[newest_group].holder[-1].code,
+                "tasks outlive the child here that runs them in a group from outside, and in the trace end with it: "
+                "races with what follows aren't seen");
         close_group(code);
     }
 }
@@ -148,9 +150,9 @@ static void leave_groups(uintptr_t code) {
 /* The number of this group in what the holder holds, or 0. */
 static size_t group_at(const void *id, const struct frame *holder) {
     size_t at = newest_group;
-    while (at > 0 && groups[at].holder == holder && groups[at].id != id)
+    while (at > 0 && task_groups[at].holder == holder && task_groups[at].id != id)
         at--;
-    return at > 0 && groups[at].holder == holder ? at : 0;
+    return at > 0 && task_groups[at].holder == holder ? at : 0;
 }
 
 /* A task of a group begins, as a child. */
@@ -164,8 +166,9 @@ void __spbags_group_run(const void *id, const char *of, const void *code, long f
     if (at == 0)
         open_group(id, holder, CODE);
     else if (at < newest_group)
-        tell_at(here, "a task begins in one group while a newer one hasn't been waited for, and the wait for that one waits "
-                      "for it too: races after it aren't seen");
+        tell_at(here,
+                "a task begins in one group while a newer one hasn't been waited for, and the wait for that one waits "
+                "for it too: races after it aren't seen");
     open_procedure(SPBAGS_SPAWN, CODE);
     push_frame(CHILD, top->end - 1);
     top->stack_pointer = stack_pointer;
@@ -180,7 +183,8 @@ static void wait_for_group(const void *id, uintptr_t code) {
     if (at == 0)
         return;
     if (at < newest_group)
-        tell_at(code, "a newer group hasn't been waited for, and this wait waits for it too: races after it aren't seen");
+        tell_at(code,
+                "a newer group hasn't been waited for, and this wait waits for it too: races after it aren't seen");
     if (top->node != NONE)
         look_at_wait(top, code, false);
     while (newest_group >= at)
@@ -209,8 +213,8 @@ void __spbags_leave_group(const void *const *id) {
 /* ---- What the headers do themselves ---- */
 
 /* From here on nothing is recorded, or again: MORE is 1 or -1. */
-void __spbags_pause(int more) {
-    initialising += (unsigned)more;
+void __spbags_pause(int change) {
+    initialising += (unsigned)change;
     if (tracing)
         find_short_way();
 }

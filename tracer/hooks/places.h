@@ -18,16 +18,14 @@ static bool has_places;
 
 /* The course of a run: how many records it has had, and a digest of them. A run whose course is the same did the same,
    as far as that can be told. */
-static struct {
-    uint64_t records, digest;
-} course;
+static struct { uint64_t records, digest; } course;
 /* The run ends behind so many records; one that looks, at the last place that it looks at, if that comes before. */
 static uint64_t last_record = UINT64_MAX;
 
 static void tell_course(void) {
     char line[100];
     snprintf(line, sizeof line, "%" PRIu64 " %" PRIx64, course.records, course.digest);
-    if (has_places && says != STDERR_FILENO)
+    if (has_places && says_file != STDERR_FILENO)
         put_line("course", line);
 }
 

@@ -197,6 +197,8 @@ static inline void begin_child(__spbags_function callee, uintptr_t stack_pointer
     top->stack_pointer = stack_pointer;
     top->callee = callee;
     top->code = 0;
+    if (__builtin_expect(initialising > 0, 0))
+        tell_hidden_child();
 }
 
 __spbags_function __spbags_spawn(__spbags_function callee) {

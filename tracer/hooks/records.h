@@ -16,9 +16,7 @@ static inline void end_at_last(void) {
 }
 
 /* The bytes of the access at hand, where it doesn't fill all its units; an end of 0 where it does. */
-static struct range {
-    uintptr_t first, end;
-} narrow;
+static struct range { uintptr_t first, end; } narrow;
 
 /* A bit for each byte of this unit that the access at hand leaves out. */
 static inline unsigned bytes_left_out(uintptr_t unit) {
@@ -42,12 +40,15 @@ struct line {
     char bytes[8];
     size_t length;
 };
-#define LINE(TEXT) {TEXT "\n", sizeof TEXT}
-static const struct line lines[] = {[SPBAGS_SPAWN] = LINE("spawn"), [SPBAGS_CALL] = LINE("call"),
-                                    [SPBAGS_RETURN] = LINE("return"), [SPBAGS_SYNC] = LINE("sync")};
+#define LINE(TEXT) \
+    { TEXT "\n", sizeof TEXT }
+static const struct line lines[] = {[SPBAGS_SPAWN] = LINE("spawn"),
+                                    [SPBAGS_CALL] = LINE("call"),
+                                    [SPBAGS_RETURN] = LINE("return"),
+                                    [SPBAGS_SYNC] = LINE("sync")};
 
 /* Of a run that looks: how many records it would have written so far, and the place of the next that is looked at. */
-static uint64_t records, next_place = UINT64_MAX;
+static uint64_t place_now, next_place = UINT64_MAX;
 static void look_at_structure(void);
 static void look_at_access(bool writes, uint64_t location, uintptr_t address, uintptr_t code);
 static void note_pending(bool writes, uint64_t location, uintptr_t address, uintptr_t code);
@@ -106,7 +107,7 @@ static inline void begin_record(void) {
 
 /* Of one that was pending a look needs neither the address nor the code. */
 static inline void put_access(bool writes, uint64_t location, uintptr_t address, uintptr_t code, uint16_t site) {
-    if (looking && ++records == next_place)
+    if (looking && ++place_now == next_place)
         look_at_access(writes, location, address, code);
     if (has_places)
         write_place(site);
@@ -116,10 +117,10 @@ static inline void put_access(bool writes, uint64_t location, uintptr_t address,
 
 static void put_accesses(struct touched *touched, bool writes) {
     uint64_t *units = writes ? &touched->writes : &touched->reads;
-    const uint16_t *sites = pending_sites[touched - pending.list][writes];
+    const uint16_t *own_sites = pending_sites[touched - pending.list][writes];
     for (; *units != 0; *units &= *units - 1) {
         unsigned unit = (unsigned)__builtin_ctzll(*units);
-        put_access(writes, location_in(touched->block, unit), 0, 0, sites[unit]);
+        put_access(writes, location_in(touched->block, unit), 0, 0, own_sites[unit]);
     }
 }
 
@@ -173,7 +174,7 @@ OTHERWISE void other_structure_record(enum spbags_kind kind, uintptr_t code) {
     news++;
     if (has_places || looking)
         follow_course(kind, code);
-    if (looking && ++records == next_place)
+    if (looking && ++place_now == next_place)
         look_at_structure();
     if (has_places)
         write_place(site_number(code));

@@ -205,7 +205,9 @@ void *__spbags_value(const volatile void *at, unsigned long size, const char *no
     return value((uintptr_t)at, size, note, STACK_POINTER, CODE);
 }
 
-static bool is_in(const volatile void *at, const void *first, size_t size) { return (uintptr_t)at - (uintptr_t)first < size; }
+static bool is_in(const volatile void *at, const void *first, size_t size) {
+    return (uintptr_t)at - (uintptr_t)first < size;
+}
 
 void *__spbags_update_of(const volatile void *at, unsigned long size, const char *note, const void *first,
                          unsigned long whole) {
@@ -257,5 +259,6 @@ void __spbags_show(void) {
 
 /* What is spawned in such an update isn't recorded either. */
 static void tell_hidden_child(void) {
-    tell_not_run("an update of a reducer spawns, and what its children access isn't seen");
+    if (hidden_updates > 0)
+        tell_not_run("an update of a reducer spawns, and what its children access isn't seen");
 }

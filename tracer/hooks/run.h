@@ -5,11 +5,11 @@ static unsigned choice(const char *variable, const char *values, unsigned otherw
         return otherwise;
     if (value[1] == '\0' && strchr(values, *value))
         return (unsigned)(*value - '0');
-    char listed[40];
+    char names[40];
     size_t length = 0, count = strlen(values);
     for (size_t at = 0; at < count; at++)
-        length += (size_t)sprintf(listed + length, "%s%c", at == 0 ? "" : at + 1 < count ? ", " : " or ", values[at]);
-    fail("%s=%s: expected %s", variable, value, listed);
+        length += (size_t)sprintf(names + length, "%s%c", at == 0 ? "" : at + 1 < count ? ", " : " or ", values[at]);
+    fail("%s=%s: expected %s", variable, value, names);
 }
 
 /* Out of the program's way: its own files keep their numbers, and what it starts doesn't get ours. */
@@ -132,12 +132,12 @@ static void watch_thread_end(void) {
 /* No signal comes to the detector's thread. What the library allocates for it isn't the program's, whose blocks have
    the same addresses as in a run without the detector. */
 static void start_thread(void) {
-    enum { ROOM = 1 << 20, STACK = 1 << 20 };
+    enum { BLOCKS = 1 << 20, STACK = 1 << 20 };
     sigset_t all, before;
     pthread_attr_t small;
     uintptr_t at = heap_at, end = heap_end;
-    heap_at = (uintptr_t)reserve(ROOM);
-    heap_end = heap_at + ROOM;
+    heap_at = (uintptr_t)reserve(BLOCKS);
+    heap_end = heap_at + BLOCKS;
     sem_init(&full_bundles, 0, 0);
     sem_init(&free_bundles, 0, BUNDLES - 1);
     fill_bundle(0);
@@ -189,7 +189,7 @@ static void tell_fork(void) {
 /* This fork calls no handlers. */
 pid_t __real__Fork(void);
 pid_t __wrap__Fork(void) {
-    if (says != STDERR_FILENO)
+    if (says_file != STDERR_FILENO)
         refuse_fork();
     tell_fork();
     pid_t child = __real__Fork();
@@ -199,9 +199,9 @@ pid_t __wrap__Fork(void) {
 }
 
 static void open_ways(void) {
-    const char *lines = getenv("SPBAGS_SAYS"), *report = getenv("SPBAGS_LOOK"), *units = getenv("SPBAGS_DIVIDE");
-    if (lines && *lines) {
-        says = named_file("SPBAGS_SAYS", lines);
+    const char *said = getenv("SPBAGS_SAYS"), *report = getenv("SPBAGS_LOOK"), *units = getenv("SPBAGS_DIVIDE");
+    if (said && *said) {
+        says_file = named_file("SPBAGS_SAYS", said);
         pthread_atfork(refuse_fork, NULL, NULL);
     }
     last_record = number_from("SPBAGS_LAST", "records", UINT64_MAX);

@@ -3,9 +3,7 @@
 /* The arguments that the parent has read, and the end of the statement's frame once that is a child. A copy of one for
    the call is no access of the child's. */
 enum { MOST_PASSED = 16 };
-static struct {
-    uintptr_t first, end;
-} passed[MOST_PASSED];
+static struct { uintptr_t first, end; } passed[MOST_PASSED];
 static unsigned passed_count;
 static uintptr_t passing;
 

@@ -64,4 +64,4 @@ static void note_ostream(const struct ostream *stream, struct caller by) {
 }
 
 #define NOTE_ORDER(OF, SELF) \
-    _Generic((OF), FILE *: note_stream, int: note_file, struct ostream *: note_ostream)(OF, BY(SELF))
+    _Generic((OF), FILE * : note_stream, int : note_file, struct ostream * : note_ostream)(OF, BY(SELF))

@@ -28,8 +28,8 @@ extern struct unknown unknown_end[] __asm__("__spbags_unknown_end") __attribute_
 #endif
 
 /* The function gets what its caller gave it, in whatever register, so this changes none and calls nothing. */
-__attribute__((no_caller_saved_registers, target("general-regs-only"))) void __spbags_count_call(
-    struct unknown *function) {
+__attribute__((no_caller_saved_registers, target("general-regs-only"))) void
+__spbags_count_call(struct unknown *function) {
     function->calls += function->always || IS_BESIDE_OTHERS;
 }
 

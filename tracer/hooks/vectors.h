@@ -13,13 +13,15 @@ unsigned long __spbags_bits(const void *mask, unsigned long size, unsigned long 
     return bits;
 }
 
-void __spbags_masked(const volatile void *at, unsigned long element, unsigned long count, unsigned long bits, int writes) {
+void __spbags_masked(const volatile void *at, unsigned long element, unsigned long count, unsigned long bits,
+                     int writes) {
     for (size_t number = 0; number < count; number++)
         if (bits >> number & 1)
             any_access(writes, (uintptr_t)at + number * element, element, NULL, STACK_POINTER, CODE);
 }
 
-void __spbags_packed(const volatile void *at, unsigned long element, unsigned long count, unsigned long bits, int writes) {
+void __spbags_packed(const volatile void *at, unsigned long element, unsigned long count, unsigned long bits,
+                     int writes) {
     uint64_t chosen = count < 64 ? bits & (((uint64_t)1 << count) - 1) : bits;
     size_t size = (size_t)__builtin_popcountll(chosen) * element;
     if (size > 0)

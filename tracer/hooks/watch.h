@@ -88,8 +88,10 @@ static void on_watch(void) {
 
 /* By the system's calls, since an older C library has these functions in a library of their own. */
 static void start_watch(void) {
-    struct sigevent event = {.sigev_notify = SIGEV_THREAD_ID, .sigev_signo = WATCH_SIGNAL,
-                             .sigev_value.sival_ptr = &watch_timer, ._sigev_un._tid = (int)__real_syscall(SYS_gettid)};
+    struct sigevent event = {.sigev_notify = SIGEV_THREAD_ID,
+                             .sigev_signo = WATCH_SIGNAL,
+                             .sigev_value.sival_ptr = &watch_timer,
+                             ._sigev_un._tid = (int)__real_syscall(SYS_gettid)};
     struct timespec part = {.tv_sec = (time_t)(patience / 4 / SECOND), .tv_nsec = (long)(patience / 4 % SECOND)};
     if (__real_syscall(SYS_timer_create, CLOCK_THREAD_CPUTIME_ID, &event, &watch_timer) == 0)
         __real_syscall(SYS_timer_settime, watch_timer, 0, &(struct itimerspec){part, part}, NULL);
@@ -121,6 +123,8 @@ static void end_sleep(uint64_t began) {
         end_sleep(began); \
         return answer; \
     }
+/* The layout takes the pointers in these parameters for products. */
+/* clang-format off */
 SLEEPS(unsigned, sleep, (unsigned seconds), (seconds))
 SLEEPS(int, usleep, (useconds_t time), (time))
 SLEEPS(int, sem_timedwait, (sem_t *semaphore, const struct timespec *end), (semaphore, end))
@@ -130,6 +134,7 @@ SLEEPS(int, pthread_cond_timedwait, (pthread_cond_t *condition, pthread_mutex_t 
 SLEEPS(int, pthread_cond_clockwait,
        (pthread_cond_t *condition, pthread_mutex_t *lock, clockid_t clock, const struct timespec *end),
        (condition, lock, clock, end))
+/* clang-format on */
 
 /* Where the sleep is cut short, what was left of it is written. */
 #define SLEEPS_BY(NAME, PARAMETERS, ARGUMENTS) \
@@ -163,8 +168,10 @@ static void tell_endless_wait(void) {
         tell_endless_wait(); \
         return __real_##NAME ARGUMENTS; \
     }
+/* clang-format off */
 WAITS(pthread_cond_wait, (pthread_cond_t *condition, pthread_mutex_t *lock), (condition, lock))
 WAITS(cnd_wait, (cnd_t *condition, mtx_t *lock), (condition, lock))
+/* clang-format on */
 
 /* That of std::condition_variable. */
 __attribute__((weak)) void __real__ZNSt18condition_variable4waitERSt11unique_lockISt5mutexE(void *, void *);
