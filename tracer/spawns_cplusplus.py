@@ -6,20 +6,21 @@ the program stays where it is, in one full expression, and the compiler chooses 
 import re
 
 from loops import KEEPS, begins_function, entered, is_in_inner
+from operators import ASSIGNMENTS, OUTSIDE, Operation, pointer_sign, signature
 from tokens import (CONTROLS, Refused, after_angles, arguments_of, is_in_block, outside, own_constants, piece,
                     statement_start)
 
 SHAPES = ("write `cilk_spawn f(..);', `x = cilk_spawn f(..);', `x += cilk_spawn f(..);' or "
           "`T x = cilk_spawn f(..);' as a statement of its own")
-ASSIGNMENTS = {"=", "+=", "-=", "*=", "/=", "%=", "&=", "|=", "^=", "<<=", ">>="}
+LARGER = f"a spawn inside a larger expression can't be traced: {SHAPES}"
 # What looks like a call and is none, or like a type.
 NO_NAMES = CONTROLS | set("sizeof alignof typeid decltype noexcept new delete throw return static_cast dynamic_cast "
-                          "const_cast reinterpret_cast co_await co_yield co_return operator requires catch auto "
+                          "const_cast reinterpret_cast co_await co_yield co_return requires catch auto "
                           "__attribute__ asm __asm__ __typeof__ typeof".split())
 NO_LOCALS = {"static", "extern", "typedef", "using", "thread_local", "_Thread_local", "__thread", "constexpr",
              "constinit"}
+NO_SIGNATURE = "[&](__spbags_spawned, auto *) -> __spbags_no_signature { return {}; }"
 STATEMENT = "[&](__spbags_spawned) __attribute__((noipa))"
-OUTSIDE = "__attribute__((no_sanitize_thread))"
 FORWARDED = "static_cast<decltype(__spbags_p) &&>(__spbags_p)..."
 
 
@@ -28,6 +29,8 @@ def after_name(tokens, at):
     at += tokens[at].text == "::"
     while True:
         at += tokens[at].text == "template"
+        if tokens[at].text == "operator":
+            return after_operator(tokens, at + 1)
         if tokens[at].kind != "word" or tokens[at].text in NO_NAMES:
             return None
         at += 1
@@ -36,6 +39,14 @@ def after_name(tokens, at):
         if tokens[at].text != "::":
             return at
         at += 1
+
+
+def after_operator(tokens, at):
+    """The arguments of the operator of this name, or None."""
+    at = tokens[at].partner + 1 if tokens[at].text == "(" else at
+    while tokens[at].text not in ("(", ";"):
+        at += 1
+    return at if tokens[at].text == "(" else None
 
 
 def after_lambda(tokens, at):
@@ -104,6 +115,12 @@ def sync(tokens, at, waiting):
     return "__spbags_sync()" if start is None else "(__spbags_sync(), __spbags_here.throw_again())"
 
 
+def end_of_expression(tokens, first):
+    """The semicolon behind it, or the end of the brackets around it."""
+    end = tokens[tokens[first].around].partner
+    return next((at for at in outside(tokens, first, end) if tokens[at].text == ";"), end)
+
+
 class Postfix:
     """An expression from a token on: its end, where its last call begins, and where the member that this calls does."""
 
@@ -131,18 +148,23 @@ class Spawn:
         self.here = tokens[spawn].marker(" 3")
         if SPAWNED not in text:
             self.refuse("a spawn needs C++14, as by -std=c++14")
-        self.callee = Postfix(tokens, spawn + 1)
-        self.opening = self.callee.call
-        if self.opening is None or not is_statement(tokens, spawn):
-            self.refuse(f"a spawn inside a larger expression can't be traced: {SHAPES}")
-        self.closing = tokens[self.opening].partner
-        self.is_braced = tokens[spawn - 1].text == "{" and tokens[spawn - 1].partner == self.closing + 1
-        self.last = self.closing + 1 + self.is_braced
+        if not is_statement(tokens, spawn):
+            self.refuse(LARGER)
+        self.callee, self.end = Postfix(tokens, spawn + 1), end_of_expression(tokens, spawn + 1)
+        self.opening, self.operation = self.callee.call, None
+        if self.opening is None or self.callee.end != self.end:
+            self.operation = Operation(tokens, self.callee, self.end)
+        if self.operation and self.operation.sign is None:
+            self.refuse(LARGER)
+        self.is_braced = tokens[spawn - 1].text == "{" and tokens[spawn - 1].partner == self.end
+        self.last = self.end + self.is_braced
         if tokens[self.last].text != ";":
-            self.refuse(f"a spawn inside a larger expression can't be traced: {SHAPES}")
+            self.refuse(LARGER)
         if self.is_braced and not is_in_block(tokens, spawn - 1):
             self.refuse("a spawn can't be traced in this declaration: declare the variable before it")
         self.first = statement_start(tokens, spawn - self.is_braced)
+        if self.operation and self.operation.is_assignment and self.first != spawn:
+            self.refuse(LARGER)
 
     def refuse(self, why):
         raise Refused(self.tokens[self.spawn], why)
@@ -161,6 +183,10 @@ class Spawn:
     def called(self):
         """What goes before the callee in the text, and the edits of the callee itself."""
         callee, tokens = self.callee, self.tokens
+        if self.operation:
+            return self.operation.edits(self.here)
+        if self.pointer_sign() is not None:
+            return self.called_by_pointer()
         if callee.member is not None:
             pointed = "*__spbags_pointed(" if tokens[callee.member].text == "->" else ""
             calls = self.here + (")" if pointed else "") + self.member_calls() + tokens[self.opening].marker()
@@ -172,6 +198,18 @@ class Spawn:
             return f"__spbags_name<{self.count()}>(", [edit]
         return f"__spbags_expression<{self.count()}>(", [(self.opening - 1, ")")]
 
+    def pointer_sign(self):
+        """Of a member that a pointer to it names."""
+        first = self.spawn + 1
+        is_bracket = self.tokens[first].text == "(" and self.tokens[first].partner == self.opening - 1
+        return pointer_sign(self.tokens, first) if is_bracket else None
+
+    def called_by_pointer(self):
+        sign, begins = self.pointer_sign(), f"(__spbags_object<{self.count()}>("
+        pointed, ends = ("*__spbags_address(", "))") if self.tokens[sign].text == "->" else ("", ")")
+        first = self.spawn + 1
+        return "", [(first, first, begins + pointed), (sign, sign + 1, f"{ends} ->* ("), (self.opening - 1, ")")]
+
     def is_name(self, first, end):
         """Whether these tokens are a name, perhaps in brackets."""
         if self.tokens[first].text == "(" and self.tokens[first].partner == end - 1:
@@ -182,7 +220,8 @@ class Spawn:
         """The name that is called, and whether it is that of a template with its arguments. Such a name may stand for
         several functions, also where its address has one type."""
         last = self.opening - 1
-        has_arguments = any(token.text in (">", ">>") for token in self.tokens[last - 1:last + 1])
+        has_arguments = any(self.tokens[at].text in (">", ">>") and self.tokens[at - 1].text != "operator"
+                            for at in (last - 1, last))
         name = re.sub(r"\s*\n(?:#[^\n]*\n)?\s*", " ", self.text[self.tokens[first].start:self.tokens[last].end])
         return name, has_arguments
 
@@ -204,10 +243,8 @@ class Spawn:
         call = f"static_cast<decltype(__spbags_o) &&>(__spbags_o).{name}({FORWARDED})"
         calls = [f"[&](__spbags_spawned, auto &&__spbags_o, auto &&...__spbags_p) {how} -> decltype(auto) "
                  f"{{ return {call}; }}" for how in ("", OUTSIDE)]
-        taken = f"&__spbags_referent<decltype(*__spbags_o)>::type::{name}"
-        taken = "__spbags_no_signature()" if has_arguments else f"__spbags_signature_of({taken})"
-        return (f", {', '.join(calls)}, [&](__spbags_spawned, auto *__spbags_o) -> decltype({taken}) "
-                "{ return {}; }, 0)")
+        type_text = NO_SIGNATURE if has_arguments else signature(name)
+        return f", {', '.join([*calls, type_text])}, 0)"
 
     def target(self):
         """What the statement's function begins with, its type, and the declaration of what gets the result."""
@@ -218,7 +255,7 @@ class Spawn:
         direct = {self.tokens[at].text for at in outside(self.tokens, self.first, sign)}
         if not self.is_braced and (before[-1] not in ASSIGNMENTS or sign == self.first or
                                    (ASSIGNMENTS | {",", "?", "return", "throw", "<<", ">>"}) & direct):
-            self.refuse(f"a spawn inside a larger expression can't be traced: {SHAPES}")
+            self.refuse(LARGER)
         if not self.is_braced and self.is_lvalue(sign):
             at = self.piece(self.first, sign - 1)
             return f"auto &&__spbags_at = ({at}); __spbags_at {before[-1]} ", "", None
@@ -284,7 +321,7 @@ class Spawn:
         else:
             ends += f"{made}({{}}); __spbags_ended.end(0, 0); }}"
         if self.is_braced and not kind:
-            later.append((self.closing + 1, self.closing + 1, ""))
+            later.append((self.end, self.end, ""))
         later.append((self.last, self.here + ends + self.tokens[self.last].marker()))
         return (self.first, self.spawn, self.here + made_by + self.tokens[self.spawn].marker()), later
 

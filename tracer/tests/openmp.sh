@@ -290,6 +290,10 @@ check_openmp_refused() {
         "$("$here/spbags-c++" -c -o refused.o "$source" 2>&1 |
             sed -n 's/.*refused\.cpp:\([0-9]*\): error: .*/\1/p' | uniq)"
     count $? "spawns of C++ that can't be rewritten"
+    same "$(line_of "$source" '// [built in]')" \
+        "$("$here/spbags-c++" -DBUILT_IN -c -o refused.o "$source" 2>&1 |
+            sed -n 's/.*refused\.cpp:\([0-9]*\):.* error: .*: a spawn has to be a call, .*/\1/p' | uniq)"
+    count $? "spawns of operators that are built in"
     ends_with 1 'error: a spawn needs C++14' "$here/spbags-c++" -std=c++11 -c -o refused.o "$source"
     count $? "spawns in C++11"
 }

@@ -8,6 +8,16 @@ struct Place {
     Place &set(int n);
 };
 
+#ifdef BUILT_IN
+void built_in(int x, int *p, Place place, int Place::*member) {
+    cilk_spawn x++; // [built in]
+    cilk_spawn x += 3; // [built in]
+    cilk_spawn p[x]; // [built in]
+    cilk_spawn !x; // [built in]
+    int y = cilk_spawn x * x; // [built in]
+    cilk_spawn (place.*member) += 3; // [built in]
+}
+#else
 int f(int n);
 int &there(int n);
 Place h();
@@ -37,7 +47,11 @@ int refused(int n, int *p) {
     x = static_cast<int>(cilk_spawn f(n)); // [refused]
     x = cilk_spawn static_cast<int>(n); // [refused]
     cilk_spawn x; // [refused]
-    cilk_spawn x++; // [refused]
+    cilk_spawn f(n) + n; // [refused]
+    x = cilk_spawn y = n; // [refused]
+    cilk_spawn x, y; // [refused]
+    cilk_spawn (Place)p[n]; // [refused]
+    cilk_spawn n ? x : y; // [refused]
     cilk_spawn { x = 1; } // [refused]
     auto made = cilk_spawn new Place(); // [refused]
     int a = cilk_spawn f(1), b; // [refused]
@@ -73,3 +87,4 @@ struct Built {
 namespace outside {
 int x = cilk_spawn f(1); // [refused]
 }
+#endif

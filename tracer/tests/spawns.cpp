@@ -260,6 +260,97 @@ static void callees() {
     std::printf("%d %d %d\n", sum, d, e);
 }
 
+// ---- Operators, and pointers to members ----
+struct Total {
+    int sum = 0, found = 0, more = 0;
+    Total &operator+=(int by) {
+        sum += by; // [4 sums first]
+        return *this;
+    }
+    int &operator[](int by) { return found += by; } // [4 found first]
+    void operator()(int by) { more += by; }         // [4 called first]
+    virtual ~Total() {}
+    virtual void raise(int by) { more += by; }
+    Total operator++(int) { return *this; }
+};
+struct Special_total : Total {
+    void raise(int by) override { more -= by; } // [4 by_pointer first]
+    std::function<void(int)> function;
+    void (*address)(int &, int) = add;
+};
+static Total &operator<<(Total &to, int by) {
+    to.sum -= by; // [4 shifted first]
+    return to;
+}
+static bool operator!(const Total &total) { return total.sum == 0; } // [4 not first]
+static Pair operator-(Pair one, Pair other) { return {one.a - other.a, one.b - other.b}; }
+// The parent reads nothing of this, since no operator gets it by value.
+struct Row {
+    int used, unused;
+    Row &operator-=(int by) {
+        used -= by;
+        return *this;
+    }
+    Row &operator-=(const Row &by) { return *this -= by.used; }
+};
+
+static int next(int &number) { return ++number; }
+
+static void operators() {
+    Total sums, found, called, shifted, asked, each[2];
+    int at = 0;
+    cilk_spawn sums += 1;
+    cilk_spawn found[2];
+    cilk_spawn called.operator()(3);
+    cilk_spawn shifted << 4;
+    WAIT;
+    keep(sums.sum);     // [4 sums second]
+    keep(found.found);  // [4 found second]
+    keep(called.more);  // [4 called second]
+    keep(shifted.sum);  // [4 shifted second]
+    cilk_sync;
+    bool is_zero = cilk_spawn !asked;
+    WAIT;
+    asked.sum = 1; // [4 not second]
+    cilk_sync;
+    cilk_spawn each[next(at) - 2] += next(at); // the right operand comes first
+    cilk_spawn called++;
+    cilk_sync;
+    Pair pairs[] = {{5, 6}, {1, 2}};
+    cilk_spawn [&] { pairs[0].a = 3; }(); // [4 operand first]
+    WAIT;
+    Pair difference = cilk_spawn pairs[0] - pairs[1]; // [4 operand second]
+    pairs[0].b = pairs[1].a = 9;
+    cilk_sync;
+    Row row = {4, 5};
+    cilk_spawn [&] { row.unused = 6; }();
+    cilk_spawn row -= 1;
+    cilk_sync;
+    std::string text = "text";
+    cilk_spawn text = text + "s";
+    cilk_sync;
+    std::printf("%d %d %d %d %s\n", is_zero, each[0].sum, difference.b, row.used, text.c_str());
+}
+
+static void pointers() {
+    int sum = 0, own = 0;
+    Special_total object, *there = &object;
+    void (Total::*raise)(int) = &Total::raise;
+    auto function = &Special_total::function;
+    object.function = [&](int by) { sum += by; }; // [4 pointed first]
+    cilk_spawn (there->*raise)(1);
+    raise = nullptr; // the parent has read it
+    cilk_spawn (object.*function)(2);
+    cilk_spawn [&] { object.address = add; }(); // [8 own_pointer first]
+    WAIT;
+    cilk_spawn (object.*&Special_total::address)(own, 3); // [8 own_pointer second]
+    WAIT;
+    keep(object.more); // [4 by_pointer second]
+    keep(sum);         // [4 pointed second]
+    cilk_sync;
+    std::printf("%d %d %d\n", object.more, sum, own);
+}
+
 // ---- Statements, blocks and exceptions ----
 static void statements(int number) {
     int at[4] = {};
@@ -455,6 +546,8 @@ int main(int, char **words) {
     arguments();
     members();
     callees();
+    operators();
+    pointers();
     statements(1);
     blocks();
     beside_thrower();

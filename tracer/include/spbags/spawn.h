@@ -149,19 +149,18 @@ template <class Call, class R, class... P> struct __spbags_child<Call, __spbags_
     }
 };
 
-template <class Call> struct __spbags_child<Call, __spbags_no_signature> {
-    Call call;
+/* The parent reads these arguments, and of an object the table of virtual functions. */
+template <class... A> __SPBAGS_OUTSIDE void __spbags_pass(const void *code, const A &...arguments) {
+    const int passed[] = {0, (__spbags_small<A>::pass(arguments, code), 0)...};
+    (void)passed, (void)code;
+}
+template <class O> __SPBAGS_OUTSIDE void __spbags_pass_table(const void *code, const O &object) {
+    if (__is_polymorphic(O))
+        __spbags_passed(&reinterpret_cast<const volatile char &>(object), sizeof(void *), code);
+}
 
-    template <class... A> __SPBAGS_OUTSIDE decltype(auto) operator()(A &&...arguments) {
-        const int passed[] = {
-            0, (__spbags_small<typename __spbags_referent<A>::type>::pass(arguments, __SPBAGS_CODE), 0)...};
-        (void)passed;
-        __spbags_detach(__SPBAGS_CODE);
-        return call(static_cast<A &&>(arguments)...);
-    }
-};
-
-/* A call by an address or a reference; by the program's text; and by its text behind an object. */
+/* A call by an address or a reference; by the program's text, and by its text behind an object; by an operator, and
+   whether that is a member; and by a pointer to a member. */
 #define __SPBAGS_CALL(CALL) \
     template <class... A> __SPBAGS_OUTSIDE decltype(auto) operator()(A &&...arguments) { return CALL; }
 template <class F> struct __spbags_direct {
@@ -177,7 +176,64 @@ template <class O, class Text> struct __spbags_of_object {
     Text text;
     __SPBAGS_CALL(text(__spbags_spawned(), static_cast<O &&>(object), static_cast<A &&>(arguments)...))
 };
+template <class O, class Text, class Member> struct __spbags_by_operator {
+    __spbags_of_object<O, Text> of;
+    Member member;
+    __SPBAGS_CALL(of(static_cast<A &&>(arguments)...))
+};
+template <class O, class F> struct __spbags_by_pointer {
+    O object;
+    F pointer;
+    __SPBAGS_CALL((static_cast<O &&>(object).*pointer)(static_cast<A &&>(arguments)...))
+};
 #undef __SPBAGS_CALL
+
+/* The left operand is an argument too, unless the operator is its member. */
+template <class O, class Member, class... A>
+constexpr auto __spbags_is_member(int)
+    -> decltype(__spbags_any<const Member &>()(__spbags_spawned(), __spbags_any<O>(), __spbags_any<A>()...), true) {
+    return true;
+}
+template <class O, class Member, class... A> constexpr bool __spbags_is_member(long) { return false; }
+template <class... A, class Call> __SPBAGS_OUTSIDE void __spbags_pass_left(const void *, const Call &) {}
+template <class... A, class O, class Text, class Member>
+__SPBAGS_OUTSIDE void __spbags_pass_left(const void *code, const __spbags_by_operator<O, Text, Member> &call) {
+    if (!__spbags_is_member<O, Member, A...>(0))
+        __spbags_pass(code, call.of.object);
+}
+
+template <class Call> struct __spbags_child<Call, __spbags_no_signature> {
+    Call call;
+
+    template <class... A> __SPBAGS_OUTSIDE decltype(auto) operator()(A &&...arguments) {
+        __spbags_pass_left<A &&...>(__SPBAGS_CODE, call);
+        __spbags_pass(__SPBAGS_CODE, arguments...);
+        __spbags_detach(__SPBAGS_CODE);
+        return call(static_cast<A &&>(arguments)...);
+    }
+};
+
+/* The same by an operator that assigns. */
+template <class Child> struct __spbags_assigning;
+template <class Call, class R, class P> struct __spbags_assigning<__spbags_child<Call, __spbags_signature<R, P>>> {
+    __spbags_child<Call, __spbags_signature<R, P>> child;
+    __SPBAGS_OUTSIDE R operator+=(P argument) {
+        __spbags_detach(__SPBAGS_CODE);
+        return child.call(static_cast<P &&>(argument));
+    }
+};
+template <class Call> struct __spbags_assigning<__spbags_child<Call, __spbags_no_signature>> {
+    __spbags_child<Call, __spbags_no_signature> child;
+    template <class A> __SPBAGS_OUTSIDE decltype(auto) operator+=(A &&argument) {
+        __spbags_pass_left<A &&>(__SPBAGS_CODE, child.call);
+        __spbags_pass(__SPBAGS_CODE, argument);
+        __spbags_detach(__SPBAGS_CODE);
+        return child.call(static_cast<A &&>(argument));
+    }
+};
+template <class Child> __SPBAGS_OUTSIDE auto __spbags_assigned(const Child &child) {
+    return __spbags_assigning<Child>{child};
+}
 
 /* ---- What a statement calls, with n arguments or with any number behind ---- */
 
@@ -245,9 +301,7 @@ __SPBAGS_OUTSIDE auto __spbags_member_call(const void *, O &&object, const Seen 
 template <unsigned n, class O, class Seen, class Unseen>
 __SPBAGS_OUTSIDE auto __spbags_member_call(const void *code, O &&object, const Seen &, const Unseen &unseen,
                                            __spbags_no_signature) {
-    /* The table of virtual functions is read there. */
-    if (__is_polymorphic(typename __spbags_referent<O>::type))
-        __spbags_passed(&reinterpret_cast<const volatile char &>(object), sizeof(void *), code);
+    __spbags_pass_table(code, object);
     typedef __spbags_child<__spbags_of_object<O &&, Unseen>, __spbags_no_signature> child;
     return child{{static_cast<O &&>(object), unseen}};
 }
@@ -263,6 +317,49 @@ __SPBAGS_OUTSIDE auto __spbags_member(O &&object, const Seen &seen, const Unseen
 template <unsigned n, class O, class Seen, class Unseen, class Taken>
 __SPBAGS_OUTSIDE auto __spbags_member(O &&object, const Seen &seen, const Unseen &unseen, const Taken &, long) {
     return __spbags_member_call<n>(__SPBAGS_CODE, static_cast<O &&>(object), seen, unseen, __spbags_no_signature());
+}
+
+/* An operator, of which the n-th and last operand isn't there yet. */
+template <class T> constexpr bool __spbags_is_own() { return __spbags_is_struct<T>() || __is_enum(T); }
+template <class Left, class Right = int> constexpr bool __spbags_may_overload() {
+    return __spbags_is_own<typename __spbags_referent<Left>::type>() ||
+           __spbags_is_own<typename __spbags_referent<Right>::type>();
+}
+template <unsigned n, class O, class Seen, class Unseen, class Taken, class Member>
+__SPBAGS_OUTSIDE auto __spbags_operator(O &&object, const Seen &seen, const Unseen &unseen, const Taken &taken,
+                                        const Member &, int)
+    -> decltype(__spbags_member_call<n>(nullptr, static_cast<O &&>(object), seen, unseen,
+                                        taken(__spbags_spawned(), __spbags_pointer<O>()))) {
+    return __spbags_member_call<n>(nullptr, static_cast<O &&>(object), seen, unseen,
+                                   taken(__spbags_spawned(), __spbags_pointer<O>()));
+}
+template <unsigned n, class O, class Seen, class Unseen, class Taken, class Member>
+__SPBAGS_OUTSIDE auto __spbags_operator(O &&object, const Seen &, const Unseen &unseen, const Taken &,
+                                        const Member &member, long) {
+    __spbags_pass_table(__SPBAGS_CODE, object);
+    typedef __spbags_child<__spbags_by_operator<O &&, Unseen, Member>, __spbags_no_signature> child;
+    return child{{{static_cast<O &&>(object), unseen}, member}};
+}
+
+/* A member that a pointer names. */
+template <class T> __SPBAGS_OUTSIDE T *__spbags_address(T *object) { return object; }
+template <unsigned n, class O> struct __spbags_of {
+    O object;
+
+    template <class F> __SPBAGS_OUTSIDE auto operator->*(F pointer) {
+        __spbags_pass_table(__SPBAGS_CODE, object);
+        read(pointer, __SPBAGS_CODE);
+        typedef typename __spbags_cut<n, decltype(__spbags_signature_of(pointer))>::type signature;
+        return __spbags_child<__spbags_by_pointer<O, F>, signature>{{static_cast<O &&>(object), pointer}};
+    }
+    /* The member may be a pointer to a function. */
+    template <class F, class C> __SPBAGS_OUTSIDE void read(F *C::*pointer, const void *code) {
+        __spbags_pass(code, object.*pointer);
+    }
+    __SPBAGS_OUTSIDE void read(...) {}
+};
+template <unsigned n, class O> __SPBAGS_OUTSIDE auto __spbags_object(O &&object) {
+    return __spbags_of<n, O &&>{static_cast<O &&>(object)};
 }
 #endif
 #endif
