@@ -30,6 +30,8 @@ CALLS = re.compile(r"^define internal \w+ @(\.omp_task_entry\.[.\d]*|"
                    r"\.omp_outlined\.[.\d]*(?=.*\n(?:  .*\n|\n)*?  call void @\.omp_outlined\._debug__))\(",
                    re.MULTILINE)
 CALLER = "__spbags_outlined"
+# How the names of what clang makes of OpenMP begin.
+MADE = (".omp", ".red_")
 
 
 def named(text):
@@ -37,11 +39,11 @@ def named(text):
     described, callers = list(DESCRIBED.finditer(text)), set(CALLS.findall(text))
     files = {number: os.path.join(directory, name) for number, name, directory in FILE.findall(text)}
     places = [(files.get(found[2], ""), int(found[3]), found[1]) for found in described]
-    functions = sorted(place for place in places if not place[2].startswith(".omp"))
+    functions = sorted(place for place in places if not place[2].startswith(MADE))
     pieces, done = [], 0
     for found, (file, line, name) in zip(described, places):
         at = bisect.bisect_right(functions, (file, line, "\x7f")) - 1
-        if name.startswith(".omp") and at >= 0 and functions[at][0] == file:
+        if name.startswith(MADE) and at >= 0 and functions[at][0] == file:
             shown = CALLER if name in callers else functions[at][2]
             pieces += [text[done:found.start()], f'!DISubprogram(name: "{shown}"']
             done = found.end(1) + 1

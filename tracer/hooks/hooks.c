@@ -118,6 +118,7 @@ static bool looking;
 #include "openmp_reductions.h"
 #include "openmp_taskloops.h"
 #include "openmp_clang.h"
+#include "openmp_clang_reductions.h"
 #include "openmp_notes.h"
 #pragma GCC visibility pop
 #endif

@@ -311,8 +311,6 @@ int32_t __kmpc_omp_taskyield(CLANG, int32_t part) {
     return 0;
 }
 
-void __kmpc_taskgroup(CLANG) { IGNORE, GOMP_taskgroup_start(); }
-void __kmpc_end_taskgroup(CLANG) { IGNORE, close_waiting(CODE); }
 
 /* ---- Tasks that wait for data ---- */
 

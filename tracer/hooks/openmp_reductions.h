@@ -54,18 +54,30 @@ static uintptr_t *variable_of(uintptr_t *array, uintptr_t address) {
     return NULL;
 }
 
-/* Puts a thread's copies in the place of the variables, and the first variables' own addresses behind all. */
-void GOMP_task_reduction_remap(size_t count, size_t originals, void **addresses) {
+/* The variable that a task here reduces at this address, and its array. */
+static uintptr_t *reduced(uintptr_t address, uintptr_t **array) {
+    uintptr_t *variable = NULL;
     size_t at = newest_scope;
     while (at > 0 && !scopes[at].reductions)
         at--;
+    *array = scopes[at].reductions;
+    while (*array && !(variable = variable_of(*array, address)))
+        *array = (uintptr_t *)(*array)[NEXT_ARRAY];
+    if (!variable)
+        fail("a task has in_reduction of a variable that no group around it reduces");
+    return variable;
+}
+
+/* This thread's copy of a variable. */
+static uintptr_t copy_of(const uintptr_t *array, const uintptr_t *variable) {
+    return array[MEMORY] + (uintptr_t)thread_now()->thread * array[SIZE] + variable[1];
+}
+
+/* Puts a thread's copies in the place of the variables, and the first variables' own addresses behind all. */
+void GOMP_task_reduction_remap(size_t count, size_t originals, void **addresses) {
     for (size_t number = 0; number < count; number++) {
-        uintptr_t *array = scopes[at].reductions, *variable = NULL;
-        while (array && !(variable = variable_of(array, (uintptr_t)addresses[number])))
-            array = (uintptr_t *)array[NEXT_ARRAY];
-        if (!variable)
-            fail("a task has in_reduction of a variable that no group around it reduces");
-        addresses[number] = (void *)(array[MEMORY] + (uintptr_t)omp_get_thread_num() * array[SIZE] + variable[1]);
+        uintptr_t *array, *variable = reduced((uintptr_t)addresses[number], &array);
+        addresses[number] = (void *)copy_of(array, variable);
         if (number < originals)
             addresses[count + number] = (void *)variable[0];
     }

@@ -2,6 +2,7 @@
    race: `none`, `guarded`, or `data`. With a name it does that one, and aborts where a thread sees what it mustn't. */
 #include <omp.h>
 #include <pthread.h>
+#include <stdbool.h>
 #include <stdio.h>
 #include <stdlib.h>
 #include <string.h>
@@ -184,6 +185,64 @@ static void sums(void) {
     for (int i = 0; i < 10; i++)
         all = 10 * i > all ? 10 * i : all;
     demand(all == 90);
+}
+
+struct range {
+    int least, most;
+};
+static void join(struct range *to, const struct range *from) {
+    to->least = from->least < to->least ? from->least : to->least;
+    to->most = from->most > to->most ? from->most : to->most;
+}
+#pragma omp declare reduction(join : struct range : join(&omp_out, &omp_in)) initializer(omp_priv = omp_orig)
+
+/* Tasks of tasks take part too. */
+static void sum_up(int count, bool also_one) {
+    int sum = 0, many[count];
+    struct range range = {3, 3};
+    memset(many, 0, sizeof many);
+#pragma omp taskgroup task_reduction(+ : sum, many[1 : count - 1]) task_reduction(join : range)
+    for (int i = 0; i < count; i++)
+#pragma omp task in_reduction(+ : sum, many[1 : count - 1]) in_reduction(join : range)
+    {
+        if (also_one)
+            one++;
+#pragma omp task in_reduction(+ : sum)
+        sum += i;
+        many[count - 1] += i;
+        join(&range, &(struct range){i, i});
+    }
+    demand(sum == 45 && many[count - 1] == 45 && many[1] == 0 && range.least == 0 && range.most == 9);
+}
+
+static void sums_of_tasks(void) {
+    int sum = 0, threads = 0;
+#pragma omp parallel
+#pragma omp master
+    sum_up(10, false);
+#pragma omp parallel reduction(task, + : sum) reduction(+ : threads)
+    {
+        threads++;
+#pragma omp single
+        for (int i = 0; i < 10; i++)
+#pragma omp task in_reduction(+ : sum)
+            sum += i;
+        sum += 100;
+    }
+    demand(sum == 45 + 100 * threads);
+    sum = 0;
+#pragma omp parallel
+#pragma omp for reduction(task, + : sum)
+    for (int i = 0; i < 10; i++)
+#pragma omp task in_reduction(+ : sum)
+        sum += i;
+    demand(sum == 45);
+}
+
+static void summed_and_counted(void) {
+#pragma omp parallel
+#pragma omp master
+    sum_up(10, true);
 }
 
 static void summed_too_early(void) {
@@ -385,6 +444,8 @@ static const struct {
             {"by_one_number", by_one_number, "data"},
             {"by_hand", by_hand, "none"},
             {"sums", sums, "none"},
+            {"sums_of_tasks", sums_of_tasks, "none"},
+            {"summed_and_counted", summed_and_counted, "data"},
             {"summed_too_early", summed_too_early, "data"},
             {"last_values", last_values, "none"},
             {"loops_of_one_thread", loops_of_one_thread, "none"},
