@@ -1,6 +1,7 @@
 /* Reducers in C, of OpenCilk and of the older library. Iterations update each at once, which is no race; with the word
    `racy` at the end one of them reads or sets the value instead, on a line with a tag, two above the update's. The words
-   `list` and `arguments` are for a view that has more memory elsewhere, and `kept` for an address that is kept. */
+   `list`, `arguments` and `child` are for a view that has more memory elsewhere, and `kept` for an address that is
+   kept. */
 #include <cilk/cilk.h>
 #include <cilk/reducer_max.h>
 #include <cilk/reducer_min.h>
@@ -266,6 +267,14 @@ static void lists(int keeps) {
     printf("%d\n", sum);
 }
 
+static void push_by_child(nodes *to, int n) { cilk_spawn push(to, n); }
+
+static void children(void) {
+    cilk_for (int i = 0; i < 2; i++) {
+        push_by_child(&list, i);
+    }
+}
+
 static void keep(void) {
     cilk_for (int i = 0; i < 4; i++) {
         int *at = &total; /* [kept] */
@@ -281,6 +290,8 @@ int main(int count, char **words) {
         lists(0);
     } else if (strcmp(word, "arguments") == 0) {
         lists(1);
+    } else if (strcmp(word, "child") == 0) {
+        children();
     } else if (strcmp(word, "kept") == 0) {
         keep();
     } else if (strcmp(word, "struct") == 0) {

@@ -40,6 +40,8 @@ check_reducers() {
     count $? "$CC $level: $source, a struct, racy"
     reports 3 'what join does for the reducer list in another schedule' -- ./reducers list
     count $? "$CC $level: $source, more memory"
+    reports 3 "an update of a reducer spawns, and what its children access isn't seen" -- ./reducers child
+    count $? "$CC $level: $source, a child of an update that isn't recorded"
     same "$(line_of "$source" '[number]' | awk '{ print $1, $1 }')" "$(racy_lines ./reducers arguments)"
     count $? "$CC $level: $source, an argument that is evaluated before"
     reports 3 "$(line_of "$source" '[kept]'): what is done by this address of the reducer total" -- ./reducers kept
