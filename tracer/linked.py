@@ -122,6 +122,11 @@ def names_of(object_name):
     return {line.split()[0] for line in said.splitlines()}
 
 
+def wrapped_by(hooks):
+    """The functions of libraries that the hooks stand in for."""
+    return sorted(name.removeprefix("__wrap_") for name in names_of(hooks) if name.startswith("__wrap_"))
+
+
 def read_symbols(parts):
     for is_shared, words in ((False, []), (True, ["-D"])):
         files = list(dict.fromkeys(file for (file, _), part in parts.items() if part.is_shared == is_shared))

@@ -1,12 +1,11 @@
 """Runs of a traced program: with its trace into `spbags check`, and with a look at the races' places."""
-import contextlib
 import ctypes
 import os
-import re
 import select
 import shutil
 import signal
 import stat
+import struct
 import subprocess
 import tempfile
 import threading
@@ -15,15 +14,16 @@ from collections import namedtuple
 
 import installed
 import source
+from said import Said, texts_of, with_lines
 from source import Failure
 
-# What the hooks of a program have in them that can take a look, and those with the detector inside.
-MARK, INSIDE = b"SPBAGS_DIVIDE", b"SPBAGS_INSIDE"
+# What the hooks of a program have in them that says such records, and those with the detector inside.
+MARK, INSIDE = b"SPBAGS_RECORDS", b"SPBAGS_INSIDE"
 PERSONALITY, ADDR_NO_RANDOMIZE = ctypes.CDLL(None).personality, 0x0040000
 MOST_DEPTH = "1000000"
 # What the environment of each run has.
 OURS = [f"SPBAGS_{name}" for name in ("PLACES", "TRACE", "REPORT", "EXITCODE", "LOOK", "DIVIDE", "LAST",
-                                     "ROOM")]
+                                     "HELP", "ROOM")]
 
 
 def checker():
@@ -134,35 +134,6 @@ def length_of(environment):
     return sum(len(os.fsencode(name)) + len(os.fsencode(value)) + 2 for name, value in environment.items())
 
 
-class Said(threading.Thread):
-    """The hooks' lines. They are read as they come, and those that can't wait for the report are told at once."""
-    END = "\nend\n"
-
-    def __init__(self, tell):
-        super().__init__(daemon=True)
-        self.tell, self.lines = tell, []
-        self.out, self.into = os.pipe()
-
-    def run(self):
-        with open(self.out, encoding="utf-8", errors="replace") as file:
-            for line in map(str.rstrip, file):
-                if line == self.END.strip():
-                    break
-                kind, _, text = line.partition(": ")
-                if kind == "stuck":
-                    with contextlib.suppress(Exception):
-                        self.tell(text)
-                else:
-                    self.lines.append(line)
-
-    def end(self):
-        """All lines of the program, which has ended. A process that it made may still have the pipe."""
-        os.write(self.into, self.END.encode())
-        self.join()
-        os.close(self.into)
-        return self.lines
-
-
 # What may come while a process runs. It is pending until it is asked for. A terminal's signals are the program's too.
 AWAITED = {signal.SIGCHLD, signal.SIGINT, signal.SIGTERM}
 
@@ -192,45 +163,33 @@ def prepare_program(mask):
 Unseen = namedtuple("Unseen", "function library calls")
 
 
-def texts_of(lines, kind):
-    """The hooks' lines of this kind."""
-    return [line[len(kind) + 2:] for line in lines if line.startswith(kind + ": ")]
-
-
-def unseen_of(text):
-    name, rest = text.split(" ", 1)
-    library, calls = rest.rsplit(" ", 1)
-    return Unseen(source.demangled(name), library, int(calls))
+def unseen_of(record):
+    calls, *library = record.words
+    return Unseen(source.demangled(record.text), " ".join(library), int(calls))
 
 
 class Run:
-    """What came of a run: the program's status, the hooks' lines, and the file with the answer."""
+    """What came of a run: the program's status, its records, and the file with the answer."""
 
-    def __init__(self, status, cut, lines, answer):
+    def __init__(self, status, cut, records, answer, program):
         # Why spbags-run ended it, where it did.
         self.status, self.cut, self.answer = status, cut, answer
-        self.faults, self.notes = texts_of(lines, "fault"), texts_of(lines, "note")
-        # What the report has to say beside the races; and what wasn't seen or modelled, in sentences and functions.
-        self.reported, self.incomplete = texts_of(lines, "report"), texts_of(lines, "incomplete")
-        self.unseen = [unseen_of(text) for text in texts_of(lines, "unseen")]
-        # Of which races some may be none.
-        self.seeming = texts_of(lines, "seeming")
-        # How many records there were, and a digest of them.
-        self.course = next((text.split(" ") for text in texts_of(lines, "course")), None)
+        self.named = {record.name: record for record in reversed(records)}
+        # Why there is no answer; and the same where nobody read the trace any more.
+        self.closed = [record.text for record in records if record.name == "fault" and record.words == ["closed"]]
+        self.faults = with_lines(program, texts_of(records, "fault"))
+        # What the report has to say beside the races; what wasn't seen or modelled, in sentences and functions; and of
+        # which races some may be none.
+        self.reported, self.incomplete, self.seeming = (with_lines(program, texts_of(records, name))
+                                                        for name in ("report", "incomplete", "seeming"))
+        self.unseen = [unseen_of(record) for record in records if record.name == "unseen"]
 
-    def is_ended_early(self):
-        return any("has what came before" in line for line in self.lines())
+    def words(self, name):
+        """Those of the record with this name, or None."""
+        return self.named[name].words if name in self.named else None
 
     def is_whole(self):
-        return self.status >= 0 and not self.is_ended_early() and not self.cut
-
-    def lines(self):
-        return self.faults + self.notes
-
-    def told_unit(self):
-        """The unit that tells neighbours apart, where that is another one."""
-        found = filter(None, (re.search("SPBAGS_UNIT=([0-9]+) separates them", note) for note in self.notes))
-        return next((match[1] for match in found), None)
+        return self.status >= 0 and "end" not in self.named and not self.cut
 
     def ending(self):
         """Why a run isn't whole."""
@@ -238,7 +197,27 @@ class Run:
             return self.cut
         if self.status < 0:
             return f"the program ended by signal {-self.status} ({signal.strsignal(-self.status)})"
-        return next(line for line in self.lines() if "has what came before" in line)
+        return self.named["end"].text
+
+
+def file_of(numbers):
+    """A file with these, of 8 bytes each."""
+    file = tempfile.TemporaryFile()
+    file.write(struct.pack(f"<{len(numbers)}Q", *numbers))
+    file.flush()
+    return file
+
+
+def stops_of(races):
+    """The races as a program takes them that looks at their places: the number of races, then by locations the location
+    and twice the place of each access, and one more if it writes; then of each access, by places, the place and the number
+    of its race."""
+    ordered = sorted(races)
+    numbers = [len(ordered)]
+    for location, *accesses in ordered:
+        numbers += [location, *(2 * place + (kind == "write") for kind, place in accesses)]
+    stops = sorted((place, number) for number, (_, *accesses) in enumerate(ordered) for _, place in accesses)
+    return file_of([*numbers, *(number for stop in stops for number in stop)])
 
 
 class Runner:
@@ -314,7 +293,7 @@ class Runner:
         """A run whose detector is inside, and its report."""
         said, answer = Said(self.tell), tempfile.TemporaryFile()
         self.execute(said, {"SPBAGS_REPORT": answer.fileno(), **files}, silent, **settings)
-        run = Run(*self.wait(said), answer)
+        run = Run(*self.wait(said), answer, self.words[0])
         self.refuse_broken(run)
         if os.fstat(answer.fileno()).st_size == 0:
             how = run.ending() if run.status < 0 else f"the program ended with status {run.status}"
@@ -332,7 +311,7 @@ class Runner:
         said = Said(self.tell)
         checker()
         self.execute(said, {}, silent, **{**settings, "SPBAGS_TRACE": trace, "SPBAGS_PLACES": trace + ".places"})
-        run = Run(*self.wait(said), None)
+        run = Run(*self.wait(said), None, self.words[0])
         self.refuse_broken(run)
         return self.answered(run, *self.check(trace, None))
 
@@ -343,7 +322,7 @@ class Runner:
         trace.close("out")
         self.execute(said, {"SPBAGS_TRACE": trace.into, **files}, silent, **settings)
         trace.close("into")
-        return self.answered(Run(*self.wait(said), None), *check)
+        return self.answered(Run(*self.wait(said), None, self.words[0]), *check)
 
     def answered(self, run, check, answer, faults):
         """The run with its report, when its checker has ended."""
@@ -371,21 +350,21 @@ class Runner:
     @staticmethod
     def refuse_broken(run):
         """What a program that failed leaves in a file is no trace, and may be no file."""
-        broken = [line for line in run.faults if "has what came before" not in line]
-        if broken:
-            raise Failure(broken[0])
+        if run.faults:
+            raise Failure(run.faults[0])
 
     @staticmethod
     def explain_fault(run, fault):
-        """The hooks' line says why the trace isn't whole; but not where the checker ended first."""
-        said = [line for line in run.faults if "Broken pipe" not in line]
-        if said:
-            raise Failure(said[0])
+        """The program's fault says why the trace isn't whole; but not where the checker ended first."""
+        own = [text for text in run.faults if text not in run.closed]
+        if own:
+            raise Failure(own[0])
         raise Failure(f"{run.ending()}, and its trace is incomplete" if run.status < 0 and not run.faults else fault)
 
-    def looked(self, report, files, **settings):
-        """A run that looks at the places of a report, and its notes."""
+    def looked(self, races, files, **settings):
+        """A run that looks at the places of these races, and its notes."""
         said, notes = Said(self.tell), tempfile.TemporaryFile()
-        self.execute(said, {"SPBAGS_TRACE": notes.fileno(), "SPBAGS_LOOK": report.fileno(), **files}, True,
-                     SPBAGS_MAX_BYTES="", **settings)
-        return Run(*self.wait(said), notes)
+        with stops_of(races) as stops:
+            self.execute(said, {"SPBAGS_TRACE": notes.fileno(), "SPBAGS_LOOK": stops.fileno(), **files}, True,
+                         SPBAGS_MAX_BYTES="", **settings)
+        return Run(*self.wait(said), notes, self.words[0])

@@ -1,6 +1,5 @@
 """The report of `spbags-run` as plain text, whose lines are no wider than what shows them."""
 import os
-import re
 import textwrap
 from collections import namedtuple
 from itertools import groupby
@@ -326,21 +325,14 @@ def missing_sync_line(missing_sync):
     return line + (f": it waits next at {place(missing_sync['next_sync'])}" if missing_sync["next_sync"] else "")
 
 
-# What the hooks say of a program that may wait for ever, and the command that prints its stack.
-STUCK = re.compile("(.*) addr2line -Cfpie (.*?)((?: 0x[0-9a-f]+)*)")
-
-
-def stuck_lines(line):
-    """That with the stack itself, as far as it isn't of the system's headers."""
-    what, program, codes = STUCK.fullmatch(line).groups()
-    codes = [int(code, 16) + 1 for code in codes.split()]
-    found = source.positions_of(program, codes)
-    known = [position for code in codes for position in found[code] if position.line > 0]
+def stack_rows(program, codes):
+    """A row for each function on a stack, as far as it isn't of the system's headers."""
+    found = source.positions_of(program, [code + 1 for code in codes])
+    known = [position for code in codes for position in found[code + 1] if position.line > 0]
     own = [position for position in known if not source.is_system(position)]
     rows = [(place(position), position.function, source.text_of(position)) for position in own or known]
     widths = [max((len(row[column]) for row in rows), default=0) for column in range(2)]
-    return [what, *("    " + "  ".join(f"{cell:{width}}" for cell, width in zip(row, [*widths, 0])).rstrip()
-                    for row in rows)]
+    return ["    " + "  ".join(f"{cell:{width}}" for cell, width in zip(row, [*widths, 0])).rstrip() for row in rows]
 
 
 def suppressions(pairs):

@@ -81,14 +81,8 @@ static void forget_divided(void) {
 }
 
 static void divide_units(int file) {
-    struct stat about;
-    if (fstat(file, &about) != 0)
-        fail("SPBAGS_DIVIDE: %s", strerror(errno));
-    size_t count = (size_t)about.st_size / sizeof(uint64_t);
-    const uint64_t *locations =
-        count > 0 ? mmap(NULL, count * sizeof *locations, PROT_READ, MAP_PRIVATE, file, 0) : NULL;
-    if (locations == MAP_FAILED)
-        fail("out of memory: %s", strerror(errno));
+    size_t count;
+    const uint64_t *locations = read_numbers(SETTING_DIVIDE, file, &count);
     for (divided_slots = 2; divided_slots < 2 * count; divided_slots *= 2)
         continue;
     divided_units = reserve(divided_slots * sizeof *divided_units);

@@ -11,13 +11,20 @@ static void stop_tracing(void) {
     find_short_way();
 }
 
+static void tell_narrow(unsigned unit) {
+    tell_record(tell_numbered("unit", unit).text,
+                "%llu accesses don't fill their units of %u bytes, so races may be only of neighbours: SPBAGS_UNIT=%u "
+                "separates them",
+                (unsigned long long)narrow_accesses, 1u << unit_shift, unit);
+}
+
 static void tell_notes(void) {
     if (narrow_accesses > 0)
-        tell("%llu accesses don't fill their units of %u bytes, so races may be only of neighbours: SPBAGS_UNIT=%u "
-             "separates them",
-             (unsigned long long)narrow_accesses, 1u << unit_shift, 1u << __builtin_ctzl(narrow_bits));
+        tell_narrow(1u << __builtin_ctzl(narrow_bits));
     if (most_procedures > DEFAULT_DEPTH + 1 && !detecting)
-        tell("procedures nest %u deep, so spbags needs --depth %u or more", most_procedures - 1, most_procedures - 1);
+        tell_record(tell_numbered("depth", most_procedures - 1).text,
+                    "procedures nest %u deep, so spbags needs --depth %u or more", most_procedures - 1,
+                    most_procedures - 1);
 #ifdef SPBAGS_OPENMP
     tell_openmp_notes();
 #endif
@@ -66,7 +73,7 @@ static int end_trace_of(int status) {
         return status;
     if (has_races)
         return racy_status;
-    return status == 0 && incomplete_lines > 0 && !is_incomplete_ok ? NOT_ALL_SEEN : status;
+    return status == 0 && tell_incomplete_lines > 0 && !is_incomplete_ok ? NOT_ALL_SEEN : status;
 }
 
 /* Where the program doesn't end by itself it has no status of its own. */
@@ -80,9 +87,10 @@ static void stop_at_limit(void) {
     uint64_t most = trace.most;
     next_part(&pending);
     end_trace();
-    fail("the trace has reached its limit of %llu bytes, so the run ends here, and the trace has what came before: "
-         "SPBAGS_MAX_BYTES sets another limit",
-         (unsigned long long)most);
+    fail_by(tell_numbered("end limit", most).text,
+            "the trace has reached its limit of %llu bytes, so the run ends here, and the trace has what came before: "
+            "SPBAGS_MAX_BYTES sets another limit",
+            (unsigned long long)most);
 }
 
 /* ---- Signals ---- */
@@ -122,7 +130,8 @@ static const char *name_of(int number) {
 
 static void end_by_signal(int number) {
     waiting_signal = 0;
-    tell("the program ends by signal %d (%s), and the %s has what came before", number, name_of(number), made());
+    tell_record(tell_numbered("end signal", (uint64_t)number).text,
+                "the program ends by signal %d (%s), and the %s has what came before", number, name_of(number), made());
     end_racy();
     die_by(number);
 }
@@ -250,7 +259,7 @@ void __wrap_quick_exit(int status) {
 static bool end_before_exec(void) {
     bool traced = is_traced();
     if (traced) {
-        tell("the program becomes another one by exec, and the %s has what came before", made());
+        tell_record("end exec", "the program becomes another one by exec, and the %s has what came before", made());
         end_racy();
     }
     return traced;
@@ -297,17 +306,17 @@ static size_t count_words(va_list rest) {
         va_end(rest); \
         return answer; \
     }
-#define NO_SETTINGS
-#define SETTINGS , va_arg(rest, char *const *)
-EXEC_LIST(execl, execv, NO_SETTINGS)
-EXEC_LIST(execlp, execvp, NO_SETTINGS)
-EXEC_LIST(execle, execve, SETTINGS)
+#define NO_ENVIRONMENT
+#define WITH_ENVIRONMENT , va_arg(rest, char *const *)
+EXEC_LIST(execl, execv, NO_ENVIRONMENT)
+EXEC_LIST(execlp, execvp, NO_ENVIRONMENT)
+EXEC_LIST(execle, execve, WITH_ENVIRONMENT)
 
 /* Its first process ends in the library. */
 int __real_daemon(int stays, int keeps);
 int __wrap_daemon(int stays, int keeps) {
     if (is_traced()) {
-        tell("the program becomes a daemon, and the %s has what came before", made());
+        tell_record("end daemon", "the program becomes a daemon, and the %s has what came before", made());
         end_racy();
     }
     return __real_daemon(stays, keeps);

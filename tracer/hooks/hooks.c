@@ -9,54 +9,15 @@
    of library functions and of jumps; a watch for waits without end; the hooks of locks; the heap; those of C++, of its
    parallel libraries and, where SPBAGS_OPENMP is defined, of OpenMP; functions that nothing is known of, and what of the
    code has no hook of the compiler's; the ends of the run, and its beginning. */
-#define _GNU_SOURCE
-#include <ctype.h>
-#include <dlfcn.h>
-#include <errno.h>
-#include <fcntl.h>
-#include <inttypes.h>
-#include <limits.h>
-#include <link.h>
-#include <linux/futex.h>
-#include <pthread.h>
-#include <semaphore.h>
-#include <setjmp.h>
-#include <signal.h>
-#include <stdarg.h>
-#include <stdbool.h>
-#include <stddef.h>
-#include <stdint.h>
-#include <stdio.h>
-#include <stdlib.h>
-#include <string.h>
-#include <sys/mman.h>
-#include <sys/resource.h>
-#include <sys/socket.h>
-#include <sys/stat.h>
-#include <sys/statvfs.h>
-#include <sys/syscall.h>
-#include <sys/wait.h>
-#include <threads.h>
-#include <time.h>
-#include <ucontext.h>
-#include <unistd.h>
-#include <unwind.h>
-#include <wchar.h>
+#include "common.h"
 
 #include "../include/spbags_inside.h"
 #include "../spbags_cilk.h"
-#include "library_types.h"
-/* The real functions of library.table: what is called here by its own name is called in truth. */
-#include "library_names.h"
+#include "settings.h"
+#include "tell.h"
 
-#if !defined(__x86_64__) || !defined(__linux__)
-#error "programs can be traced only on x86-64 Linux"
-#endif
-
-/* The version of the trace's text where SPBAGS_VERSION doesn't say. */
-enum { DEFAULT_VERSION = 2 };
-/* The unit of accesses in bytes where SPBAGS_UNIT doesn't say: 1 << USUAL_SHIFT. */
-enum { DEFAULT_UNIT = 4, USUAL_SHIFT = 2 };
+/* The usual unit of accesses is 1 << USUAL_SHIFT bytes. */
+enum { USUAL_SHIFT = 2 };
 /* No checker reads a trace that nests deeper, and that alone without being told. */
 enum { MOST_DEPTH = 1000000, DEFAULT_DEPTH = 65536 };
 
@@ -66,14 +27,13 @@ enum { MOST_DEPTH = 1000000, DEFAULT_DEPTH = 65536 };
 #define CODE ((uintptr_t)__builtin_return_address(0))
 #define FRAME_END (*(uintptr_t *)__builtin_frame_address(0) + 16)
 
-void __real__exit(int status) __attribute__((noreturn));
 long __real_syscall(long number, ...);
 int __real_execvp(const char *name, char *const words[]);
 int __real_pthread_create(pthread_t *, const pthread_attr_t *, void *(*)(void *), void *);
 int __real_thrd_create(thrd_t *, thrd_start_t, void *);
 
 static bool tracing;
-static unsigned version = DEFAULT_VERSION;
+static unsigned version;
 /* The unit of accesses is 1 << unit_shift bytes. */
 static unsigned unit_shift;
 static uintptr_t unit_mask;

@@ -1,6 +1,7 @@
 /* The second run of `spbags-run`. It writes no trace, but counts the records; and at the places of the first run's
    races it notes the code address, what stands on the stack and what is held. Races of the same two code addresses are
-   one pair, whose first race stands for it. SPBAGS_LOOK names the report, and the notes go where a trace would. */
+   one pair, whose first race stands for it. SPBAGS_LOOK names the file of the races, and the notes go where a trace
+   would. */
 
 /* ---- The races ---- */
 
@@ -624,89 +625,37 @@ static void put_notes(void) {
     put("left %" PRIu64 "\nend\n", left_out);
 }
 
-/* ---- The report ---- */
+/* ---- The races of the first run ---- */
 
-/* Reads a word of the report, and what stands behind it. */
-static bool has_word(const char **at, const char *end, const char *word) {
-    size_t length = strlen(word);
-    if ((size_t)(end - *at) < length || memcmp(*at, word, length) != 0)
-        return false;
-    *at += length;
-    return true;
-}
+static struct look look_at(uint64_t access) { return (struct look){.place = access / 2, .writes = access % 2 == 1}; }
 
-static uint64_t read_number(const char **at, const char *end) {
-    uint64_t number = 0;
-    while (*at < end && **at >= '0' && **at <= '9')
-        number = 10 * number + (uint64_t)(*(*at)++ - '0');
-    *at += *at < end;
-    return number;
-}
-
-static struct look read_look(const char **at, const char *end) {
-    bool writes = has_word(at, end, "write ");
-    if (!writes && !has_word(at, end, "read "))
-        fail("SPBAGS_LOOK: this is no report");
-    return (struct look){.writes = writes, .place = read_number(at, end)};
-}
-
-static void read_race(const char **at, const char *end) {
-    if (!has_word(at, end, "race "))
-        fail("SPBAGS_LOOK: this is no report");
-    struct race *race = &races[races_count++];
-    race->location = read_number(at, end);
-    race->first = read_look(at, end);
-    race->second = read_look(at, end);
-    stops[stops_count++] = (struct stop){race->first.place, race};
-    stops[stops_count++] = (struct stop){race->second.place, race};
-}
-
-/* Merges two sorted halves. The library's qsort would allocate, and what the program allocates would lie elsewhere. */
-static void merge(const struct stop *from, size_t middle, size_t end, struct stop *to) {
-    size_t one = 0, other = middle;
-    while (one < middle || other < end) {
-        bool takes_one = one < middle && (other == end || from[one].place <= from[other].place);
-        *to++ = takes_one ? from[one++] : from[other++];
-    }
-}
-
-static void sort(struct stop *from, size_t count, struct stop *spare) {
-    if (count < 2)
-        return;
-    size_t middle = count / 2;
-    sort(from, middle, spare);
-    sort(from + middle, count - middle, spare);
-    merge(from, middle, count, spare);
-    memcpy(from, spare, count * sizeof *from);
-}
-
-static void read_report(const char *at, const char *end) {
-    if (!has_word(&at, end, "races "))
-        fail("SPBAGS_LOOK: this is no report");
-    size_t count = read_number(&at, end);
-    races = reserve((count + 1) * sizeof *races);
-    stops = reserve((2 * count + 1) * sizeof *stops);
-    blocks = reserve((count + 1) * sizeof *blocks);
-    while (races_count < count)
-        read_race(&at, end);
-    struct stop *spare = reserve((2 * count + 1) * sizeof *spare);
-    sort(stops, stops_count, spare);
-    next_place = stops_count > 0 ? stops[0].place : UINT64_MAX;
+/* The file begins with their number. Of each race it has, by the locations, the location and both accesses; and then of
+   each access, by the places, its place and the number of its race. */
+static void read_races(int file) {
+    enum { OF_RACE = 3, OF_STOP = 2 };
+    size_t total;
+    const uint64_t *at = read_numbers(SETTING_LOOK, file, &total);
+    races_count = total > 0 ? *at++ : 0;
+    stops_count = 2 * races_count;
+    if (races_count == 0 || total != 1 + OF_RACE * races_count + OF_STOP * stops_count)
+        fail("SPBAGS_LOOK: these are no races");
+    races = reserve((races_count + 1) * sizeof *races);
+    stops = reserve(stops_count * sizeof *stops);
+    blocks = reserve((races_count + 1) * sizeof *blocks);
+    for (struct race *race = races; race < races + races_count; race++, at += OF_RACE)
+        *race = (struct race){.location = at[0], .first = look_at(at[1]), .second = look_at(at[2])};
+    for (struct stop *stop = stops; stop < stops + stops_count; stop++, at += OF_STOP)
+        *stop = (struct stop){at[0], &races[at[1]]};
+    next_place = stops[0].place;
 }
 
 static void start_look(int file) {
-    struct stat about;
-    if (fstat(file, &about) != 0 || about.st_size == 0)
-        fail("SPBAGS_LOOK: this is no report");
-    const char *text = mmap(NULL, (size_t)about.st_size, PROT_READ, MAP_PRIVATE, file, 0);
-    if (text == MAP_FAILED)
-        fail("out of memory: %s", strerror(errno));
+    read_races(file);
     nodes = reserve(MOST_NODES * sizeof *nodes);
     dl_iterate_phdr(find_thread_memory, &thread_memory);
     pairs = reserve(MOST_PAIRS * sizeof *pairs);
     rows = reserve(MOST_PAIRS * sizeof *rows);
     slots = reserve(PAIR_SLOTS * sizeof *slots);
     note_guards();
-    read_report(text, text + about.st_size);
     looking = true;
 }

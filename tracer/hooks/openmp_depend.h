@@ -103,11 +103,10 @@ void GOMP_task(void (*run)(void *), void *data, void (*copy)(void *, void *), lo
 void GOMP_taskwait_depend(void **depend) { follow_list(depend, false, CODE); }
 
 static void set_depend_way(void) {
-    const char *name = "SPBAGS_DEPEND", *value = getenv(name);
-    if (!value || !*value)
+    if (settings_is(SETTING_DEPEND, "ignore"))
+        depend_way = IGNORED;
+    if (!settings_is(SETTING_DEPEND, "order"))
         return;
-    depend_way = strcmp(value, "ignore") == 0 ? IGNORED : strcmp(value, "order") == 0 ? ORDERED : REFUSED;
-    if (depend_way == REFUSED)
-        fail("%s=%s: expected ignore or order", name, value);
-    dependences = depend_way == ORDERED ? reserve(MOST_DEPENDENCES * sizeof *dependences) : NULL;
+    depend_way = ORDERED;
+    dependences = reserve(MOST_DEPENDENCES * sizeof *dependences);
 }

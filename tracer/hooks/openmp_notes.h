@@ -1,13 +1,5 @@
 /* What the report of a run with OpenMP has to say beside the races. */
 
-/* A line that is of use where there are races: some of them may be none. */
-__attribute__((format(__printf__, 1, 2))) static void tell_seeming(const char *format, ...) {
-    va_list rest;
-    va_start(rest, format);
-    note("seeming", format, rest);
-    va_end(rest);
-}
-
 /* Room for a line of the source. */
 enum { ROOM = 400 };
 

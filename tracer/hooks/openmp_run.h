@@ -23,7 +23,7 @@ static void set_threads_of_levels(void) {
 /* How many regions around one another may have several threads: as many as the environment says, or 1. */
 static int levels_of_teams(void) {
     bool is_nested = nests || levels_named > 1 || is_true("OMP_NESTED");
-    uint64_t levels = number_from("OMP_MAX_ACTIVE_LEVELS", "levels", is_nested ? INT_MAX : 1);
+    uint64_t levels = settings_number_in("OMP_MAX_ACTIVE_LEVELS", "a number of levels", is_nested ? INT_MAX : 1);
     return nests ? INT_MAX : (int)least(levels, INT_MAX);
 }
 
@@ -33,14 +33,14 @@ __attribute__((constructor(102))) static void start_openmp(void) {
     loops = reserve(MOST_LOOPS * sizeof *loops);
     scopes[0] = (struct scope){.kind = TEAM, .owns = true, .alone = true, .size = 1, .loop = &loops[loops_begun++]};
     team_size = threads_of_team();
-    team_is_chosen = getenv("SPBAGS_TEAM") && *getenv("SPBAGS_TEAM");
-    nests = choice("SPBAGS_NESTED", "01", 0) == 1;
+    team_is_chosen = settings_text(SETTING_TEAM) != NULL;
+    nests = settings_is(SETTING_NESTED, "1");
     set_threads_of_levels();
     scopes[0].threads_wanted = threads_by_variable(0);
     most_active_levels = levels_of_teams();
     set_depend_way();
     may_cancel = is_true("OMP_CANCELLATION");
-    iterations = number_from("SPBAGS_ITERATIONS", "iterations", 1);
+    iterations = settings_number(SETTING_ITERATIONS);
     own[COPIES].first = own[COPIES].end = (uintptr_t)reserve(most_copies);
     dl_iterate_phdr(find_thread_memory, &own[THREAD]);
     if (tracing)

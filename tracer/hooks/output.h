@@ -43,48 +43,6 @@ static struct output trace = {.file = -1, .room = LONGEST, .most = UINT64_MAX};
 /* Where each record comes from. */
 static struct output places = {.file = -1, .room = LONGEST, .most = UINT64_MAX};
 
-/* Where lines about the run go: SPBAGS_SAYS names another file than standard error, where a line begins with what it
-   is, and no signal comes of it that nobody reads. */
-static int says_file = STDERR_FILENO;
-
-/* No stream and no block of the heap: a signal may come while the program's heap is locked, and a line more moves none of
-   its blocks. */
-static void put_line(const char *what, const char *line) {
-    char whole[1100], *left = whole;
-    int length = snprintf(whole, sizeof whole, "%s: %s\n", says_file == STDERR_FILENO ? "spbags" : what, line);
-    while (length > 0) {
-        ssize_t wrote = write(says_file, left, (size_t)length);
-        if (wrote == 0 || (wrote < 0 && errno != EINTR))
-            return;
-        if (wrote > 0) {
-            left += wrote;
-            length -= (int)wrote;
-        }
-    }
-}
-
-static void say(const char *what, const char *format, va_list rest) {
-    char line[400];
-    vsnprintf(line, sizeof line, format, rest);
-    put_line(what, line);
-}
-
-__attribute__((format(__printf__, 1, 2))) static void tell(const char *format, ...) {
-    va_list rest;
-    va_start(rest, format);
-    say("note", format, rest);
-    va_end(rest);
-}
-
-/* _exit, since the program's own handlers could add to a trace that is broken. */
-__attribute__((noreturn, format(__printf__, 1, 2))) static void fail(const char *format, ...) {
-    va_list rest;
-    va_start(rest, format);
-    say("fault", format, rest);
-    va_end(rest);
-    __real__exit(2);
-}
-
 /* At addresses of our own where the system has them free: what the program maps lies where it lies in other runs. */
 static void *reserve(size_t size) {
     static uintptr_t wish = (uintptr_t)1 << 44;
@@ -94,6 +52,22 @@ static void *reserve(size_t size) {
         fail("out of memory: %s", strerror(errno));
     wish += (size + 0xfff) & ~(size_t)0xfff;
     return memory;
+}
+
+/* The numbers of a file that spbags-run hands to a run. They aren't mapped, since then what the program maps would lie
+   elsewhere. */
+static const uint64_t *read_numbers(enum setting setting, int file, size_t *count) {
+    struct stat about;
+    if (fstat(file, &about) != 0)
+        fail("%s: %s", settings_name(setting), strerror(errno));
+    size_t size = (size_t)about.st_size, got = 0;
+    char *numbers = reserve(size + 1);
+    for (ssize_t piece = 1; piece > 0; got += piece > 0 ? (size_t)piece : 0)
+        piece = pread(file, numbers + got, size - got, (off_t)got);
+    if (got != size)
+        fail("%s: %s", settings_name(setting), strerror(errno));
+    *count = size / sizeof(uint64_t);
+    return (const uint64_t *)numbers;
 }
 
 static void give_up_places(void);
@@ -115,7 +89,8 @@ static void write_out(struct output *output) {
         else if (wrote == 0 || errno != EINTR)
             refused = true;
         if (refused && !output->is_spare)
-            fail("cannot write %s: %s", output->name, wrote == 0 ? "no byte was written" : strerror(errno));
+            fail_by(wrote < 0 && errno == EPIPE ? "fault closed" : "fault", "cannot write %s: %s", output->name,
+                    wrote == 0 ? "no byte was written" : strerror(errno));
     }
     output->written += output->gone;
     output->used = output->gone = 0;
@@ -155,57 +130,4 @@ static inline char *room(struct output *output) {
     if (__builtin_expect(output->used + LONGEST > output->room, 0))
         make_room(output);
     return output->bytes + output->used;
-}
-
-/* ---- Lines of the report ---- */
-
-/* What the report has to say beside the races. These lines stand behind the places too. A line that has no room there
-   is where the other lines about the run are. */
-static char notes[1 << 16];
-static uint64_t notes_length;
-/* How many say that something wasn't seen or modelled. */
-static uint64_t incomplete_lines;
-
-static void keep_note(const char *line) {
-    size_t length = strlen(line);
-    if (notes_length + length >= sizeof notes)
-        return;
-    memcpy(notes + notes_length, line, length);
-    notes_length += length;
-    notes[notes_length++] = '\n';
-}
-
-static void note(const char *what, const char *format, va_list rest) {
-    char line[1000];
-    vsnprintf(line, sizeof line, format, rest);
-    put_line(what, line);
-    keep_note(line);
-}
-
-__attribute__((unused, format(__printf__, 1, 2))) static void tell_report(const char *format, ...) {
-    va_list rest;
-    va_start(rest, format);
-    note("report", format, rest);
-    va_end(rest);
-}
-
-/* One sentence for the user: something may have touched memory, or may run in parallel, and wasn't seen or modelled. */
-__attribute__((unused, format(__printf__, 1, 2))) static void tell_incomplete(const char *format, ...) {
-    va_list rest;
-    va_start(rest, format);
-    note("incomplete", format, rest);
-    va_end(rest);
-    incomplete_lines++;
-}
-
-/* A function that nothing is known of was called so often; SHOWN is its name in the source. */
-__attribute__((unused)) static void tell_unseen(const char *name, const char *shown, const char *library,
-                                                uint64_t count) {
-    char line[1000], fields[1000];
-    snprintf(line, sizeof line, "not seen: %.700s (%.200s), called %llu time%s", shown, library,
-             (unsigned long long)count, count == 1 ? "" : "s");
-    snprintf(fields, sizeof fields, "%.700s %.200s %llu", name, library, (unsigned long long)count);
-    put_line("unseen", says_file == STDERR_FILENO ? line : fields);
-    keep_note(line);
-    incomplete_lines++;
 }

@@ -24,9 +24,9 @@ static uint64_t last_record = UINT64_MAX;
 
 static void tell_course(void) {
     char line[100];
-    snprintf(line, sizeof line, "%" PRIu64 " %" PRIx64, course.records, course.digest);
-    if (has_places && says_file != STDERR_FILENO)
-        put_line("course", line);
+    snprintf(line, sizeof line, "course %" PRIu64 " %" PRIx64, course.records, course.digest);
+    if (has_places && tells_records())
+        tell_text(line, "");
 }
 
 static inline void follow_course(uint64_t record, uint64_t site) {
@@ -101,8 +101,8 @@ static void end_places(void) {
         return;
     uint64_t count = (places.written + places.used) / sizeof(uint16_t);
     add_to_places(sites, sites_count * sizeof *sites);
-    uint64_t bytes = put_lists(), counts[] = {count, sites_count, bytes, notes_length};
-    add_to_places(notes, notes_length);
+    uint64_t bytes = put_lists(), counts[] = {count, sites_count, bytes, tell_kept_length};
+    add_to_places(tell_kept, tell_kept_length);
     add_to_places(counts, sizeof counts);
     add_to_places(mark, sizeof mark);
 }
@@ -110,7 +110,7 @@ static void end_places(void) {
 /* There is no room for more places. The last of those that are there make room for the end, and the run goes on. */
 static void give_up_places(void) {
     static bool is_given_up;
-    uint64_t needed = sites_count * sizeof *sites + 100 * (uint64_t)listed_count + notes_length + PIECE;
+    uint64_t needed = sites_count * sizeof *sites + 100 * (uint64_t)listed_count + tell_kept_length + PIECE;
     uint64_t kept = places.written > needed ? (places.written - needed) / 2 * 2 : 0;
     begin_change();
     places.used = places.gone = 0;

@@ -1,17 +1,3 @@
-/* One of the digits VALUES, or OTHERWISE if the variable isn't set. */
-static unsigned choice(const char *variable, const char *values, unsigned otherwise) {
-    const char *value = getenv(variable);
-    if (!value || !*value)
-        return otherwise;
-    if (value[1] == '\0' && strchr(values, *value))
-        return (unsigned)(*value - '0');
-    char names[40];
-    size_t length = 0, count = strlen(values);
-    for (size_t at = 0; at < count; at++)
-        length += (size_t)sprintf(names + length, "%s%c", at == 0 ? "" : at + 1 < count ? ", " : " or ", values[at]);
-    fail("%s=%s: expected %s", variable, value, names);
-}
-
 /* Out of the program's way: its own files keep their numbers, and what it starts doesn't get ours. */
 static int move_away(const char *variable, int file) {
     int moved = fcntl(file, F_DUPFD_CLOEXEC, 64);
@@ -57,36 +43,12 @@ static void open_output(struct output *output, const char *variable, const char 
     enlarge_pipe(output->file);
 }
 
-static uint64_t number_from(const char *variable, const char *what, uint64_t otherwise) {
-    const char *value = getenv(variable);
-    if (!value || !*value)
-        return otherwise;
-    char *rest;
-    errno = 0;
-    uint64_t number = strtoull(value, &rest, 10);
-    if (*value < '1' || *value > '9' || *rest != '\0' || errno != 0)
-        fail("%s=%s: expected a number of %s, at least 1", variable, value, what);
-    return number;
-}
-
-static void set_statuses(void) {
-    const char *name = "SPBAGS_EXITCODE", *value = getenv(name);
-    is_incomplete_ok = choice("SPBAGS_INCOMPLETE_OK", "01", 0) == 1;
-    if (!value || !*value)
-        return;
-    char *rest;
-    long status = strtol(value, &rest, 10);
-    if (*value < '0' || *value > '9' || *rest != '\0' || status > 255)
-        fail("%s=%s: expected a status from 0 to 255", name, value);
-    racy_status = (int)status;
-}
-
 /* A number of bytes for the trace; where none is said, a quarter of the space that is free where it goes to a file. */
 static void set_limit(bool is_file) {
     struct statvfs space;
     if (is_file && fstatvfs(trace.file, &space) == 0)
         trace.most = space.f_bavail * space.f_frsize / 4;
-    trace.most = number_from("SPBAGS_MAX_BYTES", "bytes", trace.most);
+    trace.most = settings_number_or(SETTING_MAX_BYTES, trace.most);
 }
 
 static void open_places(const char *name) {
@@ -97,7 +59,7 @@ static void open_places(const char *name) {
 /* A trace that goes to a file has its places beside it, where nothing else was said. */
 static void open_outputs(const char *name) {
     static char beside[4096];
-    const char *places_name = getenv("SPBAGS_PLACES");
+    const char *places_name = settings_given(SETTING_PLACES);
     struct stat about;
     open_output(&trace, "SPBAGS_TRACE", name);
     bool is_file = fstat(trace.file, &about) == 0 && S_ISREG(about.st_mode);
@@ -156,13 +118,13 @@ static void start_thread(void) {
 
 /* The report goes where SPBAGS_REPORT says, named as a trace is, or else to standard error. */
 static void start_detector(void) {
-    const char *name = getenv("SPBAGS_REPORT"), *places_name = getenv("SPBAGS_PLACES");
+    const char *name = settings_text(SETTING_REPORT), *places_name = settings_text(SETTING_PLACES);
     trace.name = "standard error";
-    if (name && *name)
+    if (name)
         open_output(&trace, "SPBAGS_REPORT", name);
     else
         trace.file = move_away("SPBAGS_REPORT", STDERR_FILENO);
-    if (places_name && *places_name)
+    if (places_name)
         open_places(places_name);
     find_heap();
     session = reserve(spbags_room());
@@ -189,7 +151,7 @@ static void tell_fork(void) {
 /* This fork calls no handlers. */
 pid_t __real__Fork(void);
 pid_t __wrap__Fork(void) {
-    if (says_file != STDERR_FILENO)
+    if (tells_records())
         refuse_fork();
     tell_fork();
     pid_t child = __real__Fork();
@@ -199,20 +161,21 @@ pid_t __wrap__Fork(void) {
 }
 
 static void open_ways(void) {
-    const char *said = getenv("SPBAGS_SAYS"), *report = getenv("SPBAGS_LOOK"), *units = getenv("SPBAGS_DIVIDE");
-    if (said && *said) {
-        says_file = named_file("SPBAGS_SAYS", said);
+    const char *said = settings_text(SETTING_SAYS), *report = settings_text(SETTING_LOOK);
+    const char *units = settings_text(SETTING_DIVIDE);
+    if (said) {
+        tell_file = named_file("SPBAGS_SAYS", said);
         pthread_atfork(refuse_fork, NULL, NULL);
     }
-    last_record = number_from("SPBAGS_LAST", "records", UINT64_MAX);
-    if (units && *units)
+    last_record = settings_number_or(SETTING_LAST, UINT64_MAX);
+    if (units)
         divide_units(named_file("SPBAGS_DIVIDE", units));
-    if (report && *report)
+    if (report)
         start_look(named_file("SPBAGS_LOOK", report));
-    unsetenv("SPBAGS_SAYS");
-    unsetenv("SPBAGS_LOOK");
-    unsetenv("SPBAGS_DIVIDE");
-    unsetenv("SPBAGS_LAST");
+    settings_forget(SETTING_SAYS);
+    settings_forget(SETTING_LOOK);
+    settings_forget(SETTING_DIVIDE);
+    settings_forget(SETTING_LAST);
 }
 
 /* What the library allocates for these streams depends on what they are, and all later addresses with it. */
@@ -233,7 +196,7 @@ static void claim_threads(void) {
 
 #ifdef SPBAGS_OPENMP
 static uint64_t threads_of_team(void) {
-    uint64_t threads = number_from("SPBAGS_TEAM", "threads", 2);
+    uint64_t threads = settings_number(SETTING_TEAM);
     if (threads > MOST_STACKS)
         fail("SPBAGS_TEAM=%llu: a team has at most %d threads", (unsigned long long)threads, MOST_STACKS);
     return threads;
@@ -245,7 +208,7 @@ static size_t room_for_members(size_t *own_size) {
     uint64_t others = threads_of_team() - 1;
     if (others == 0)
         return 0;
-    if (choice("SPBAGS_NESTED", "01", 0) == 1)
+    if (settings_is(SETTING_NESTED, "1"))
         others = MOST_STACKS - 1;
     *own_size = least(*own_size, whole / 2);
     member_stack_size = least(*own_size, ((whole - *own_size) / others - stack_gap) & ~(size_t)0xffff);
@@ -291,33 +254,34 @@ static void put_header(void) {
 }
 
 __attribute__((constructor(101))) static void start(void) {
-    const char *name = getenv("SPBAGS_TRACE");
-    bool writes = name && *name;
-    set_statuses();
-    if (!writes && !HAS_DETECTOR) {
+    const char *name = settings_text(SETTING_TRACE);
+    settings_help();
+    is_incomplete_ok = settings_is(SETTING_INCOMPLETE_OK, "1");
+    racy_status = settings_status(SETTING_EXITCODE);
+    if (!name && !HAS_DETECTOR) {
         if (racy_status != PROGRAMS_OWN)
             fail("SPBAGS_EXITCODE asks for a report, and there is no detector inside: link the program with --inside");
         tell("SPBAGS_TRACE isn't set, so no trace is written");
         return;
     }
-    version = choice("SPBAGS_VERSION", "12", DEFAULT_VERSION);
-    unit_shift = (unsigned)__builtin_ctz(choice("SPBAGS_UNIT", "1248", DEFAULT_UNIT));
+    version = settings_digit(SETTING_VERSION);
+    unit_shift = (unsigned)__builtin_ctz(settings_digit(SETTING_UNIT));
     unit_mask = ((uintptr_t)1 << unit_shift) - 1;
-    writes_repeats = choice("SPBAGS_REPEATS", "01", 0) == 1;
-    patience = least(number_from("SPBAGS_PATIENCE", "seconds", 30), SECOND) * SECOND;
-    judges_order = choice("SPBAGS_STREAMS", "01", 0) == 1;
+    writes_repeats = settings_is(SETTING_REPEATS, "1");
+    patience = least(settings_number(SETTING_PATIENCE), SECOND) * SECOND;
+    judges_order = settings_is(SETTING_STREAMS, "1");
     fill_digits();
     give_streams_buffers();
     claim_threads();
-    if (writes)
+    if (name)
         open_outputs(name);
     else
         start_detector();
     open_ways();
     /* A traced program that this one starts would write over the trace, or over the report. */
-    unsetenv("SPBAGS_TRACE");
-    unsetenv("SPBAGS_REPORT");
-    unsetenv("SPBAGS_PLACES");
+    settings_forget(SETTING_TRACE);
+    settings_forget(SETTING_REPORT);
+    settings_forget(SETTING_PLACES);
     find_stack();
     *top = (struct frame){.kind = ROOT, .end = UINTPTR_MAX};
     procedures = most_procedures = 1;
@@ -326,7 +290,7 @@ __attribute__((constructor(101))) static void start(void) {
     pthread_atfork(tell_fork, NULL, stop_tracing);
     at_quick_exit(quick_end);
     on_exit(keep_status, NULL);
-    if (writes && !looking)
+    if (name && !looking)
         put_header();
 #ifdef SPBAGS_INSIDE
     only_detects = detecting && !looking && !has_places && !divides && !writes_repeats;

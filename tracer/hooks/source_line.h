@@ -1,6 +1,10 @@
 /* The file and the line of a call that returns to this address, as addr2line has it: "file:line". Where a function was
-   put into its caller it is the caller's. */
+   put into its caller it is the caller's. spbags-run looks it up itself. */
 static const char *source_line(uintptr_t code, char *line, size_t size) {
+    if (tells_records()) {
+        snprintf(line, size, "<code %#zx>", (size_t)code - 1);
+        return line;
+    }
     char program[40], address[24];
     int ends[2];
     snprintf(program, sizeof program, "/proc/%d/exe", (int)getpid());

@@ -47,14 +47,17 @@ static _Unwind_Reason_Code add_call(struct _Unwind_Context *context, void *with)
     return _URC_NO_REASON;
 }
 
-/* A command prints the stack; spbags-run prints it in that one's place. */
+/* A command prints the stack; spbags-run gets the codes and prints it itself. */
 static void tell_where(const char *what) {
-    char program[300], line[1000];
+    char program[300], record[600] = "stuck", *codes = record + strlen(record), text[1000];
     ssize_t length = readlink("/proc/self/exe", program, sizeof program - 1);
     program[length < 0 ? 0 : length] = '\0';
-    int begun = snprintf(line, sizeof line, "%s. It is here: addr2line -Cfpie %s", what, program);
-    _Unwind_Backtrace(add_call, &(struct rest_of_line){line + begun, line + sizeof line});
-    put_line("stuck", line);
+    _Unwind_Backtrace(add_call, &(struct rest_of_line){codes, record + sizeof record});
+    if (tells_records())
+        snprintf(text, sizeof text, "%s. It is here:", what);
+    else
+        snprintf(text, sizeof text, "%s. It is here: addr2line -Cfpie %s%s", what, program, codes);
+    tell_text(record, text);
 }
 
 /* ---- Nothing new for a long time ---- */

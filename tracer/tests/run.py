@@ -483,7 +483,7 @@ def check_options():
 
 # Stands in for a program that spbags-cc compiled, and says the lines that are its words.
 SAYS = """#!/usr/bin/env python3
-# SPBAGS_DIVIDE
+# SPBAGS_RECORDS
 import os, sys
 os.write(int(os.environ["SPBAGS_TRACE"][3:]), b"trace 2\\nreturn\\n")
 os.write(int(os.environ["SPBAGS_SAYS"][3:]), "".join(line + "\\n" for line in sys.argv[1:]).encode())
@@ -501,7 +501,7 @@ def said_with(*lines, options=()):
 def check_what_was_not_seen():
     """No race where something wasn't seen or modelled has a status of its own."""
     region = "main.c:3: the code of this region runs once"
-    lines = (f"incomplete: {region}", "unseen: cblas_dgemm libblas.so.3 12", "unseen: _ZN3own3runEi a b.so 1")
+    lines = (f"incomplete: {region}", "unseen 12 libblas.so.3: cblas_dgemm", "unseen 1 a b.so: _ZN3own3runEi")
     shown = [region, "not seen: cblas_dgemm (libblas.so.3), called 12 times",
              "not seen: own::run(int) (a b.so), called 1 time"]
     functions = [{"function": "cblas_dgemm", "library": "libblas.so.3", "calls": 12},

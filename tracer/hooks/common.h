@@ -1,0 +1,48 @@
+/* What each part of the hooks may use: the system's headers, and the library's real functions. */
+#ifndef SPBAGS_COMMON_H
+#define SPBAGS_COMMON_H
+#define _GNU_SOURCE
+#include <ctype.h>
+#include <dlfcn.h>
+#include <errno.h>
+#include <fcntl.h>
+#include <inttypes.h>
+#include <limits.h>
+#include <link.h>
+#include <linux/futex.h>
+#include <pthread.h>
+#include <semaphore.h>
+#include <setjmp.h>
+#include <signal.h>
+#include <stdarg.h>
+#include <stdbool.h>
+#include <stddef.h>
+#include <stdint.h>
+#include <stdio.h>
+#include <stdlib.h>
+#include <string.h>
+#include <sys/mman.h>
+#include <sys/resource.h>
+#include <sys/socket.h>
+#include <sys/stat.h>
+#include <sys/statvfs.h>
+#include <sys/syscall.h>
+#include <sys/wait.h>
+#include <threads.h>
+#include <time.h>
+#include <ucontext.h>
+#include <unistd.h>
+#include <unwind.h>
+#include <wchar.h>
+
+#include "library_types.h"
+/* The real functions of library.table: what is called here by its own name is called in truth. */
+#include "library_names.h"
+
+#if !defined(__x86_64__) || !defined(__linux__)
+#error "programs can be traced only on x86-64 Linux"
+#endif
+
+void __real__exit(int status) __attribute__((noreturn));
+
+#endif
