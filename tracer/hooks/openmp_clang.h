@@ -311,7 +311,6 @@ int32_t __kmpc_omp_taskyield(CLANG, int32_t part) {
     return 0;
 }
 
-
 /* ---- Tasks that wait for data ---- */
 
 struct clang_dependence {
