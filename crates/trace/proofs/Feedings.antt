@@ -1,7 +1,7 @@
 -- What each step of a feed leaves of `HasFed`, and that the fault that it meets is the first.
 use Rattle.std.proofs.Common.{◌≡◌, ℕ, ◌+◌, ◌-◌, ◌≤◌, List, [], ◌∷◌, ◌++◌, length, take, drop, Option, Some, None, Result, Err, inl, rules, arith, refl, sym, ◌∙◌, ap, subst, append_assoc, length-append}
 use Rattle.std.specs.Io.KnownBytes.{Consumes}
-use Rattle.std.proofs.lemmas.List.{append-nil, take-append-drop, drop-take, drop-drop}
+use Rattle.std.proofs.lemmas.List.{append-nil, take-append-drop, drop-take, drop-drop, length-take}
 use Rattle.dag.specs.declared.records.Version.{Version}
 use Rattle.dag.specs.declared.records.Record.{Record}
 use Rattle.trace.specs.declared.faults.TextFault.{TextFault}
@@ -10,7 +10,7 @@ use Rattle.trace.specs.declared.faults.NestKind.{NestKind}
 use Rattle.trace.specs.declared.faults.NestKind.TheVariants.{Unfinished}
 use Rattle.trace.specs.declared.faults.Fault.{Fault}
 use Rattle.trace.specs.declared.faults.Fault.TheVariants.{Text, Nest, Read}
-use Rattle.trace.specs.declared.feeding.Ending.TheVariants.{Running, Bad}
+use Rattle.trace.specs.declared.intake.Ending.TheVariants.{Running, Bad}
 use Rattle.dag.specs.declared.records.Placed.{Placed}
 use Rattle.trace.specs.Text.{Fits, line, text}
 use Rattle.trace.specs.Faults.{HasEnded, IsMisplaced, AreNested, IsBadLine, IsBadPlace, bad_place, IsTruncated, IsFirstFault, IsFaultOfAll, truncated, unfinished}
@@ -105,7 +105,7 @@ consumes_more (Some os) (Some ms) None xs ys a b = absurd b
 consumes_more (Some os) (Some ms) (Some ns) xs ys a b = a ∙ ap (λ z. xs ++ z) b ∙ sym (append_assoc xs ys ns)
 
 -- what is left of a window behind its first n elements
-pub window_split : (buffer : List ℕ) (start end n : ℕ) → n ≤ end - start → take (end - start) (drop start buffer) ≡ take n (take (end - start) (drop start buffer)) ++ take (end - (start + n)) (drop (start + n) buffer)
+window_split : (buffer : List ℕ) (start end n : ℕ) → n ≤ end - start → take (end - start) (drop start buffer) ≡ take n (take (end - start) (drop start buffer)) ++ take (end - (start + n)) (drop (start + n) buffer)
 window_split buffer start end n h =
     sym (take-append-drop n window) ∙ ap (λ x. take n window ++ x) rest
   where
@@ -118,13 +118,21 @@ window_split buffer start end n h =
         ap (λ x. drop n (take x (drop start buffer))) m ∙ drop-take n (end - (start + n)) (drop start buffer) ∙ ap (take (end - (start + n))) (drop-drop n start buffer ∙ ap (λ x. drop x buffer) (omega arith))
 
 -- the reader has used the first n bytes that have come
-pub used_more : (w : List Record) (bytes : List ℕ) (s t : Feeding) (u : HasUsed w bytes s) (v : List Record) (n : ℕ) → HasRead v (u.used ++ take n s.coming) t.reading → s.coming ≡ take n s.coming ++ t.coming → HasUsed v bytes t
+used_more : (w : List Record) (bytes : List ℕ) (s t : Feeding) (u : HasUsed w bytes s) (v : List Record) (n : ℕ) → HasRead v (u.used ++ take n s.coming) t.reading → s.coming ≡ take n s.coming ++ t.coming → HasUsed v bytes t
 used_more w bytes s t u v n read split =
     record {
       used = u.used ++ take n s.coming;
       bytes_are = u.bytes_are ∙ ap (λ x. u.used ++ x) split ∙ sym (append_assoc u.used (take n s.coming) t.coming);
       has_read = read;
     }
+
+-- which are a window of a buffer
+pub used_front : (w v : List Record) (bytes : List ℕ) (s t : Feeding) (buffer : List ℕ) (start end n : ℕ) → s.coming ≡ take (end - start) (drop start buffer) → t.coming ≡ take (end - (start + n)) (drop (start + n) buffer) → n ≤ length s.coming
+    → (u : HasUsed w bytes s) → HasRead v (u.used ++ take n s.coming) t.reading → HasUsed v bytes t
+used_front w v bytes s t buffer start end n before after within u read =
+    let rest : List ℕ = take (end - (start + n)) (drop (start + n) buffer) in
+    let le : n ≤ end - start = omega (arith, within, ap length before, length-take (end - start) (drop start buffer)) in
+    used_more w bytes s t u v n read (before ∙ window_split buffer start end n le ∙ ap (λ x. take n x ++ rest) (sym before) ∙ ap (λ x. take n s.coming ++ x) (sym after))
 
 pub first_place_fault_at : (w : List Record) (r : Record) (bytes : List ℕ) (s : Feeding) → HasUsed (w ++ r ∷ []) bytes s → HasNested w s.nesting → (f : NestFault) → f.place ≡ s.nesting.count + 1 → IsMisplaced s.nesting.max_depth w r f.kind → IsFirstFault s.reading.limit s.nesting.max_depth bytes (Nest f)
 first_place_fault_at w r bytes s u nested f place misplaced =

@@ -11,3 +11,4 @@ pub mod SpelledLines
 pub mod Cuttings
 pub mod Sixteens
 pub mod Endings
+pub mod Nexts

@@ -1,7 +1,7 @@
 -- Private: where a line ends to which the bytes of a piece are added.
 use Rattle.std.specs.Prelude.{◌≡◌, ℕ, ◌+◌, ◌-◌, ◌<◌, ◌≤◌, List, length, take, slice_index}
-use Rattle.trace.specs.declared.lines.Cut.{Cut}
-use Rattle.trace.specs.declared.lines.Cut.TheVariants.{LineEnd, Long, Open}
+use Rattle.trace.specs.declared.cut.Cut.{Cut}
+use Rattle.trace.specs.declared.cut.Cut.TheVariants.{LineEnd, Long, Open}
 use Rattle.trace.specs.Text.{newline, IsUnended}
 use Rattle.dag.specs.Bounds.{longest_line}
 

@@ -1,17 +1,21 @@
 -- Private: how a feed stands that reads its next records with no look at it.
-use Rattle.std.specs.Prelude.{◌≡◌, ℕ, ◌+◌, ◌≤◌, None, false}
-use Rattle.trace.specs.declared.feeding.Ending.{Ending}
-use Rattle.trace.specs.declared.feeding.Ending.TheVariants.{Running}
+use Rattle.std.specs.Prelude.{◌≡◌, ℕ, ◌+◌, ◌≤◌, ◌<◌, None, false}
+use Rattle.trace.specs.declared.intake.Ending.{Ending}
+use Rattle.trace.specs.declared.intake.Ending.TheVariants.{Running}
 use Rattle.dag.specs.Bounds.{most_records}
 use Rattle.trace.specs.Nesting.{Nesting}
 use Rattle.trace.specs.Reading.{Reading, IsBetweenLines}
 
--- it hasn't ended, nor has the root returned; its reader stands between two lines and has met no fault, and so many
--- records more are within its limit
+-- So many records more are within the reader's limit. If there are any, it stands between two lines and has met no
+-- fault.
+pub record HasRoomFor (reading : Reading) (records : ℕ) : Type 0 where
+  pub within : reading.count + records ≤ reading.limit
+  pub limit : reading.limit ≤ most_records
+  pub at_line : 0 < records → IsBetweenLines reading
+  pub no_fault : 0 < records → reading.fault ≡ None
+
+-- it hasn't ended, nor has the root returned, and its reader has room for so many records more
 pub record IsEasy (reading : Reading) (nesting : Nesting) (ending : Ending) (records : ℕ) : Type 0 where
   pub running : ending ≡ Running
   pub not_ended : nesting.ended ≡ false
-  pub at_line : IsBetweenLines reading
-  pub no_fault : reading.fault ≡ None
-  pub room : reading.count + records ≤ reading.limit
-  pub limit : reading.limit ≤ most_records
+  pub room : HasRoomFor reading records

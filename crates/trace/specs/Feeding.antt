@@ -5,8 +5,8 @@ use Rattle.dag.specs.declared.records.Record.{Record}
 use Rattle.dag.specs.declared.records.Placed.{Placed}
 use Rattle.trace.specs.declared.faults.Fault.{Fault}
 use Rattle.trace.specs.declared.faults.Fault.TheVariants as faults
-use Rattle.trace.specs.declared.feeding.Ending.{Ending}
-use Rattle.trace.specs.declared.feeding.Ending.TheVariants.{Running, Good, Bad}
+use Rattle.trace.specs.declared.intake.Ending.{Ending}
+use Rattle.trace.specs.declared.intake.Ending.TheVariants.{Running, Good, Bad}
 use Rattle.dag.specs.Traces.{IsWellNested}
 use Rattle.trace.specs.Text.{text, AllFit}
 use Rattle.trace.specs.Faults.{IsFirstFault, IsFaultOfAll}

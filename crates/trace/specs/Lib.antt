@@ -8,6 +8,7 @@ pub mod Cuts
 pub mod Fronts
 pub mod Feeding
 pub mod Easy
+pub mod UsedUp
 pub mod Writers
 pub mod Endings
 pub mod Watching

@@ -58,12 +58,10 @@ header_length None = 0
 abbrev pub held_back : Reading → ℕ
 held_back s = header_length s.version + length s.rest
 
--- What a step of a reader makes of a piece. It uses a front of the piece, all of it if it gives no record. It holds
--- back the bytes that aren't a record's, never more than a line, and counts the records that it gives. It keeps a
--- fault; the fault is of a line that has begun.
-pub record HasReadPiece (old new : Reading) (piece : List ℕ) (result : Result Taken TextFault) : Type 0 where
+-- What a reader makes of the front of a piece that it uses. It holds back the bytes that aren't a record's, never more
+-- than a line, and counts the records that it gives. It keeps a fault; the fault is of a line that has begun.
+pub record HasReadFront (old new : Reading) (piece : List ℕ) (result : Result Taken TextFault) : Type 0 where
   pub used : IfOk result (λ t. t.used ≤ length piece)
-  pub whole : IfOk result (λ t. t.what ≡ None → t.used ≡ length piece)
   pub held_back : IfOk result (λ t. t.what ≡ None → held_back new ≡ held_back old + t.used)
   pub short : length new.rest ≤ longest_line
   pub limit : new.limit ≡ old.limit
@@ -72,3 +70,8 @@ pub record HasReadPiece (old new : Reading) (piece : List ℕ) (result : Result 
   pub most : new.count ≤ most_records
   pub line : old.fault ≡ None → IfErr result (λ f. f.line ≤ old.count + 2)
   pub kept : IfErr result (λ f. new.fault ≡ Some f)
+
+-- What a step of a reader makes of a piece. It uses a front of the piece, all of it if it gives no record.
+pub record HasReadPiece (old new : Reading) (piece : List ℕ) (result : Result Taken TextFault) : Type 0 where
+  pub front : HasReadFront old new piece result
+  pub whole : IfOk result (λ t. t.what ≡ None → t.used ≡ length piece)

@@ -1,17 +1,19 @@
 //! Traces of fork-join programs: their records, their text, and how they nest.
 #![tactic(auto)]
 
+mod cut;
 mod devices;
 mod digits;
 mod faults;
-mod feeding;
+mod front;
+mod intake;
 pub mod laws;
 mod line;
-mod lines;
 mod nesting;
 mod numbers;
 mod parallel;
 mod reading;
+mod spelled;
 mod watching;
 mod writers;
 
@@ -20,7 +22,7 @@ pub use dag::{
 };
 pub use devices::{Counted, Failed, Sink, Source};
 pub use faults::{Fault, NestFault, NestKind, TextFault, TextKind, WriteFault};
-pub use feeding::{Feed, Intake};
+pub use intake::{Feed, Intake};
 pub use line::Line;
 pub use nesting::Nest;
 pub use numbers::decimal_of;

@@ -54,7 +54,7 @@ pub struct Number {
 
 /// The number before a line's end, if it has 1 to 15 digits and doesn't begin with 0. The answer `None` says nothing.
 #[inline(always)]
-pub fn number_of(bytes: &[u8]) -> Option<Number>
+pub fn number_in_front(bytes: &[u8]) -> Option<Number>
     requires { length bytes.now ≡ 16 }
     ensures within { IfSome result (λ n. n.digits < 16) }
     ensures spelled { IfSome result (λ n. take n.digits bytes.now ≡ decimal n.value) }

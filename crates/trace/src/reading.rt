@@ -9,8 +9,10 @@ ghost use Rattle.trace.specs.Text.{text, spell, Fits};
 ghost use Rattle.trace.specs.Faults.{IsBadLine, IsTruncated, IsNoRecord};
 ghost use Rattle.dag.specs.Bounds.{most_records, longest_line};
 
+use crate::cut::{Cut, LONGEST, cut_of};
 use crate::faults::{TextFault, TextKind};
-use crate::lines::{Cut, Front, LONGEST, cut_of, front_of, record_of, version_of};
+use crate::front::{Front, front_of};
+use crate::spelled::{record_of, version_of};
 use dag::{Record, Version};
 use std::marker::Model;
 
@@ -136,7 +138,9 @@ impl Model for Reader {
 }
 
 impl Reader {
-    ghost use Rattle.trace.specs.Reading.{at_first_byte, HasRead, AreText, HasReadPiece, IsBetweenLines, held_back};
+    ghost use Rattle.trace.specs.Reading.{at_first_byte, HasRead, AreText, HasReadFront, HasReadPiece, IsBetweenLines};
+    ghost use Rattle.trace.specs.Easy.{HasRoomFor};
+    ghost use Rattle.trace.specs.Fronts.{without_record};
 
     /// A reader of a text of at most `max_records` records. It has read nothing.
     pub fn new(max_records: u64) -> Self
@@ -187,10 +191,7 @@ impl Reader {
     /// a line, or after a fault.
     #[inline(always)]
     pub(crate) fn room(&self) -> u64
-        ensures within { self.now.count + result ≤ self.now.limit }
-        ensures at_line { 0 < result → IsBetweenLines self.now }
-        ensures no_fault { 0 < result → self.now.fault ≡ None }
-        ensures limit { self.now.limit ≤ most_records }
+        ensures { HasRoomFor self.now result }
     {
         if self.version.is_some() && self.fault.is_none() && self.held.len() == 0 {
             self.limit - self.count
@@ -203,9 +204,7 @@ impl Reader {
     /// of `count_one`, and by leaving out the bytes of its line.
     #[inline(always)]
     pub(crate) fn front(&self, piece: &[u8]) -> Option<Front>
-        requires at_line { IsBetweenLines self.now }
-        requires no_fault { self.now.fault ≡ None }
-        requires below { self.now.count < self.now.limit }
+        requires room { HasRoomFor self.now 1 }
         requires whole { longest_line < length piece.now }
         ensures used { IfSome result (λ f. f.used ≤ length piece.now) }
         ensures some_used { IfSome result (λ f. 0 < f.used) }
@@ -229,20 +228,13 @@ impl Reader {
     fn open(&mut self, piece: &[u8]) -> Result<usize, TextFault>
         requires first { self.old.version ≡ None }
         requires no_fault { self.old.fault ≡ None }
-        ensures used { IfOk result (λ n. n ≤ length piece.now) }
+        ensures front { HasReadFront self.old self.new piece.now (without_record result) }
         ensures whole { IfOk result (λ n. self.new.version ≡ None → n ≡ length piece.now) }
         ensures taken { (w : List Record) (bytes : List ℕ) → HasRead w bytes self.old →
             IfOk result (λ n. HasRead w (bytes ++ take n piece.now) self.new) }
         ensures fault { (w : List Record) (bytes : List ℕ) → HasRead w bytes self.old →
             IfErr result (λ f. IsBadLine self.old.limit (bytes ++ piece.now) f) }
-        ensures line { self.old.fault ≡ None → IfErr result (λ f. f.line ≤ self.old.count + 2) }
-        ensures kept { IfErr result (λ f. self.new.fault ≡ Some f) }
         ensures no_fault { OnOk result (self.new.fault ≡ None) }
-        ensures held_back { IfOk result (λ n. held_back self.new ≡ held_back self.old + n) }
-        ensures short { length self.new.rest ≤ longest_line }
-        ensures limit { self.new.limit ≡ self.old.limit }
-        ensures count { self.new.count ≡ self.old.count }
-        ensures most { self.new.count ≤ most_records }
     {
         match cut_of(self.held.len(), piece) {
             Cut::LineEnd(end) => {

@@ -7,7 +7,7 @@ ghost use Rattle.trace.specs.Watching.{ComesAfter};
 
 use crate::devices::Source;
 use crate::faults::Fault;
-use crate::feeding::Intake;
+use crate::intake::Intake;
 use dag::{Limits, NoMemory, Placed};
 
 /// A watcher: what it keeps of the records that it was shown.
