@@ -74,3 +74,7 @@ module _ {T : Type 0} where
   -- the same lane, which holds as many items at most
   abbrev pub SameSender : Sender T → Sender T → Type 0
   SameSender old new = (lane_of new ≡ lane_of old) × (capacity_of new ≡ capacity_of old)
+
+  -- the same of the end that takes
+  abbrev pub SameTaker : Taker T → Taker T → Type 0
+  SameTaker old new = (taker_lane new ≡ taker_lane old) × (taker_capacity new ≡ taker_capacity old)

@@ -20,13 +20,12 @@ pub struct Taker<T> {
 
 impl<T: Copy + Send> Taker<T> {
     ghost use Rattle.lane.specs.Lanes.{lane_of, taker_lane, end_lane, put_of, all_put, taken_of};
-    ghost use Rattle.lane.specs.Lanes.{waiting_of, taker_capacity};
+    ghost use Rattle.lane.specs.Lanes.{waiting_of, taker_capacity, SameSender, SameTaker};
 
     /// The next item, or `None` if the lane is empty; after the mark always `None`.
     #[tactic(auto, using(crate::proofs::Marks::has_mark_more, crate::proofs::Marks::mark_last_more))]
     pub fn take(&mut self) -> Option<Item<T>>
-        ensures lane { taker_lane self.new ≡ taker_lane self.old }
-        ensures capacity { taker_capacity self.new ≡ taker_capacity self.old }
+        ensures lane { SameTaker self.old self.new }
         ensures some { IfSome result (λ x. (taken_of self.new ≡ taken_of self.old ++ x ∷ [])
             × (has_mark (taken_of self.old) ≡ false)) }
         ensures none { IfNone result (taken_of self.new ≡ taken_of self.old) }
@@ -45,8 +44,7 @@ impl<T: Copy + Send> Taker<T> {
     /// the front of the slice; the rest of the slice means nothing. After the mark it takes none.
     #[tactic(auto, using(crate::proofs::Marks::ended_by, crate::proofs::Marks::mark_last_block))]
     pub fn take_block(&mut self, items: &mut [Item<T>]) -> usize
-        ensures lane { taker_lane self.new ≡ taker_lane self.old }
-        ensures capacity { taker_capacity self.new ≡ taker_capacity self.old }
+        ensures lane { SameTaker self.old self.new }
         ensures within { result ≤ length items.old }
         ensures least { has_mark (taken_of self.old) ≡ false
             → min (length (waiting_of self.old)) (length items.old) ≤ result }
@@ -89,8 +87,7 @@ impl<T: Copy + Send> Taker<T> {
     /// Looks at the other end: the items taken, and then those that wait, are the items put.
     pub fn beside(&mut self, sender: &mut Sender<T>)
         requires { lane_of sender.old ≡ taker_lane self.old }
-        ensures lane { (taker_lane self.new ≡ taker_lane self.old) × (lane_of sender.new ≡ lane_of sender.old) }
-        ensures capacity { taker_capacity self.new ≡ taker_capacity self.old }
+        ensures lane { SameTaker self.old self.new × SameSender sender.old sender.new }
         ensures taken { taken_of self.new ≡ taken_of self.old }
         ensures put { put_of sender.new ≡ put_of sender.old }
         ensures waiting { taken_of self.new ++ waiting_of self.new ≡ put_of sender.new }
@@ -104,8 +101,7 @@ impl<T: Copy + Send> Taker<T> {
     #[tactic(auto, using(crate::proofs::Marks::all_taken))]
     pub fn settle(&mut self, end: &mut End<T>)
         requires { end_lane end.old ≡ taker_lane self.old }
-        ensures lane { (taker_lane self.new ≡ taker_lane self.old) × (end_lane end.new ≡ end_lane end.old) }
-        ensures capacity { taker_capacity self.new ≡ taker_capacity self.old }
+        ensures lane { SameTaker self.old self.new × (end_lane end.new ≡ end_lane end.old) }
         ensures taken { taken_of self.new ≡ taken_of self.old }
         ensures put { all_put end.new ≡ all_put end.old }
         ensures waiting { taken_of self.new ++ waiting_of self.new ≡ all_put end.new }

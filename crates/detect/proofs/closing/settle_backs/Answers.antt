@@ -22,7 +22,7 @@ loop-shard-preserved g c =
       same = same_set c.args.workers.now.items c.loop-shard.workers.items c.loop-shard.shard w _ c.index_mut-in-loop-shard.ensures.value refl refl c.settle.ensures.put c.settle.ensures.lane.1 refl i.same;
       takers = map-set_same (λ (x : Worked g.row.S.Denot g.row.S-Hasher.Denot). x.taker) c.loop-shard.workers.items c.loop-shard.shard _ w (ap (λ (x : Worked g.row.S.Denot g.row.S-Hasher.Denot). x.taker) c.index_mut-in-loop-shard.ensures.value) ∙ i.takers;
       taken = map-set_same taken_of c.loop-shard.backs.items c.loop-shard.shard c.settle.new.self t (c.settle.ensures.taken ∙ ap taken_of c.index_mut.ensures.value) ∙ i.taken;
-      lanes = map-set_same taker_lane c.loop-shard.backs.items c.loop-shard.shard c.settle.new.self t (c.settle.ensures.lane.0 ∙ ap taker_lane c.index_mut.ensures.value) ∙ i.lanes;
+      lanes = map-set_same taker_lane c.loop-shard.backs.items c.loop-shard.shard c.settle.new.self t (c.settle.ensures.lane.0.0 ∙ ap taker_lane c.index_mut.ensures.value) ∙ i.lanes;
       settled = λ k lt. ended_to (IsSettled (given_by c.args.backs.now.items) (given_back c.args.workers.now.items)) c.loop-shard.shard
           (settled_at (given_by c.loop-shard.backs.items) (given_by c.args.backs.now.items) (given_back c.loop-shard.workers.items) (given_back c.args.workers.now.items) c.loop-shard.shard
           (taken_of t) (taken_of c.settle.new.self) (all_put w.back) (all_put c.settle.new.end) i.taken i.same.backs

@@ -17,7 +17,7 @@ loop-shard-preserved g c =
     let w = c.index_mut.result.now in
     let e = c.index_mut-in-loop-shard.result.now in
     record {
-      same = same_set c.args.workers.now.items c.loop-shard.workers.items c.loop-shard.shard w _ c.index_mut.ensures.value c.settle.ensures.taken c.settle.ensures.lane.0 refl refl refl i.same;
+      same = same_set c.args.workers.now.items c.loop-shard.workers.items c.loop-shard.shard w _ c.index_mut.ensures.value c.settle.ensures.taken c.settle.ensures.lane.0.0 refl refl refl i.same;
       puts = map-set_same all_put c.loop-shard.ends.items c.loop-shard.shard c.settle.new.end e (c.settle.ensures.put ∙ ap all_put c.index_mut-in-loop-shard.ensures.value) ∙ i.puts;
       lanes = map-set_same end_lane c.loop-shard.ends.items c.loop-shard.shard c.settle.new.end e (c.settle.ensures.lane.1 ∙ ap end_lane c.index_mut-in-loop-shard.ensures.value) ∙ i.lanes;
       settled = λ k lt. ended_to (IsSettled (taken_by c.args.workers.now.items) (map all_put c.args.ends.now.items)) c.loop-shard.shard

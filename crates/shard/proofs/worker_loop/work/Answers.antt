@@ -26,7 +26,7 @@ loop-preserved g c =
     let same : records (taken_of c.take_block-count.new.self) ≡ records (taken_of c.loop.taker) ++ records (take c.take_block-count.result c.take_block-count.new.items) = ap records c.take_block-count.ensures.taken ∙ records_append (taken_of c.loop.taker) _ in
     let P : List Placed → Type 0 = λ u. HasWorked u c.apply_block.new.self.shard (put_of c.apply_block.new.self.back) c.apply_block.new.self.stopped in
     record {
-      same_taker = c.take_block-count.ensures.lane ∙ i.same_taker;
+      same_taker = c.take_block-count.ensures.lane.0 ∙ i.same_taker;
       same_back = c.apply_block.ensures.lane ∙ i.same_back;
       before_mark = search rules;
       worked = subst P (sym same) (c.apply_block.ensures.worked (records (taken_of c.loop.taker)) i.worked);
@@ -42,7 +42,7 @@ returns-then-ended g c =
     let worked = subst P (sym same) (c.apply_block.ensures.worked (records (taken_of c.loop.taker)) i.worked) in
     let Q : List (Item Back) → Type 0 = λ all. IsOfShare (records taken) → (c.apply_block.new.self.shard.taken ≡ length (records taken)) × PutsFound (records taken) all in
     record {
-      same_taker = c.take_block-count.ensures.lane ∙ i.same_taker;
+      same_taker = c.take_block-count.ensures.lane.0 ∙ i.same_taker;
       same_back = c.mark.ensures.lane ∙ c.apply_block.ensures.lane ∙ i.same_back;
       to_mark = all_to_mark taken c.take_block-count.ensures.last (search rules);
       count = worked.taken;
