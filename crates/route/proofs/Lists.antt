@@ -30,9 +30,13 @@ puts-set ss k s t x h at more =
 pub room_set : (ss : List (Sender Placed)) (k : ℕ) (t : Sender Placed) → k < length ss → slice_index_or (rooms (set ss k t)) k 0 ≡ room_of t
 room_set ss k t h = ap (λ (l : List ℕ). slice_index_or l k 0) (map-set room_of ss k t) ∙ get_or-set_same (rooms ss) k (room_of t) 0 (omega (arith, h, length-map ss room_of))
 
+-- a lane with a put list has a sender
+sender_at : (ss : List (Sender Placed)) (k : ℕ) → k < length (puts ss) → k < length ss
+sender_at ss k among = omega (arith, among, length-map ss put_of)
+
 -- what was put on the lane of the sender at the place
-pub put_at : (ss : List (Sender Placed)) (k : ℕ) (s : Sender Placed) → k < length ss → s ≡ get_or ss k s → put_on (puts ss) k ≡ put_of s
-put_at ss k s h at = get_or-map put_of ss k s [] h ∙ ap put_of (sym at)
+pub put_at : (ss : List (Sender Placed)) (k : ℕ) (s : Sender Placed) → k < length (puts ss) → s ≡ get_or ss k s → put_on (puts ss) k ≡ put_of s
+put_at ss k s among at = get_or-map put_of ss k s [] (sender_at ss k among) ∙ ap put_of (sym at)
 
 pub capacity_at : (ss : List (Sender Placed)) (k : ℕ) (s : Sender Placed) → k < length ss → s ≡ get_or ss k s → slice_index_or (capacities ss) k 0 ≡ capacity_of s
 capacity_at ss k s h at = get_or-map capacity_of ss k s 0 h ∙ ap capacity_of (sym at)
@@ -64,11 +68,11 @@ pub record Put (ss ts : List (Sender Placed)) (k : ℕ) (x : Item Placed) : Type
   pub more : puts ts ≡ with_put (puts ss) k x
   pub counts : refusals ts ≡ refusals ss
 
-pub has_put : (ss : List (Sender Placed)) (k : ℕ) (s t : Sender Placed) (x : Item Placed) → k < length ss → s ≡ get_or ss k s → SameSender s t → put_of t ≡ put_of s ++ x ∷ [] → refusals_of t ≡ refusals_of s → Put ss (set ss k t) k x
-has_put ss k s t x within at lane put counts = record {
+pub has_put : (ss : List (Sender Placed)) (k : ℕ) (s t : Sender Placed) (x : Item Placed) → k < length (puts ss) → s ≡ get_or ss k s → SameSender s t → put_of t ≡ put_of s ++ x ∷ [] → refusals_of t ≡ refusals_of s → Put ss (set ss k t) k x
+has_put ss k s t x among at lane put counts = record {
   on = map-set_like lane_of ss k s t at lane.0;
   holds = map-set_like capacity_of ss k s t at lane.1;
-  more = puts-set ss k s t x within at put;
+  more = puts-set ss k s t x (sender_at ss k among) at put;
   counts = map-set_like refusals_of ss k s t at counts;
 }
 
@@ -82,36 +86,36 @@ pub record Refused (ss ts : List (Sender Placed)) (k : ℕ) : Type 0 where
   pub knows : slice_index_or (rooms ts) k 0 ≡ 0
   pub full : slice_index_or (capacities ss) k 0 ≤ length (put_on (puts ss) k)
 
-pub has_refused : (ss : List (Sender Placed)) (k : ℕ) (s t : Sender Placed) → k < length ss → s ≡ get_or ss k s → SameSender s t → (put_of t ≡ put_of s) × (capacity_of s ≤ length (put_of s)) → (room_of s ≡ 0) × (room_of t ≡ 0)
+pub has_refused : (ss : List (Sender Placed)) (k : ℕ) (s t : Sender Placed) → k < length (puts ss) → s ≡ get_or ss k s → SameSender s t → (put_of t ≡ put_of s) × (capacity_of s ≤ length (put_of s)) → (room_of s ≡ 0) × (room_of t ≡ 0)
     → refusals_of t ≡ one_more (refusals_of s) → Refused ss (set ss k t) k
-has_refused ss k s t within at lane full none counts = record {
+has_refused ss k s t among at lane full none counts = record {
   on = map-set_like lane_of ss k s t at lane.0;
   holds = map-set_like capacity_of ss k s t at lane.1;
   same = map-set_like put_of ss k s t at full.0;
-  counts = map-set refusals_of ss k t ∙ ap (λ (n : ℕ). set (refusals ss) k n) (counts ∙ ap one_more (ap refusals_of at ∙ sym (get_or-map refusals_of ss k s 0 within)));
-  knew = get_or-map room_of ss k s 0 within ∙ ap room_of (sym at) ∙ none.0;
-  knows = room_set ss k t within ∙ none.1;
-  full = omega (arith, full.1, capacity_at ss k s within at, ap length (put_at ss k s within at));
+  counts = map-set refusals_of ss k t ∙ ap (λ (n : ℕ). set (refusals ss) k n) (counts ∙ ap one_more (ap refusals_of at ∙ sym (get_or-map refusals_of ss k s 0 (sender_at ss k among))));
+  knew = get_or-map room_of ss k s 0 (sender_at ss k among) ∙ ap room_of (sym at) ∙ none.0;
+  knows = room_set ss k t (sender_at ss k among) ∙ none.1;
+  full = omega (arith, full.1, capacity_at ss k s (sender_at ss k among) at, ap length (put_at ss k s among at));
 }
 
 -- the same of a sender's answer to a put
-pub put_ok : (ss : List (Sender Placed)) (k : ℕ) (s t : Sender Placed) (x : Placed) (r : Result (Unit {0}) Placed) (b : Bool) → k < length ss → s ≡ get_or ss k s → SameSender s t → b ≡ is_err r → b ≡ false
+pub put_ok : (ss : List (Sender Placed)) (k : ℕ) (s t : Sender Placed) (x : Placed) (r : Result (Unit {0}) Placed) (b : Bool) → k < length (puts ss) → s ≡ get_or ss k s → SameSender s t → b ≡ is_err r → b ≡ false
     → OnOk r (put_of t ≡ put_of s ++ One x ∷ []) → refusals_of t ≡ cond (is_ok r) (refusals_of s) (one_more (refusals_of s)) → Put ss (set ss k t) k (One x)
-put_ok ss k s t x (Ok v) b within at lane is err put counts = has_put ss k s t (One x) within at lane put counts
-put_ok ss k s t x (Err v) b within at lane is err put counts = absurd (cc)
+put_ok ss k s t x (Ok v) b among at lane is err put counts = has_put ss k s t (One x) among at lane put counts
+put_ok ss k s t x (Err v) b among at lane is err put counts = absurd (cc)
 
-pub put_err : (ss : List (Sender Placed)) (k : ℕ) (s t : Sender Placed) (x : Placed) (r : Result (Unit {0}) Placed) (b : Bool) → k < length ss → s ≡ get_or ss k s → SameSender s t → b ≡ is_err r → b ≡ true
+pub put_err : (ss : List (Sender Placed)) (k : ℕ) (s t : Sender Placed) (x : Placed) (r : Result (Unit {0}) Placed) (b : Bool) → k < length (puts ss) → s ≡ get_or ss k s → SameSender s t → b ≡ is_err r → b ≡ true
     → IfErr r (λ y. (y ≡ x) × (put_of t ≡ put_of s) × (capacity_of s ≤ length (put_of s))) → IfErr r (λ y. (room_of s ≡ 0) × (room_of t ≡ 0)) → refusals_of t ≡ cond (is_ok r) (refusals_of s) (one_more (refusals_of s)) → Refused ss (set ss k t) k
-put_err ss k s t x (Ok v) b within at lane is err full none counts = absurd (cc)
-put_err ss k s t x (Err v) b within at lane is err full none counts = has_refused ss k s t within at lane (full.1, full.2) none counts
+put_err ss k s t x (Ok v) b among at lane is err full none counts = absurd (cc)
+put_err ss k s t x (Err v) b among at lane is err full none counts = has_refused ss k s t among at lane (full.1, full.2) none counts
 
 -- and to the mark
-pub mark_ok : (ss : List (Sender Placed)) (k : ℕ) (s t : Sender Placed) (b : Bool) → k < length ss → s ≡ get_or ss k s → SameSender s t → b ≡ true
+pub mark_ok : (ss : List (Sender Placed)) (k : ℕ) (s t : Sender Placed) (b : Bool) → k < length (puts ss) → s ≡ get_or ss k s → SameSender s t → b ≡ true
     → (IsTrue b → put_of t ≡ put_of s ++ Finish ∷ []) → refusals_of t ≡ cond b (refusals_of s) (one_more (refusals_of s)) → Put ss (set ss k t) k Finish
-mark_ok ss k s t true within at lane is put counts = has_put ss k s t Finish within at lane (put refl) counts
-mark_ok ss k s t false within at lane is put counts = absurd (cc)
+mark_ok ss k s t true among at lane is put counts = has_put ss k s t Finish among at lane (put refl) counts
+mark_ok ss k s t false among at lane is put counts = absurd (cc)
 
-pub mark_err : (ss : List (Sender Placed)) (k : ℕ) (s t : Sender Placed) (b : Bool) → k < length ss → s ≡ get_or ss k s → SameSender s t → b ≡ false
+pub mark_err : (ss : List (Sender Placed)) (k : ℕ) (s t : Sender Placed) (b : Bool) → k < length (puts ss) → s ≡ get_or ss k s → SameSender s t → b ≡ false
     → (IsFalse b → (put_of t ≡ put_of s) × (capacity_of s ≤ length (put_of s))) → (IsFalse b → (room_of s ≡ 0) × (room_of t ≡ 0)) → refusals_of t ≡ cond b (refusals_of s) (one_more (refusals_of s)) → Refused ss (set ss k t) k
-mark_err ss k s t true within at lane is full none counts = absurd (cc)
-mark_err ss k s t false within at lane is full none counts = has_refused ss k s t within at lane (full refl) (none refl) counts
+mark_err ss k s t true among at lane is full none counts = absurd (cc)
+mark_err ss k s t false among at lane is full none counts = has_refused ss k s t among at lane (full refl) (none refl) counts

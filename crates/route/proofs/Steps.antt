@@ -1,10 +1,9 @@
 -- What a router's state is after a call, from what was put on its lanes.
-use Rattle.std.proofs.Common.{◌≡◌, ℕ, ◌+◌, ◌<◌, ◌≤◌, ◌↔◌, true, false, List, [], ◌∷◌, ◌++◌, length, map, sym, refl, ap, subst, ◌∙◌, Option, Some, None, arith}
+use Rattle.std.proofs.Common.{◌≡◌, ℕ, ◌+◌, ◌<◌, ◌≤◌, true, false, List, [], ◌∷◌, ◌++◌, length, map, sym, refl, ap, subst, ◌∙◌, Option, Some, None, arith}
 use Rattle.std.specs.Option.{ForSome}
 use Rattle.std.proofs.lemmas.List.{length-set}
 use Rattle.lane.specs.declared.item.Item.{Item}
 use Rattle.lane.specs.declared.item.Item.TheVariants.{One, Finish}
-use Rattle.lane.specs.Items.{has_mark}
 use Rattle.dag.specs.declared.records.Placed.{Placed}
 use Rattle.dag.specs.Shares.{goes_placed}
 use Rattle.route.specs.Sending.{put_on, with_put, sent_whole, HaveMarks}
@@ -33,9 +32,9 @@ on_lanes old new k x was = record {
 }
 
 -- nothing was put
-pub unchanged : (old new : RouterState) → IsOnLanes old new → new.puts ≡ old.puts → new.pending ≡ old.pending → new.next ≡ old.next → new.marked ≡ old.marked → IsUnchanged old new
-unchanged old new on puts pending next marked = record {
-  on = on;
+pub unchanged : (old new : RouterState) → new.lanes ≡ old.lanes → new.capacities ≡ old.capacities → new.puts ≡ old.puts → new.pending ≡ old.pending → new.next ≡ old.next → new.marked ≡ old.marked → IsUnchanged old new
+unchanged old new lanes capacities puts pending next marked = record {
+  on = record { lanes = lanes; capacities = capacities; count = ap length puts };
   puts = puts;
   pending = pending;
   next = next;

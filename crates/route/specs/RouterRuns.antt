@@ -4,9 +4,9 @@ use Rattle.std.specs.List.{range_with_len, flat_map}
 use Rattle.lane.specs.declared.item.Item.{Item}
 use Rattle.lane.specs.declared.item.Item.TheVariants.{Finish}
 use Rattle.dag.specs.declared.records.Placed.{Placed}
-use Rattle.route.specs.Routers.{RouterState}
 use Rattle.route.specs.Sending.{put_on}
-use Rattle.route.specs.Routers.{lane_count}
+use Rattle.route.specs.Routers.{RouterState, lane_count, HasSent}
+use Rattle.route.specs.Routed.{IsRising, IsRouted, in_hand}
 use Rattle.route.specs.Runs.{Event, IsRun, sending_of, put_event, put_list, taken_list}
 
 -- the puts of the pending record on the lanes before the next one
@@ -32,3 +32,17 @@ pub record IsTakenFrom (r : RouterState) (w : List Placed) (taken : ℕ → List
   pub run : IsRun (lane_count r) w events
   pub puts : (k : ℕ) → k < lane_count r → put_list events k ≡ put_on r.puts k
   pub takes : (k : ℕ) → k < lane_count r → taken_list events k ≡ taken k
+
+-- what is said of lane k of every run, and of the list u that was routed
+abbrev pub AtLanesOfRuns : (ℕ → ℕ → List Placed → List Event → Type 0) → Type 0
+AtLanesOfRuns Says = (n k : ℕ) (w u : List Placed) (es : List Event) → IsRun n w es → IsRouted n (put_list es) u → k < n
+    → Says n k u es
+
+-- what is said of every router that was offered records whose places ascend, and has sent the records w whole
+abbrev pub OfRouters : (RouterState → List Placed → Type 0) → Type 0
+OfRouters Says = (r : RouterState) (w : List Placed) → HasSent w r → IsRising (in_hand w r.pending) → Says r w
+
+-- what is said of its lane k, and of the list u that was routed
+abbrev pub AtLanesOfRouters : (RouterState → ℕ → List Placed → Type 0) → Type 0
+AtLanesOfRouters Says = OfRouters (λ r w. (k : ℕ) (u : List Placed) → IsRouted (lane_count r) (put_on r.puts) u
+    → k < lane_count r → Says r k u)

@@ -25,8 +25,7 @@ pub fn first_lane(what: Record, count: usize) -> usize
 #[inline(always)]
 pub fn lane_of(location: u64, count: usize) -> usize
     requires { 1 ≤ count }
-    ensures value { result ≡ location % count }
-    ensures within { result < count }
+    ensures { result ≡ location % count }
 {
     let below = count as u64 - 1;
     // A power of two has no bit in common with the number below it, which has the bits of each remainder.
@@ -42,8 +41,7 @@ pub fn lane_of(location: u64, count: usize) -> usize
 #[inline(always)]
 fn remainder(location: u64, count: u64) -> u64
     requires { 1 ≤ count }
-    ensures value { result ≡ location % count }
-    ensures within { result < count }
+    ensures { result ≡ location % count }
 {
     match count {
         2 => location % 2,

@@ -10,7 +10,7 @@ ghost use Rattle.route.specs.Sending.{put_on};
 ghost use Rattle.route.specs.Routed.{IsRising, in_hand, IsRouted, HasRouted, HasShare, HasWholeShare, TakesShare};
 ghost use Rattle.route.specs.Routers.{RouterState, lane_count, HasSent, IsUnchanged};
 ghost use Rattle.route.specs.Runs.{Event, IsRun, put_event, sending, put_list, taken_list};
-ghost use Rattle.route.specs.RouterRuns.{run_of, IsTakenFrom};
+ghost use Rattle.route.specs.RouterRuns.{run_of, IsTakenFrom, OfRouters, AtLanesOfRouters, AtLanesOfRuns};
 
 /// For every run of lanes. Each prefix of a run is a run, so this is true at every point. One list was routed; a lane
 /// has its share of it, or lacks only the record that is being sent. A lane with the mark has its whole share. The
@@ -21,16 +21,12 @@ pub fn runs()
     ensures points { (n : ℕ) (w : List Placed) (before after : List Event) → IsRun n w (before ++ after)
         → IsRun n w before }
     ensures routed { (n : ℕ) (w : List Placed) (es : List Event) → IsRun n w es → HasRouted n (put_list es) w }
-    ensures shares { (n k : ℕ) (w u : List Placed) (es : List Event) → IsRun n w es
-        → IsRouted n (put_list es) u → k < n → HasShare n (put_list es) u k }
-    ensures marks { (n k : ℕ) (w u : List Placed) (es : List Event) → IsRun n w es
-        → IsRouted n (put_list es) u → k < n → has_mark (put_list es k) ≡ true
-        → HasWholeShare n (put_list es) u k }
+    ensures shares { AtLanesOfRuns (λ n k u es. HasShare n (put_list es) u k) }
+    ensures marks { AtLanesOfRuns (λ n k u es. has_mark (put_list es k) ≡ true → HasWholeShare n (put_list es) u k) }
     ensures taken { (n k : ℕ) (w : List Placed) (es : List Event) → IsRun n w es
         → IsBeginning (taken_list es k) (put_list es k) }
     // the items taken are a prefix of the lane's share, and with the mark the whole share
-    ensures headline { (n k : ℕ) (w u : List Placed) (es : List Event) → IsRun n w es
-        → IsRouted n (put_list es) u → k < n → TakesShare n u k (taken_list es k) (put_list es k) }
+    ensures headline { AtLanesOfRuns (λ n k u es. TakesShare n u k (taken_list es k) (put_list es k)) }
     ensures ended { (n k : ℕ) (w : List Placed) (before after : List Event) → IsRun n w (before ++ after) → k < n
         → has_mark (taken_list before k) ≡ true → put_list (before ++ after) k ≡ taken_list before k }
     // the marks come last, so with the mark the items taken are the lane's share of all records
@@ -48,27 +44,20 @@ pub fn routers()
         → (k : ℕ) → k < lane_count r → put_list (run_of w r) k ≡ put_on r.puts k }
     // where nothing was put the run is the same
     ensures still { (old new : RouterState) (w : List Placed) → IsUnchanged old new → run_of w new ≡ run_of w old }
-    ensures routed { (r : RouterState) (w : List Placed) → HasSent w r → IsRising (in_hand w r.pending)
-        → HasRouted (lane_count r) (put_on r.puts) (in_hand w r.pending) }
-    ensures list { (r : RouterState) (w u : List Placed) → HasSent w r → IsRising (in_hand w r.pending)
-        → IsRouted (lane_count r) (put_on r.puts) u → (u ≡ w) ⊎ (u ≡ in_hand w r.pending) }
+    ensures routed { OfRouters (λ r w. HasRouted (lane_count r) (put_on r.puts) (in_hand w r.pending)) }
+    ensures list { OfRouters (λ r w. (u : List Placed) → IsRouted (lane_count r) (put_on r.puts) u
+        → (u ≡ w) ⊎ (u ≡ in_hand w r.pending)) }
     ensures whole { (r : RouterState) (w u : List Placed) → HasSent w r → IsRising w
         → r.pending ≡ None → IsRouted (lane_count r) (put_on r.puts) u → u ≡ w }
-    ensures shares { (r : RouterState) (k : ℕ) (w u : List Placed) → HasSent w r
-        → IsRising (in_hand w r.pending) → IsRouted (lane_count r) (put_on r.puts) u
-        → k < lane_count r → HasShare (lane_count r) (put_on r.puts) u k }
-    ensures marks { (r : RouterState) (k : ℕ) (w u : List Placed) → HasSent w r
-        → IsRising (in_hand w r.pending) → IsRouted (lane_count r) (put_on r.puts) u
-        → k < lane_count r → has_mark (put_on r.puts k) ≡ true
-        → HasWholeShare (lane_count r) (put_on r.puts) u k }
+    ensures shares { AtLanesOfRouters (λ r k u. HasShare (lane_count r) (put_on r.puts) u k) }
+    ensures marks { AtLanesOfRouters (λ r k u. has_mark (put_on r.puts k) ≡ true
+        → HasWholeShare (lane_count r) (put_on r.puts) u k) }
     // what the takers took, a prefix of what was put on each lane, was taken in a run of these lanes
     ensures takes { (r : RouterState) (w : List Placed) (taken : ℕ → List (Item Placed)) → HasSent w r
         → IsRising (in_hand w r.pending)
         → ((k : ℕ) → k < lane_count r → IsBeginning (taken k) (put_on r.puts k))
         → IsTakenFrom r (in_hand w r.pending) taken }
     // with the receipt of lane k the items that its taker took are a prefix of the items put
-    ensures headline { (r : RouterState) (k : ℕ) (w u : List Placed) (taken : List (Item Placed)) → HasSent w r
-        → IsRising (in_hand w r.pending) → IsRouted (lane_count r) (put_on r.puts) u
-        → k < lane_count r → IsBeginning taken (put_on r.puts k)
-        → TakesShare (lane_count r) u k taken (put_on r.puts k) }
+    ensures headline { AtLanesOfRouters (λ r k u. (taken : List (Item Placed)) → IsBeginning taken (put_on r.puts k)
+        → TakesShare (lane_count r) u k taken (put_on r.puts k)) }
 {}

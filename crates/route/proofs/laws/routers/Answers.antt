@@ -1,6 +1,5 @@
-use Rattle.std.proofs.Common.{◌≡◌, ℕ, [], List, ⊎_elim, sym, ap, subst, ◌∙◌, append-nil, true, arith}
+use Rattle.std.proofs.Common.{◌≡◌, [], List, ⊎_elim, sym, ap, subst, ◌∙◌, append-nil}
 use Rattle.dag.specs.declared.records.Placed.{Placed}
-use Rattle.dag.specs.Shares.{goes_placed}
 use Rattle.route.specs.Routers.{RouterState}
 use Rattle.route.specs.Sending.{put_on}
 use Rattle.route.specs.Routed.{IsRising, in_hand}
@@ -28,7 +27,7 @@ pub returns-clause-routed : goal.returns-clause-routed
 returns-clause-routed c = λ r w sent rising. has_routed (lane_count r) (put_on r.puts) w (in_hand w r.pending) r.pending (of_router r w sent rising) ([], sym (append-nil (in_hand w r.pending)))
 
 pub returns-clause-list : goal.returns-clause-list
-returns-clause-list c = λ r w u sent rising routed. list_of (lane_count r) (put_on r.puts) w u r.pending (of_router r w sent rising) routed
+returns-clause-list c = λ r w sent rising u routed. list_of (lane_count r) (put_on r.puts) w u r.pending (of_router r w sent rising) routed
 
 pub returns-clause-whole : goal.returns-clause-whole
 returns-clause-whole c = λ r w u sent rising none routed.
@@ -37,13 +36,13 @@ returns-clause-whole c = λ r w u sent rising none routed.
     ⊎_elim (λ (h : u ≡ w). h) (λ (h : u ≡ in_hand w r.pending). h ∙ at_once) (list_of (lane_count r) (put_on r.puts) w u r.pending (of_router r w sent at_rest) routed)
 
 pub returns-clause-shares : goal.returns-clause-shares
-returns-clause-shares c = λ r k w u sent rising routed l. (routes_of (lane_count r) (put_on r.puts) w u r.pending (of_router r w sent rising) routed).shares k l
+returns-clause-shares c = λ r w sent rising k u routed l. (routes_of (lane_count r) (put_on r.puts) w u r.pending (of_router r w sent rising) routed).shares k l
 
 pub returns-clause-headline : goal.returns-clause-headline
-returns-clause-headline c = λ r k w u taken sent rising routed l front. takes_share (lane_count r) (put_on r.puts) u k taken l (routes_of (lane_count r) (put_on r.puts) w u r.pending (of_router r w sent rising) routed) front
+returns-clause-headline c = λ r w sent rising k u routed l taken front. takes_share (lane_count r) (put_on r.puts) u k taken l (routes_of (lane_count r) (put_on r.puts) w u r.pending (of_router r w sent rising) routed) front
 
 pub returns-clause-marks : goal.returns-clause-marks
-returns-clause-marks c = λ r k w u sent rising routed l h. (routes_of (lane_count r) (put_on r.puts) w u r.pending (of_router r w sent rising) routed).marks k l h
+returns-clause-marks c = λ r w sent rising k u routed l h. (routes_of (lane_count r) (put_on r.puts) w u r.pending (of_router r w sent rising) routed).marks k l h
 
 pub returns-clause-run : goal.returns-clause-run
 returns-clause-run c = router_run

@@ -1,6 +1,6 @@
-use Rattle.std.proofs.Common.{◌≡◌, ℕ, ◌+◌, ◌<◌, ◌⊎◌, ⊎_elim, List, [], length, refl, sym, ap, subst, ◌∙◌, slice_index_or, arith}
+use Rattle.std.proofs.Common.{◌≡◌, ℕ, ◌<◌, length, refl, ap, ◌∙◌, arith}
 use Rattle.lane.specs.Lanes.{lane_of, put_of, capacity_of}
-use Rattle.route.specs.Senders.{puts, shown}
+use Rattle.route.specs.Senders.{puts}
 use Rattle.route.specs.Routers.{RouterState}
 use Rattle.route.proofs.Lists.{map-set_like, puts_counted, all_shown}
 use Rattle.route.proofs.Steps.{unchanged, router_same}
@@ -50,4 +50,4 @@ returns-clause-shown c = λ k h. c.loop-lane.invariant.all_shown k (omega (arith
 pub returns-clause-unchanged : goal.returns-clause-unchanged
 returns-clause-unchanged c =
     let i = c.loop-lane.invariant in
-    unchanged c.args.self.now _ record { lanes = i.same_lanes; capacities = i.same_capacities; count = ap length i.same_puts } i.same_puts i.pending i.next i.marked
+    unchanged c.args.self.now _ i.same_lanes i.same_capacities i.same_puts i.pending i.next i.marked

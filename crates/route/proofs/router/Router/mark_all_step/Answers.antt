@@ -1,8 +1,5 @@
-use Rattle.std.proofs.Common.{◌≡◌, ℕ, ◌+◌, ◌<◌, List, length, None, refl, sym, ap, subst, ◌∙◌, arith}
-use Rattle.std.proofs.lemmas.List.{length-map}
+use Rattle.std.proofs.Common.{◌≡◌, ◌<◌, length, None, refl, sym, ap, ◌∙◌, arith}
 use Rattle.lane.specs.Items.{has_mark}
-use Rattle.lane.specs.Lanes.{put_of}
-use Rattle.dag.specs.declared.records.Placed.{Placed}
 use Rattle.route.specs.Senders.{puts}
 use Rattle.route.specs.Routers.{RouterState, HasBlocked}
 use Rattle.route.specs.Steps.{HasMarkedOn, HasMarkedNext}
@@ -15,32 +12,28 @@ pub mark-requires-after_bounds : goal.mark-requires-after_bounds
 mark-requires-after_bounds c κs =
     let s = c.self.inside in
     let among : s.marked < length (puts s.senders.items) = omega (arith, puts_counted s.senders, s.kept.at_most_all, c.len.ensures, c.if-self-len.false) in
-    let within : s.marked < length s.senders.items = omega (arith, among, length-map s.senders.items put_of) in
-    ap has_mark (sym (put_at s.senders.items s.marked _ within c.index_mut.ensures.value)) ∙ unmarked_at (puts s.senders.items) s.marked s.marked (omega arith) among s.kept.marks
+    ap has_mark (sym (put_at s.senders.items s.marked _ among c.index_mut.ensures.value)) ∙ unmarked_at (puts s.senders.items) s.marked s.marked (omega arith) among s.kept.marks
 
 pub invariant_of-self-inside : goal.invariant_of-self-inside
 invariant_of-self-inside c =
     let s = c.self.inside in
     let among : s.marked < length (puts s.senders.items) = omega (arith, puts_counted s.senders, s.kept.at_most_all, c.len.ensures, c.if-self-len.false) in
-    let within : s.marked < length s.senders.items = omega (arith, among, length-map s.senders.items put_of) in
-    let none = mark_err s.senders.items s.marked _ c.mark.new.self c.mark.result within c.index_mut.ensures.value c.mark.ensures.lane c.if-not-mark.true c.mark.ensures.full c.mark.ensures.no_room c.mark.ensures.refusals in
+    let none = mark_err s.senders.items s.marked _ c.mark.new.self c.mark.result among c.index_mut.ensures.value c.mark.ensures.lane c.if-not-mark.true c.mark.ensures.full c.mark.ensures.no_room c.mark.ensures.refusals in
     (router_same (puts s.senders.items) _ s.pending s.next s.marked none.same s.kept, (s.within, (s.no_ends, (s.room, record {}))))
 
 pub returns-then-not-mark-clause-goes_on : goal.returns-then-not-mark-clause-goes_on
 returns-then-not-mark-clause-goes_on c =
     let s = c.self.inside in
     let among : s.marked < length (puts s.senders.items) = omega (arith, puts_counted s.senders, s.kept.at_most_all, c.len.ensures, c.if-self-len.false) in
-    let within : s.marked < length s.senders.items = omega (arith, among, length-map s.senders.items put_of) in
-    let none = mark_err s.senders.items s.marked _ c.mark.new.self c.mark.result within c.index_mut.ensures.value c.mark.ensures.lane c.if-not-mark.true c.mark.ensures.full c.mark.ensures.no_room c.mark.ensures.refusals in
+    let none = mark_err s.senders.items s.marked _ c.mark.new.self c.mark.result among c.index_mut.ensures.value c.mark.ensures.lane c.if-not-mark.true c.mark.ensures.full c.mark.ensures.no_room c.mark.ensures.refusals in
     let idle : s.pending ≡ None = ap (λ (o : RouterState). o.pending) c.self.view_is ∙ c.requires in
-    over_view HasMarkedOn _ _ _ c.self.view_is (marked_same _ _ idle (unchanged _ _ record { lanes = none.on; capacities = none.holds; count = ap length none.same } none.same refl refl refl))
+    over_view HasMarkedOn _ _ _ c.self.view_is (marked_same _ _ idle (unchanged _ _ none.on none.holds none.same refl refl refl))
 
 pub returns-then-not-mark-clause-blocked : goal.returns-then-not-mark-clause-blocked
 returns-then-not-mark-clause-blocked c =
     let s = c.self.inside in
     let among : s.marked < length (puts s.senders.items) = omega (arith, puts_counted s.senders, s.kept.at_most_all, c.len.ensures, c.if-self-len.false) in
-    let within : s.marked < length s.senders.items = omega (arith, among, length-map s.senders.items put_of) in
-    let none = mark_err s.senders.items s.marked _ c.mark.new.self c.mark.result within c.index_mut.ensures.value c.mark.ensures.lane c.if-not-mark.true c.mark.ensures.full c.mark.ensures.no_room c.mark.ensures.refusals in
+    let none = mark_err s.senders.items s.marked _ c.mark.new.self c.mark.result among c.index_mut.ensures.value c.mark.ensures.lane c.if-not-mark.true c.mark.ensures.full c.mark.ensures.no_room c.mark.ensures.refusals in
     over_view (λ o n. (s.marked ≡ o.marked) × HasBlocked o n s.marked) _ _ _ c.self.view_is (
       refl,
       record {
@@ -49,7 +42,7 @@ returns-then-not-mark-clause-blocked c =
         knew_of_none = none.knew;
         knows_of_none = none.knows;
         full = none.full;
-        unchanged = (unchanged _ _ record { lanes = none.on; capacities = none.holds; count = ap length none.same } none.same refl refl refl);
+        unchanged = (unchanged _ _ none.on none.holds none.same refl refl refl);
       },
     )
 
@@ -57,8 +50,7 @@ pub invariant_of-self-inside-2 : goal.invariant_of-self-inside-2
 invariant_of-self-inside-2 c =
     let s = c.self.inside in
     let among : s.marked < length (puts s.senders.items) = omega (arith, puts_counted s.senders, s.kept.at_most_all, c.len.ensures, c.if-self-len.false) in
-    let within : s.marked < length s.senders.items = omega (arith, among, length-map s.senders.items put_of) in
-    let was = mark_ok s.senders.items s.marked _ c.mark.new.self c.mark.result within c.index_mut.ensures.value c.mark.ensures.lane c.if-not-mark.false c.mark.ensures.put c.mark.ensures.refusals in
+    let was = mark_ok s.senders.items s.marked _ c.mark.new.self c.mark.result among c.index_mut.ensures.value c.mark.ensures.lane c.if-not-mark.false c.mark.ensures.put c.mark.ensures.refusals in
     let idle : s.pending ≡ None = ap (λ (o : RouterState). o.pending) c.self.view_is ∙ c.requires in
     (router_marked (puts s.senders.items) _ s.pending s.next s.marked was.more among idle s.kept, (s.within, (s.no_ends, (s.room, record {}))))
 
@@ -66,8 +58,7 @@ pub returns-clause-goes_on : goal.returns-clause-goes_on
 returns-clause-goes_on c =
     let s = c.self.inside in
     let among : s.marked < length (puts s.senders.items) = omega (arith, puts_counted s.senders, s.kept.at_most_all, c.len.ensures, c.if-self-len.false) in
-    let within : s.marked < length s.senders.items = omega (arith, among, length-map s.senders.items put_of) in
-    let was = mark_ok s.senders.items s.marked _ c.mark.new.self c.mark.result within c.index_mut.ensures.value c.mark.ensures.lane c.if-not-mark.false c.mark.ensures.put c.mark.ensures.refusals in
+    let was = mark_ok s.senders.items s.marked _ c.mark.new.self c.mark.result among c.index_mut.ensures.value c.mark.ensures.lane c.if-not-mark.false c.mark.ensures.put c.mark.ensures.refusals in
     let idle : s.pending ≡ None = ap (λ (o : RouterState). o.pending) c.self.view_is ∙ c.requires in
     over_view HasMarkedOn _ _ _ c.self.view_is (marked_on _ _ idle record { on_lanes = was.on; holds = was.holds; more = was.more } among refl refl refl)
 
@@ -75,7 +66,6 @@ pub returns-clause-put : goal.returns-clause-put
 returns-clause-put c =
     let s = c.self.inside in
     let among : s.marked < length (puts s.senders.items) = omega (arith, puts_counted s.senders, s.kept.at_most_all, c.len.ensures, c.if-self-len.false) in
-    let within : s.marked < length s.senders.items = omega (arith, among, length-map s.senders.items put_of) in
-    let was = mark_ok s.senders.items s.marked _ c.mark.new.self c.mark.result within c.index_mut.ensures.value c.mark.ensures.lane c.if-not-mark.false c.mark.ensures.put c.mark.ensures.refusals in
+    let was = mark_ok s.senders.items s.marked _ c.mark.new.self c.mark.result among c.index_mut.ensures.value c.mark.ensures.lane c.if-not-mark.false c.mark.ensures.put c.mark.ensures.refusals in
     let idle : s.pending ≡ None = ap (λ (o : RouterState). o.pending) c.self.view_is ∙ c.requires in
     over_view HasMarkedNext _ _ _ c.self.view_is (marks_next _ _ idle record { on_lanes = was.on; holds = was.holds; more = was.more } refl refl refl)

@@ -1,9 +1,8 @@
-use Rattle.std.proofs.Common.{◌≡◌, ℕ, ◌<◌, false, length, Option, None, refl, sym, subst, ap, ◌∙◌, arith}
+use Rattle.std.proofs.Common.{◌≡◌, ℕ, ◌<◌, false, length, Option, refl, subst, ap, ◌∙◌, arith}
 use Rattle.dag.specs.declared.records.Placed.{Placed}
 use Rattle.dag.specs.Shares.{goes_placed}
 use Rattle.route.specs.Senders.{puts}
 use Rattle.route.specs.Sending.{first_lane}
-use Rattle.route.specs.Routers.{RouterState}
 use Rattle.route.specs.Steps.{IsIdle, HasOffered}
 use Rattle.route.proofs.Lists.{puts_counted}
 use Rattle.route.proofs.Sent.{OnPuts, sent-offer}

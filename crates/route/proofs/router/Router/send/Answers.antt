@@ -1,8 +1,7 @@
-use Rattle.std.proofs.Common.{◌≡◌, ℕ, ◌+◌, ◌<◌, true, false, List, [], ◌∷◌, ◌++◌, length, slice_index_or, Option, Some, None, refl, sym, ap, subst, ◌∙◌, arith}
-use Rattle.std.proofs.lemmas.List.{length-map, length-set}
+use Rattle.std.proofs.Common.{◌≡◌, ℕ, ◌<◌, true, false, List, [], ◌∷◌, ◌++◌, length, slice_index_or, Option, Some, None, refl, sym, ap, subst, ◌∙◌, arith}
+use Rattle.std.proofs.lemmas.List.{length-set}
 use Rattle.lane.specs.declared.item.Item.TheVariants.{One}
 use Rattle.lane.specs.Items.{has_mark}
-use Rattle.lane.specs.Lanes.{put_of}
 use Rattle.dag.specs.declared.records.Placed.{Placed}
 use Rattle.dag.specs.Shares.{goes_placed}
 use Rattle.route.specs.Senders.{puts, with_refusal}
@@ -47,8 +46,7 @@ put-requires-after_bounds c κs =
     let i = c.lanes.invariant in
     let p = c.args.placed in
     let among : c.lanes.lane < length (puts s.senders.items) = omega (arith, i.within, i.counted) in
-    let within : c.lanes.lane < length s.senders.items = omega (arith, among, length-map s.senders.items put_of) in
-    ap has_mark (sym (put_at s.senders.items c.lanes.lane _ within c.index_mut.ensures.value))
+    ap has_mark (sym (put_at s.senders.items c.lanes.lane _ among c.index_mut.ensures.value))
     ∙ unmarked_at (puts s.senders.items) s.marked c.lanes.lane (omega (arith, i.unmarked)) among s.kept.marks
 
 pub invariant_of-self-inside : goal.invariant_of-self-inside
@@ -57,8 +55,7 @@ invariant_of-self-inside c =
     let i = c.lanes.invariant in
     let p = c.args.placed in
     let among : c.lanes.lane < length (puts s.senders.items) = omega (arith, i.within, i.counted) in
-    let within : c.lanes.lane < length s.senders.items = omega (arith, among, length-map s.senders.items put_of) in
-    let none = put_err s.senders.items c.lanes.lane _ c.put.new.self p c.put.result c.is_err.result within c.index_mut.ensures.value c.put.ensures.lane c.is_err.ensures.value c.if-is_err.true c.put.ensures.full c.put.ensures.no_room c.put.ensures.refusals in
+    let none = put_err s.senders.items c.lanes.lane _ c.put.new.self p c.put.result c.is_err.result among c.index_mut.ensures.value c.put.ensures.lane c.is_err.ensures.value c.if-is_err.true c.put.ensures.full c.put.ensures.no_room c.put.ensures.refusals in
     let kept = router_same (puts s.senders.items) _ s.pending s.next s.marked none.same s.kept in
     let N : ℕ → Type 0 = λ n. goes_placed c.lanes.lane n p ≡ true in
     let count = i.counted ∙ sym (ap length none.same) in (
@@ -72,8 +69,7 @@ returns-then-is_err-clause-on c =
     let i = c.lanes.invariant in
     let p = c.args.placed in
     let among : c.lanes.lane < length (puts s.senders.items) = omega (arith, i.within, i.counted) in
-    let within : c.lanes.lane < length s.senders.items = omega (arith, among, length-map s.senders.items put_of) in
-    let none = put_err s.senders.items c.lanes.lane _ c.put.new.self p c.put.result c.is_err.result within c.index_mut.ensures.value c.put.ensures.lane c.is_err.ensures.value c.if-is_err.true c.put.ensures.full c.put.ensures.no_room c.put.ensures.refusals in
+    let none = put_err s.senders.items c.lanes.lane _ c.put.new.self p c.put.result c.is_err.result among c.index_mut.ensures.value c.put.ensures.lane c.is_err.ensures.value c.if-is_err.true c.put.ensures.full c.put.ensures.no_room c.put.ensures.refusals in
     record { lanes = none.on ∙ i.same_lanes; capacities = none.holds ∙ i.same_capacities; count = ap length none.same ∙ i.as_many }
 
 pub returns-then-is_err-clause-stuck : goal.returns-then-is_err-clause-stuck
@@ -82,8 +78,7 @@ returns-then-is_err-clause-stuck c _ =
     let i = c.lanes.invariant in
     let p = c.args.placed in
     let among : c.lanes.lane < length (puts s.senders.items) = omega (arith, i.within, i.counted) in
-    let within : c.lanes.lane < length s.senders.items = omega (arith, among, length-map s.senders.items put_of) in
-    let none = put_err s.senders.items c.lanes.lane _ c.put.new.self p c.put.result c.is_err.result within c.index_mut.ensures.value c.put.ensures.lane c.is_err.ensures.value c.if-is_err.true c.put.ensures.full c.put.ensures.no_room c.put.ensures.refusals in
+    let none = put_err s.senders.items c.lanes.lane _ c.put.new.self p c.put.result c.is_err.result among c.index_mut.ensures.value c.put.ensures.lane c.is_err.ensures.value c.if-is_err.true c.put.ensures.full c.put.ensures.no_room c.put.ensures.refusals in
     has_stuck c.args.self.now _ p c.requires refl i.unmarked (ap length none.same ∙ i.as_many)
     record {
       within = omega (arith, among, ap length none.same);
@@ -102,8 +97,7 @@ invariant_of-self-inside-else-is_err c =
     let i = c.lanes.invariant in
     let p = c.args.placed in
     let among : c.lanes.lane < length (puts s.senders.items) = omega (arith, i.within, i.counted) in
-    let within : c.lanes.lane < length s.senders.items = omega (arith, among, length-map s.senders.items put_of) in
-    let was = put_ok s.senders.items c.lanes.lane _ c.put.new.self p c.put.result c.is_err.result within c.index_mut.ensures.value c.put.ensures.lane c.is_err.ensures.value c.if-is_err.false c.put.ensures.ok c.put.ensures.refusals in
+    let was = put_ok s.senders.items c.lanes.lane _ c.put.new.self p c.put.result c.is_err.result among c.index_mut.ensures.value c.put.ensures.lane c.is_err.ensures.value c.if-is_err.false c.put.ensures.ok c.put.ensures.refusals in
     let long = ap length was.more ∙ length-set (puts s.senders.items) c.lanes.lane (put_on (puts s.senders.items) c.lanes.lane ++ One p ∷ []) in
     let N : ℕ → Type 0 = λ n. goes_placed c.lanes.lane n p ≡ true in
     let goes = subst N i.counted i.aimed in
@@ -124,8 +118,7 @@ lanes-preserved c =
     let i = c.lanes.invariant in
     let p = c.args.placed in
     let among : c.lanes.lane < length (puts s.senders.items) = omega (arith, i.within, i.counted) in
-    let within : c.lanes.lane < length s.senders.items = omega (arith, among, length-map s.senders.items put_of) in
-    let was = put_ok s.senders.items c.lanes.lane _ c.put.new.self p c.put.result c.is_err.result within c.index_mut.ensures.value c.put.ensures.lane c.is_err.ensures.value c.if-is_err.false c.put.ensures.ok c.put.ensures.refusals in
+    let was = put_ok s.senders.items c.lanes.lane _ c.put.new.self p c.put.result c.is_err.result among c.index_mut.ensures.value c.put.ensures.lane c.is_err.ensures.value c.if-is_err.false c.put.ensures.ok c.put.ensures.refusals in
     let long = ap length was.more ∙ length-set (puts s.senders.items) c.lanes.lane (put_on (puts s.senders.items) c.lanes.lane ++ One p ∷ []) in
     let N : ℕ → Type 0 = λ n. goes_placed c.lanes.lane n p ≡ true in
     let goes = subst N i.counted i.aimed in
@@ -151,8 +144,7 @@ returns-in-None-clause-on c =
     let i = c.lanes.invariant in
     let p = c.args.placed in
     let among : c.lanes.lane < length (puts s.senders.items) = omega (arith, i.within, i.counted) in
-    let within : c.lanes.lane < length s.senders.items = omega (arith, among, length-map s.senders.items put_of) in
-    let was = put_ok s.senders.items c.lanes.lane _ c.put.new.self p c.put.result c.is_err.result within c.index_mut.ensures.value c.put.ensures.lane c.is_err.ensures.value c.if-is_err.false c.put.ensures.ok c.put.ensures.refusals in
+    let was = put_ok s.senders.items c.lanes.lane _ c.put.new.self p c.put.result c.is_err.result among c.index_mut.ensures.value c.put.ensures.lane c.is_err.ensures.value c.if-is_err.false c.put.ensures.ok c.put.ensures.refusals in
     let long = ap length was.more ∙ length-set (puts s.senders.items) c.lanes.lane (put_on (puts s.senders.items) c.lanes.lane ++ One p ∷ []) in
     let N : ℕ → Type 0 = λ n. goes_placed c.lanes.lane n p ≡ true in
     let goes = subst N i.counted i.aimed in
@@ -164,8 +156,7 @@ returns-in-None-clause-sent c =
     let i = c.lanes.invariant in
     let p = c.args.placed in
     let among : c.lanes.lane < length (puts s.senders.items) = omega (arith, i.within, i.counted) in
-    let within : c.lanes.lane < length s.senders.items = omega (arith, among, length-map s.senders.items put_of) in
-    let was = put_ok s.senders.items c.lanes.lane _ c.put.new.self p c.put.result c.is_err.result within c.index_mut.ensures.value c.put.ensures.lane c.is_err.ensures.value c.if-is_err.false c.put.ensures.ok c.put.ensures.refusals in
+    let was = put_ok s.senders.items c.lanes.lane _ c.put.new.self p c.put.result c.is_err.result among c.index_mut.ensures.value c.put.ensures.lane c.is_err.ensures.value c.if-is_err.false c.put.ensures.ok c.put.ensures.refusals in
     let long = ap length was.more ∙ length-set (puts s.senders.items) c.lanes.lane (put_on (puts s.senders.items) c.lanes.lane ++ One p ∷ []) in
     let N : ℕ → Type 0 = λ n. goes_placed c.lanes.lane n p ≡ true in
     let goes = subst N i.counted i.aimed in

@@ -1,13 +1,12 @@
-use Rattle.std.proofs.Common.{◌≡◌, ℕ, ◌+◌, ◌<◌, true, false, [], ◌∷◌, ◌++◌, length, Some, None, refl, sym, ap, subst, ◌∙◌, arith}
-use Rattle.std.proofs.lemmas.List.{length-map, length-set}
+use Rattle.std.proofs.Common.{◌≡◌, ℕ, true, [], ◌∷◌, ◌++◌, length, Some, None, refl, sym, ap, subst, ◌∙◌, arith}
+use Rattle.std.proofs.lemmas.List.{length-set}
 use Rattle.lane.specs.declared.item.Item.TheVariants.{One}
 use Rattle.lane.specs.Items.{has_mark}
-use Rattle.lane.specs.Lanes.{put_of}
 use Rattle.dag.specs.declared.records.Placed.{Placed}
 use Rattle.dag.specs.Shares.{goes_placed}
 use Rattle.route.specs.Senders.{puts}
 use Rattle.route.specs.Sending.{put_on}
-use Rattle.route.specs.Routers.{RouterState, HasBlocked}
+use Rattle.route.specs.Routers.{HasBlocked}
 use Rattle.route.specs.Steps.{HasGoneOn, HasPutNext}
 use Rattle.route.proofs.Lists.{puts_counted, put_at, put_ok, put_err}
 use Rattle.route.proofs.Sent.{unmarked_at}
@@ -17,29 +16,25 @@ use Rattle.route.proofs.router.Router.step.Goals as goal
 pub put-requires-after_bounds : goal.put-requires-after_bounds
 put-requires-after_bounds c κs =
     let s = c.self.inside in
-    let within : s.next < length s.senders.items = omega (arith, s.kept.next_within, length-map s.senders.items put_of) in
-    ap has_mark (sym (put_at s.senders.items s.next _ within c.index_mut.ensures.value))
+    ap has_mark (sym (put_at s.senders.items s.next _ s.kept.next_within c.index_mut.ensures.value))
     ∙ unmarked_at (puts s.senders.items) s.marked s.next (omega (arith, s.kept.unmarked c.in-Some.placed c.in-Some.is)) s.kept.next_within s.kept.marks
 
 pub invariant_of-self-inside : goal.invariant_of-self-inside
 invariant_of-self-inside c =
     let s = c.self.inside in
-    let within : s.next < length s.senders.items = omega (arith, s.kept.next_within, length-map s.senders.items put_of) in
-    let none = put_err s.senders.items s.next _ c.put.new.self c.in-Some.placed c.put.result c.is_err.result within c.index_mut.ensures.value c.put.ensures.lane c.is_err.ensures.value c.if-is_err.true c.put.ensures.full c.put.ensures.no_room c.put.ensures.refusals in
+    let none = put_err s.senders.items s.next _ c.put.new.self c.in-Some.placed c.put.result c.is_err.result s.kept.next_within c.index_mut.ensures.value c.put.ensures.lane c.is_err.ensures.value c.if-is_err.true c.put.ensures.full c.put.ensures.no_room c.put.ensures.refusals in
     (router_same (puts s.senders.items) _ s.pending s.next s.marked none.same s.kept, (s.within, (s.no_ends, (s.room, record {}))))
 
 pub returns-then-is_err-clause-goes_on : goal.returns-then-is_err-clause-goes_on
 returns-then-is_err-clause-goes_on c =
     let s = c.self.inside in
-    let within : s.next < length s.senders.items = omega (arith, s.kept.next_within, length-map s.senders.items put_of) in
-    let none = put_err s.senders.items s.next _ c.put.new.self c.in-Some.placed c.put.result c.is_err.result within c.index_mut.ensures.value c.put.ensures.lane c.is_err.ensures.value c.if-is_err.true c.put.ensures.full c.put.ensures.no_room c.put.ensures.refusals in
-    over_view HasGoneOn _ _ _ c.self.view_is (gone_same _ _ (unchanged _ _ record { lanes = none.on; capacities = none.holds; count = ap length none.same } none.same refl refl refl))
+    let none = put_err s.senders.items s.next _ c.put.new.self c.in-Some.placed c.put.result c.is_err.result s.kept.next_within c.index_mut.ensures.value c.put.ensures.lane c.is_err.ensures.value c.if-is_err.true c.put.ensures.full c.put.ensures.no_room c.put.ensures.refusals in
+    over_view HasGoneOn _ _ _ c.self.view_is (gone_same _ _ (unchanged _ _ none.on none.holds none.same refl refl refl))
 
 pub returns-then-is_err-clause-blocked : goal.returns-then-is_err-clause-blocked
 returns-then-is_err-clause-blocked c =
     let s = c.self.inside in
-    let within : s.next < length s.senders.items = omega (arith, s.kept.next_within, length-map s.senders.items put_of) in
-    let none = put_err s.senders.items s.next _ c.put.new.self c.in-Some.placed c.put.result c.is_err.result within c.index_mut.ensures.value c.put.ensures.lane c.is_err.ensures.value c.if-is_err.true c.put.ensures.full c.put.ensures.no_room c.put.ensures.refusals in
+    let none = put_err s.senders.items s.next _ c.put.new.self c.in-Some.placed c.put.result c.is_err.result s.kept.next_within c.index_mut.ensures.value c.put.ensures.lane c.is_err.ensures.value c.if-is_err.true c.put.ensures.full c.put.ensures.no_room c.put.ensures.refusals in
     over_view (λ o n. (s.next ≡ o.next) × HasBlocked o n s.next) _ _ _ c.self.view_is (
       refl,
       record {
@@ -48,15 +43,14 @@ returns-then-is_err-clause-blocked c =
         knew_of_none = none.knew;
         knows_of_none = none.knows;
         full = none.full;
-        unchanged = (unchanged _ _ record { lanes = none.on; capacities = none.holds; count = ap length none.same } none.same refl refl refl);
+        unchanged = (unchanged _ _ none.on none.holds none.same refl refl refl);
       },
     )
 
 pub invariant_of-self-inside-in-Some-lane_after : goal.invariant_of-self-inside-in-Some-lane_after
 invariant_of-self-inside-in-Some-lane_after c =
     let s = c.self.inside in
-    let within : s.next < length s.senders.items = omega (arith, s.kept.next_within, length-map s.senders.items put_of) in
-    let was = put_ok s.senders.items s.next _ c.put.new.self c.in-Some.placed c.put.result c.is_err.result within c.index_mut.ensures.value c.put.ensures.lane c.is_err.ensures.value c.if-is_err.false c.put.ensures.ok c.put.ensures.refusals in
+    let was = put_ok s.senders.items s.next _ c.put.new.self c.in-Some.placed c.put.result c.is_err.result s.kept.next_within c.index_mut.ensures.value c.put.ensures.lane c.is_err.ensures.value c.if-is_err.false c.put.ensures.ok c.put.ensures.refusals in
     let kept = router_put (puts s.senders.items) _ s.pending s.next s.marked s.next c.in-Some.placed was.more s.kept.next_within (omega (arith, s.kept.unmarked c.in-Some.placed c.in-Some.is)) s.kept in
     let N : ℕ → Type 0 = λ n. goes_placed c.in-Some-lane_after.lane n c.in-Some.placed ≡ true in
     let old : c.len.result ≡ length (puts s.senders.items) = omega (arith, c.len.ensures, puts_counted s.senders) in
@@ -69,24 +63,21 @@ invariant_of-self-inside-in-Some-lane_after c =
 pub invariant_of-self-inside-in-None : goal.invariant_of-self-inside-in-None
 invariant_of-self-inside-in-None c =
     let s = c.self.inside in
-    let within : s.next < length s.senders.items = omega (arith, s.kept.next_within, length-map s.senders.items put_of) in
-    let was = put_ok s.senders.items s.next _ c.put.new.self c.in-Some.placed c.put.result c.is_err.result within c.index_mut.ensures.value c.put.ensures.lane c.is_err.ensures.value c.if-is_err.false c.put.ensures.ok c.put.ensures.refusals in
+    let was = put_ok s.senders.items s.next _ c.put.new.self c.in-Some.placed c.put.result c.is_err.result s.kept.next_within c.index_mut.ensures.value c.put.ensures.lane c.is_err.ensures.value c.if-is_err.false c.put.ensures.ok c.put.ensures.refusals in
     let kept = router_put (puts s.senders.items) _ s.pending s.next s.marked s.next c.in-Some.placed was.more s.kept.next_within (omega (arith, s.kept.unmarked c.in-Some.placed c.in-Some.is)) s.kept in
     (router_aim _ s.pending None s.next s.next s.marked kept kept.next_within (λ p e. absurd (cc)) (λ p e. absurd (cc)), (s.within, (s.no_ends, (s.room, record {}))))
 
 pub returns-in-Some-lane_after-clause-goes_on : goal.returns-in-Some-lane_after-clause-goes_on
 returns-in-Some-lane_after-clause-goes_on c =
     let s = c.self.inside in
-    let within : s.next < length s.senders.items = omega (arith, s.kept.next_within, length-map s.senders.items put_of) in
-    let was = put_ok s.senders.items s.next _ c.put.new.self c.in-Some.placed c.put.result c.is_err.result within c.index_mut.ensures.value c.put.ensures.lane c.is_err.ensures.value c.if-is_err.false c.put.ensures.ok c.put.ensures.refusals in
+    let was = put_ok s.senders.items s.next _ c.put.new.self c.in-Some.placed c.put.result c.is_err.result s.kept.next_within c.index_mut.ensures.value c.put.ensures.lane c.is_err.ensures.value c.if-is_err.false c.put.ensures.ok c.put.ensures.refusals in
     let old : c.len.result ≡ length (puts s.senders.items) = omega (arith, c.len.ensures, puts_counted s.senders) in
     over_view HasGoneOn _ _ _ c.self.view_is (gone_next _ _ c.in-Some.placed c.len.result c.in-Some.is record { on_lanes = was.on; holds = was.holds; more = was.more } old refl c.in-Some-lane_after.ensures.some.0 refl)
 
 pub returns-in-Some-lane_after-clause-put : goal.returns-in-Some-lane_after-clause-put
 returns-in-Some-lane_after-clause-put c =
     let s = c.self.inside in
-    let within : s.next < length s.senders.items = omega (arith, s.kept.next_within, length-map s.senders.items put_of) in
-    let was = put_ok s.senders.items s.next _ c.put.new.self c.in-Some.placed c.put.result c.is_err.result within c.index_mut.ensures.value c.put.ensures.lane c.is_err.ensures.value c.if-is_err.false c.put.ensures.ok c.put.ensures.refusals in
+    let was = put_ok s.senders.items s.next _ c.put.new.self c.in-Some.placed c.put.result c.is_err.result s.kept.next_within c.index_mut.ensures.value c.put.ensures.lane c.is_err.ensures.value c.if-is_err.false c.put.ensures.ok c.put.ensures.refusals in
     let old : c.len.result ≡ length (puts s.senders.items) = omega (arith, c.len.ensures, puts_counted s.senders) in
     over_view (λ o n. (p : Placed) → o.pending ≡ Some p → HasPutNext o n p) _ _ _ c.self.view_is (for_pending _ _ c.in-Some.placed c.in-Some.is (puts_next _ _ c.in-Some.placed c.len.result c.in-Some.is record { on_lanes = was.on; holds = was.holds; more = was.more } old refl c.in-Some-lane_after.ensures.some.0 refl
     c.in-Some-lane_after.ensures.some.1 c.in-Some-lane_after.ensures.some.2))
@@ -94,15 +85,13 @@ returns-in-Some-lane_after-clause-put c =
 pub returns-in-None-clause-goes_on : goal.returns-in-None-clause-goes_on
 returns-in-None-clause-goes_on c =
     let s = c.self.inside in
-    let within : s.next < length s.senders.items = omega (arith, s.kept.next_within, length-map s.senders.items put_of) in
-    let was = put_ok s.senders.items s.next _ c.put.new.self c.in-Some.placed c.put.result c.is_err.result within c.index_mut.ensures.value c.put.ensures.lane c.is_err.ensures.value c.if-is_err.false c.put.ensures.ok c.put.ensures.refusals in
+    let was = put_ok s.senders.items s.next _ c.put.new.self c.in-Some.placed c.put.result c.is_err.result s.kept.next_within c.index_mut.ensures.value c.put.ensures.lane c.is_err.ensures.value c.if-is_err.false c.put.ensures.ok c.put.ensures.refusals in
     let old : c.len.result ≡ length (puts s.senders.items) = omega (arith, c.len.ensures, puts_counted s.senders) in
     over_view HasGoneOn _ _ _ c.self.view_is (gone_last _ _ c.in-Some.placed c.len.result c.in-Some.is record { on_lanes = was.on; holds = was.holds; more = was.more } old refl refl refl c.in-None.ensures.none)
 
 pub returns-in-None-clause-put : goal.returns-in-None-clause-put
 returns-in-None-clause-put c =
     let s = c.self.inside in
-    let within : s.next < length s.senders.items = omega (arith, s.kept.next_within, length-map s.senders.items put_of) in
-    let was = put_ok s.senders.items s.next _ c.put.new.self c.in-Some.placed c.put.result c.is_err.result within c.index_mut.ensures.value c.put.ensures.lane c.is_err.ensures.value c.if-is_err.false c.put.ensures.ok c.put.ensures.refusals in
+    let was = put_ok s.senders.items s.next _ c.put.new.self c.in-Some.placed c.put.result c.is_err.result s.kept.next_within c.index_mut.ensures.value c.put.ensures.lane c.is_err.ensures.value c.if-is_err.false c.put.ensures.ok c.put.ensures.refusals in
     let old : c.len.result ≡ length (puts s.senders.items) = omega (arith, c.len.ensures, puts_counted s.senders) in
     over_view (λ o n. (p : Placed) → o.pending ≡ Some p → HasPutNext o n p) _ _ _ c.self.view_is (for_pending _ _ c.in-Some.placed c.in-Some.is (puts_last _ _ c.in-Some.placed c.len.result c.in-Some.is record { on_lanes = was.on; holds = was.holds; more = was.more } old refl refl refl c.in-None.ensures.none))
