@@ -47,8 +47,8 @@ static void end_trace(void) {
     tell_notes();
     if (detecting)
         end_detector();
-    close_output(&places);
-    close_output(&trace);
+    output_close(&places);
+    output_close(&trace);
     sigprocmask(SIG_SETMASK, &before, NULL);
 }
 
@@ -128,7 +128,7 @@ static const char *name_of(int number) {
     return name ? name : "a real-time signal";
 }
 
-static void end_by_signal(int number) {
+void end_by_signal(int number) {
     waiting_signal = 0;
     tell_record(tell_numbered("end signal", (uint64_t)number).text,
                 "the program ends by signal %d (%s), and the %s has what came before", number, name_of(number), made());

@@ -48,6 +48,7 @@ static void set_limit(bool is_file) {
     struct statvfs space;
     if (is_file && fstatvfs(trace.file, &space) == 0)
         trace.most = space.f_bavail * space.f_frsize / 4;
+    trace.at_limit = stop_at_limit;
     trace.most = settings_number_or(SETTING_MAX_BYTES, trace.most);
 }
 

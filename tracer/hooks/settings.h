@@ -9,9 +9,9 @@
 #define SETTINGS(SETTING) \
     SETTING(TRACE, "a file, fd:N or -", "no trace", "where the trace goes") \
     SETTING(REPORT, "a file, fd:N or -", "standard error", \
-            "where the report of the detector inside goes, if there is no trace") \
-    SETTING(PLACES, "a file, fd:N or -", "of a trace in a file, that with .places added", \
-            "the places, which spbags-lines needs; empty means none") \
+            "where the report of the detector inside goes") \
+    SETTING(PLACES, "a file, fd:N or -", "for a file TRACE.places", \
+            "the places for spbags-lines; empty means none") \
     SETTING(UNIT, "1, 2, 4 or 8", "4", "the bytes of one location") \
     SETTING(VERSION, "1 or 2", "2", "the version of the trace's text") \
     SETTING(REPEATS, "0 or 1", "0", "1 writes repeats too") \

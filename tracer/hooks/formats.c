@@ -1,4 +1,6 @@
-/* What a format of printf or scanf has its arguments for. */
+#include "formats.h"
+
+#include "library_words.h"
 
 /* From a percent sign to the letter behind it. A number is -1 where there is none. */
 struct conversion {
@@ -106,28 +108,28 @@ static uintptr_t printed_argument(const struct conversion *of, va_list *list) {
     return 0;
 }
 
-struct caller {
-    __spbags_function self;
-    uintptr_t stack_pointer, code;
+struct visit {
+    formats_touch *touch;
+    const void *with;
 };
 
 /* What one conversion of printf does with what its argument points to. */
-static void note_printed(const struct conversion *of, uintptr_t value, int digits, struct caller by) {
+static void note_printed(const struct conversion *of, uintptr_t value, int digits, struct visit by) {
     size_t most = digits < 0 ? SIZE_MAX : (size_t)digits;
     if (of->kind == 'n')
-        any_access(true, value, integer_size(of->longs), by.self, by.stack_pointer, by.code);
+        by.touch(true, value, integer_size(of->longs), by.with);
     else if (of->kind == 's' && value != 0 && of->longs <= 0)
-        library_read(value, some((const char *)value, most), by.self, by.stack_pointer, by.code);
+        by.touch(false, value, some((const char *)value, most), by.with);
     else if (of->kind == 's' && value != 0)
-        library_read(value,
-                     digits < 0 ? all_wide((const wchar_t *)value) : wide_characters((const wchar_t *)value, most),
-                     by.self, by.stack_pointer, by.code);
+        by.touch(false, value,
+                 digits < 0 ? all_wide((const wchar_t *)value) : wide_characters((const wchar_t *)value, most),
+                 by.with);
 }
 
 static bool takes_argument(char kind) { return kind != '\0' && kind != '%' && kind != 'm' && kind != '*'; }
 
 /* Arguments in the order of the conversions. */
-static void note_in_order(const char *format, va_list *list, struct caller by) {
+static void note_in_order(const char *format, va_list *list, struct visit by) {
     for (struct conversion next; (next = next_conversion(&format, false)).kind != '\0';) {
         if (next.width_is_argument)
             (void)va_arg(*list, int);
@@ -152,7 +154,7 @@ static struct conversion conversion_of(const char *format, int number, bool scan
 }
 
 /* Arguments that are named by their numbers, as in %2$s. */
-static void note_by_number(const char *format, va_list *list, struct caller by) {
+static void note_by_number(const char *format, va_list *list, struct visit by) {
     uintptr_t values[MOST_NUMBERED] = {0};
     for (int number = 1; number < MOST_NUMBERED; number++) {
         struct conversion first = conversion_of(format, number, false);
@@ -169,13 +171,13 @@ static void note_by_number(const char *format, va_list *list, struct caller by) 
     }
 }
 
-static void note_arguments(const char *format, va_list *list, struct caller by) {
+void formats_printed(const char *format, va_list *list, formats_touch *touch, const void *with) {
     if (!format)
         return;
     if (strchr(format, '$'))
-        note_by_number(format, list, by);
+        note_by_number(format, list, (struct visit){touch, with});
     else
-        note_in_order(format, list, by);
+        note_in_order(format, list, (struct visit){touch, with});
 }
 
 /* ---- scanf ---- */
@@ -195,7 +197,7 @@ static size_t scanned_size(const struct conversion *of, uintptr_t value) {
 }
 
 /* So many conversions stored what they read. One of %n counts for none, and stores if those before it did. */
-static void note_fields(const char *format, va_list *list, int stored, struct caller by) {
+void formats_scanned(const char *format, va_list *list, int stored, formats_touch *touch, const void *with) {
     bool by_number = strchr(format, '$');
     uintptr_t values[MOST_NUMBERED] = {0};
     for (int number = 1; by_number && number < MOST_NUMBERED; number++)
@@ -210,23 +212,17 @@ static void note_fields(const char *format, va_list *list, int stored, struct ca
                           : next.number > 0 && next.number < MOST_NUMBERED ? values[next.number]
                                                                            : 0;
         if (value != 0)
-            any_access(true, value, scanned_size(&next, value), by.self, by.stack_pointer, by.code);
+            touch(true, value, scanned_size(&next, value), with);
     }
 }
 
 /* ---- Wide formats ---- */
 
 /* The format in bytes; no letter of a conversion is any other character. */
-static char *narrowed(const wchar_t *from, char *to, size_t room) {
+char *formats_narrowed(const wchar_t *from, char *to, size_t room) {
     size_t at = 0;
     for (; from && from[at] != L'\0' && at + 1 < room; at++)
         to[at] = from[at] > 0 && from[at] < 128 ? (char)from[at] : '?';
     to[at] = '\0';
     return to;
 }
-
-#define NARROW(FORMAT) narrowed(FORMAT, (char[1000]){0}, 1000)
-
-#define BY(SELF) ((struct caller){(__spbags_function)SELF, STACK_POINTER, CODE})
-#define LIBRARY_STRINGS(FORMAT, LIST, SELF) note_arguments(FORMAT, &LIST, BY(SELF))
-#define LIBRARY_FIELDS(FORMAT, LIST, STORED, SELF) note_fields(FORMAT, &LIST, STORED, BY(SELF))

@@ -1,0 +1,31 @@
+#ifndef SPBAGS_CHANGES_H
+#define SPBAGS_CHANGES_H
+
+#include "common.h"
+
+/* A signal may come between any two instructions, and then the trace is closed by its handler. Not while bytes are on
+   their way out, nor between a record of the structure and the count of what is open: there it waits. */
+extern volatile sig_atomic_t changes, waiting_signal;
+void end_by_signal(int number);
+
+/* What stands before it in the text is done before what stands behind it, as a handler sees it. */
+static inline void in_order(void) { __atomic_signal_fence(__ATOMIC_SEQ_CST); }
+
+/* A signal that waited, where none has to wait any more. */
+static inline void let_signal_end(void) {
+    if (__builtin_expect(waiting_signal != 0, 0) && changes == 0)
+        end_by_signal(waiting_signal);
+}
+
+static inline void begin_change(void) {
+    changes++;
+    in_order();
+}
+
+static inline void end_change(void) {
+    in_order();
+    changes--;
+    let_signal_end();
+}
+
+#endif
