@@ -1,13 +1,14 @@
 -- What is kept of all locations, after an access to units of one page.
-use Rattle.std.proofs.Common.{◌≡◌, ◌≢◌, ℕ, zero, suc, ◌<◌, ◌≤◌, ◌==◌, true, false, List, ◌++◌, if◌then◌else◌, nat_eq, refl, sym, ap, ◌∙◌, subst, ⊎_elim, arith}
+use Rattle.std.proofs.Common.{◌≡◌, ◌≢◌, ℕ, zero, suc, ◌<◌, ◌≤◌, ◌==◌, Bool, true, false, List, ◌++◌, if◌then◌else◌, nat_eq, refl, sym, ap, ◌∙◌, subst, ⊎_elim, arith}
 use Rattle.std.proofs.lemmas.Bool.Decides.{eqb_tells}
 use Rattle.std.specs.Option.{option_to_list}
 use Rattle.dag.specs.declared.records.Kind.{Kind}
 use Rattle.bags.specs.Procedures.{Active}
-use Rattle.shadow.specs.Cells.{Cell}
+use Rattle.shadow.specs.Cells.{Cell, untouched}
 use Rattle.shadow.specs.Before.{IsCellBefore}
-use Rattle.blocks.specs.Pages.{Block, location_of, cell_of_unit, race_at_unit, races_up_to, HasPutUnits, HasSameUnits}
+use Rattle.blocks.specs.Pages.{Block, location_of, cell_of_unit, forgotten_at, race_at_unit, races_up_to, HasPutUnits, HasSameUnits}
 use Rattle.blocks.specs.Blocks.{block_of, unit_of, first_of, Blocks, IsBlocksBefore}
+use Rattle.blocks.specs.Masks.{has}
 use Rattle.blocks.proofs.Named.{unit_later}
 
 -- cells that are of earlier places than one are of earlier ones than each later place
@@ -23,6 +24,15 @@ all_after old new page place next count before h others own q k u = ⊎_elim her
 
     there : (nat_eq q page ≡ false) × (q ≢ page) → IsCellBefore next count (cell_of_unit new q k)
     there (t, n) = subst (IsCellBefore next count) (sym (others q k n)) (unit_later place next count count (cell_of_unit old q k) h (omega arith) (before q k u))
+
+-- and so they are after some were forgotten
+pub all_forgotten : (old new : List (ℕ × Block)) (page units place count : ℕ) → ((q k : ℕ) → k < 64 → IsCellBefore place count (cell_of_unit old q k)) → HasPutUnits page (λ i. forgotten_at units i (cell_of_unit old page i)) old new → (q k : ℕ) → k < 64 → IsCellBefore place count (cell_of_unit new q k)
+all_forgotten old new page units place count before put q k u = subst (IsCellBefore place count) (sym (put q k u)) (go (q == page) (has units k))
+  where
+    go : (here there : Bool) → IsCellBefore place count (if here then (if there then untouched else cell_of_unit old page k) else cell_of_unit old q k)
+    go false there = before q k u
+    go true false = before page k u
+    go true true = record { writer = λ n e. absurd (cc); reader = λ n e. absurd (cc) }
 
 -- what is kept of each location
 pub kept_after : (old new : List (ℕ × Block)) (page : ℕ) (f : ℕ → Cell → Cell) → HasPutUnits page (λ i. f i (cell_of_unit old page i)) old new → (l : ℕ) → cell_of_unit new (block_of l) (unit_of l) ≡ (if block_of l == page then f (unit_of l) (cell_of_unit old (block_of l) (unit_of l)) else cell_of_unit old (block_of l) (unit_of l))

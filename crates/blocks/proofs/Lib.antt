@@ -7,3 +7,4 @@ pub mod Raced
 pub mod Entries
 pub mod Kept
 pub mod Renames
+pub mod Forgets

@@ -1,10 +1,11 @@
 -- Promised: shadow memory by blocks: what is kept of each location, and how far the run has come.
-use Rattle.std.specs.Prelude.{ℕ, ◌+◌, ◌*◌, ◌/◌, ◌%◌, ◌<◌, ◌==◌, List, if◌then◌else◌}
+use Rattle.std.specs.Prelude.{ℕ, ◌+◌, ◌*◌, ◌/◌, ◌%◌, ◌<◌, ◌==◌, ◌&&◌, Bool, List, if◌then◌else◌}
 use Rattle.dag.specs.declared.records.Kind.{Kind}
 use Rattle.dag.specs.Accesses.{RaceAt}
 use Rattle.bags.specs.Procedures.{Active}
 use Rattle.shadow.specs.Cells.{Cell}
 use Rattle.shadow.specs.Before.{IsCellBefore}
+use Rattle.blocks.specs.Masks.{has}
 use Rattle.blocks.specs.Pages.{Block, cell_of_unit, location_of, touched_at, races_up_to}
 
 -- the pages of the locations that were touched, the place from which the next access may come, and the count of the
@@ -20,6 +21,10 @@ block_of l = l / 128 * 2 + l % 2
 
 abbrev pub unit_of : ℕ → ℕ
 unit_of l = l / 2 % 64
+
+-- whether it is the location of one of these units of another location's block
+abbrev pub is_unit : ℕ → ℕ → ℕ → Bool
+is_unit location units l = block_of l == block_of location && has units (unit_of l)
 
 -- the location of a page's unit 0
 abbrev pub first_of : ℕ → ℕ

@@ -6,7 +6,7 @@ use Rattle.std.specs.Option.{option_to_list}
 use Rattle.dag.specs.declared.records.Kind.{Kind}
 use Rattle.dag.specs.Accesses.{RaceAt}
 use Rattle.bags.specs.Procedures.{Active}
-use Rattle.shadow.specs.Cells.{Cell, touched, race_at}
+use Rattle.shadow.specs.Cells.{Cell, untouched, touched, race_at}
 use Rattle.blocks.specs.Masks.{has, units_before}
 use Rattle.blocks.specs.Steps.{named_cell}
 use Rattle.blocks.specs.Groups.{names_at, names_of, is_racy}
@@ -25,6 +25,10 @@ unit_cell p unit = named_cell (names_of p.groups unit) unit (has p.reported unit
 abbrev pub touched_at : List Active → Kind → ℕ → ℕ → ℕ → Cell → Cell
 touched_at fs kind place units unit c =
     if has units unit then touched fs kind (place + units_before units unit) c else c
+
+-- what is kept of a unit after these units were forgotten
+abbrev pub forgotten_at : ℕ → ℕ → Cell → Cell
+forgotten_at units unit c = if has units unit then untouched else c
 
 -- the location of a unit, by that of unit 0
 abbrev pub location_of : ℕ → ℕ → ℕ

@@ -1,9 +1,9 @@
 //! Shadow memory of the accesses of strands, by blocks of 64 units.
-ghost use Rattle.std.specs.Prelude.{◌≡◌, ℕ, ◌+◌, ◌≤◌, ◌++◌, OnOk};
+ghost use Rattle.std.specs.Prelude.{◌≡◌, ℕ, ◌+◌, ◌≤◌, ◌++◌, OnOk, if◌then◌else◌};
 ghost use Rattle.dag.specs.Bounds.{most_records};
 ghost use Rattle.shadow.specs.Cells.{untouched};
 ghost use Rattle.std.specs.Int.RustNames.{count_ones};
-ghost use Rattle.blocks.specs.Blocks.{block_of, kept_after_units, races_in_block};
+ghost use Rattle.blocks.specs.Blocks.{block_of, is_unit, kept_after_units, races_in_block};
 
 use crate::pages::Pages;
 use bags::Bags;
@@ -83,5 +83,16 @@ impl<S: BuildHasher> BlockShadow<S> {
         self.pages
             .touch(at, page, bags, first, kind, place, units, races)?;
         Ok(())
+    }
+
+    /// These units of the location's block are as they were before their first access.
+    #[inline(always)]
+    pub fn forget(&mut self, location: u64, units: u64)
+        ensures kept { (l : ℕ) → kept_in_blocks self.new l
+            ≡ (if is_unit location units l then untouched else kept_in_blocks self.old l) }
+        ensures next_place { next_place_of self.new ≡ next_place_of self.old }
+        ensures least_count { count_of_blocks self.new ≡ count_of_blocks self.old }
+    {
+        self.pages.forget(location / 128 * 2 + location % 2, units);
     }
 }

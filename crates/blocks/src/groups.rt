@@ -197,3 +197,20 @@ pub fn touch(
     }
     Ok(())
 }
+
+/// Takes these units out of all groups. A group that has none left goes.
+pub fn forget(groups: &mut Vec<Group>, units: u64)
+    ensures { (i : ℕ) → i < 64
+        → names_at groups.new.items i ≡ (if has units i then None else names_at groups.old.items i) }
+{
+    let mut index = groups.len();
+    while index > 0 {
+        index -= 1;
+        let left = without(groups[index].units, units);
+        if left == 0 {
+            groups.remove(index);
+        } else {
+            groups[index].units = left;
+        }
+    }
+}

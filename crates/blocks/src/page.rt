@@ -1,12 +1,12 @@
 //! What is kept of the 64 units of a block.
-ghost use Rattle.std.specs.Prelude.{◌≡◌, ℕ, ◌+◌, ◌^◌, ◌<◌, ◌≤◌, ◌++◌, OnOk};
+ghost use Rattle.std.specs.Prelude.{◌≡◌, ℕ, ◌+◌, ◌^◌, ◌<◌, ◌≤◌, ◌++◌, OnOk, IsTrue};
 ghost use Rattle.std.specs.Int.RustNames.{count_ones};
 ghost use Rattle.dag.specs.Bounds.{most_records};
 ghost use Rattle.shadow.specs.Cells.{untouched};
 ghost use Rattle.shadow.specs.Before.{IsCellBefore};
-ghost use Rattle.blocks.specs.Pages.{unit_cell, touched_at, races_up_to, AreNew};
+ghost use Rattle.blocks.specs.Pages.{unit_cell, touched_at, races_up_to, AreNew, forgotten_at};
 
-use crate::groups::{Group, names_of, racy_units, touch};
+use crate::groups::{Group, forget, names_of, racy_units, touch};
 use crate::masks::{count_before, without};
 use crate::step::Step;
 use bags::Bags;
@@ -89,6 +89,22 @@ impl Page {
         self.touched |= units;
         self.reported |= racy;
         Ok(())
+    }
+
+    /// These units are as they were before their first access.
+    pub fn forget(&mut self, units: u64)
+        ensures { (i : ℕ) → i < 64 → unit_cell self.new i ≡ forgotten_at units i (unit_cell self.old i) }
+    {
+        forget(&mut self.groups, units);
+        self.touched = without(self.touched, units);
+        self.reported = without(self.reported, units);
+    }
+
+    /// Whether all units are as they were before their first access.
+    pub fn is_untouched(&self) -> bool
+        ensures { IsTrue result → (i : ℕ) → i < 64 → unit_cell self.now i ≡ untouched }
+    {
+        self.touched == 0 && self.reported == 0
     }
 
     /// Puts the races at these units, of all that the access touches, behind the others.

@@ -4,7 +4,8 @@ ghost use Rattle.std.specs.Prelude.{IfSome, IfOk, IsTrue, OnOk, OnErr};
 ghost use Rattle.dag.specs.Bounds.{most_records};
 ghost use Rattle.shadow.specs.Before.{IsCellBefore};
 ghost use Rattle.std.specs.Int.RustNames.{count_ones};
-ghost use Rattle.blocks.specs.Pages.{cell_of_unit, touched_at, races_up_to};
+ghost use Rattle.shadow.specs.Cells.{untouched};
+ghost use Rattle.blocks.specs.Pages.{cell_of_unit, touched_at, races_up_to, forgotten_at};
 ghost use Rattle.blocks.specs.Pages.{IsBlockAt, IsFoundBlock, HasSameUnits, HasPutUnits};
 
 use crate::page::Page;
@@ -132,5 +133,40 @@ impl<S: BuildHasher> Pages<S> {
             None => unreachable!(),
         }
         Ok(())
+    }
+
+    /// These units of the page of this number are as they were before their first access. A page whose units all are
+    /// goes.
+    pub fn forget(&mut self, page: u64, units: u64)
+        ensures { HasPutUnits page (λ i. forgotten_at units i (cell_of_unit self.old page i)) self.old self.new }
+    {
+        if let Some(at) = self.look_up(page) {
+            if self.forget_at(at, page, units) {
+                self.drop_untouched(page);
+            }
+        }
+    }
+
+    // The same of the page of this number, which is at this index. Whether all its units are then untouched.
+    fn forget_at(&mut self, at: usize, page: u64, units: u64) -> bool
+        requires there { IsBlockAt self.old at page }
+        ensures put { HasPutUnits page (λ i. forgotten_at units i (cell_of_unit self.old page i)) self.old self.new }
+        ensures empty { IsTrue result → (i : ℕ) → i < 64 → cell_of_unit self.new page i ≡ untouched }
+    {
+        match self.map.get_index_mut(at) {
+            Some(page) => {
+                page.forget(units);
+                page.is_untouched()
+            }
+            None => unreachable!(),
+        }
+    }
+
+    // Drops the page of this number, whose units are untouched.
+    fn drop_untouched(&mut self, page: u64)
+        requires empty { (i : ℕ) → i < 64 → cell_of_unit self.old page i ≡ untouched }
+        ensures { (q k : ℕ) → k < 64 → cell_of_unit self.new q k ≡ cell_of_unit self.old q k }
+    {
+        self.map.swap_remove(&page);
     }
 }

@@ -36,7 +36,7 @@ unnamed kind location (Write l) above is = omega (arith, above, is.0)
 -- kinds that no record has are alike
 pub step_of_no_kind : (kind other location status : ℕ) (before after : Session) → 5 < kind → 5 < other → HasStepped before kind location after status → HasStepped before other location after status
 step_of_no_kind kind other location status before after above beyond step = record {
-  took = λ is u what has named. absurd (unnamed other location what beyond named);
+  took = λ is u lives what has named. absurd (unnamed other location what beyond named);
   named = λ is. omega (arith, above, step.named is);
   unchanged = step.unchanged;
   stops = step.stops;
@@ -47,7 +47,7 @@ step_of_no_kind kind other location status before after above beyond step = reco
   is_unknown = λ _. step.is_unknown above;
   is_full = λ low. omega (arith, beyond, low);
   is_ended = λ low. omega (arith, beyond, low);
-  want = λ is u what has named. absurd (unnamed other location what beyond named);
+  want = λ is u lives what has named. absurd (unnamed other location what beyond named);
   giving = step.giving;
   taking = step.taking;
   within = step.within;

@@ -1,10 +1,12 @@
 -- Promised: what lies at a handle, and what a session has taken or gives.
-use Rattle.std.specs.Prelude.{◌≡◌, ◌≢◌, ℕ, ◌+◌, ◌<◌, ◌≤◌, ◌/◌, ◌%◌, ◌⊎◌, List, [], ◌∷◌, ◌++◌, length, slice_index_or}
+use Rattle.std.specs.Prelude.{◌≡◌, ◌≢◌, ℕ, ◌+◌, ◌<◌, ◌≤◌, ◌/◌, ◌%◌, ◌⊎◌, List, [], ◌∷◌, ◌++◌, length, map}
+use Rattle.std.specs.Prelude.{slice_index_or}
 use base.Fraction.{full_share}
 use base.Fml.{Fml, ftrue, fsep, fex}
 use denote.RattleType.{RattleType}
 use denote.RawPtr.{Ptr, lies_at}
 use Rattle.std.specs.Int.RustNames.{count_ones}
+use Rattle.dag.specs.Accesses.{RaceAt}
 use Rattle.dag.specs.Bounds.{most_records}
 use Rattle.trace.specs.Faults.{HasEnded}
 use Rattle.dag.specs.Traces.{placed}
@@ -13,6 +15,7 @@ use Rattle.dag.specs.declared.records.Record.TheVariants.{Spawn, Call, Return, S
 use Rattle.shadow.specs.Found.{found, by_location}
 use Rattle.collect.specs.ReportText.{rtext}
 use Rattle.online.specs.Accesses.{block_records}
+use Rattle.online.specs.Lives.{in_life, first_lives, lives_after, IsReportOfLives}
 use Rattle.online.specs.Online.{IsAfter, MayWant}
 use Rattle.inside.specs.declared.session.Session.{Session}
 use Rattle.inside.specs.declared.session.Session.TheVariants.{Taking, Giving, Stopped}
@@ -56,11 +59,11 @@ IsNamed kind location Sync = kind ≡ 3
 IsNamed kind location (Read l) = (kind ≡ 4) × (l ≡ location)
 IsNamed kind location (Write l) = (kind ≡ 5) × (l ≡ location)
 
--- it has taken the records u as they came, and no growth was refused
-abbrev pub HasTaken : List Record → Session → Type 0
-HasTaken u (Taking d _) = IsAfter u d
-HasTaken u (Giving _ _) = ⊥
-HasTaken u Stopped = ⊥
+-- it has taken the records u as they came, no growth was refused, and the locations are now in these lives
+abbrev pub HasTaken : List Record → (ℕ → ℕ) → Session → Type 0
+HasTaken u lives (Taking d _) = IsAfter u lives d
+HasTaken u lives (Giving _ _) = ⊥
+HasTaken u lives Stopped = ⊥
 
 -- it has given this many bytes of this text
 abbrev pub HasGiven : List ℕ → ℕ → Session → Type 0
@@ -68,33 +71,38 @@ HasGiven text count (Taking _ _) = ⊥
 HasGiven text count (Giving t n) = (t.items ≡ text) × (n ≡ count)
 HasGiven text count Stopped = ⊥
 
--- the text of the report of the records u
+-- the text of the report of the records u, where each location has one life
 abbrev pub report_text : List Record → List ℕ
 report_text u = rtext (by_location (found (placed u)))
+
+-- the text is that of the report of all lives
+abbrev pub IsTextOfLives : List Record → List ℕ → Type 0
+IsTextOfLives u text = (races : List RaceAt) × IsReportOfLives (placed u) races × (text ≡ rtext races)
 
 -- What a step does, from one session to the next.
 pub record HasStepped (before : Session) (kind location : ℕ) (after : Session) (status : ℕ) : Type 0 where
   -- it took the record that came
-  pub took : status ≡ taken → (u : List Record) (what : Record) → HasTaken u before
-      → IsNamed kind location what → HasTaken (u ++ what ∷ []) after
+  pub took : status ≡ taken → (u : List Record) (lives : ℕ → ℕ) (what : Record) → HasTaken u lives before
+      → IsNamed kind location what → HasTaken (u ++ in_life lives what ∷ []) lives after
   pub named : status ≡ taken → kind < 6
   -- a record that it doesn't take changes nothing, but for a refused growth, which stops it for good
   pub unchanged : status ≢ taken → status ≢ no_memory → after ≡ before
   pub stops : status ≡ no_memory → after ≡ Stopped
   pub stopped : before ≡ Stopped → status ≡ no_memory
-  pub ended : status ≡ after_end → (u : List Record) → HasTaken u before → HasEnded u
-  pub many : status ≡ too_many → (u : List Record) → HasTaken u before → length u ≡ most_records
+  pub ended : status ≡ after_end → (u : List Record) (lives : ℕ → ℕ) → HasTaken u lives before → HasEnded u
+  pub many : status ≡ too_many → (u : List Record) (lives : ℕ → ℕ) → HasTaken u lives before → length u ≡ most_records
   pub unknown : status ≡ unknown_kind → 5 < kind
   -- and no record that it could take is refused so; memory may be refused only to a record that may need some
-  pub is_unknown : 5 < kind → (u : List Record) → HasTaken u before → status ≡ unknown_kind
-  pub is_full : kind < 6 → (u : List Record) → HasTaken u before → length u ≡ most_records → status ≡ too_many
-  pub is_ended : kind < 6 → (u : List Record) → HasTaken u before → HasEnded u → length u < most_records
-      → status ≡ after_end
-  pub want : status ≡ no_memory → (u : List Record) (what : Record) → HasTaken u before → IsNamed kind location what
-      → MayWant u what
+  pub is_unknown : 5 < kind → (u : List Record) (lives : ℕ → ℕ) → HasTaken u lives before → status ≡ unknown_kind
+  pub is_full : kind < 6 → (u : List Record) (lives : ℕ → ℕ) → HasTaken u lives before → length u ≡ most_records
+      → status ≡ too_many
+  pub is_ended : kind < 6 → (u : List Record) (lives : ℕ → ℕ) → HasTaken u lives before → HasEnded u
+      → length u < most_records → status ≡ after_end
+  pub want : status ≡ no_memory → (u : List Record) (lives : ℕ → ℕ) (what : Record) → HasTaken u lives before
+      → IsNamed kind location what → MayWant u (in_life lives what)
   -- it answers so after the report was made, and only then
   pub giving : (text : List ℕ) (count : ℕ) → HasGiven text count before → status ≡ given
-  pub taking : (u : List Record) → HasTaken u before → status ≢ given
+  pub taking : (u : List Record) (lives : ℕ → ℕ) → HasTaken u lives before → status ≢ given
   pub within : status < 6
 
 -- the kind and the location of a record in one number
@@ -111,34 +119,46 @@ HaveStepped before (r ∷ rs) after status = (between : Session) × (s : ℕ) ×
 -- What the call does that takes accesses to units of a block, where `status` is as for a step.
 pub record HasTakenBlock (before : Session) (location reads writes : ℕ) (after : Session) (status : ℕ) : Type 0 where
   -- it took them all
-  pub took : status ≡ taken → (u : List Record) → HasTaken u before
-      → HasTaken (u ++ block_records location reads writes) after
+  pub took : status ≡ taken → (u : List Record) (lives : ℕ → ℕ) → HasTaken u lives before
+      → HasTaken (u ++ map (in_life lives) (block_records location reads writes)) lives after
   -- or none of them, which changes nothing, but for a refused growth, which stops it for good
   pub unchanged : status ≢ taken → status ≢ no_memory → after ≡ before
   pub stops : status ≡ no_memory → after ≡ Stopped
   pub stopped : before ≡ Stopped → status ≡ no_memory
-  pub ended : status ≡ after_end → (u : List Record) → HasTaken u before → HasEnded u
-  pub many : status ≡ too_many → (u : List Record) → HasTaken u before
+  pub ended : status ≡ after_end → (u : List Record) (lives : ℕ → ℕ) → HasTaken u lives before → HasEnded u
+  pub many : status ≡ too_many → (u : List Record) (lives : ℕ → ℕ) → HasTaken u lives before
       → most_records < length u + (count_ones reads + count_ones writes)
   -- and none that it could take is refused so
-  pub is_full : (u : List Record) → HasTaken u before
+  pub is_full : (u : List Record) (lives : ℕ → ℕ) → HasTaken u lives before
       → most_records < length u + (count_ones reads + count_ones writes) → status ≡ too_many
-  pub is_ended : (u : List Record) → HasTaken u before → HasEnded u
+  pub is_ended : (u : List Record) (lives : ℕ → ℕ) → HasTaken u lives before → HasEnded u
       → length u + (count_ones reads + count_ones writes) ≤ most_records → status ≡ after_end
   -- it answers so after the report was made, and only then
   pub giving : (text : List ℕ) (count : ℕ) → HasGiven text count before → status ≡ given
-  pub taking : (u : List Record) → HasTaken u before → status ≢ given
+  pub taking : (u : List Record) (lives : ℕ → ℕ) → HasTaken u lives before → status ≢ given
   pub known : status ≢ unknown_kind
   pub within : status < 6
 
+-- What the call does that begins a new life for units of a block, where `status` is as for a step.
+pub record HasForgotten (before : Session) (location units : ℕ) (after : Session) (status : ℕ) : Type 0 where
+  pub forgot : status ≡ taken → (u : List Record) (lives : ℕ → ℕ) → HasTaken u lives before
+      → HasTaken u (lives_after location units lives) after
+  pub unchanged : status ≢ taken → after ≡ before
+  pub stopped : before ≡ Stopped → status ≡ no_memory
+  pub giving : (text : List ℕ) (count : ℕ) → HasGiven text count before → status ≡ given
+  pub taking : (u : List Record) (lives : ℕ → ℕ) → HasTaken u lives before → status ≡ taken
+
 -- What the call does that makes the text of the report.
 pub record HasReported (before after : Session) (status : ℕ) : Type 0 where
-  pub text : status ≡ taken → (u : List Record) → HasTaken u before → HasGiven (report_text u) 0 after
+  pub text : status ≡ taken → (u : List Record) (lives : ℕ → ℕ) → HasTaken u lives before
+      → (t : List ℕ) × IsTextOfLives u t × HasGiven t 0 after
+  -- where nothing was forgotten, it is the text of the verdict
+  pub first : status ≡ taken → (u : List Record) → HasTaken u first_lives before → HasGiven (report_text u) 0 after
   pub unchanged : status ≡ given → after ≡ before
   pub stops : status ≢ taken → status ≢ given → (status ≡ no_memory) × (after ≡ Stopped)
   pub stopped : before ≡ Stopped → status ≡ no_memory
   pub giving : (text : List ℕ) (count : ℕ) → HasGiven text count before → status ≡ given
-  pub taking : (u : List Record) → HasTaken u before → status ≢ given
+  pub taking : (u : List Record) (lives : ℕ → ℕ) → HasTaken u lives before → status ≢ given
 
 -- What the call does that gives the next byte.
 pub record HasNext (before after : Session) (answer : ℕ) : Type 0 where
@@ -146,5 +166,6 @@ pub record HasNext (before after : Session) (answer : ℕ) : Type 0 where
       → (answer ≡ slice_index_or text count 0) × HasGiven text (count + 1) after
   pub end : (text : List ℕ) (count : ℕ) → HasGiven text count before → length text ≤ count
       → (answer ≡ at_end) × HasGiven text count after
-  pub none : (u : List Record) → HasTaken u before → (answer ≡ no_text) × HasTaken u after
+  pub none : (u : List Record) (lives : ℕ → ℕ) → HasTaken u lives before
+      → (answer ≡ no_text) × HasTaken u lives after
   pub stopped : before ≡ Stopped → (answer ≡ no_text) × (after ≡ Stopped)

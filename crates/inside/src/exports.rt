@@ -10,7 +10,8 @@ ghost use Rattle.std.specs.Ptr.{lies_at, room_at};
 ghost use Rattle.inside.specs.declared.session.Session.{Session};
 ghost use Rattle.inside.specs.contracts.session.Session.{the_row};
 ghost use Rattle.inside.specs.Sessions.{held, unpacked, HasTaken, HasStepped, HaveStepped, HasTakenBlock};
-ghost use Rattle.inside.specs.Sessions.{HasReported, HasNext};
+ghost use Rattle.inside.specs.Sessions.{HasForgotten, HasReported, HasNext};
+ghost use Rattle.online.specs.Lives.{first_lives};
 
 use crate::session::Session;
 use std::alloc::Global;
@@ -27,7 +28,8 @@ pub extern "C" fn spbags_room() -> usize
 #[unsafe(no_mangle)]
 pub unsafe extern "C" fn spbags_new(alloc: Global, handle: *mut u8)
     requires* { sem 𝓛 (room_at the_row handle) }
-    ensures* { sem 𝓛 (held the_row handle (λ after. after ≢ Session.Stopped → HasTaken [] after)) }
+    ensures* { sem 𝓛 (held the_row handle (λ after. after ≢ Session.Stopped
+        → HasTaken [] first_lives after)) }
 {
     std::ptr::write(handle as *mut Session, Session::new(alloc))
 }
@@ -67,6 +69,17 @@ pub unsafe extern "C" fn spbags_block(handle: *mut u8, location: u64, reads: u64
     ensures* { sem 𝓛 (held the_row handle (λ after. HasTakenBlock before location reads writes after result)) }
 {
     Session::block(&mut *(handle as *mut Session), location, reads, writes)
+}
+
+/// Begins a new life for these units of the location's block, whose locations are odd if this one is: what comes of
+/// them later races with nothing that came before. Memory that nothing else needs is used again.
+#[unsafe(no_mangle)]
+pub unsafe extern "C" fn spbags_forget(handle: *mut u8, location: u64, units: u64) -> u8
+    ghost before: { Session }
+    requires* { sem 𝓛 (lies_at the_row full_share handle before) }
+    ensures* { sem 𝓛 (held the_row handle (λ after. HasForgotten before location units after result)) }
+{
+    Session::forget(&mut *(handle as *mut Session), location, units)
 }
 
 /// Makes the text of the report.

@@ -4,8 +4,9 @@ ghost use Rattle.dag.specs.declared.records.Record.{Record};
 ghost use Rattle.online.specs.Online.{IsAfter};
 ghost use Rattle.inside.specs.declared.session.Session.{Session};
 ghost use Rattle.inside.specs.Naming.{named_with};
-ghost use Rattle.inside.specs.Sessions.{unpacked, no_memory, IsNamed, HasTaken, report_text};
-ghost use Rattle.inside.specs.Sessions.{HasStepped, HaveStepped, HasTakenBlock, HasReported, HasNext};
+ghost use Rattle.online.specs.Lives.{first_lives};
+ghost use Rattle.inside.specs.Sessions.{unpacked, no_memory, IsNamed, HasTaken, report_text, IsTextOfLives};
+ghost use Rattle.inside.specs.Sessions.{HasStepped, HaveStepped, HasTakenBlock, HasForgotten, HasReported, HasNext};
 
 use crate::text::Text;
 use collect::write_report;
@@ -49,7 +50,7 @@ pub enum Session {
 impl Session {
     /// A session that has taken no record, or has stopped.
     pub(crate) fn new(alloc: Global) -> Session
-        ensures { result ≢ Session.Stopped → HasTaken [] result }
+        ensures { result ≢ Session.Stopped → HasTaken [] first_lives result }
     {
         match Detector::new(
             alloc,
@@ -126,6 +127,20 @@ impl Session {
         }
     }
 
+    /// Begins a new life for these units of the location's block.
+    pub(crate) fn forget(&mut self, location: u64, units: u64) -> u8
+        ensures { HasForgotten self.old location units self.new result }
+    {
+        match self {
+            Session::Taking(detector, _) => {
+                detector.forget(location, units);
+                TAKEN
+            }
+            Session::Giving(..) => GIVEN,
+            Session::Stopped => NO_MEMORY,
+        }
+    }
+
     // A function of its own, since a step would pay at each record for the room of a session.
     #[cold]
     #[inline(never)]
@@ -194,7 +209,10 @@ fn record_of(kind: u8, location: u64) -> Option<Record>
 }
 
 fn text_of(detector: Detector, alloc: Global) -> Result<Vec<u8>, NoMemory>
-    ensures text { IfOk result (λ text. (u : List Record) → IsAfter u detector → text.items ≡ report_text u) }
+    ensures text { IfOk result (λ text. (u : List Record) (lives : ℕ → ℕ) → IsAfter u lives detector
+        → IsTextOfLives u text.items) }
+    ensures first { IfOk result (λ text. (u : List Record) → IsAfter u first_lives detector
+        → text.items ≡ report_text u) }
 {
     let report = detector.finish()?;
     let mut text = Text {

@@ -88,6 +88,28 @@ fn blocks(rt: HostRuntime) -> Result<(), Fail> {
     Ok(())
 }
 
+// The child writes locations 6, 7 and 9, and the root, which doesn't wait for it, does so after 7 and 8 were forgotten.
+// Then both 6 and 7 race in another life.
+#[test]
+fn forgotten(rt: HostRuntime) -> Result<(), Fail> {
+    let mut session = Session::new(rt.alloc());
+    assert_eq!(rt; session.steps(&[0, 53, 61, 77, 2]), TAKEN);
+    assert_eq!(rt; session.forget(7, 1 << 3), TAKEN);
+    assert_eq!(rt; session.forget(6, 1 << 4), TAKEN);
+    assert_eq!(rt; session.steps(&[53, 61, 77]), TAKEN);
+    assert_eq!(rt; session.forget(0, u64::MAX), TAKEN);
+    assert_eq!(rt; session.forget(1, u64::MAX), TAKEN);
+    assert_eq!(rt; session.steps(&[53, 61, 0, 53, 61, 2, 53, 61, 2]), TAKEN);
+    gives(
+        &rt,
+        &mut session,
+        b"races 3\nrace 6 write 2 write 6\nrace 7 write 13 write 16\nrace 9 write 4 write 8\n",
+    );
+    assert_eq!(rt; session.forget(7, 1), GIVEN);
+    session.close();
+    Ok(())
+}
+
 // `rt try --test --fail-alloc N` refuses growth N. A refusal stops the session for good.
 #[test]
 fn refused(rt: HostRuntime) -> Result<(), Fail> {
@@ -133,6 +155,23 @@ fn takes_much<R: Abort + AllocGlobal>(rt: &R, reports: bool) {
         assert_eq!(rt; session.report(), TAKEN);
     }
     session.close();
+}
+
+// Locations that are forgotten give their memory back: 100,000 that lie far apart would take 20 MB, and one after
+// another they take less than 4.
+#[test]
+fn comes_back(rt: HostRuntime) -> Result<(), Fail> {
+    let before = pages(&rt)?;
+    let mut session = Session::new(rt.alloc());
+    for number in 0..100_000u64 {
+        let location = number << 8 | number & 1;
+        assert_eq!(rt; session.step(WRITE, location), TAKEN);
+        assert_eq!(rt; session.forget(location, 1), TAKEN);
+    }
+    let after = pages(&rt)?;
+    session.close();
+    assert!(rt; before > 1 << 30 || after < before + 1_000);
+    Ok(())
 }
 
 // The sessions have more than 200 MB in all, and less than half of that stays. `rt try` keeps what is freed, so that

@@ -1,31 +1,33 @@
 -- What a detector has found, after more records.
-use Rattle.std.proofs.Common.{◌≡◌, ◌≢◌, ℕ, ◌%◌, ◌<◌, ◌≤◌, ◌⊎◌, inl, inr, ⊎_elim, arith, cond, nat_eq, false, List, [], ◌∷◌, ◌++◌, map, refl, sym, ◌∙◌, ap, subst, Option, None, Result, Ok, Err, OnOk, OnErr, IsErr}
+use Rattle.std.proofs.Common.{◌≡◌, ◌≢◌, ℕ, ◌%◌, ◌^◌, ◌<◌, ◌≤◌, ◌⊎◌, inl, inr, ⊎_elim, arith, cond, nat_eq, false, List, [], ◌∷◌, ◌++◌, map, refl, sym, ◌∙◌, ap, subst, Option, None, Some, Result, Ok, Err, OnOk, OnErr, IsErr}
 use Rattle.std.specs.Option.{option_to_list}
-use Rattle.online.proofs.OneByOne.{seen_after, found_after, bags_after_one, kept_after_one, found_after_one}
-use Rattle.online.specs.Online.{kept_in_both}
 use Rattle.std.proofs.lemmas.Bool.{cases_lt, eq-eqb, ne_eqb}
-use Rattle.std.proofs.lemmas.List.{append-nil}
+use Rattle.std.proofs.lemmas.List.{append-nil, map-append}
 use Rattle.dag.specs.declared.back.Back.{Back}
 use Rattle.dag.specs.declared.back.Back.TheVariants.{Race, NoMemory}
 use Rattle.dag.specs.declared.records.Record.{Record}
 use Rattle.dag.specs.declared.records.Record.TheVariants as records
 use Rattle.dag.specs.declared.records.Placed.{Placed}
 use Rattle.dag.specs.declared.records.Kind.{Kind}
+use Rattle.dag.specs.declared.records.Kind.TheVariants as kinds
 use Rattle.dag.specs.Races.{access}
 use Rattle.dag.specs.Accesses.{RaceAt}
-use Rattle.bags.specs.Procedures.{Procedures, Active, event}
-use Rattle.shadow.specs.Cells.{untouched, Cell, touched, race_at}
+use Rattle.bags.specs.Procedures.{Active, event}
+use Rattle.shadow.specs.Cells.{untouched, touched, race_at}
 use Rattle.shadow.specs.Shadow.{Shadow, kept_of}
-use Rattle.shadow.specs.Found.{with_cell, State, state_after, after_record, race_of, found}
-use Rattle.shadow.proofs.FoundLaws.{state_after-push}
-use Rattle.shadow.proofs.StateLemmas.{found_none}
+use Rattle.shadow.specs.Found.{with_cell, State, state_at_start, state_from, state_after, after_record, found, found_from}
+use Rattle.shadow.specs.Found as rules
+use Rattle.shadow.proofs.FoundLaws.{state_from-append, found_from-append, found-push}
 use Rattle.collect.specs.Collected.{Collection, KeepsBest, races_of, fails}
 use Rattle.collect.proofs.Best.{races_of-append}
-use Rattle.serial.specs.Detected.{HasDetected}
 use Rattle.blocks.specs.Pages.{location_of, touched_at}
 use Rattle.blocks.specs.Blocks.{Blocks, kept_in_blocks, block_of, unit_of, first_of, kept_after_units, races_in_block}
 use Rattle.blocks.proofs.Kept.{races_of_same}
 use Rattle.online.specs.Accesses.{accesses}
+use Rattle.online.specs.Lives.{named, placed_in_life, at_home}
+use Rattle.online.specs.Online.{Online, kept_in_both, HasTakenPlaced}
+use Rattle.online.proofs.Lived.{IsWithin, AreWithin, all_lived, race_lived}
+use Rattle.online.proofs.OneByOne.{seen_units, found_units, within_units, seen_one, found_one}
 
 races_of-races : (rs : List RaceAt) → races_of (map Race rs) ≡ rs
 races_of-races [] = refl
@@ -40,27 +42,43 @@ fails-races [] rs = fails_of_races rs
 fails-races (Race r ∷ g) rs = fails-races g rs
 fails-races (NoMemory ∷ g) rs = refl
 
--- records that leave the bags as they are, and whose races were given to the collector
-met_more : (u v : List Placed) (bags : Procedures) (old new : ℕ → Cell) (kept after : Collection) (races : List RaceAt) → HasDetected u bags old kept → bags ≡ (state_after (u ++ v)).bags → ((l : ℕ) → new l ≡ (state_after (u ++ v)).kept l)
-    → found (u ++ v) ≡ found u ++ races → ((g : List Back) → KeepsBest g kept → KeepsBest (g ++ map Race races) after) → HasDetected (u ++ v) bags new after
-met_more u v bags old new kept after races h bags_are cells_are adds taken = record {
-  bags_are = bags_are;
-  cells_are = cells_are;
-  given = h.given ++ map Race races;
-  holds = taken h.given h.holds;
-  none_failed = fails-races h.given races ∙ h.none_failed;
-  races = races_of-append h.given (map Race races) ∙ ap (λ l. races_of h.given ++ l) (races_of-races races) ∙ ap (λ l. l ++ races) h.races ∙ sym adds;
-}
+-- what it keeps of the locations, as a state
+abbrev pub state_of : Online → State
+state_of d = record { bags = d.bags; kept = kept_in_both d.cells d.blocks }
+
+-- what it has taken says nothing of the last place
+pub at_place : (u : List Placed) (lives : ℕ → ℕ) (d : Online) (n : ℕ) → HasTakenPlaced u lives d → HasTakenPlaced u lives (record { bags = d.bags; cells = d.cells; blocks = d.blocks; kept = d.kept; last_place = n; ended = d.ended; stopped = d.stopped })
+at_place u lives d n h = record { bags_are = h.bags_are; cells_are = h.cells_are; later = h.later; given = h.given; holds = h.holds; none_failed = h.none_failed; races = h.races }
+
+-- more records
+pub met_more : (u : List Placed) (lives : ℕ → ℕ) (v : List Placed) (d e : Online) → HasTakenPlaced u lives d → AreWithin v → e.bags ≡ (state_from (state_of d) v).bags → ((l : ℕ) → kept_in_both e.cells e.blocks l ≡ (state_from (state_of d) v).kept l)
+    → ((g : List Back) → KeepsBest g d.kept → KeepsBest (g ++ map Race (found_from (state_of d) v)) e.kept) → HasTakenPlaced (u ++ map (placed_in_life lives) v) lives e
+met_more u lives v d e h within bags_are cells_are taken =
+    let w : List Placed = map (placed_in_life lives) v in
+    let races : List RaceAt = found_from (state_of d) v in
+    let t : State = state_after u in
+    let lived = all_lived lives (state_of d) t v within (record { bags = h.bags_are; kept = h.cells_are; later = h.later }) in
+    let after : state_from t w ≡ state_after (u ++ w) = sym (state_from-append state_at_start u w) in
+    record {
+      bags_are = bags_are ∙ lived.0.bags ∙ ap (λ (s : State). s.bags) after;
+      cells_are = λ l f. cells_are l ∙ lived.0.kept l f ∙ ap (λ (s : State). s.kept (named l (lives l))) after;
+      later = λ l k f j. ap (λ (s : State). s.kept (named l k)) (sym after) ∙ lived.0.later l k f j;
+      given = h.given ++ map Race races;
+      holds = taken h.given h.holds;
+      none_failed = fails-races h.given races ∙ h.none_failed;
+      races = races_of-append h.given (map Race races) ∙ ap (λ l. races_of h.given ++ l) (races_of-races races) ∙ ap (λ l. l ++ races) h.races
+          ∙ ap (λ l. map at_home (found u) ++ l) (sym lived.1) ∙ sym (map-append at_home (found u) (found_from t w)) ∙ ap (map at_home) (sym (found_from-append state_at_start u w));
+    }
 
 -- ---- both shadow memories
 
-odd_cell : (cells : Shadow) (blocks : Blocks) (l : ℕ) → l % 2 ≢ 0 → kept_in_both cells blocks l ≡ kept_of cells l
+pub odd_cell : (cells : Shadow) (blocks : Blocks) (l : ℕ) → l % 2 ≢ 0 → kept_in_both cells blocks l ≡ kept_of cells l
 odd_cell cells blocks l odd = ap (λ b. cond b (kept_of cells l) (kept_in_blocks blocks l)) (eq-eqb (l % 2) 1 (omega (arith, odd)))
 
-even_cell : (cells : Shadow) (blocks : Blocks) (l : ℕ) → l % 2 ≡ 0 → kept_in_both cells blocks l ≡ kept_in_blocks blocks l
+pub even_cell : (cells : Shadow) (blocks : Blocks) (l : ℕ) → l % 2 ≡ 0 → kept_in_both cells blocks l ≡ kept_in_blocks blocks l
 even_cell cells blocks l is = ap (λ b. cond b (kept_of cells l) (kept_in_blocks blocks l)) (ne_eqb (l % 2) 1 (λ e. omega (arith, e, is)))
 
-parity : (l : ℕ) → (l % 2 ≡ 0) ⊎ (l % 2 ≢ 0)
+pub parity : (l : ℕ) → (l % 2 ≡ 0) ⊎ (l % 2 ≢ 0)
 parity l = ⊎_elim (λ (h : l % 2 < 1). inl (omega (arith, h))) (λ (h : 1 ≤ l % 2). inr (λ e. omega (arith, h, e))) (cases_lt (l % 2) 1)
 
 pub untouched_in_both : (cells : Shadow) (blocks : Blocks) → ((l : ℕ) → kept_of cells l ≡ untouched) → ((l : ℕ) → kept_in_blocks blocks l ≡ untouched) → (l : ℕ) → kept_in_both cells blocks l ≡ untouched
@@ -91,14 +109,17 @@ races_in_both fs cells blocks location kind place units is =
     races_of_same fs first kind place units (λ i. kept_in_blocks blocks (location_of first i)) (λ i. kept_in_both cells blocks (location_of first i)) 64
     (λ k h. sym (even_cell cells blocks (location_of first k) (omega (arith, is))))
 
-pub met_units : (u : List Placed) (bags : Procedures) (cells : Shadow) (old new : Blocks) (kept after : Collection) (location : ℕ) (kind : Kind) (place units : ℕ) (races : List RaceAt) → location % 2 ≡ 0 → HasDetected u bags (kept_in_both cells old) kept
-    → ((l : ℕ) → kept_in_blocks new l ≡ kept_after_units bags.active kind place units (block_of location) (kept_in_blocks old) l)
-    → races ≡ races_in_block bags.active kind place units (block_of location) (kept_in_blocks old)
-    → ((g : List Back) → KeepsBest g kept → KeepsBest (g ++ map Race races) after) → HasDetected (u ++ accesses location kind place units) bags (kept_in_both cells new) after
-met_units u bags cells old new kept after location kind place units races is h stays reported taken =
-    let seen = seen_after u bags (kept_in_both cells old) (kept_in_both cells new) location kind place units h.bags_are h.cells_are (both_after_units bags.active cells old new location kind place units is stays) in
-    met_more u (accesses location kind place units) bags (kept_in_both cells old) (kept_in_both cells new) kept after races h seen.0 seen.1
-    (found_after u bags (kept_in_both cells old) location kind place units h.bags_are h.cells_are ∙ ap (λ rs. found u ++ rs) (sym (reported ∙ races_in_both bags.active cells old location kind place units is))) taken
+pub met_units : (u : List Placed) (lives : ℕ → ℕ) (d e : Online) (location : ℕ) (kind : Kind) (place units : ℕ) (races : List RaceAt) → location % 2 ≡ 0 → location < 2 ^ 64 → HasTakenPlaced u lives d
+    → e.bags ≡ d.bags → e.cells ≡ d.cells → ((l : ℕ) → kept_in_blocks e.blocks l ≡ kept_after_units d.bags.active kind place units (block_of location) (kept_in_blocks d.blocks) l)
+    → races ≡ races_in_block d.bags.active kind place units (block_of location) (kept_in_blocks d.blocks)
+    → ((g : List Back) → KeepsBest g d.kept → KeepsBest (g ++ map Race races) e.kept) → HasTakenPlaced (u ++ map (placed_in_life lives) (accesses location kind place units)) lives e
+met_units u lives d e location kind place units races is fits h bags cells stays reported taken =
+    let v = accesses location kind place units in
+    let seen = seen_units (state_of d) location kind place units in
+    let all : races ≡ found_from (state_of d) v = reported ∙ races_in_both d.bags.active d.cells d.blocks location kind place units is ∙ sym (found_units (state_of d) location kind place units) in
+    met_more u lives v d e h (within_units location kind place units fits) (bags ∙ sym seen.0)
+    (λ l. ap (λ c. kept_in_both c e.blocks l) cells ∙ both_after_units d.bags.active d.cells d.blocks e.blocks location kind place units is stays l ∙ sym (seen.1 l))
+    (λ g keeps. subst (λ rs. KeepsBest (g ++ map Race rs) e.kept) all (taken g keeps))
 
 -- no race is reported
 pub takes_none : (kept : Collection) (races : List RaceAt) → races ≡ [] → (g : List Back) → KeepsBest g kept → KeepsBest (g ++ map Race races) kept
@@ -121,60 +142,71 @@ both_after_one fs old new blocks location kind place odd kept q = ⊎_elim at_ev
         ∙ ap (λ c. cond (nat_eq q location) (touched fs kind place c) (kept_of old q)) (sym (odd_cell old blocks location odd))
         ∙ ap (λ c. cond (nat_eq q location) (touched fs kind place (kept_in_both old blocks location)) c) (sym (odd_cell old blocks q o))
 
-module _ (u : List Placed) (bags : Procedures) (old new : Shadow) (blocks : Blocks) (kept : Collection) (location : ℕ) (kind : Kind) (place : ℕ) (odd : location % 2 ≢ 0) (h : HasDetected u bags (kept_in_both old blocks) kept)
-    (o : Option RaceAt) (reported : o ≡ race_at bags.active location kind place (kept_of old location)) where
+module _ (u : List Placed) (lives : ℕ → ℕ) (d : Online) (location : ℕ) (kind : Kind) (place : ℕ) (odd : location % 2 ≢ 0) (fits : location < 2 ^ 64) (h : HasTakenPlaced u lives d)
+    (o : Option RaceAt) (reported : o ≡ race_at d.bags.active location kind place (kept_of d.cells location)) where
   abbrev p : Placed
   p = record { place = place; what = access kind location }
 
-  pub found_one : found (u ++ p ∷ []) ≡ found u ++ option_to_list o
-  found_one = found_after_one u bags (kept_in_both old blocks) place location kind h.bags_are h.cells_are
-      ∙ ap (λ q. found u ++ option_to_list q) (ap (race_at bags.active location kind place) (odd_cell old blocks location odd) ∙ sym reported)
+  abbrev q : Placed
+  q = placed_in_life lives p
 
-  pub met_one : (after : Collection) → ((q : ℕ) → kept_of new q ≡ with_cell location (touched bags.active kind place (kept_of old location)) (kept_of old) q)
-      → ((g : List Back) → KeepsBest g kept → KeepsBest (g ++ map Race (option_to_list o)) after) → HasDetected (u ++ p ∷ []) bags (kept_in_both new blocks) after
-  met_one after stays taken = met_more u (p ∷ []) bags (kept_in_both old blocks) (kept_in_both new blocks) kept after (option_to_list o) h
-      (bags_after_one u bags (kept_in_both old blocks) place location kind h.bags_are h.cells_are)
-      (kept_after_one u bags (kept_in_both old blocks) place location kind h.bags_are h.cells_are (kept_in_both new blocks) (both_after_one bags.active old new blocks location kind place odd stays))
-      found_one taken
+  within : IsWithin p.what
+  within = go kind
+    where
+      go : (k : Kind) → IsWithin (access k location)
+      go kinds.Read = fits
+      go kinds.Write = fits
+
+  is : option_to_list o ≡ found_from (state_of d) (p ∷ [])
+  is = ap option_to_list (reported ∙ ap (race_at d.bags.active location kind place) (sym (odd_cell d.cells d.blocks location odd))) ∙ sym (found_one (state_of d) place location kind)
+
+  pub met_one : (e : Online) → e.bags ≡ d.bags → e.blocks ≡ d.blocks → ((q : ℕ) → kept_of e.cells q ≡ with_cell location (touched d.bags.active kind place (kept_of d.cells location)) (kept_of d.cells) q)
+      → ((g : List Back) → KeepsBest g d.kept → KeepsBest (g ++ map Race (option_to_list o)) e.kept) → HasTakenPlaced (u ++ q ∷ []) lives e
+  met_one e bags blocks stays taken =
+      let seen = seen_one (state_of d) place location kind in
+      met_more u lives (p ∷ []) d e h (within, tt) (bags ∙ sym seen.0)
+      (λ l. ap (λ b. kept_in_both e.cells b l) blocks ∙ both_after_one d.bags.active d.cells e.cells d.blocks location kind place odd stays l ∙ sym (seen.1 l))
+      (λ g keeps. subst (λ rs. KeepsBest (g ++ map Race rs) e.kept) is (taken g keeps))
+
+  -- the race of its life
+  pub found_next : (r : RaceAt) → o ≡ Some r → (x : RaceAt) × (found (u ++ q ∷ []) ≡ found u ++ x ∷ [])
+  found_next r some =
+      let t : State = state_after u in
+      let lived = race_lived lives (state_of d) t place p.what within (record { bags = h.bags_are; kept = h.cells_are; later = h.later }) in
+      let one : map at_home (option_to_list (rules.race_of t place q.what)) ≡ r ∷ [] = lived ∙ sym (append-nil (option_to_list (rules.race_of (state_of d) place p.what))) ∙ sym is ∙ ap option_to_list some in
+      there (rules.race_of t place q.what) refl one
+    where
+      there : (x : Option RaceAt) → rules.race_of (state_after u) place q.what ≡ x → map at_home (option_to_list x) ≡ r ∷ [] → (x : RaceAt) × (found (u ++ q ∷ []) ≡ found u ++ x ∷ [])
+      there None e f = absurd (cc)
+      there (Some x) e f = (x, found-push u q ∙ ap (λ z. found u ++ option_to_list z) e)
 
 -- ---- a record of the structure
 
-met_by : (u : List Placed) (p : Placed) (bags after : Procedures) (cells : ℕ → _) (kept : Collection) → after ≡ (after_record (state_after u) p.place p.what).bags
-    → ((l : ℕ) → (state_after u).kept l ≡ (after_record (state_after u) p.place p.what).kept l) → found (u ++ p ∷ []) ≡ found u ++ [] → HasDetected u bags cells kept → HasDetected (u ++ p ∷ []) after cells kept
-met_by u p bags after cells kept bags_are kept_are none h =
-    let next : after_record (state_after u) p.place p.what ≡ state_after (u ++ p ∷ []) = sym (state_after-push u p) in
-    record {
-      bags_are = bags_are ∙ ap (λ (s : State). s.bags) next;
-      cells_are = λ l. h.cells_are l ∙ kept_are l ∙ ap (λ (s : State). s.kept l) next;
-      given = h.given;
-      holds = h.holds;
-      none_failed = h.none_failed;
-      races = h.races ∙ sym (append-nil (found u)) ∙ sym none;
-    }
-
 -- what such a record does
 abbrev pub IsStructure : Record → Type 0
-IsStructure r = (s : State) (place : ℕ) → ((after_record s place r).bags ≡ event s.bags r) × ((l : ℕ) → s.kept l ≡ (after_record s place r).kept l) × (None ≡ race_of s place r)
+IsStructure r = IsWithin r × ((s : State) (place : ℕ) → ((after_record s place r).bags ≡ event s.bags r) × ((l : ℕ) → s.kept l ≡ (after_record s place r).kept l) × (None ≡ rules.race_of s place r))
 
-pub met_structure : (u : List Placed) (p : Placed) (r : Record) (bags after : Procedures) (cells : ℕ → _) (kept : Collection) → p.what ≡ r → IsStructure r → after ≡ event bags r → HasDetected u bags cells kept → HasDetected (u ++ p ∷ []) after cells kept
-met_structure u p r bags after cells kept is structure moved h =
-    let s = state_after u in
-    let moves : event bags r ≡ (after_record s p.place p.what).bags = ap (λ b. event b r) h.bags_are ∙ sym (structure s p.place).0 ∙ ap (λ q. (after_record s p.place q).bags) (sym is) in
-    met_by u p bags after cells kept (moved ∙ moves)
-    (λ l. (structure s p.place).1 l ∙ ap (λ q. (after_record s p.place q).kept l) (sym is))
-    (found_none u p r is (λ t. (structure t p.place).2)) h
+pub met_structure : (u : List Placed) (lives : ℕ → ℕ) (p : Placed) (r : Record) (d e : Online) → p.what ≡ r → IsStructure r → e.bags ≡ event d.bags r → e.cells ≡ d.cells → e.blocks ≡ d.blocks → e.kept ≡ d.kept
+    → HasTakenPlaced u lives d → HasTakenPlaced (u ++ placed_in_life lives p ∷ []) lives e
+met_structure u lives p r d e is structure bags cells blocks kept h =
+    let s = state_of d in
+    let moves = structure.1 s p.place in
+    let none : found_from s (p ∷ []) ≡ [] = append-nil (option_to_list (rules.race_of s p.place p.what)) ∙ ap (λ q. option_to_list (rules.race_of s p.place q)) is ∙ ap option_to_list (sym moves.2) in
+    met_more u lives (p ∷ []) d e h (subst IsWithin (sym is) structure.0, tt) (bags ∙ sym moves.0 ∙ ap (λ q. (after_record s p.place q).bags) (sym is))
+    (λ l. ap (λ c. kept_in_both c e.blocks l) cells ∙ ap (λ b. kept_in_both d.cells b l) blocks ∙ moves.1 l ∙ ap (λ q. (after_record s p.place q).kept l) (sym is))
+    (λ g keeps. subst (λ k. KeepsBest (g ++ map Race (found_from s (p ∷ []))) k) (sym kept) (takes_none d.kept (found_from s (p ∷ [])) none g keeps))
 
 pub spawn_moves : IsStructure records.Spawn
-spawn_moves s place = (refl, (λ l. refl), refl)
+spawn_moves = (tt, (λ s place. (refl, (λ l. refl), refl)))
 
 pub call_moves : IsStructure records.Call
-call_moves s place = (refl, (λ l. refl), refl)
+call_moves = (tt, (λ s place. (refl, (λ l. refl), refl)))
 
 pub sync_moves : IsStructure records.Sync
-sync_moves s place = (refl, (λ l. refl), refl)
+sync_moves = (tt, (λ s place. (refl, (λ l. refl), refl)))
 
 pub return_moves : IsStructure records.Return
-return_moves s place = (refl, (λ l. refl), refl)
+return_moves = (tt, (λ s place. (refl, (λ l. refl), refl)))
 
 -- what holds where it is known that all went well
 pub where_ok : {T E : Type 0} {x : T} (r : Result T E) (P : Type 0) → r ≡ Ok x → OnOk r P → P

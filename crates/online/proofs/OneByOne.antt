@@ -1,5 +1,5 @@
 -- An access to units of a page is what accesses to its units one by one are.
-use Rattle.std.proofs.Common.{◌≡◌, ◌≢◌, ℕ, zero, suc, ◌+◌, ◌<◌, ◌≤◌, Bool, true, false, List, [], ◌∷◌, ◌++◌, cond, nat_eq, refl, sym, ap, ◌∙◌, ⊎_elim, arith, append-nil, None}
+use Rattle.std.proofs.Common.{◌≡◌, ◌≢◌, ℕ, zero, suc, ◌+◌, ◌^◌, ◌<◌, ◌≤◌, Bool, true, false, List, [], ◌∷◌, ◌++◌, cond, nat_eq, refl, sym, ap, ◌∙◌, ⊎_elim, arith, append-nil, None}
 use Rattle.std.proofs.lemmas.Bool.{cases_lt, eq-eqb, ne_eqb}
 use Rattle.std.proofs.lemmas.Bool.Decides.{eqb_tells}
 use Rattle.std.specs.Option.{option_to_list}
@@ -9,15 +9,15 @@ use Rattle.dag.specs.declared.records.Placed.{Placed}
 use Rattle.dag.specs.Accesses.{RaceAt}
 use Rattle.dag.specs.Races.{access}
 use Rattle.bags.specs.Procedures.{Procedures}
-use Rattle.shadow.specs.Cells.{Cell, touched, race_at}
+use Rattle.shadow.specs.Cells.{touched, race_at}
 use Rattle.shadow.specs.Found.{State, state_from, state_after, found_from, found, after_record, with_cell, state_at_start}
 use Rattle.shadow.specs.Found as rules
-use Rattle.shadow.proofs.FoundLaws.{state_from-append, found_from-append, state_after-push, found-push}
+use Rattle.shadow.proofs.FoundLaws.{state_from-append, found_from-append}
 use Rattle.blocks.specs.Masks.{has, units_before}
 use Rattle.blocks.specs.Pages.{location_of, touched_at, races_up_to}
 use Rattle.blocks.specs.Blocks.{block_of, unit_of, first_of, kept_after_units, races_in_block}
-use Rattle.blocks.proofs.Kept.{races_of_same}
 use Rattle.online.specs.Accesses.{accesses, accesses_up_to}
+use Rattle.online.proofs.Lived.{IsWithin, AreWithin}
 
 -- what such accesses do to a state, up to a unit
 pub record HaveRun (s : State) (page : ℕ) (kind : Kind) (place units n : ℕ) : Type 0 where
@@ -119,76 +119,55 @@ run_all s page kind place units zero h = run_none s page kind place units
 run_all s page kind place units (suc n) h = run_one s page kind place units n (omega (arith, h)) (has units n) refl (run_all s page kind place units n (omega (arith, h)))
 
 -- what is kept after such accesses
-pub seen_after : (u : List Placed) (bags : Procedures) (old new : ℕ → Cell) (location : ℕ) (kind : Kind) (place units : ℕ) → bags ≡ (state_after u).bags → ((l : ℕ) → old l ≡ (state_after u).kept l)
-    → ((l : ℕ) → new l ≡ kept_after_units bags.active kind place units (block_of location) old l)
-    → (bags ≡ (state_after (u ++ accesses location kind place units)).bags) × ((l : ℕ) → new l ≡ (state_after (u ++ accesses location kind place units)).kept l)
-seen_after u bags old new location kind place units bags_are kept_are kept = (
-  bags_are ∙ sym r.bags ∙ ap (λ (s : State). s.bags) (sym after),
-  (λ l. kept l ∙ ⊎_elim (here l) (there l) (eqb_tells (block_of l) page) ∙ ap (λ (s : State). s.kept l) (sym after)),
-)
+pub seen_units : (s : State) (location : ℕ) (kind : Kind) (place units : ℕ)
+    → ((state_from s (accesses location kind place units)).bags ≡ s.bags) × ((l : ℕ) → (state_from s (accesses location kind place units)).kept l ≡ kept_after_units s.bags.active kind place units (block_of location) s.kept l)
+seen_units s location kind place units = (r.bags, (λ l. ⊎_elim (here l) (there l) (eqb_tells (block_of l) page)))
   where
     page : ℕ
     page = block_of location
 
-    t : State
-    t = state_after u
+    r : HaveRun s page kind place units 64
+    r = run_all s page kind place units 64 (omega arith)
 
-    after : state_after (u ++ accesses location kind place units) ≡ state_from t (accesses location kind place units)
-    after = state_from-append state_at_start u (accesses location kind place units)
+    here : (l : ℕ) → (nat_eq (block_of l) page ≡ true) × (block_of l ≡ page) → (state_from s (accesses location kind place units)).kept l ≡ kept_after_units s.bags.active kind place units page s.kept l
+    here l (e, f) = r.here l f (omega arith) ∙ sym (ap (λ b. cond b (touched_at s.bags.active kind place units (unit_of l) (s.kept l)) (s.kept l)) e)
 
-    r : HaveRun t page kind place units 64
-    r = run_all t page kind place units 64 (omega arith)
+    there : (l : ℕ) → (nat_eq (block_of l) page ≡ false) × (block_of l ≢ page) → (state_from s (accesses location kind place units)).kept l ≡ kept_after_units s.bags.active kind place units page s.kept l
+    there l (e, f) = r.elsewhere l (λ x. absurd (f x)) ∙ sym (ap (λ b. cond b (touched_at s.bags.active kind place units (unit_of l) (s.kept l)) (s.kept l)) e)
 
-    here : (l : ℕ) → (nat_eq (block_of l) page ≡ true) × (block_of l ≡ page) → kept_after_units bags.active kind place units page old l ≡ (state_from t (accesses location kind place units)).kept l
-    here l (e, f) = ap (λ b. cond b (touched_at bags.active kind place units (unit_of l) (old l)) (old l)) e
-        ∙ ap (λ (b : Procedures). touched_at b.active kind place units (unit_of l) (old l)) bags_are ∙ ap (touched_at t.bags.active kind place units (unit_of l)) (kept_are l) ∙ sym (r.here l f (omega arith))
+-- the races that are reported at them
+pub found_units : (s : State) (location : ℕ) (kind : Kind) (place units : ℕ) → found_from s (accesses location kind place units) ≡ races_in_block s.bags.active kind place units (block_of location) s.kept
+found_units s location kind place units = (run_all s (block_of location) kind place units 64 (omega arith)).races
 
-    there : (l : ℕ) → (nat_eq (block_of l) page ≡ false) × (block_of l ≢ page) → kept_after_units bags.active kind place units page old l ≡ (state_from t (accesses location kind place units)).kept l
-    there l (e, f) = ap (λ b. cond b (touched_at bags.active kind place units (unit_of l) (old l)) (old l)) e ∙ kept_are l ∙ sym (r.elsewhere l (λ x. absurd (f x)))
-
--- the races that they add
-pub found_after : (u : List Placed) (bags : Procedures) (old : ℕ → Cell) (location : ℕ) (kind : Kind) (place units : ℕ) → bags ≡ (state_after u).bags → ((l : ℕ) → old l ≡ (state_after u).kept l)
-    → found (u ++ accesses location kind place units) ≡ found u ++ races_in_block bags.active kind place units (block_of location) old
-found_after u bags old location kind place units bags_are kept_are =
-    found_from-append state_at_start u (accesses location kind place units)
-    ∙ ap (λ rs. found u ++ rs) (r.races
-    ∙ ap (λ (b : Procedures). races_up_to b.active first kind place units (λ i. t.kept (location_of first i)) 64) (sym bags_are)
-    ∙ races_of_same bags.active first kind place units (λ i. t.kept (location_of first i)) (λ i. old (location_of first i)) 64 (λ k h. sym (kept_are (location_of first k))))
+-- the locations of such accesses
+within_up_to : (first : ℕ) (kind : Kind) (place units n : ℕ) → n ≤ 64 → first + 126 < 2 ^ 64 → AreWithin (accesses_up_to first kind place units n)
+unfolding accesses_up_to
+within_up_to first kind place units zero h f = tt
+within_up_to first kind place units (suc n) h f = within_append (accesses_up_to first kind place units n) _ (within_up_to first kind place units n (omega (arith, h)) f) (one (has units n))
   where
-    page : ℕ
-    page = block_of location
+    within_access : (k : Kind) (l : ℕ) → l < 2 ^ 64 → IsWithin (access k l)
+    within_access Read l g = g
+    within_access Write l g = g
 
-    first : ℕ
-    first = first_of page
+    one : (b : Bool) → AreWithin (cond b (record { place = place + units_before units n; what = access kind (location_of first n) } ∷ []) [])
+    one true = (within_access kind (location_of first n) (omega (arith, h, f)), tt)
+    one false = tt
 
-    t : State
-    t = state_after u
+    within_append : (v w : List Placed) → AreWithin v → AreWithin w → AreWithin (v ++ w)
+    within_append [] w g k = k
+    within_append (p ∷ v) w g k = (g.0, within_append v w g.1 k)
 
-    r : HaveRun t page kind place units 64
-    r = run_all t page kind place units 64 (omega arith)
+pub within_units : (location : ℕ) (kind : Kind) (place units : ℕ) → location < 2 ^ 64 → AreWithin (accesses location kind place units)
+within_units location kind place units h = within_up_to (first_of (block_of location)) kind place units 64 (omega arith) (omega (arith, h))
 
 -- ---- one access
 
-module _ (u : List Placed) (bags : Procedures) (old : ℕ → Cell) (place l : ℕ) (kind : Kind) (bags_are : bags ≡ (state_after u).bags) (kept_are : (q : ℕ) → old q ≡ (state_after u).kept q) where
-  abbrev p : Placed
-  p = record { place = place; what = access kind l }
+module _ (s : State) (place l : ℕ) (kind : Kind) where
+  abbrev v : List Placed
+  v = record { place = place; what = access kind l } ∷ []
 
-  abbrev s : State
-  s = state_after u
+  pub seen_one : ((state_from s v).bags ≡ s.bags) × ((q : ℕ) → (state_from s v).kept q ≡ with_cell l (touched s.bags.active kind place (s.kept l)) s.kept q)
+  seen_one = (access_bags s place l kind, access_kept s place l kind)
 
-  next : after_record s place (access kind l) ≡ state_after (u ++ p ∷ [])
-  next = sym (state_after-push u p)
-
-  pub bags_after_one : bags ≡ (state_after (u ++ p ∷ [])).bags
-  bags_after_one = bags_are ∙ sym (access_bags s place l kind) ∙ ap (λ (t : State). t.bags) next
-
-  pub kept_after_one : (new : ℕ → Cell) → ((q : ℕ) → new q ≡ with_cell l (touched bags.active kind place (old l)) old q) → (q : ℕ) → new q ≡ (state_after (u ++ p ∷ [])).kept q
-  kept_after_one new kept q =
-      kept q
-      ∙ (λ i. with_cell l (touched (bags_are i).active kind place (kept_are l i)) (λ x. kept_are x i) q)
-      ∙ sym (access_kept s place l kind q) ∙ ap (λ (t : State). t.kept q) next
-
-  pub found_after_one : found (u ++ p ∷ []) ≡ found u ++ option_to_list (race_at bags.active l kind place (old l))
-  found_after_one =
-      let same : race_at bags.active l kind place (old l) ≡ race_at s.bags.active l kind place (s.kept l) = λ i. race_at (bags_are i).active l kind place (kept_are l i) in
-      found-push u p ∙ ap (λ o. found u ++ option_to_list o) (access_race s place l kind ∙ sym same)
+  pub found_one : found_from s v ≡ option_to_list (race_at s.bags.active l kind place (s.kept l))
+  found_one = append-nil (option_to_list (rules.race_of s place (access kind l))) ∙ ap option_to_list (access_race s place l kind)

@@ -21,12 +21,13 @@ use Rattle.shadow.specs.Cells.{untouched}
 use Rattle.shadow.specs.Found.{State, state_after, after_record}
 use Rattle.shadow.proofs.FoundLaws.{state_after-push}
 use Rattle.collect.specs.Collected.{KeepsBest}
-use Rattle.serial.proofs.Detected.{placed-next, detected_nothing}
+use Rattle.serial.proofs.Detected.{placed-next}
 use Rattle.blocks.specs.Masks.{has, units_before}
 use Rattle.blocks.specs.Pages.{location_of}
 use Rattle.blocks.specs.Blocks.{block_of, first_of}
 use Rattle.online.specs.Accesses.{access_of, accesses, accesses_up_to, even, block_records}
 use Rattle.blocks.proofs.Counts.{all_units}
+use Rattle.online.specs.Lives.{in_life, placed_in_life, first_lives}
 use Rattle.online.specs.Online.{Online, HasTakenPlaced, IsActiveCount, IsRunning, IsAfter, kept_in_both}
 
 -- ---- how many procedures are active
@@ -55,9 +56,9 @@ still_active s place (Write l) some others = (some, refl)
 none_ended : HasEnded [] → ⊥
 none_ended (i, p, e) = let a = p.0 in let b = p.1 in omega arith
 
-pub after_none : (d : Online) → d.bags ≡ at_start → ((l : ℕ) → kept_in_both d.cells d.blocks l ≡ untouched) → KeepsBest [] d.kept → d.last_place ≡ 0 → d.ended ≡ false → d.stopped ≡ false → IsAfter [] d
+pub after_none : (d : Online) → d.bags ≡ at_start → ((l : ℕ) → kept_in_both d.cells d.blocks l ≡ untouched) → KeepsBest [] d.kept → d.last_place ≡ 0 → d.ended ≡ false → d.stopped ≡ false → IsAfter [] first_lives d
 after_none d bags_are kept_are keeps first runs going = record {
-  met = detected_nothing d.bags (kept_in_both d.cells d.blocks) d.kept bags_are kept_are keeps;
+  met = record { bags_are = bags_are; cells_are = λ l f. kept_are l; later = λ l k f j. refl; given = []; holds = keeps; none_failed = refl; races = refl };
   last = first;
   within = omega arith;
   runs = record {
@@ -71,8 +72,8 @@ after_none d bags_are kept_are keeps first runs going = record {
 
 -- ---- one more
 
-module _ (u : List Record) (p : Placed) (d e : Online) (place : p.place ≡ length u + 1) (limit : p.place ≤ most_records) (h : IsAfter u d)
-    (meets : HasTakenPlaced (placed u) d → HasTakenPlaced (placed u ++ p ∷ []) e) (last : e.last_place ≡ p.place)
+module _ (u : List Record) (lives : ℕ → ℕ) (p : Placed) (d e : Online) (place : p.place ≡ length u + 1) (limit : p.place ≤ most_records) (h : IsAfter u lives d)
+    (meets : HasTakenPlaced (placed u) lives d → HasTakenPlaced (placed u ++ p ∷ []) lives e) (last : e.last_place ≡ p.place)
     (ended : (e.ended ≡ true) ↔ ((d.ended ≡ true) ⊎ ((p.what ≡ Return) × (length d.bags.active ≡ 1)))) (going : e.stopped ≡ d.stopped) where
   abbrev v : List Record
   v = u ++ p.what ∷ []
@@ -80,7 +81,7 @@ module _ (u : List Record) (p : Placed) (d e : Online) (place : p.place ≡ leng
   longer : length v ≡ length u + 1
   longer = length-append u (p.what ∷ [])
 
-  more : HasTakenPlaced (placed u ++ p ∷ []) e
+  more : HasTakenPlaced (placed u ++ p ∷ []) lives e
   more = meets h.met
 
   were : length d.bags.active ≡ length (state_after (placed u)).bags.active
@@ -117,9 +118,9 @@ module _ (u : List Record) (p : Placed) (d e : Online) (place : p.place ≡ leng
       (cases_Bool d.ended))
       (ended_after u p.what t)
 
-  pub after_next : IsAfter v e
+  pub after_next : IsAfter v lives e
   after_next =
-      let P : List Placed → Type 0 = λ w. HasTakenPlaced w e in
+      let P : List Placed → Type 0 = λ w. HasTakenPlaced w lives e in
       record {
         met = subst P (sym (placed-next u p place)) more;
         last = last ∙ place ∙ sym longer;
@@ -134,22 +135,28 @@ module _ (u : List Record) (p : Placed) (d e : Online) (place : p.place ≡ leng
 abbrev pub whats : List Placed → List Record
 whats v = map (λ p. p.what) v
 
-no_return : (kind : Kind) (l : ℕ) → access kind l ≡ Return → ⊥
-no_return kinds.Read l e = cc
-no_return kinds.Write l e = cc
+-- and in which lives
+abbrev pub lived : (ℕ → ℕ) → List Placed → List Placed
+lived lives v = map (placed_in_life lives) v
 
-moves_none : (kind : Kind) (l : ℕ) → (opens (access kind l) ≡ 0) × (closes (access kind l) ≡ 0)
-moves_none kinds.Read l = (refl, refl)
-moves_none kinds.Write l = (refl, refl)
+no_return : (lives : ℕ → ℕ) (kind : Kind) (l : ℕ) → in_life lives (access kind l) ≡ Return → ⊥
+no_return lives kinds.Read l e = cc
+no_return lives kinds.Write l e = cc
 
-runs_access : (u : List Record) (kind : Kind) (l : ℕ) (ended : Bool) (active : ℕ) → IsRunning u ended active → IsRunning (u ++ access kind l ∷ []) ended active
-runs_access u kind l ended active h = record {
-  by_return = ((λ t. ended_before u (access kind l) (h.by_return.0 t)), (λ t. ⊎_elim h.by_return.1 (λ now. absurd (no_return kind l now.0)) (ended_after u (access kind l) t)));
-  counted = λ runs.
-      let c = h.counted runs in
-      let none = moves_none kind l in
-      record { some = c.some; balance = omega (arith, c.balance, none.0, none.1, sum_by-append opens u (access kind l ∷ []), sum_by-append closes u (access kind l ∷ [])) };
-}
+moves_none : (lives : ℕ → ℕ) (kind : Kind) (l : ℕ) → (opens (in_life lives (access kind l)) ≡ 0) × (closes (in_life lives (access kind l)) ≡ 0)
+moves_none lives kinds.Read l = (refl, refl)
+moves_none lives kinds.Write l = (refl, refl)
+
+runs_access : (u : List Record) (lives : ℕ → ℕ) (kind : Kind) (l : ℕ) (ended : Bool) (active : ℕ) → IsRunning u ended active → IsRunning (u ++ in_life lives (access kind l) ∷ []) ended active
+runs_access u lives kind l ended active h =
+    let r : Record = in_life lives (access kind l) in
+    record {
+      by_return = ((λ t. ended_before u r (h.by_return.0 t)), (λ t. ⊎_elim h.by_return.1 (λ now. absurd (no_return lives kind l now.0)) (ended_after u r t)));
+      counted = λ runs.
+          let c = h.counted runs in
+          let none = moves_none lives kind l in
+          record { some = c.some; balance = omega (arith, c.balance, none.0, none.1, sum_by-append opens u (r ∷ []), sum_by-append closes u (r ∷ [])) };
+    }
 
 not_one : (x : ℕ) → x < 2 → nat_eq x 1 ≡ false → x ≡ 0
 not_one zero h e = refl
@@ -157,30 +164,31 @@ not_one (suc zero) h e = absurd (cc)
 not_one (suc (suc x)) h e = absurd (omega (arith, h))
 
 -- the accesses up to a unit, as records that follow others
-record FollowUpTo (u : List Record) (first : ℕ) (kind : Kind) (place units n : ℕ) : Type 0 where
-  run : (ended : Bool) (active : ℕ) → IsRunning u ended active → IsRunning (u ++ whats (accesses_up_to first kind 1 units n)) ended active
-  many : length (whats (accesses_up_to first kind 1 units n)) ≡ units_before units n
-  places : placed (u ++ whats (accesses_up_to first kind 1 units n)) ≡ placed u ++ accesses_up_to first kind place units n
+record FollowUpTo (u : List Record) (lives : ℕ → ℕ) (first : ℕ) (kind : Kind) (place units n : ℕ) : Type 0 where
+  run : (ended : Bool) (active : ℕ) → IsRunning u ended active → IsRunning (u ++ whats (lived lives (accesses_up_to first kind 1 units n))) ended active
+  many : length (whats (lived lives (accesses_up_to first kind 1 units n))) ≡ units_before units n
+  places : placed (u ++ whats (lived lives (accesses_up_to first kind 1 units n))) ≡ placed u ++ lived lives (accesses_up_to first kind place units n)
 
-no_accesses : (u : List Record) (first : ℕ) (kind : Kind) (place units : ℕ) → FollowUpTo u first kind place units 0
+no_accesses : (u : List Record) (lives : ℕ → ℕ) (first : ℕ) (kind : Kind) (place units : ℕ) → FollowUpTo u lives first kind place units 0
 unfolding accesses_up_to
-no_accesses u first kind place units = record {
+no_accesses u lives first kind place units = record {
   run = λ ended active h. subst (λ w. IsRunning w ended active) (sym (append-nil u)) h;
   many = refl;
   places = ap placed (append-nil u) ∙ sym (append-nil (placed u));
 }
 
-module _ (u : List Record) (first : ℕ) (kind : Kind) (place units n : ℕ) (next : place ≡ length u + 1) (f : FollowUpTo u first kind place units n) where
+module _ (u : List Record) (lives : ℕ → ℕ) (first : ℕ) (kind : Kind) (place units n : ℕ) (next : place ≡ length u + 1) (f : FollowUpTo u lives first kind place units n) where
   abbrev at : ℕ → List Placed
-  at q = accesses_up_to first kind q units n
+  at q = lived lives (accesses_up_to first kind q units n)
 
   abbrev one : ℕ → Placed
-  one q = access_of first kind q units n
+  one q = placed_in_life lives (access_of first kind q units n)
 
-  unit_left_out : has units n ≡ false → FollowUpTo u first kind place units (suc n)
+  unit_left_out : has units n ≡ false → FollowUpTo u lives first kind place units (suc n)
   unfolding accesses_up_to
   unit_left_out e =
-      let same : (q : ℕ) → at q ++ cond (has units n) (one q ∷ []) [] ≡ at q = λ q. ap (λ b. at q ++ cond b (one q ∷ []) []) e ∙ append-nil (at q) in
+      let same : (q : ℕ) → lived lives (accesses_up_to first kind q units n ++ cond (has units n) (access_of first kind q units n ∷ []) []) ≡ at q
+      = λ q. ap (λ b. lived lives (accesses_up_to first kind q units n ++ cond b (access_of first kind q units n ∷ []) [])) e ∙ ap (lived lives) (append-nil (accesses_up_to first kind q units n)) in
       let none : bit_at units n ≡ 0 = not_one (bit_at units n) (bit_at-lt units n) e in
       record {
         run = λ ended active h. subst (λ v. IsRunning (u ++ whats v) ended active) (sym (same 1)) (f.run ended active h);
@@ -188,64 +196,73 @@ module _ (u : List Record) (first : ℕ) (kind : Kind) (place units n : ℕ) (ne
         places = ap (λ v. placed (u ++ whats v)) (same 1) ∙ f.places ∙ ap (λ v. placed u ++ v) (sym (same place));
       }
 
-  unit_accessed : has units n ≡ true → FollowUpTo u first kind place units (suc n)
+  unit_accessed : has units n ≡ true → FollowUpTo u lives first kind place units (suc n)
   unfolding accesses_up_to
   unit_accessed e =
-      let more : (q : ℕ) → at q ++ cond (has units n) (one q ∷ []) [] ≡ at q ++ one q ∷ [] = λ q. ap (λ b. at q ++ cond b (one q ∷ []) []) e in
+      let more : (q : ℕ) → lived lives (accesses_up_to first kind q units n ++ cond (has units n) (access_of first kind q units n ∷ []) []) ≡ at q ++ one q ∷ []
+      = λ q. ap (λ b. lived lives (accesses_up_to first kind q units n ++ cond b (access_of first kind q units n ∷ []) [])) e ∙ map-append (placed_in_life lives) (accesses_up_to first kind q units n) (access_of first kind q units n ∷ []) in
       let w : List Record = u ++ whats (at 1) in
       let r : Record = (one 1).what in
       let longer : u ++ whats (at 1 ++ one 1 ∷ []) ≡ w ++ r ∷ [] = ap (λ l. u ++ l) (map-append (λ (p : Placed). p.what) (at 1) (one 1 ∷ [])) ∙ sym (append_assoc u (whats (at 1)) (r ∷ [])) in
       let single : bit_at units n ≡ 1 = eqb-true (bit_at units n) 1 e in
       let here : (one place).place ≡ length w + 1 = omega (arith, next, f.many, length-append u (whats (at 1))) in
       record {
-        run = λ ended active h. subst (λ v. IsRunning (u ++ whats v) ended active) (sym (more 1)) (subst (λ v. IsRunning v ended active) (sym longer) (runs_access w kind (location_of first n) ended active (f.run ended active h)));
+        run = λ ended active h. subst (λ v. IsRunning (u ++ whats v) ended active) (sym (more 1)) (subst (λ v. IsRunning v ended active) (sym longer) (runs_access w lives kind (location_of first n) ended active (f.run ended active h)));
         many = ap (λ v. length (whats v)) (more 1) ∙ ap length (map-append (λ (p : Placed). p.what) (at 1) (one 1 ∷ [])) ∙ length-append (whats (at 1)) (r ∷ []) ∙ omega (arith, f.many, single);
         places = ap (λ v. placed (u ++ whats v)) (more 1) ∙ ap placed longer ∙ placed-next w (one place) here ∙ ap (λ v. v ++ one place ∷ []) f.places
             ∙ append_assoc (placed u) (at place) (one place ∷ []) ∙ ap (λ v. placed u ++ v) (sym (more place));
       }
 
-follow_one : (u : List Record) (first : ℕ) (kind : Kind) (place units n : ℕ) → place ≡ length u + 1 → (b : Bool) → has units n ≡ b → FollowUpTo u first kind place units n → FollowUpTo u first kind place units (suc n)
-follow_one u first kind place units n next true e f = unit_accessed u first kind place units n next f e
-follow_one u first kind place units n next false e f = unit_left_out u first kind place units n next f e
+follow_one : (u : List Record) (lives : ℕ → ℕ) (first : ℕ) (kind : Kind) (place units n : ℕ) → place ≡ length u + 1 → (b : Bool) → has units n ≡ b → FollowUpTo u lives first kind place units n → FollowUpTo u lives first kind place units (suc n)
+follow_one u lives first kind place units n next true e f = unit_accessed u lives first kind place units n next f e
+follow_one u lives first kind place units n next false e f = unit_left_out u lives first kind place units n next f e
 
-follow_all : (u : List Record) (first : ℕ) (kind : Kind) (place units n : ℕ) → place ≡ length u + 1 → FollowUpTo u first kind place units n
-follow_all u first kind place units zero next = no_accesses u first kind place units
-follow_all u first kind place units (suc n) next = follow_one u first kind place units n next (has units n) refl (follow_all u first kind place units n next)
+follow_all : (u : List Record) (lives : ℕ → ℕ) (first : ℕ) (kind : Kind) (place units n : ℕ) → place ≡ length u + 1 → FollowUpTo u lives first kind place units n
+follow_all u lives first kind place units zero next = no_accesses u lives first kind place units
+follow_all u lives first kind place units (suc n) next = follow_one u lives first kind place units n next (has units n) refl (follow_all u lives first kind place units n next)
+
+-- the life of each record is that of its access
+life_of_all : (lives : ℕ → ℕ) (v : List Placed) → map (in_life lives) (whats v) ≡ whats (lived lives v)
+life_of_all lives [] = refl
+life_of_all lives (p ∷ v) = ap (λ l. in_life lives p.what ∷ l) (life_of_all lives v)
 
 -- a block behind the records u
-module _ (u : List Record) (location reads writes : ℕ) (d e : Online) (some : reads < 2 ^ 64) (others : writes < 2 ^ 64) (limit : d.last_place + (count_ones reads + count_ones writes) ≤ most_records) (h : IsAfter u d)
-    (meets : HasTakenPlaced (placed u) d → HasTakenPlaced ((placed u ++ accesses (even location) kinds.Read (d.last_place + 1) reads) ++ accesses (even location) kinds.Write (d.last_place + count_ones reads + 1) writes) e)
+module _ (u : List Record) (lives : ℕ → ℕ) (location reads writes : ℕ) (d e : Online) (some : reads < 2 ^ 64) (others : writes < 2 ^ 64) (limit : d.last_place + (count_ones reads + count_ones writes) ≤ most_records) (h : IsAfter u lives d)
+    (meets : HasTakenPlaced (placed u) lives d → HasTakenPlaced ((placed u ++ lived lives (accesses (even location) kinds.Read (d.last_place + 1) reads)) ++ lived lives (accesses (even location) kinds.Write (d.last_place + count_ones reads + 1) writes)) lives e)
     (last : e.last_place ≡ d.last_place + (count_ones reads + count_ones writes)) (bags : e.bags ≡ d.bags) (ended : e.ended ≡ d.ended) (going : e.stopped ≡ d.stopped) where
   abbrev page_first : ℕ
   page_first = first_of (block_of (even location))
 
   abbrev reading : List Record
-  reading = whats (accesses (even location) kinds.Read 1 reads)
+  reading = whats (lived lives (accesses (even location) kinds.Read 1 reads))
 
   abbrev writing : List Record
-  writing = whats (accesses (even location) kinds.Write 1 writes)
+  writing = whats (lived lives (accesses (even location) kinds.Write 1 writes))
 
-  reads_follow : FollowUpTo u page_first kinds.Read (d.last_place + 1) reads 64
-  reads_follow = follow_all u page_first kinds.Read (d.last_place + 1) reads 64 (ap (λ n. n + 1) h.last)
+  reads_follow : FollowUpTo u lives page_first kinds.Read (d.last_place + 1) reads 64
+  reads_follow = follow_all u lives page_first kinds.Read (d.last_place + 1) reads 64 (ap (λ n. n + 1) h.last)
 
   after_reads : length (u ++ reading) ≡ length u + count_ones reads
   after_reads = length-append u reading ∙ ap (λ n. length u + n) (reads_follow.many ∙ all_units reads some)
 
-  writes_follow : FollowUpTo (u ++ reading) page_first kinds.Write (d.last_place + count_ones reads + 1) writes 64
-  writes_follow = follow_all (u ++ reading) page_first kinds.Write (d.last_place + count_ones reads + 1) writes 64 (omega (arith, after_reads, h.last))
+  writes_follow : FollowUpTo (u ++ reading) lives page_first kinds.Write (d.last_place + count_ones reads + 1) writes 64
+  writes_follow = follow_all (u ++ reading) lives page_first kinds.Write (d.last_place + count_ones reads + 1) writes 64 (omega (arith, after_reads, h.last))
 
   longest : length ((u ++ reading) ++ writing) ≡ length u + (count_ones reads + count_ones writes)
   longest = omega (arith, length-append (u ++ reading) writing, after_reads, writes_follow.many, all_units writes others)
 
-  all : u ++ block_records location reads writes ≡ (u ++ reading) ++ writing
-  all = ap (λ l. u ++ l) (map-append (λ (p : Placed). p.what) (accesses (even location) kinds.Read 1 reads) (accesses (even location) kinds.Write 1 writes)) ∙ sym (append_assoc u reading writing)
+  all : u ++ map (in_life lives) (block_records location reads writes) ≡ (u ++ reading) ++ writing
+  all =
+      let v : List Placed = accesses (even location) kinds.Read 1 reads in
+      let w : List Placed = accesses (even location) kinds.Write 1 writes in
+      ap (λ l. u ++ l) (life_of_all lives (v ++ w) ∙ ap whats (map-append (placed_in_life lives) v w) ∙ map-append (λ (p : Placed). p.what) (lived lives v) (lived lives w)) ∙ sym (append_assoc u reading writing)
 
-  places : placed ((u ++ reading) ++ writing) ≡ (placed u ++ accesses (even location) kinds.Read (d.last_place + 1) reads) ++ accesses (even location) kinds.Write (d.last_place + count_ones reads + 1) writes
-  places = writes_follow.places ∙ ap (λ v. v ++ accesses (even location) kinds.Write (d.last_place + count_ones reads + 1) writes) reads_follow.places
+  places : placed ((u ++ reading) ++ writing) ≡ (placed u ++ lived lives (accesses (even location) kinds.Read (d.last_place + 1) reads)) ++ lived lives (accesses (even location) kinds.Write (d.last_place + count_ones reads + 1) writes)
+  places = writes_follow.places ∙ ap (λ v. v ++ lived lives (accesses (even location) kinds.Write (d.last_place + count_ones reads + 1) writes)) reads_follow.places
 
-  after_both : IsAfter ((u ++ reading) ++ writing) e
+  after_both : IsAfter ((u ++ reading) ++ writing) lives e
   after_both = record {
-    met = subst (λ v. HasTakenPlaced v e) (sym places) (meets h.met);
+    met = subst (λ v. HasTakenPlaced v lives e) (sym places) (meets h.met);
     last = last ∙ ap (λ n. n + (count_ones reads + count_ones writes)) h.last ∙ sym longest;
     within = omega (arith, longest, limit, h.last);
     runs = subst (λ b. IsRunning ((u ++ reading) ++ writing) b (length e.bags.active)) (sym ended)
@@ -253,5 +270,14 @@ module _ (u : List Record) (location reads writes : ℕ) (d e : Online) (some : 
     going = going ∙ h.going;
   }
 
-  pub after_block : IsAfter (u ++ block_records location reads writes) e
-  after_block = subst (λ v. IsAfter v e) (sym all) after_both
+  pub after_block : IsAfter (u ++ map (in_life lives) (block_records location reads writes)) lives e
+  after_block = subst (λ v. IsAfter v lives e) (sym all) after_both
+
+-- a record in its life is a return if it is one
+pub returns_in_life : (lives : ℕ → ℕ) (r : Record) → (in_life lives r ≡ Return) ↔ (r ≡ Return)
+returns_in_life lives Spawn = ((λ e. absurd (cc)), (λ e. absurd (cc)))
+returns_in_life lives Call = ((λ e. absurd (cc)), (λ e. absurd (cc)))
+returns_in_life lives Return = ((λ e. refl), (λ e. refl))
+returns_in_life lives Sync = ((λ e. absurd (cc)), (λ e. absurd (cc)))
+returns_in_life lives (Read l) = ((λ e. absurd (cc)), (λ e. absurd (cc)))
+returns_in_life lives (Write l) = ((λ e. absurd (cc)), (λ e. absurd (cc)))

@@ -1,3 +1,4 @@
 pub mod Accesses
 pub mod Online
 pub mod Ready
+pub mod Lives

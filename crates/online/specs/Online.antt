@@ -1,6 +1,7 @@
 -- Promised: what a detector of a run has taken, and when it needs memory.
-use Rattle.std.specs.Prelude.{◌≡◌, ℕ, ◌+◌, ◌%◌, ◌==◌, ◌≤◌, ◌↔◌, ◌⊎◌, ⊤, Bool, true, false, if◌then◌else◌}
-use Rattle.std.specs.Prelude.{List, [], ◌∷◌, ◌++◌, length, sum_by}
+use Rattle.std.specs.Prelude.{◌≡◌, ℕ, ◌+◌, ◌%◌, ◌^◌, ◌==◌, ◌<◌, ◌≤◌, ◌↔◌, ◌⊎◌, ⊤, Bool, true, false, if◌then◌else◌}
+use Rattle.std.specs.Prelude.{List, [], ◌∷◌, ◌++◌, length, map, sum_by}
+use Rattle.dag.specs.declared.back.Back.{Back}
 use Rattle.dag.specs.declared.records.Record.{Record}
 use Rattle.dag.specs.declared.records.Record.TheVariants.{Spawn, Call, Return, Sync, Read, Write}
 use Rattle.dag.specs.declared.records.Placed.{Placed}
@@ -12,9 +13,9 @@ use Rattle.bags.specs.Procedures.{Procedures}
 use Rattle.shadow.specs.Cells.{Cell, untouched}
 use Rattle.shadow.specs.Shadow.{Shadow, kept_of}
 use Rattle.shadow.specs.Found.{state_after, found}
-use Rattle.collect.specs.Collected.{Collection}
-use Rattle.serial.specs.Detected.{HasDetected}
+use Rattle.collect.specs.Collected.{Collection, KeepsBest, races_of, fails}
 use Rattle.blocks.specs.Blocks.{Blocks, kept_in_blocks}
+use Rattle.online.specs.Lives.{named, at_home}
 
 -- its bags, the shadow memory of odd locations and that of even ones, the races that are kept for the report, the place
 -- of the last record, whether the root has returned, and whether a growth was refused
@@ -35,9 +36,17 @@ IsStopped d = d.stopped ≡ true
 abbrev pub kept_in_both : Shadow → Blocks → ℕ → Cell
 kept_in_both cells blocks l = if l % 2 == 1 then kept_of cells l else kept_in_blocks blocks l
 
--- it has taken these records
-abbrev pub HasTakenPlaced : List Placed → Online → Type 0
-HasTakenPlaced u d = HasDetected u d.bags (kept_in_both d.cells d.blocks) d.kept
+-- it has taken these records, and the locations are now in these lives
+pub record HasTakenPlaced (u : List Placed) (lives : ℕ → ℕ) (d : Online) : Type 0 where
+  pub bags_are : d.bags ≡ (state_after u).bags
+  -- what it keeps of a location is of the location's present life, and later lives have no access yet
+  pub cells_are : (l : ℕ) → l < 2 ^ 64 → kept_in_both d.cells d.blocks l ≡ (state_after u).kept (named l (lives l))
+  pub later : (l k : ℕ) → l < 2 ^ 64 → lives l < k → (state_after u).kept (named l k) ≡ untouched
+  -- and a collector was given exactly the races found in them
+  pub given : List Back
+  pub holds : KeepsBest given d.kept
+  pub none_failed : fails given ≡ false
+  pub races : races_of given ≡ map at_home (found u)
 
 -- as many procedures are active as were opened and not closed, the root among them
 pub record IsActiveCount (u : List Record) (active : ℕ) : Type 0 where
@@ -49,9 +58,10 @@ pub record IsRunning (u : List Record) (ended : Bool) (active : ℕ) : Type 0 wh
   pub by_return : (ended ≡ true) ↔ HasEnded u
   pub counted : ended ≡ false → IsActiveCount u active
 
--- the detector has taken the records u as they came, numbered from 1, and no growth was refused
-pub record IsAfter (u : List Record) (d : Online) : Type 0 where
-  pub met : HasTakenPlaced (placed u) d
+-- the detector has taken the records u as they came, numbered from 1, no growth was refused, and the locations are now
+-- in these lives
+pub record IsAfter (u : List Record) (lives : ℕ → ℕ) (d : Online) : Type 0 where
+  pub met : HasTakenPlaced (placed u) lives d
   pub last : d.last_place ≡ length u
   pub within : length u ≤ most_records
   pub runs : IsRunning u d.ended (length d.bags.active)

@@ -1,6 +1,6 @@
 //! The detector and its answers.
 ghost use Rattle.std.specs.Prelude.{◌≡◌, ◌≢◌, ◌↔◌, ◌⊎◌, ℕ, ◌+◌, ◌<◌, ◌≤◌, true, false, List, [], ◌∷◌, ◌++◌, length};
-ghost use Rattle.std.specs.Prelude.{IfOk, IfErr, IsErr, OnOk, OnErr, map, ◌*◌, ◌/◌, ◌%◌, ◌^◌};
+ghost use Rattle.std.specs.Prelude.{IfOk, IfErr, IsErr, OnOk, OnErr, map, ◌*◌, ◌/◌, ◌%◌, ◌^◌, if◌then◌else◌};
 ghost use Rattle.std.specs.Int.RustNames.{count_ones};
 ghost use Rattle.dag.specs.Bounds.{most_records};
 ghost use Rattle.dag.specs.declared.back.Back.{Back};
@@ -14,9 +14,11 @@ ghost use Rattle.shadow.specs.Found.{by_location, found};
 ghost use Rattle.collect.specs.Collected.{KeepsBest};
 ghost use Rattle.serial.specs.Reported.{IsReportOf};
 ghost use Rattle.bags.specs.Procedures.{event};
-ghost use Rattle.shadow.specs.Shadow.{last_place_of};
-ghost use Rattle.blocks.specs.Blocks.{next_place_of};
+ghost use Rattle.shadow.specs.Cells.{untouched};
+ghost use Rattle.shadow.specs.Shadow.{kept_of, last_place_of, least_count_of};
+ghost use Rattle.blocks.specs.Blocks.{is_unit, next_place_of};
 ghost use Rattle.online.specs.Accesses.{accesses, block_records};
+ghost use Rattle.online.specs.Lives.{in_life, placed_in_life, first_lives, lives_after, IsReportOfLives};
 ghost use Rattle.online.specs.Online.{HasTakenPlaced, IsAfter, IsStopped, WantsMemory, MayWant};
 
 use bags::Bags;
@@ -85,7 +87,7 @@ impl<S: BuildHasher + Drop> Detector<S> {
     /// A detector that has taken no record, with a hasher for each of its shadow memories. It needs the least memory if
     /// the locations that a strand accesses are two apart, as those of the tracer's arrays.
     pub fn new(alloc: Global, of_cells: S, of_blocks: S) -> Result<Detector<S>, NoMemory>
-        ensures { IfOk result (IsAfter []) }
+        ensures { IfOk result (IsAfter [] first_lives) }
     {
         Ok(Detector {
             alloc,
@@ -104,18 +106,20 @@ impl<S: BuildHasher + Drop> Detector<S> {
     /// After a refused growth the detector stays stopped: it takes no record, and gives no report.
     #[inline(always)]
     pub fn take(&mut self, what: Record) -> Result<(), Refusal>
-        ensures taken { OnOk result ((u : List Record) → IsAfter u self.old → IsAfter (u ++ what ∷ []) self.new) }
+        ensures taken { OnOk result ((u : List Record) (lives : ℕ → ℕ) → IsAfter u lives self.old
+            → IsAfter (u ++ in_life lives what ∷ []) lives self.new) }
 
         // A record that may not come changes nothing.
-        ensures after_end { (u : List Record) → IsAfter u self.old
+        ensures after_end { (u : List Record) (lives : ℕ → ℕ) → IsAfter u lives self.old
             → (result ≡ Err Refusal.AfterEnd) ↔ (HasEnded u × (length u < most_records)) }
-        ensures too_many { (u : List Record) → IsAfter u self.old
+        ensures too_many { (u : List Record) (lives : ℕ → ℕ) → IsAfter u lives self.old
             → (result ≡ Err Refusal.TooMany) ↔ (length u ≡ most_records) }
         ensures unchanged { IfErr result (λ refusal. refusal ≢ Refusal.NoMemory → self.new ≡ self.old) }
 
         // The allocator can refuse a growth only if the record may need memory. Then the detector is stopped for
         // good.
-        ensures want { (u : List Record) → IsAfter u self.old → result ≡ Err Refusal.NoMemory → MayWant u what }
+        ensures want { (u : List Record) (lives : ℕ → ℕ) → IsAfter u lives self.old
+            → result ≡ Err Refusal.NoMemory → MayWant u (in_life lives what) }
         ensures stops { result ≡ Err Refusal.NoMemory → IsStopped self.new }
         ensures stopped { IsStopped self.old → result ≡ Err Refusal.NoMemory }
     {
@@ -129,12 +133,14 @@ impl<S: BuildHasher + Drop> Detector<S> {
     /// whole.
     #[inline(always)]
     pub fn take_block(&mut self, location: u64, reads: u64, writes: u64) -> Result<(), Refusal>
-        ensures taken { OnOk result ((u : List Record) → IsAfter u self.old
-            → IsAfter (u ++ block_records location reads writes) self.new) }
+        ensures taken { OnOk result ((u : List Record) (lives : ℕ → ℕ) → IsAfter u lives self.old
+            → IsAfter (u ++ map (in_life lives) (block_records location reads writes)) lives self.new) }
 
-        ensures after_end { (u : List Record) → IsAfter u self.old → (result ≡ Err Refusal.AfterEnd)
+        ensures after_end { (u : List Record) (lives : ℕ → ℕ) → IsAfter u lives self.old
+            → (result ≡ Err Refusal.AfterEnd)
             ↔ (HasEnded u × (length u + (count_ones reads + count_ones writes) ≤ most_records)) }
-        ensures too_many { (u : List Record) → IsAfter u self.old → (result ≡ Err Refusal.TooMany)
+        ensures too_many { (u : List Record) (lives : ℕ → ℕ) → IsAfter u lives self.old
+            → (result ≡ Err Refusal.TooMany)
             ↔ (most_records < length u + (count_ones reads + count_ones writes)) }
         ensures unchanged { IfErr result (λ refusal. refusal ≢ Refusal.NoMemory → self.new ≡ self.old) }
 
@@ -144,6 +150,20 @@ impl<S: BuildHasher + Drop> Detector<S> {
         self.admit(u64::from(reads.count_ones() + writes.count_ones()))?;
         let followed = self.touch_both(location / 2 * 2, reads, writes);
         self.settle(followed)
+    }
+
+    /// Begins a new life for these units of the location's block: what comes of them later races with nothing that came
+    /// before. A race that was found stays. Memory that nothing else needs is used again.
+    pub fn forget(&mut self, location: u64, units: u64)
+        ensures forgotten { (u : List Record) (lives : ℕ → ℕ) → IsAfter u lives self.old
+            → IsAfter u (lives_after location units lives) self.new }
+        ensures stopped { IsStopped self.old → IsStopped self.new }
+    {
+        if location % 2 == 1 {
+            forget_cells(&mut self.cells, location / 128 * 128 + 1, units);
+        } else {
+            self.blocks.forget(location, units);
+        }
     }
 
     // Whether so many more records may come.
@@ -188,14 +208,15 @@ impl<S: BuildHasher + Drop> Detector<S> {
     #[inline(always)]
     fn follow(&mut self, what: Record) -> Result<(), NoMemory>
         requires { self.old.last_place < most_records }
-        ensures met { OnOk result ((u : List Placed) → HasTakenPlaced u self.old
-            → HasTakenPlaced (u ++ record { place = self.old.last_place + 1; what = what } ∷ []) self.new) }
+        ensures met { OnOk result ((u : List Placed) (lives : ℕ → ℕ) → HasTakenPlaced u lives self.old
+            → HasTakenPlaced (u ++ record { place = self.old.last_place + 1; what = in_life lives what } ∷ [])
+            lives self.new) }
         ensures last { OnOk result (self.new.last_place ≡ self.old.last_place + 1) }
         ensures ended { OnOk result ((self.new.ended ≡ true) ↔ ((self.old.ended ≡ true)
             ⊎ ((what ≡ Record.Return) × (length self.old.bags.active ≡ 1)))) }
         ensures going { self.new.stopped ≡ self.old.stopped }
-        ensures want { OnErr result ((u : List Placed) → HasTakenPlaced u self.old
-            → WantsMemory u (record { place = self.old.last_place + 1; what = what })) }
+        ensures want { OnErr result ((u : List Placed) (lives : ℕ → ℕ) → HasTakenPlaced u lives self.old
+            → WantsMemory u (record { place = self.old.last_place + 1; what = in_life lives what })) }
     {
         self.last_place += 1;
         let place = self.last_place;
@@ -223,14 +244,15 @@ impl<S: BuildHasher + Drop> Detector<S> {
         requires from_one { 1 ≤ place }
         requires last { place ≡ self.old.last_place }
         requires to_limit { place ≤ most_records }
-        ensures met { OnOk result ((u : List Placed) → HasTakenPlaced u self.old
-            → HasTakenPlaced (u ++ record { place = place; what = access kind location } ∷ []) self.new) }
+        ensures met { OnOk result ((u : List Placed) (lives : ℕ → ℕ) → HasTakenPlaced u lives self.old
+            → HasTakenPlaced (u ++ record { place = place; what = in_life lives (access kind location) } ∷ [])
+            lives self.new) }
         ensures bags { self.new.bags ≡ self.old.bags }
         ensures last { self.new.last_place ≡ self.old.last_place }
         ensures ended { self.new.ended ≡ self.old.ended }
         ensures going { self.new.stopped ≡ self.old.stopped }
-        ensures want { OnErr result ((u : List Placed) → HasTakenPlaced u self.old
-            → WantsMemory u (record { place = place; what = access kind location })) }
+        ensures want { OnErr result ((u : List Placed) (lives : ℕ → ℕ) → HasTakenPlaced u lives self.old
+            → WantsMemory u (record { place = place; what = in_life lives (access kind location) })) }
     {
         if location % 2 == 0 {
             return self.touch(location, kind, place, unit_of(location));
@@ -263,9 +285,11 @@ impl<S: BuildHasher + Drop> Detector<S> {
     fn touch_both(&mut self, location: u64, reads: u64, writes: u64) -> Result<(), NoMemory>
         requires even { location % 2 ≡ 0 }
         requires to_limit { self.old.last_place + (count_ones reads + count_ones writes) ≤ most_records }
-        ensures met { OnOk result ((u : List Placed) → HasTakenPlaced u self.old
-            → HasTakenPlaced ((u ++ accesses location Kind.Read (self.old.last_place + 1) reads)
-            ++ accesses location Kind.Write (self.old.last_place + count_ones reads + 1) writes) self.new) }
+        ensures met { OnOk result ((u : List Placed) (lives : ℕ → ℕ) → HasTakenPlaced u lives self.old
+            → HasTakenPlaced ((u
+            ++ map (placed_in_life lives) (accesses location Kind.Read (self.old.last_place + 1) reads))
+            ++ map (placed_in_life lives) (accesses location Kind.Write
+            (self.old.last_place + count_ones reads + 1) writes)) lives self.new) }
         ensures last { OnOk result (self.new.last_place
             ≡ self.old.last_place + (count_ones reads + count_ones writes)) }
         ensures bags { self.new.bags ≡ self.old.bags }
@@ -287,8 +311,8 @@ impl<S: BuildHasher + Drop> Detector<S> {
         requires from_one { 1 ≤ place }
         requires within { place + count_ones units ≤ self.old.last_place + 1 }
         requires to_limit { self.old.last_place ≤ most_records }
-        ensures met { OnOk result ((u : List Placed) → HasTakenPlaced u self.old
-            → HasTakenPlaced (u ++ accesses location kind place units) self.new) }
+        ensures met { OnOk result ((u : List Placed) (lives : ℕ → ℕ) → HasTakenPlaced u lives self.old
+            → HasTakenPlaced (u ++ map (placed_in_life lives) (accesses location kind place units)) lives self.new) }
         ensures later { next_place_of self.new.blocks ≤ place + count_ones units }
         ensures bags { self.new.bags ≡ self.old.bags }
         ensures last { self.new.last_place ≡ self.old.last_place }
@@ -309,10 +333,12 @@ impl<S: BuildHasher + Drop> Detector<S> {
 
     /// The report of the records taken. It refuses if the allocator has refused a growth.
     pub fn finish(self) -> Result<Report, NoMemory>
-        ensures races { IfOk result (λ report. (u : List Placed) → HasTakenPlaced u self
+        ensures races { IfOk result (λ report. (u : List Placed) (lives : ℕ → ℕ) → HasTakenPlaced u lives self
+            → IsReportOfLives u report) }
+        // Where nothing was forgotten, it is the verdict, and so of a well nested trace the report by the dag.
+        ensures first { IfOk result (λ report. (u : List Placed) → HasTakenPlaced u first_lives self
             → report ≡ by_location (found u)) }
-        // Of a well nested trace it is the report by the dag.
-        ensures report { IfOk result (λ report. (u : List Record) (records depths : ℕ) → IsAfter u self
+        ensures report { IfOk result (λ report. (u : List Record) (records depths : ℕ) → IsAfter u first_lives self
             → IsWellNested u records depths → IsReportOf u report) }
         ensures stopped { IsStopped self → IsErr result }
     {
@@ -320,6 +346,20 @@ impl<S: BuildHasher + Drop> Detector<S> {
             return Err(NoMemory);
         }
         self.collector.finish()
+    }
+}
+
+// Forgets units of a block of odd locations: `first` is that of unit 0.
+fn forget_cells<S: BuildHasher>(cells: &mut Shadow<S>, first: u64, units: u64)
+    requires odd { first % 128 ≡ 1 }
+    ensures kept { (l : ℕ) → kept_of cells.new l ≡ (if is_unit first units l then untouched else kept_of cells.old l) }
+    ensures last_place { last_place_of cells.new ≡ last_place_of cells.old }
+    ensures least_count { least_count_of cells.new ≡ least_count_of cells.old }
+{
+    for unit in 0..64 {
+        if units >> unit & 1 == 1 {
+            cells.forget(first + 2 * unit);
+        }
     }
 }
 

@@ -1,6 +1,6 @@
 -- Kept names stay earlier than later places, and what an access leaves of each location.
 use Rattle.std.proofs.Common.{◌≡◌, ℕ, ◌+◌, ◌<◌, ◌≤◌, List, Bool, true, false, cond, ◌==◌, arith}
-use Rattle.shadow.specs.Cells.{Name, Cell}
+use Rattle.shadow.specs.Cells.{Name, Cell, untouched}
 use Rattle.shadow.specs.Before.{IsNameBefore, IsCellBefore}
 use Rattle.shadow.specs.Pages.{cell_of, Page}
 use Rattle.shadow.specs.Found.{with_cell}
@@ -28,3 +28,11 @@ cells_before m es place count l c before later fewer now is q = rw is (by (q == 
 
 pub pages_stay : (m : Shadow) (es : List (ℕ × Page)) → es ≡ m.pages → IsShadowBefore m → IsShadowBefore (record { layout = m.layout; pages = es; last_place = m.last_place; least_count = m.least_count })
 pages_stay m es is before l = rw is (before l)
+
+-- nothing is kept of a location that was forgotten
+pub before_forgotten : (place count l : ℕ) (kept : ℕ → Cell) → ((q : ℕ) → IsCellBefore place count (kept q)) → (q : ℕ) → IsCellBefore place count (with_cell l untouched kept q)
+before_forgotten place count l kept before q = go (q == l)
+  where
+    go : (b : Bool) → IsCellBefore place count (cond b untouched (kept q))
+    go true = record { writer = λ n e. absurd (cc); reader = λ n e. absurd (cc) }
+    go false = before q

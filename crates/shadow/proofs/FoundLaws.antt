@@ -187,3 +187,14 @@ apart_next (Some x) rs f a = (f x refl, a)
 pub found_from-apart : (s : State) (u : List Placed) → Apart (found_from s u)
 found_from-apart s [] = tt
 found_from-apart s (p ∷ u) = apart_next _ _ (λ x e. not_again (after_record s p.place p.what) u x.location (reported_then s p.place p.what x e)) (found_from-apart (after_record s p.place p.what) u)
+
+-- a location whose race was reported stays so
+reported_from : (s : State) (u : List Placed) (l : ℕ) → (s.kept l).reported ≡ true → ((state_from s u).kept l).reported ≡ true
+reported_from s [] l e = e
+reported_from s (p ∷ u) l e = reported_from (after_record s p.place p.what) u l (reported-after_record s p.place p.what l e)
+
+-- and each race found is one of such a location
+pub found-reported : (s : State) (u : List Placed) → AllByRecursion (λ r. ((state_from s u).kept r.location).reported ≡ true) (found_from s u)
+found-reported s [] = tt
+found-reported s (p ∷ u) = all_next (λ r. ((state_from s (p ∷ u)).kept r.location).reported ≡ true) (race_of s p.place p.what) (found_from (after_record s p.place p.what) u)
+    (λ x e. reported_from (after_record s p.place p.what) u x.location (reported_then s p.place p.what x e)) (found-reported (after_record s p.place p.what) u)

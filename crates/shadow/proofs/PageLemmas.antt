@@ -127,3 +127,7 @@ put_is_of n es fs l c some put q = put (page_of n q) (seat_of n q) ∙ ap (λ t.
         not_both (inl (p, pages)) (inl (s, seats)) = absurd (ne (one_seat n q l some pages seats))
         not_both (inl (p, pages)) (inr (s, seats)) = rw (p, s) refl
         not_both (inr (p, pages)) s = rw p refl
+
+-- the page that was changed, where each look-up says so
+pub numbered_here : (es fs : List (ℕ × Page)) (page : ℕ) (b : Page) → ((q : ℕ) → lookup (nat_eq q) fs ≡ cond (nat_eq page q) (Some b) (lookup (nat_eq q) es)) → page_numbered fs page ≡ b
+numbered_here es fs page b looks = ap (λ o. unwrap_or o no_page) (looks page ∙ ap (λ t. cond t (Some b) (lookup (nat_eq page) es)) (eq-eqb page page refl))

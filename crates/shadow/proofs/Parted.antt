@@ -1,5 +1,5 @@
 -- Parts: what is found in a part's records are the races of its locations, each by its location's number.
-use Rattle.std.proofs.Common.{◌≡◌, ℕ, suc, ◌+◌, ◌*◌, ◌/◌, ◌%◌, ◌<◌, ◌^◌, Bool, true, false, filter, List, [], ◌∷◌, ◌++◌, map, Option, Some, None, option_to_list, ⊎_elim, refl, sym, ap, ap₂, subst, ◌∙◌}
+use Rattle.std.proofs.Common.{◌≡◌, ℕ, ◌+◌, ◌*◌, ◌/◌, ◌%◌, Bool, true, false, filter, List, [], ◌∷◌, ◌++◌, map, Option, Some, None, option_to_list, ⊎_elim, refl, sym, ap, ap₂, subst, ◌∙◌}
 use Rattle.std.specs.List.{AllByRecursion}
 use Rattle.std.proofs.lemmas.Bool.{cases_Bool, cases_eq, cond-true, cond-false, eqb-true}
 use Rattle.std.proofs.lemmas.List.{map-append}

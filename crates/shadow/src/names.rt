@@ -105,6 +105,13 @@ impl Names {
         }
     }
 
+    /// Whether these are the names of a location before its first access.
+    pub fn are_none(&self) -> bool
+        ensures { IsTrue result → self.now ≡ no_names }
+    {
+        self.writer.place == 0 && self.reader.place == 0
+    }
+
     /// Takes an access to the location by the executing procedure, and reports its race, if it wasn't `reported`.
     #[inline(always)]
     pub fn update(

@@ -1,7 +1,7 @@
 //! The touched pages, by their numbers. A page has what is kept of eight locations.
-ghost use Rattle.std.specs.Prelude.{◌≡◌, ◌≢◌, ◌<◌, ℕ, [], IfSome, IfOk, IsTrue, OnErr};
+ghost use Rattle.std.specs.Prelude.{◌≡◌, ◌≢◌, ◌<◌, ℕ, [], IfSome, IfOk, IsTrue, OnErr, slice_index_or};
 ghost use Rattle.shadow.specs.Cells.{untouched};
-ghost use Rattle.shadow.specs.Pages.{no_page, page_numbered, cell_at, cell_in};
+ghost use Rattle.shadow.specs.Pages.{no_names, no_page, page_numbered, cell_at, cell_in};
 ghost use Rattle.shadow.specs.Pages.{IsPageAt, IsLookedUp, HasPut, HasSameCells};
 ghost use Rattle.shadow.specs.Touches.{MayTouch, HasTouched};
 
@@ -68,6 +68,35 @@ impl Page {
     {
         self.names[seat].update(&mut self.reported[seat], bags, location, kind, place)
     }
+
+    /// The location in this seat is as it was before its first access.
+    fn forget_seat(&mut self, seat: usize)
+        requires within { seat < 8 }
+        ensures forgotten { cell_at self.new seat ≡ untouched }
+        ensures others { (k : ℕ) → k ≢ seat → cell_at self.new k ≡ cell_at self.old k }
+    {
+        self.names[seat] = Names::none();
+        self.reported[seat] = false;
+    }
+
+    /// Whether all its locations are as they were before their first access.
+    fn is_untouched(&self) -> bool
+        ensures { IsTrue result → (seat : ℕ) → cell_at self.now seat ≡ untouched }
+    {
+        are_none(&self.names) && !self.reported.contains(&true)
+    }
+}
+
+// Whether no names are kept.
+fn are_none(names: &[Names]) -> bool
+    ensures { IsTrue result → (seat : ℕ) → slice_index_or names.now seat no_names ≡ no_names }
+{
+    for names in names {
+        if !names.are_none() {
+            return false;
+        }
+    }
+    true
 }
 
 /// The number of remembered indices.
@@ -112,11 +141,22 @@ impl<S: BuildHasher> Pages<S> {
         ensures err { OnErr result (self.new ≡ self.old) }
         ensures not_there { OnErr result (page_numbered self.old spot.page ≡ no_page) }
     {
+        match self.recent_index(spot) {
+            Some(index) => Ok(index),
+            None => self.find_or_add(spot, layout),
+        }
+    }
+
+    // The index where a late look-up found the page of this spot, if it stands there now.
+    #[inline(always)]
+    fn recent_index(&self, spot: Spot) -> Option<usize>
+        ensures { IfSome result (λ at. IsPageAt self.now at spot.page) }
+    {
         let index = self.recent[spot.slot] as usize;
         if self.is_at(index, spot.page) {
-            return Ok(index);
+            return Some(index);
         }
-        self.find_or_add(spot, layout)
+        None
     }
 
     // The same, if the page isn't at the remembered index. It is remembered from here on.
@@ -199,6 +239,52 @@ impl<S: BuildHasher> Pages<S> {
             Some(page) => page.touch_seat(spot.seat, bags, location, kind, place),
             None => unreachable!(),
         }
+    }
+
+    /// The location of this spot is as it was before its first access. A page whose locations all are goes.
+    pub fn forget(&mut self, spot: Spot, layout: Layout)
+        ensures { HasPut spot.page spot.seat untouched self.old self.new }
+    {
+        if let Some(at) = self.index_of(spot, layout) {
+            if self.forget_at(at, spot) {
+                self.drop_untouched(spot.page);
+            }
+        }
+    }
+
+    // Where the page of this spot stands, if it is there.
+    fn index_of(&mut self, spot: Spot, layout: Layout) -> Option<usize>
+        ensures same { self.new ≡ self.old }
+        ensures found { IsLookedUp self.old spot.page result }
+    {
+        match self.recent_index(spot) {
+            Some(index) => Some(index),
+            None => self.look_up(spot, layout),
+        }
+    }
+
+    // The location of this spot, whose page is at this index, is as it was before its first access. Whether all
+    // locations of the page are.
+    fn forget_at(&mut self, at: usize, spot: Spot) -> bool
+        requires there { IsPageAt self.old at spot.page }
+        ensures put { HasPut spot.page spot.seat untouched self.old self.new }
+        ensures empty { IsTrue result → (k : ℕ) → cell_in self.new spot.page k ≡ untouched }
+    {
+        match self.map.get_index_mut(at) {
+            Some(page) => {
+                page.forget_seat(spot.seat);
+                page.is_untouched()
+            }
+            None => unreachable!(),
+        }
+    }
+
+    // Drops the page of this number, whose locations are untouched.
+    fn drop_untouched(&mut self, page: u64)
+        requires empty { (k : ℕ) → cell_in self.old page k ≡ untouched }
+        ensures { HasSameCells self.old self.new }
+    {
+        self.map.swap_remove(&page);
     }
 }
 

@@ -147,4 +147,15 @@ impl<S: BuildHasher> Shadow<S> {
         self.least_count = bags.count();
         Ok(self.pages.touch_cell(at, spot, bags, location, kind, place))
     }
+
+    /// The location is as it was before its first access.
+    #[inline(always)]
+    pub fn forget(&mut self, location: u64)
+        ensures kept { (l : ℕ) → kept_of self.new l ≡ with_cell location untouched (kept_of self.old) l }
+        ensures last_place { last_place_of self.new ≡ last_place_of self.old }
+        ensures least_count { least_count_of self.new ≡ least_count_of self.old }
+    {
+        let spot = spot_of(location, self.layout);
+        self.pages.forget(spot, self.layout);
+    }
 }

@@ -4,6 +4,7 @@ use denote.Struct.Laws as struct_laws
 use Rattle.std.specs.contracts.alloc.Global as heap
 use Rattle.std.proofs.alloc.Global.TheLaws as heap_laws
 use Rattle.inside.specs.declared.session.Session.TheVariants.{Stopped}
+use Rattle.online.specs.Lives.{first_lives}
 use Rattle.inside.specs.Sessions.{HasTaken}
 use Rattle.inside.specs.contracts.session.Session.{the_row as R}
 use Rattle.inside.proofs.session.Session.TheLaws as laws
@@ -44,7 +45,7 @@ spbags_new_spec 𝓤 𝓛 𝓜 𝓡 wired =
     calls_at ! (framed 𝓤 𝓛.H 𝓜 (tables 𝓤 𝓛.H 𝓜 𝓡 𝓡.env)) G (met 𝓤 𝓛 𝓜 𝓡 (code.calls-inside::session::Session::new 𝓡.env wired)) z
     (and_then ! (get ! refl) (no_more !)) (λ v.
     use1 𝓛 (later (some (λ (s : R.Denot). (‵ ftrue ⊛ ‵ (R.own_val s (v ∷ []))) ⊛
-    some (λ (ws : Unit {0} × Unit {0}). ‵ (lasts g.ended κs (a.0, tt) ws) ⊛ raw (fact 𝓤 (s ≢ Stopped → HasTaken [] s)))))) (id⊢ 𝓤 _) $
+    some (λ (ws : Unit {0} × Unit {0}). ‵ (lasts g.ended κs (a.0, tt) ws) ⊛ raw (fact 𝓤 (s ≢ Stopped → HasTaken [] first_lives s)))))) (id⊢ 𝓤 _) $
     await ! tt $ pick ! (λ s. split ! $ split ! $ drop ! $
     -- [what the session owns; the clause; the room]
     peeks ! R (Is R) (shows 𝓛 R) s (v ∷ []) (λ is. let good = ((laws.the_row_laws.lawful 𝓛).typed s (v ∷ []) is).0 in
@@ -54,7 +55,7 @@ spbags_new_spec 𝓤 𝓛 𝓜 𝓡 wired =
     sets ! (of_opd ! (unit_lit !)) refl (tt, tt) $
     returns ! (look_at ! 0 refl) $ free_all ! refl $ keep ! (2 ∷ 1 ∷ []) $
     use2 𝓛 (‵ (lies_at R full_share (block_ptr b o) s)) (part_in 𝓛 R refl full_share s b o v) $
-    nothing ! $ fpack ! (s ≢ Stopped → HasTaken [] s) (λ _. ftrue) said $ move ! (1 ∷ 0 ∷ []) $ fjoin ! $
-    fpack ! R.Denot (λ d. fsep (lies_at R full_share (block_ptr b o) d) (fex (d ≢ Stopped → HasTaken [] d) (λ _. ftrue))) s $
+    nothing ! $ fpack ! (s ≢ Stopped → HasTaken [] first_lives s) (λ _. ftrue) said $ move ! (1 ∷ 0 ∷ []) $ fjoin ! $
+    fpack ! R.Denot (λ d. fsep (lies_at R full_share (block_ptr b o) d) (fex (d ≢ Stopped → HasTaken [] first_lives d) (λ _. ftrue))) s $
     suffices ! _ (ends_at 𝓛 f.ended stayed c (y (block_ptr b o)) vunit tt (tt, (tt, tt)) (tt, (tt, tt))) $
     feq_i ! _ (vunit ∷ []) _ refl $ nothing ! $ nothing ! $ join ! $ nothing ! $ join ! $ nothing ! $ group ! 3 $ done !))))))))

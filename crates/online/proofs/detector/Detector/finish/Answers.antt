@@ -1,13 +1,20 @@
 use Rattle.std.proofs.Common.{sym, subst}
 use Rattle.std.proofs.lemmas.Result.{IfOk-weaker}
+use Rattle.dag.specs.Traces.{placed}
+use Rattle.online.specs.Lives.{first_lives}
 use Rattle.online.specs.Online.{HasTakenPlaced, IsAfter}
-use Rattle.serial.proofs.Detected.{reported, report_of}
+use Rattle.serial.proofs.Detected.{report_of}
+use Rattle.online.proofs.Reported.{reported_lives, reported_first}
 use Rattle.online.proofs.detector.Detector.finish.Goals as goal
 
 pub returns-clause-races : goal.returns-clause-races
 returns-clause-races g c = IfOk-weaker c.finish.result _ _
-    (λ rs collected u h. reported u _ _ _ rs (subst (HasTakenPlaced u) (sym c.self.view_is) h) collected) c.finish.ensures.ok
+    (λ rs collected u lives h. reported_lives u lives _ rs (subst (HasTakenPlaced u lives) (sym c.self.view_is) h) collected) c.finish.ensures.ok
+
+pub returns-clause-first : goal.returns-clause-first
+returns-clause-first g c = IfOk-weaker c.finish.result _ _
+    (λ rs collected u h. reported_first u _ rs (subst (HasTakenPlaced u first_lives) (sym c.self.view_is) h) collected) c.finish.ensures.ok
 
 pub returns-clause-report : goal.returns-clause-report
 returns-clause-report g c = IfOk-weaker c.finish.result _ _
-    (λ rs collected u records depths h nested. report_of u rs nested (reported _ _ _ _ rs (subst (IsAfter u) (sym c.self.view_is) h).met collected)) c.finish.ensures.ok
+    (λ rs collected u records depths h nested. report_of u rs nested (reported_first (placed u) _ rs (subst (IsAfter u first_lives) (sym c.self.view_is) h).met collected)) c.finish.ensures.ok

@@ -1,18 +1,19 @@
-use Rattle.std.proofs.Common.{◌+◌, ◌≤◌, sym, subst, ◌++◌}
+use Rattle.std.proofs.Common.{◌+◌, ◌≤◌, sym, subst, ◌++◌, map}
 use Rattle.std.specs.Int.RustNames.{count_ones}
 use Rattle.dag.specs.Bounds.{most_records}
 use Rattle.dag.specs.Traces.{placed}
 use Rattle.shadow.proofs.StateLemmas.{map_OnOk}
 use Rattle.online.specs.Accesses.{block_records}
+use Rattle.online.specs.Lives.{in_life}
 use Rattle.online.specs.Online.{IsAfter}
 use Rattle.online.proofs.Found.{where_ok}
 use Rattle.online.proofs.Running.{after_block}
 use Rattle.online.proofs.detector.Detector.take_block.Goals as goal
 
 pub returns-clause-taken : goal.returns-clause-taken
-returns-clause-taken g c = map_OnOk c.settle.result _ _ (λ is u h.
+returns-clause-taken g c = map_OnOk c.settle.result _ _ (λ is u lives h.
     let touched = c.touch_both-followed in
     let room : c.args.self.now.last_place + (count_ones c.args.reads + count_ones c.args.writes) ≤ most_records = subst (λ n. c.args.self.now.last_place + n ≤ most_records) c.from.ensures c.in_ok-admit.ensures.ok.2 in
-    let met = where_ok touched.result _ is.1 touched.ensures.met (placed u) in
-    subst (IsAfter (u ++ block_records c.args.location c.args.reads c.args.writes)) (sym is.0)
-    (after_block u c.args.location c.args.reads c.args.writes c.args.self.now touched.new.self c.ranges.reads.fits c.ranges.writes.fits room h met (where_ok touched.result _ is.1 touched.ensures.last) touched.ensures.bags touched.ensures.ended touched.ensures.going)) c.settle.ensures.ok
+    let met = where_ok touched.result _ is.1 touched.ensures.met (placed u) lives in
+    subst (IsAfter (u ++ map (in_life lives) (block_records c.args.location c.args.reads c.args.writes)) lives) (sym is.0)
+    (after_block u lives c.args.location c.args.reads c.args.writes c.args.self.now touched.new.self c.ranges.reads.fits c.ranges.writes.fits room h met (where_ok touched.result _ is.1 touched.ensures.last) touched.ensures.bags touched.ensures.ended touched.ensures.going)) c.settle.ensures.ok

@@ -1,4 +1,4 @@
-use Rattle.std.proofs.Common.{◌≡◌, ◌++◌, List, [], sym, subst, ap, ◌∙◌, append-nil}
+use Rattle.std.proofs.Common.{◌≡◌, ◌++◌, List, [], map, refl, sym, subst, ap, ◌∙◌, append-nil}
 use Rattle.std.specs.Vec.{vec_len}
 use Rattle.std.proofs.lemmas.Bool.{eqb-true}
 use Rattle.std.proofs.lemmas.List.{nil_from_length}
@@ -7,28 +7,33 @@ use Rattle.dag.specs.Accesses.{RaceAt}
 use Rattle.shadow.proofs.StateLemmas.{map_OnOk}
 use Rattle.blocks.specs.Blocks.{block_of, races_in_block, kept_in_blocks}
 use Rattle.online.specs.Accesses.{accesses}
-use Rattle.online.specs.Online.{HasTakenPlaced}
+use Rattle.online.specs.Lives.{placed_in_life}
+use Rattle.online.specs.Online.{Online, HasTakenPlaced}
 use Rattle.online.proofs.Alone.{none_accessed}
 use Rattle.online.proofs.Found.{met_units, takes_none}
 use Rattle.online.proofs.detector.Detector.touch.Goals as goal
 
 pub returns-then-units-eq0-clause-met : goal.returns-then-units-eq0-clause-met
-returns-then-units-eq0-clause-met g c u h =
+returns-then-units-eq0-clause-met g c u lives h =
     let v : List Placed = accesses c.args.location c.args.kind c.args.place c.args.units in
-    let is : u ≡ u ++ v = sym (append-nil u) ∙ ap (λ (w : List Placed). u ++ w) (sym (none_accessed c.args.location c.args.kind c.args.place c.args.units c.if-units-eq0.true)) in
-    subst (λ (w : List Placed). HasTakenPlaced w c.args.self.now) is h
+    let is : u ≡ u ++ map (placed_in_life lives) v = sym (append-nil u) ∙ ap (λ (w : List Placed). u ++ map (placed_in_life lives) w) (sym (none_accessed c.args.location c.args.kind c.args.place c.args.units c.if-units-eq0.true)) in
+    subst (λ (w : List Placed). HasTakenPlaced w lives c.args.self.now) is h
 
 pub returns-then-is_empty-clause-met : goal.returns-then-is_empty-clause-met
-returns-then-is_empty-clause-met g c u h =
-    let before : HasTakenPlaced u (record { bags = c.self.inside.bags; cells = c.self.inside.cells; blocks = c.self.inside.blocks; kept = c.self.inside.collector; last_place = c.self.inside.last_place; ended = c.self.inside.ended; stopped = c.self.inside.stopped }) = subst (HasTakenPlaced u) (sym c.self.view_is) h in
-    let reported : c.touch.new.races.items ≡ races_in_block c.self.inside.bags.active c.args.kind c.args.place c.args.units (block_of c.args.location) (kept_in_blocks c.self.inside.blocks) = c.in_ok-touch.ensures.races ∙ ap (λ (rs : List RaceAt). rs ++ races_in_block c.self.inside.bags.active c.args.kind c.args.place c.args.units (block_of c.args.location) (kept_in_blocks c.self.inside.blocks)) c.new-races.ensures.items in
+returns-then-is_empty-clause-met g c u lives h =
+    let d : Online = record { bags = c.self.inside.bags; cells = c.self.inside.cells; blocks = c.self.inside.blocks; kept = c.self.inside.collector; last_place = c.self.inside.last_place; ended = c.self.inside.ended; stopped = c.self.inside.stopped } in
+    let before : HasTakenPlaced u lives d = subst (HasTakenPlaced u lives) (sym c.self.view_is) h in
+    let in_block : List RaceAt = races_in_block d.bags.active c.args.kind c.args.place c.args.units (block_of c.args.location) (kept_in_blocks d.blocks) in
+    let reported : c.touch.new.races.items ≡ in_block = c.in_ok-touch.ensures.races ∙ ap (λ (rs : List RaceAt). rs ++ in_block) c.new-races.ensures.items in
     let none : c.touch.new.races.items ≡ [] = nil_from_length c.touch.new.races.items (sym c.touch.new.races.ok.0 ∙ eqb-true (vec_len c.touch.new.races) 0 (sym c.if-is_empty.ensures)) in
-    met_units u c.self.inside.bags c.self.inside.cells c.self.inside.blocks c.touch.new.self c.self.inside.collector c.self.inside.collector c.args.location c.args.kind c.args.place c.args.units c.touch.new.races.items c.requires.even before c.in_ok-touch.ensures.kept reported
-    (takes_none c.self.inside.collector c.touch.new.races.items none)
+    met_units u lives d _ c.args.location c.args.kind c.args.place c.args.units c.touch.new.races.items c.requires.even c.ranges.location.fits before refl refl c.in_ok-touch.ensures.kept reported
+    (takes_none d.kept c.touch.new.races.items none)
 
 pub returns-clause-met : goal.returns-clause-met
-returns-clause-met g c = map_OnOk c.take_all.result _ _ (λ taken u h.
-    let before : HasTakenPlaced u (record { bags = c.self.inside.bags; cells = c.self.inside.cells; blocks = c.self.inside.blocks; kept = c.self.inside.collector; last_place = c.self.inside.last_place; ended = c.self.inside.ended; stopped = c.self.inside.stopped }) = subst (HasTakenPlaced u) (sym c.self.view_is) h in
-    let reported : c.touch.new.races.items ≡ races_in_block c.self.inside.bags.active c.args.kind c.args.place c.args.units (block_of c.args.location) (kept_in_blocks c.self.inside.blocks) = c.in_ok-touch.ensures.races ∙ ap (λ (rs : List RaceAt). rs ++ races_in_block c.self.inside.bags.active c.args.kind c.args.place c.args.units (block_of c.args.location) (kept_in_blocks c.self.inside.blocks)) c.new-races.ensures.items in
-    met_units u c.self.inside.bags c.self.inside.cells c.self.inside.blocks c.touch.new.self c.self.inside.collector c.take_all.new.collector c.args.location c.args.kind c.args.place c.args.units c.touch.new.races.items c.requires.even before c.in_ok-touch.ensures.kept reported
+returns-clause-met g c = map_OnOk c.take_all.result _ _ (λ taken u lives h.
+    let d : Online = record { bags = c.self.inside.bags; cells = c.self.inside.cells; blocks = c.self.inside.blocks; kept = c.self.inside.collector; last_place = c.self.inside.last_place; ended = c.self.inside.ended; stopped = c.self.inside.stopped } in
+    let before : HasTakenPlaced u lives d = subst (HasTakenPlaced u lives) (sym c.self.view_is) h in
+    let in_block : List RaceAt = races_in_block d.bags.active c.args.kind c.args.place c.args.units (block_of c.args.location) (kept_in_blocks d.blocks) in
+    let reported : c.touch.new.races.items ≡ in_block = c.in_ok-touch.ensures.races ∙ ap (λ (rs : List RaceAt). rs ++ in_block) c.new-races.ensures.items in
+    met_units u lives d _ c.args.location c.args.kind c.args.place c.args.units c.touch.new.races.items c.requires.even c.ranges.location.fits before refl refl c.in_ok-touch.ensures.kept reported
     (rw c.as_slice.ensures.value at taken)) c.take_all.ensures

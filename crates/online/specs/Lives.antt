@@ -1,0 +1,43 @@
+-- Promised: the lives of locations, and what is reported of them.
+use Rattle.std.specs.Prelude.{◌≡◌, ℕ, ◌+◌, ◌*◌, ◌%◌, ◌^◌, List, map, if◌then◌else◌}
+use Rattle.dag.specs.declared.records.Record.{Record}
+use Rattle.dag.specs.declared.records.Record.TheVariants.{Spawn, Call, Return, Sync, Read, Write}
+use Rattle.dag.specs.declared.records.Placed.{Placed}
+use Rattle.dag.specs.Accesses.{RaceAt}
+use Rattle.shadow.specs.Found.{found}
+use Rattle.collect.specs.Collected.{race_on, best}
+use Rattle.collect.specs.Reports.{IsReportList}
+use Rattle.blocks.specs.Blocks.{is_unit}
+
+-- A life of a location is a location of its own in the records: life k of location l has the name l + 2^64 * k.
+abbrev pub named : ℕ → ℕ → ℕ
+named l k = l + 2 ^ 64 * k
+
+-- a record, where each location is in the life that `lives` gives it
+abbrev pub in_life : (ℕ → ℕ) → Record → Record
+in_life lives Spawn = Spawn
+in_life lives Call = Call
+in_life lives Return = Return
+in_life lives Sync = Sync
+in_life lives (Read l) = Read (named l (lives l))
+in_life lives (Write l) = Write (named l (lives l))
+
+abbrev pub placed_in_life : (ℕ → ℕ) → Placed → Placed
+placed_in_life lives p = record { place = p.place; what = in_life lives p.what }
+
+-- the first life of each location
+abbrev pub first_lives : ℕ → ℕ
+first_lives l = 0
+
+-- the lives after these units of the location's block were forgotten: each of them is in its next one
+abbrev pub lives_after : ℕ → ℕ → (ℕ → ℕ) → ℕ → ℕ
+lives_after location units lives l = if is_unit location units l then lives l + 1 else lives l
+
+-- a race of a life, as a race of its location
+abbrev pub at_home : RaceAt → RaceAt
+at_home r = record { location = r.location % 2 ^ 64; first = r.first; second = r.second }
+
+-- The report of all lives: for each location that raced in any life, the race with the least second place among them.
+pub record IsReportOfLives (u : List Placed) (races : List RaceAt) : Type 0 where
+  pub ascending : IsReportList races
+  pub best_on : (l : ℕ) → race_on l races ≡ best l (map at_home (found u))

@@ -1,0 +1,6 @@
+use Rattle.std.proofs.Common.{◌≡◌, ◌<◌, ℕ, slice_index_or}
+use Rattle.shadow.specs.Pages.{no_names}
+use Rattle.shadow.proofs.pages.are_none.Given as goal
+
+abbrev pub invariant-loop-names : goal.invariant-loop-names
+invariant-loop-names l = (k : ℕ) → k < l.names-index → slice_index_or l.names k no_names ≡ no_names
