@@ -4,6 +4,7 @@ use Rattle.dag.specs.declared.records.Record.{Record}
 use Rattle.dag.specs.declared.records.Record.TheVariants.{Spawn, Call, Return, Sync, Read, Write}
 use Rattle.dag.specs.declared.records.Placed.{Placed}
 use Rattle.dag.specs.Accesses.{RaceAt}
+use Rattle.dag.specs.Races.{HasRace}
 use Rattle.shadow.specs.Found.{found}
 use Rattle.collect.specs.Collected.{race_on, best}
 use Rattle.collect.specs.Reports.{IsReportList}
@@ -33,9 +34,17 @@ first_lives l = 0
 abbrev pub lives_after : ℕ → ℕ → (ℕ → ℕ) → ℕ → ℕ
 lives_after location units lives l = if is_unit location units l then lives l + 1 else lives l
 
+-- the location of a name
+abbrev pub home : ℕ → ℕ
+home x = x % 2 ^ 64
+
 -- a race of a life, as a race of its location
 abbrev pub at_home : RaceAt → RaceAt
-at_home r = record { location = r.location % 2 ^ 64; first = r.first; second = r.second }
+at_home r = record { location = home r.location; first = r.first; second = r.second }
+
+-- a life of the location has a race
+abbrev pub HasRacyLife : List Record → ℕ → Type 0
+HasRacyLife u l = (x : ℕ) × (home x ≡ l) × HasRace u x
 
 -- The report of all lives: for each location that raced in any life, the race with the least second place among them.
 pub record IsReportOfLives (u : List Placed) (races : List RaceAt) : Type 0 where

@@ -18,7 +18,8 @@ ghost use Rattle.shadow.specs.Cells.{untouched};
 ghost use Rattle.shadow.specs.Shadow.{kept_of, last_place_of, least_count_of};
 ghost use Rattle.blocks.specs.Blocks.{is_unit, next_place_of};
 ghost use Rattle.online.specs.Accesses.{accesses, block_records};
-ghost use Rattle.online.specs.Lives.{in_life, placed_in_life, first_lives, lives_after, IsReportOfLives};
+ghost use Rattle.serial.specs.Racy.{HasLocation};
+ghost use Rattle.online.specs.Lives.{in_life, placed_in_life, first_lives, lives_after, IsReportOfLives, HasRacyLife};
 ghost use Rattle.online.specs.Online.{HasTakenPlaced, IsAfter, IsStopped, WantsMemory, MayWant};
 
 use bags::Bags;
@@ -335,6 +336,9 @@ impl<S: BuildHasher + Drop> Detector<S> {
     pub fn finish(self) -> Result<Report, NoMemory>
         ensures races { IfOk result (λ report. (u : List Placed) (lives : ℕ → ℕ) → HasTakenPlaced u lives self
             → IsReportOfLives u report) }
+        // Of a well nested trace it has exactly the locations one of whose lives has a race.
+        ensures racy { IfOk result (λ report. (u : List Record) (lives : ℕ → ℕ) (records depths : ℕ)
+            → IsAfter u lives self → IsWellNested u records depths → (l : ℕ) → HasLocation report l ↔ HasRacyLife u l) }
         // Where nothing was forgotten, it is the verdict, and so of a well nested trace the report by the dag.
         ensures first { IfOk result (λ report. (u : List Placed) → HasTakenPlaced u first_lives self
             → report ≡ by_location (found u)) }

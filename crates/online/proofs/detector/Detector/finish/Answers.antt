@@ -4,12 +4,16 @@ use Rattle.dag.specs.Traces.{placed}
 use Rattle.online.specs.Lives.{first_lives}
 use Rattle.online.specs.Online.{HasTakenPlaced, IsAfter}
 use Rattle.serial.proofs.Detected.{report_of}
-use Rattle.online.proofs.Reported.{reported_lives, reported_first}
+use Rattle.online.proofs.Reported.{reported_lives, reported_first, lives_racy}
 use Rattle.online.proofs.detector.Detector.finish.Goals as goal
 
 pub returns-clause-races : goal.returns-clause-races
 returns-clause-races g c = IfOk-weaker c.finish.result _ _
     (λ rs collected u lives h. reported_lives u lives _ rs (subst (HasTakenPlaced u lives) (sym c.self.view_is) h) collected) c.finish.ensures.ok
+
+pub returns-clause-racy : goal.returns-clause-racy
+returns-clause-racy g c = IfOk-weaker c.finish.result _ _
+    (λ rs collected u lives records depths h nested l. lives_racy u records depths rs nested (reported_lives (placed u) lives _ rs (subst (IsAfter u lives) (sym c.self.view_is) h).met collected) l) c.finish.ensures.ok
 
 pub returns-clause-first : goal.returns-clause-first
 returns-clause-first g c = IfOk-weaker c.finish.result _ _
