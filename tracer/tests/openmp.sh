@@ -475,8 +475,7 @@ start_openmp() {
             check_reducers_cplusplus check_cilk_cplusplus_examples &
         run_checks "parallel$level" check_tbb check_tbb_containers check_execution &
     done
-    CC=gcc run_checks link check_unknown check_library_with_openmp check_known check_refused_objects check_openmp_link \
-        check_options check_shared_libraries &
+    CC=gcc run_checks link check_link &
     CC=gcc run_checks link_built check_cmake check_meson &
     run_checks random_cplusplus check_random_cplusplus &
     CC=gcc run_checks teams check_teams check_random_openmp &

@@ -1,5 +1,5 @@
 # shellcheck shell=bash disable=SC2154
-# The checks of reducers. tracer/check reads this, and has what is called here besides.
+# The checks of reducers in C++. tracer/check reads this, and has what is called here besides.
 
 # spbags-run with these words has to have this status and, if it is anything, this line in its report.
 reports() {
@@ -16,51 +16,6 @@ reports() {
 # The pairs of lines that race, without the number of locations.
 racy_lines() {
     found_by_run "$@" | sed -E "s,^[0-9]+ ,,; s,[^ ]*reducers\.(c|cpp):,,g" | sort
-}
-
-# In C the line of the value is two above that of the update.
-check_reducers() {
-    local source=tracer/tests/reducers.c
-    "$here/spbags-cc" "$level" -Wall -Wextra -Werror -o reducers "$source"
-    count $? "$CC $level: $source"
-    reports 0 "" -- ./reducers clean && same $'6 8 4 3 4\n6\n6 4 4 -4\n2 4 13 2\n12 7\n6 3\n12 2 3 2' "$(grep -v '^races' output)"
-    count $? "$CC $level: $source, clean"
-    same "$( (grep -nF '[value]' "$source" | cut -d: -f1 | awk -v struct="$(line_of "$source" 'counts.all; /*')" \
-        '$1 != struct { print $1, $1 + 2 }'
-        echo "$(line_of "$source" '[added]') $(line_of "$source" '[before sync]')"
-        echo "$(line_of "$source" '[added]') $(line_of "$source" '[ends]')"
-        echo "$(line_of "$source" '[added]') $(line_of "$source" '[array ends]')"
-        for line in shadowed 'other struct'; do
-            echo "$(line_of "$source" "[$line]") $(line_of "$source" "[$line]")"
-        done) | sort)" "$(racy_lines ./reducers racy)"
-    count $? "$CC $level: $source, racy"
-    reports 3 'what add_counts does for the reducer counts in another schedule' -- ./reducers struct
-    count $? "$CC $level: $source, a struct"
-    same "$(line_of "$source" 'counts.all; /*' | awk '{ print $1, $1 + 2 }')" "$(racy_lines ./reducers struct racy)"
-    count $? "$CC $level: $source, a struct, racy"
-    reports 3 'what join does for the reducer list in another schedule' -- ./reducers list
-    count $? "$CC $level: $source, more memory"
-    reports 3 "an update of a reducer spawns, and what its children access isn't seen" -- ./reducers child
-    count $? "$CC $level: $source, a child of an update that isn't recorded"
-    same "$(line_of "$source" '[number]' | awk '{ print $1, $1 }')" "$(racy_lines ./reducers arguments)"
-    count $? "$CC $level: $source, an argument that is evaluated before"
-    reports 3 "$(line_of "$source" '[kept]'): what is done by this address of the reducer total" -- ./reducers kept
-    count $? "$CC $level: $source, an address that is kept"
-    printf '#include <cilk/cilk.h>\nstatic int cilk_reducer(0, 0) of[2];\nint main(void) {\nreturn *of;\n}\n' >element.c
-    ends_with 1 '^element.c:4: error: .*name one element of the reducers of' "$here/spbags-cc" element.c
-    count $? "$CC $level: an array of reducers without a subscript"
-    sed -i 's/\*of/of++/; s/ of.2./ *of/' element.c
-    ends_with 1 '^element.c:4: error: .*name what the pointer of points to' "$here/spbags-cc" element.c
-    count $? "$CC $level: a pointer to reducers that moves"
-    sed -i 's/of++/int *at = of/' element.c
-    ends_with 1 '^element.c:4: error: .*what gets it is no pointer to a reducer' "$here/spbags-cc" element.c
-    count $? "$CC $level: a pointer to reducers that another one gets"
-    if [ "$has_inside" ]; then
-        "$here/spbags-cc" "$level" --inside --inline-checks -o inside "$source" && has_same_report ./inside
-        count $? "$CC $level: $source, the report of the detector inside"
-    fi
-    check_repeats cat ./reducers
-    count $? "$CC $level: $source, the same without repeats"
 }
 
 # The examples of Cilk in C++, where the last column is what each prints.

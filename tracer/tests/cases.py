@@ -1,0 +1,288 @@
+"""What files of tests share: commands, the lines that tags name, the races of a program, and the count. Each test runs
+in a folder of its own with the examples in it. Each `subTest` counts; one that fails is named with its last command.
+SPBAGS names the checker, CC the compiler, LEVEL its level of optimization, and INSIDE is set if there is a detector
+inside."""
+import collections
+import glob
+import json
+import os
+import re
+import shlex
+import shutil
+import signal
+import subprocess
+import sys
+import tempfile
+import time
+import unittest
+
+TESTS = os.path.dirname(os.path.realpath(__file__))
+TRACER = os.path.dirname(TESTS)
+CC, LEVEL, INSIDE = os.environ.get("CC", "gcc"), os.environ.get("LEVEL", "-O1"), bool(os.environ.get("INSIDE"))
+SPBAGS_CC, SPBAGS_CPLUSPLUS, SPBAGS_RUN, SPBAGS_LINES = (
+    os.path.join(TRACER, name) for name in ("spbags-cc", "spbags-c++", "spbags-run", "spbags-lines"))
+Done = collections.namedtuple("Done", "status out errors")
+# The even locations of a block.
+BLOCK = 64
+
+
+def size_of(name):
+    return os.path.getsize(name) if os.path.exists(name) else 0
+
+
+def lines_of(source, text):
+    """The numbers of the lines that have this text."""
+    with open(source, encoding="utf-8") as file:
+        return [number for number, line in enumerate(file, 1) if text in line]
+
+
+def line_of(source, text):
+    number, = lines_of(source, text)
+    return number
+
+
+def tagged_races(source, left_out=" "):
+    """The bytes that race and their two lines, by tags such as `[4 name first]` and `[4 name second]`, but for names
+    that have this text."""
+    lines, races = collections.defaultdict(list), {}
+    with open(source, encoding="utf-8") as file:
+        for number, line in enumerate(file, 1):
+            for many, name, _ in re.findall(r"\[([0-9]+) ([a-z_]+) (first|second)\]", line):
+                lines[name].append(number)
+                races[name] = many
+    return sorted(f"{races[name]} {min(both)} {max(both)}" for name, both in lines.items() if left_out not in name)
+
+
+def expected_races(source):
+    """Those of an example by examples/expected, as `tagged_races` gives them."""
+    with open(os.path.join(TRACER, "examples", "expected"), encoding="utf-8") as file:
+        rows = [line.split() for line in file if line.startswith(os.path.splitext(source)[0] + " ")]
+    races = [(many, sorted((line_of(source, one), line_of(source, other)))) for _, unit, many, one, other in
+             (row for row in rows if row[1] != "note")]
+    return sorted(f"{many} {one} {other}" for many, (one, other) in races)
+
+
+class TracerTest(unittest.TestCase):
+    def setUp(self):
+        folder = tempfile.TemporaryDirectory()
+        self.addCleanup(folder.cleanup)
+        self.addCleanup(os.chdir, os.getcwd())
+        os.chdir(folder.name)
+        for name in glob.glob(os.path.join(TRACER, "examples", "*.c*")):
+            shutil.copy(name, ".")
+        os.symlink(TRACER, "tracer")
+        self.command = ""
+
+    @staticmethod
+    def read(name):
+        with open(name, encoding="utf-8", errors="replace") as file:
+            return file.read()
+
+    @staticmethod
+    def write(name, text):
+        with open(name, "w", encoding="utf-8") as file:
+            file.write(text)
+
+    def run_command(self, *words, **settings):
+        """Its status and what it says, with these environment variables."""
+        self.command = shlex.join([*(f"{name}={value}" for name, value in settings.items()), *words])
+        done = subprocess.run(words, stdin=subprocess.DEVNULL, capture_output=True, text=True, errors="replace",
+                              env={**os.environ, **settings}, timeout=3600)
+        return Done(done.returncode, done.stdout, done.stderr)
+
+    def succeeds(self, *words, **settings):
+        done = self.run_command(*words, **settings)
+        self.assertEqual((0, ""), (done.status, "" if done.status == 0 else done.errors))
+        return done
+
+    def ends_with(self, status, pattern, *words, **settings):
+        """The command ends with this status, and says this on standard error."""
+        done = self.run_command(*words, **settings)
+        self.assertEqual(status, done.status, done.errors)
+        if pattern:
+            self.assertRegex(done.errors, pattern)
+        return done
+
+    def reports(self, status, text, *words, **settings):
+        """spbags-run with these words has this status, and this in its report; gives the report."""
+        done = self.run_command(SPBAGS_RUN, *words, **settings)
+        said = done.out + done.errors
+        self.assertEqual(status, done.status, said)
+        self.assertIn(text, " ".join(said.split()))
+        return said
+
+    def printed(self, *words, **settings):
+        """What a program prints before the report that spbags-run makes of it."""
+        done = self.run_command(SPBAGS_RUN, "--output", "report", *words, **settings)
+        return done.out.splitlines()
+
+    def races_of(self, *words, options=(), **settings):
+        """The number of locations and the two lines of each pair that spbags-run finds."""
+        done = self.run_command(SPBAGS_RUN, "--json", "--most", "100000", *options, "--", *words, **settings)
+        self.assertIn(done.status, (0, 1, 3), done.errors)
+        races = collections.Counter()
+        for pair in json.loads(done.out)["pairs"]:
+            frames = [pair[side]["user_frame"] for side in ("first", "second")]
+            races[tuple(sorted((frame["file"], frame["line"]) for frame in frames))] += pair["races"]
+        return sorted((many, *lines) for lines, many in races.items())
+
+    def races_in(self, source, *words, options=(), **settings):
+        """The same with the lines' numbers, which are all of this source."""
+        races = self.races_of(*words, options=options, **settings)
+        self.assertEqual({source} if races else set(), {file for _, *lines in races for file, _ in lines})
+        return sorted(f"{many} {one} {other}" for many, (_, one), (_, other) in races)
+
+    def ended_from_outside(self, number, after, program, grows, **settings):
+        """The status of a run that a signal ends so many seconds after the first records, which make a file grow."""
+        if os.path.exists(grows):
+            os.unlink(grows)
+        with subprocess.Popen([program, "never"], stderr=subprocess.DEVNULL, env={**os.environ, **settings}) as run:
+            end = time.monotonic() + 60
+            # The header alone comes with the first record.
+            while size_of(grows) <= 1000 and time.monotonic() < end:
+                time.sleep(0.01)
+            time.sleep(after)
+            run.send_signal(number)
+        return run.returncode
+
+    def ends_among_blocks(self, program, **settings):
+        """A signal comes while the program takes memory, whose heap may be locked then. A run that goes on for three
+        seconds hangs."""
+        for _ in range(20):
+            with subprocess.Popen([program, "blocks"], stderr=subprocess.DEVNULL,
+                                  env={**os.environ, **settings}) as run:
+                time.sleep(0.03)
+                run.terminate()
+                try:
+                    run.wait(3)
+                except subprocess.TimeoutExpired:
+                    run.kill()
+            self.assertEqual(-signal.SIGTERM, run.returncode)
+
+    def has_same_report(self, *words, **settings):
+        """The detector inside reports what `spbags check` does of the trace, and both runs end with one status. Their
+        environments have one length: the program's words lie before it."""
+        for repeats in "01":
+            traced = self.run_command(*words, SPBAGS_TRACE="run.trace", SPBAGS_PLACES="", SPBAGS_REPORT="",
+                                      SPBAGS_REPEATS=repeats, **settings)
+            wanted = subprocess.run([os.environ["SPBAGS"], "check", "--depth", "1000000", "run.trace"],
+                                    capture_output=True, text=True).stdout
+            inside = self.run_command(*words, SPBAGS_TRACE="", SPBAGS_PLACES="", SPBAGS_REPORT="run.races",
+                                      SPBAGS_REPEATS=repeats, **settings)
+            self.assertEqual(traced.status, inside.status, inside.errors)
+            self.assertTrue(wanted)
+            self.assertEqual(wanted, self.read("run.races"))
+
+    def is_same_without_repeats(self, *words, jumps=False, most_blocks=1024, most_odd=65536, **settings):
+        """The trace without repeats has the same races, and the other's records in its own order. If the program jumps
+        a strand may begin without a record. A strand goes out in parts of so many blocks, or odd accesses."""
+        for name, repeats in (("run.trace", "0"), ("all.trace", "1")):
+            self.run_command(*words, SPBAGS_TRACE=name, SPBAGS_REPEATS=repeats, **settings)
+
+        def in_one_order(records):
+            return ordered(without_repeats(records), most_blocks, most_odd)
+        found = records_of("run.trace")
+        self.assertEqual(in_one_order(records_of("all.trace")), in_one_order(found) if jumps else found)
+        self.assertEqual(racy_locations("all.trace"), racy_locations("run.trace"))
+
+
+def records_of(name):
+    with open(name, encoding="utf-8") as file:
+        return file.read().splitlines()
+
+
+def racy_locations(trace):
+    said = subprocess.run([os.environ["SPBAGS"], "check", trace], capture_output=True, text=True).stdout
+    return [line.split()[:2] for line in said.splitlines()]
+
+
+def access_of(record):
+    """The kind and the location of an access, or None."""
+    kind, _, location = record.partition(" ")
+    return (kind, int(location)) if kind in ("read", "write") else None
+
+
+def without_repeats(records):
+    """Those before which no record of the same strand and location stands that writes, nor any if they read."""
+    kept, touched, wrote = [], set(), set()
+    for record in records:
+        access = access_of(record)
+        if not access:
+            touched, wrote = set(), set()
+        elif access[1] in (wrote if access[0] == "write" else touched):
+            continue
+        elif access[0] == "write":
+            wrote.add(access[1])
+        if access:
+            touched.add(access[1])
+        kept.append(record)
+    return kept
+
+
+def ordered(records, most_blocks, most_odd):
+    """Each strand's in the order in which they go out: those of odd locations at once; all others at its end by blocks
+    in the order of their first touch, and of each the reads, by location, and then the writes."""
+    made, blocks, odd = [], {}, 0
+
+    def put_part():
+        for block in blocks.values():
+            made.extend(record for _, record in sorted(block))
+        blocks.clear()
+    for record in records:
+        access = access_of(record)
+        block = access and access[1] // (2 * BLOCK)
+        if not access or (access[1] % 2 == 0 and block not in blocks and len(blocks) == most_blocks):
+            put_part()
+            odd = 0
+        if not access or access[1] % 2 == 1:
+            made.append(record)
+            odd += bool(access and blocks)
+        else:
+            blocks.setdefault(block, []).append((access, record))
+        if odd == most_odd:
+            put_part()
+            odd = 0
+    return made
+
+
+class Count(unittest.TestResult):
+    """Counts each part of a test, or a test that has none."""
+
+    def __init__(self):
+        super().__init__()
+        self.passed, self.failed, self.parts = 0, 0, 0
+
+    def startTest(self, test):
+        super().startTest(test)
+        self.parts = 0
+
+    def count(self, test, error):
+        self.parts += 1
+        self.passed += error is None
+        self.failed += error is not None
+        if error:
+            case = getattr(test, "test_case", test)
+            print(f"{test}: after {case.command}\n{self._exc_info_to_string(error, case)}", file=sys.stderr)
+
+    def addSubTest(self, test, subtest, error):
+        self.count(subtest, error)
+
+    def addSuccess(self, test):
+        if self.parts == 0:
+            self.count(test, None)
+
+    def addFailure(self, test, error):
+        self.count(test, error)
+
+    addError = addFailure
+
+
+def main():
+    """Runs the tests of the classes that are named, or of all."""
+    os.environ["SPBAGS"] = os.path.realpath(os.environ["SPBAGS"])
+    result = Count()
+    module, loader = sys.modules["__main__"], unittest.defaultTestLoader
+    named = sys.argv[1:]
+    (loader.loadTestsFromNames(named, module) if named else loader.loadTestsFromModule(module)).run(result)
+    print(f"{result.passed} passed, {result.failed} failed, {len(result.skipped)} skipped")
+    sys.exit(result.failed > 0)

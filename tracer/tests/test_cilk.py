@@ -1,0 +1,161 @@
+#!/usr/bin/env python3
+"""What spbags-cc makes of Cilk in C, for each compiler."""
+import os
+import re
+import subprocess
+import sys
+
+sys.dont_write_bytecode = True
+import cases
+from cases import CC, INSIDE, SPBAGS_CC, SPBAGS_RUN, TESTS, TRACER, TracerTest, line_of, lines_of
+
+ASSEMBLY = r"""#include <cilk/cilk.h>
+int x;
+void whole(void);
+static void f(int *at) {
+    __asm__ volatile("movl $1, (%0)" : : "r"(at) : "memory"); /* [register] */
+    __asm__ volatile("incl x"); /* [name] */
+    __asm__ volatile("rep; nop");
+}
+__attribute__((naked)) static void naked(void) { __asm__("incl x\n\tret"); } /* [naked] */
+__asm__("\t.text\nwhole:\tincl x\n\tret\n"); /* [whole] */
+int main(void) {
+    cilk_spawn f(&x);
+    cilk_spawn naked();
+    whole();
+    cilk_sync;
+}
+"""
+CALLER = """#include <cilk/cilk.h>
+int index(int *at);
+static int x;
+int main(void) {
+    cilk_spawn index(&x);
+    x = 2;
+    cilk_sync;
+}
+"""
+# One name of the library's is also called by the hooks, and one is of their parts.
+NAMED = """int index(int *at) { return *at = 1; }
+void tell(void) {}
+unsigned long strlen(const char *at) { unsigned long n = 0; while (at[n]) n++; return n; }
+"""
+NONE = "int __isoc23_strtol(void);\nint strlcat(void);\nint main(void) { return strlcat() + __isoc23_strtol(); }\n"
+
+
+class TraceTest(TracerTest):
+    def test_calls(self):
+        """Of fib.c's calls with n of 2 or more, 88 for n = 10, each spawns one, and 34 are called: that of main, and in
+        the others that of n - 2 where it is 2 or more. Main calls, that one spawns, and so on down to n = 1: that is 10
+        deep."""
+        self.succeeds(SPBAGS_CC, "-o", "fib", "fib.c")
+        self.run_command("./fib", SPBAGS_TRACE="run.trace")
+        records = cases.records_of("run.trace")
+        with self.subTest("the version where none is named, and calls"):
+            self.assertEqual(("trace 2", 34), (records[0], records.count("call")))
+        with self.subTest("spawns and depth"):
+            said = self.run_command(os.environ["SPBAGS"], "measure", "run.trace").out
+            self.assertEqual(["spawns 88", "depth 10"], said.splitlines()[-2:])
+
+    def test_strands(self):
+        """With so few numbers for strands they run out again and again."""
+        for source, jumps, unit in (("fib.c", False, "4"), ("traps.c", True, "1")):
+            with self.subTest(source):
+                self.succeeds(SPBAGS_CC, "-DRACY", "-o", "strands", source, CC=f"{CC} -DMOST_STRANDS=20")
+                self.is_same_without_repeats("./strands", jumps=jumps, SPBAGS_UNIT=unit)
+
+    def test_parts(self):
+        """With so few blocks and odd accesses strands go out in parts."""
+        few = {"CC": f"{CC} -DMOST_BLOCKS=2 -DMOST_ODD=3"}
+        self.succeeds(SPBAGS_CC, "-DRACY", "-o", "strands", "matmul.c", **few)
+        with self.subTest("the same without repeats"):
+            self.is_same_without_repeats("./strands", most_blocks=2, most_odd=3)
+        with self.subTest("spbags-run"):
+            self.assertEqual(cases.expected_races("matmul.c"), self.races_in("matmul.c", "./strands"))
+        if INSIDE:
+            with self.subTest("inside"):
+                self.succeeds(SPBAGS_CC, "--inside", "-DRACY", "-o", "strands", "matmul.c", **few)
+                self.has_same_report("./strands")
+
+    def test_stores(self):
+        source = os.path.join(TESTS, "stores.c")
+        self.succeeds(CC, "-w", "-o", "plain", source)
+        self.succeeds(SPBAGS_CC, "-w", "-o", "stores", source)
+        self.assertEqual(self.run_command("./plain").out,
+                         self.run_command("./stores", SPBAGS_TRACE="run.trace", SPBAGS_UNIT="1").out)
+
+
+class CompileTest(TracerTest):
+    def test_refused(self):
+        source = os.path.join(TESTS, "refused.c")
+        with self.subTest("each tagged line, and nothing else"):
+            said = self.run_command(SPBAGS_CC, "-c", "-o", "refused.o", source).errors
+            found = re.findall(r"refused\.c:([0-9]+): error: ", said)
+            self.assertEqual(lines_of(source, "/* [refused] */"), sorted(set(map(int, found))))
+        with self.subTest("nothing is compiled"):
+            self.assertFalse(os.path.exists("refused.o"))
+        with self.subTest("no cilk.h"):
+            self.write("no_header.c", "int main(void) {\ncilk_sync;\n}\n")
+            self.ends_with(1, "(?m)^no_header.c:2: error: .*write .#include <cilk/cilk.h>'", SPBAGS_CC, "no_header.c")
+        with self.subTest("a malloc of its own"):
+            self.write("own_malloc.c", "void *malloc(unsigned long size) { return 0; }\nint main(void) {}\n")
+            self.ends_with(1, "leave out the program.s, or give it another name, as with -Dmalloc=", SPBAGS_CC,
+                           "own_malloc.c")
+        with self.subTest("a source in C++"):
+            self.ends_with(1, r"this is C\+\+: compile it with spbags-c\+\+", SPBAGS_CC, "-c", "other.cpp")
+
+    def test_names(self):
+        self.write("caller.c", CALLER)
+        self.write("named.c", NAMED)
+        with self.subTest("functions with names of the library's"):
+            self.succeeds(SPBAGS_CC, "-w", "-o", "named", "caller.c", "named.c")
+            self.assertEqual([(1, ("caller.c", 6), ("named.c", 1))], self.races_of("./named"))
+        with self.subTest("functions that the library lacks"):
+            self.write("none.c", NONE)
+            if self.run_command(CC, "-w", "-o", "none", "none.c").status != 0:
+                self.ends_with(1, "undefined reference to", SPBAGS_CC, "-w", "-o", "none", "none.c")
+
+    def test_assembly(self):
+        self.write("assembly.c", ASSEMBLY)
+        self.succeeds(SPBAGS_CC, "-o", "assembly", "assembly.c")
+        said = self.run_command(SPBAGS_RUN, "--output", "report", "--", "./assembly")
+        self.assertEqual(3, said.status)
+        found = re.findall("(?m)^assembly.c:([0-9]+): the assembly here may access memory", self.read("report"))
+        self.assertEqual([line_of("assembly.c", f"[{tag}]") for tag in ("register", "name", "naked", "whole")],
+                         sorted(map(int, found)))
+
+
+class FirstUseTest(TracerTest):
+    """The first commands of a page print what it says."""
+
+    def setUp(self):
+        super().setUp()
+        os.symlink(os.environ["SPBAGS"], "spbags")
+
+    def indented(self, page, first, last):
+        part = self.read(page).partition(first)[2].partition(last)[0]
+        return "\n".join(line[4:] for line in part.splitlines() if line.startswith("    "))
+
+    def printed_by(self, commands):
+        done = subprocess.run(["bash", "-c", commands], stdout=subprocess.PIPE, text=True)
+        return [line for line in done.stdout.splitlines() if line]
+
+    def test_repository(self):
+        page = os.path.join(TRACER, "..", "README.md")
+        text = self.read(page)
+        self.write("fib.c", re.search("^```c\n(.*?)^```$", text, re.MULTILINE | re.DOTALL)[1])
+        printed = self.indented(page, "\ncompile ", "\n## ")
+        commands = self.indented(page, "\n```\n", "\ncompile ")
+        self.assertTrue(commands)
+        self.assertEqual([line for line in printed.splitlines() if line], self.printed_by(commands))
+
+    def test_tracer(self):
+        page = os.path.join(TRACER, "README.md")
+        commands = self.indented(page, "## Three commands", "The last prints")
+        printed = self.indented(page, "The last prints", "\n## ")
+        self.assertTrue(commands)
+        self.assertEqual([line for line in printed.splitlines() if line], self.printed_by(commands)[1:])
+
+
+if __name__ == "__main__":
+    cases.main()

@@ -1,0 +1,212 @@
+#!/usr/bin/env python3
+"""The detector inside: how a run ends, memory that is refused, the library alone, and where the report goes."""
+import itertools
+import os
+import re
+import signal
+import sys
+
+sys.dont_write_bytecode = True
+import cases
+from cases import CC, INSIDE, SPBAGS_CC, TRACER, TracerTest, size_of
+
+BEFORE = ", and the report has what came before"
+FAULT, ABORT, TRAP, TERMINATE, KILL = (-number for number in (signal.SIGSEGV, signal.SIGABRT, signal.SIGILL,
+                                                              signal.SIGTERM, signal.SIGKILL))
+# The ways of tests/ends.c to end: the status, and a line.
+ENDS = {"fault": (FAULT, f"the program ends by signal 11 (Segmentation fault){BEFORE}"),
+        "abort": (ABORT, f"the program ends by signal 6 (Aborted){BEFORE}"),
+        "trap": (TRAP, f"the program ends by signal 4 (Illegal instruction){BEFORE}"),
+        "terminate": (TERMINATE, f"the program ends by signal 15 (Terminated){BEFORE}"),
+        "usual": (TERMINATE, f"the program ends by signal 15 (Terminated){BEFORE}"),
+        "thread": (0, ""), "daemon": (0, f"the program becomes a daemon{BEFORE}"), "_exit": (3, ""), "_Exit": (3, ""),
+        "quick_exit": (3, ""), "exec": (3, f"the program becomes another one by exec{BEFORE}"),
+        "no_exec": (0, "the exec failed, and what comes after it isn't in the report"), "nest": (0, ""),
+        "copy": (0, "")}
+# Those of tests/ways_out.c.
+WAYS = {"exit": (3, ""), "fork": (0, "the program forks, and the report is of its first process only")}
+# What tests/steps.c prints, by the definitions.
+STEPS = """races 1
+race 5 write 2 write 4
+races 1
+race 18446744073709551615 write 2 write 4
+races 1
+race 5 write 2 write 4
+races 2
+race 128 write 2 read 5
+race 254 write 3 read 68
+"""
+
+
+@cases.unittest.skipUnless(INSIDE, "there is no detector inside")
+class InsideTest(TracerTest):
+    def build(self, name, source, *words):
+        self.succeeds(SPBAGS_CC, "--inside", *words, "-o", name, source)
+
+    def is_trace_report(self, program, way, status, line):
+        """The run ends so with a trace and with a report, which is that of the trace."""
+        traced = self.run_command(program, way, SPBAGS_TRACE="run.trace", SPBAGS_PLACES="", SPBAGS_REPORT="")
+        self.assertEqual(status, traced.status)
+        wanted = self.run_command(os.environ["SPBAGS"], "check", "--depth", "1000000", "run.trace").out
+        self.assertTrue(wanted)
+        self.ends_with(status, re.escape(line), program, way, SPBAGS_TRACE="", SPBAGS_PLACES="",
+                       SPBAGS_REPORT="run.races")
+        self.assertEqual(wanted, self.read("run.races"))
+
+    def has_no_report(self, status, pattern, *words, **settings):
+        self.ends_with(status, pattern, *words, SPBAGS_REPORT="report", **settings)
+        self.assertEqual(0, size_of("report"))
+
+
+class EndsTest(InsideTest):
+    def setUp(self):
+        super().setUp()
+        self.build("ends", "tracer/tests/ends.c")
+        self.build("ways", "tracer/tests/ways_out.c", "-w")
+
+    def test_ends(self):
+        for program, ways in (("./ends", ENDS), ("./ways", WAYS)):
+            for way, (status, line) in ways.items():
+                with self.subTest(way):
+                    self.is_trace_report(program, way, status, line)
+        with self.subTest("a thread"):
+            self.has_no_report(2, "the program starts a thread", "./ways", "thread")
+
+    def test_used_up_stack(self):
+        """It may be used up inside the detector too, and then there is no report."""
+        done = self.ends_with(FAULT, "the program needs more stack than its limit", "./ends", "stack",
+                              SPBAGS_REPORT="report")
+        if "by signal 11 (Segmentation fault) inside the detector, so there is no report" in done.errors:
+            self.assertEqual(0, size_of("report"))
+        else:
+            self.assertIn("and the report has what came before", done.errors)
+            self.assertEqual("races 1", self.read("report").partition("\n")[0])
+
+    def test_statuses(self):
+        """The race gives the status that SPBAGS_EXITCODE says, however the program ends."""
+        for way in ("return", "fault", "abort", "trap", "terminate", "thread", "daemon", "_exit", "_Exit", "quick_exit",
+                    "exec", "no_exec", "copy"):
+            with self.subTest(way):
+                self.ends_with(77, "", "./ends", way, SPBAGS_EXITCODE="77", SPBAGS_REPORT="run.races")
+                self.assertEqual("races 1", self.read("run.races").partition("\n")[0])
+        with self.subTest("zero"):
+            self.ends_with(0, "", "./ends", "_exit", SPBAGS_EXITCODE="0", SPBAGS_REPORT="run.races")
+        with self.subTest("no race"):
+            self.write("seven.c", "int main(void) { return 7; }\n")
+            self.build("seven", "seven.c")
+            self.ends_with(7, "", "./seven", SPBAGS_EXITCODE="77", SPBAGS_REPORT="run.races")
+        with self.subTest("no report"):
+            self.ends_with(2, "", "./ways", "thread", SPBAGS_EXITCODE="77", SPBAGS_REPORT="run.races")
+        for status in ("-1", "256", "x"):
+            with self.subTest(status):
+                self.ends_with(2, f"SPBAGS_EXITCODE={status}: expected a status from 0 to 255", "./ends",
+                               SPBAGS_EXITCODE=status)
+
+    def ended_by(self, number, after):
+        """The status, and the report's first line."""
+        self.write("report", "")
+        status = self.ended_from_outside(number, after, "./ends", "late.places", SPBAGS_REPORT="report",
+                                         SPBAGS_PLACES="late.places")
+        return status, self.read("report").partition("\n")[0]
+
+    def test_signals(self):
+        for after in (0, 0.01, 0.02, 0.03):
+            with self.subTest(after):
+                self.assertEqual((TERMINATE, "races 1"), self.ended_by(signal.SIGTERM, after))
+        with self.subTest("kill"):
+            self.assertEqual((KILL, ""), self.ended_by(signal.SIGKILL, 0))
+
+    def test_signal_among_blocks(self):
+        """The program's heap may be locked then."""
+        self.ends_among_blocks("./ends", SPBAGS_REPORT="blocks.races")
+
+
+class RefusedTest(InsideTest):
+    LINE = ("spbags: out of memory: the detector needs more than the system gives, so the run ends here without a "
+            "report\n")
+
+    def setUp(self):
+        super().setUp()
+        self.build("racy", "fib.c", "-DRACY")
+        refusing = os.path.join(TRACER, "..", "checks", "refusing.c")
+        self.succeeds(CC, "-shared", "-fPIC", "-o", "refusing.so", refusing, "-ldl")
+
+    def run_refused(self, *settings):
+        """With a letter for each growth in a file of the descriptor 3. The program alone gets the settings."""
+        return self.run_command("bash", "-c", 'exec "$@" 3>letters', "bash", "env", "LD_PRELOAD=./refusing.so",
+                                "SPBAGS_REPORT=report", *settings, "./racy")
+
+    def test_memory(self):
+        """Each growth is refused in turn, up to the run that asks for no more. A run that met a refusal ends with a
+        line and without a report; or the detector could do without, and the report is whole."""
+        self.run_command("./racy", SPBAGS_REPORT="wanted")
+        wanted, refused = self.read("wanted"), 0
+        for growth in itertools.count(1):
+            self.write("report", "")
+            done = self.run_refused(f"REFUSED_FROM={growth}", f"REFUSED_TO={growth}")
+            if done.status == 2:
+                self.assertEqual(("", self.LINE), (self.read("report"), done.errors))
+                refused += 1
+                continue
+            self.assertEqual((0, wanted), (done.status, self.read("report")))
+            if "w" not in self.read("letters"):
+                break
+        self.assertGreater(refused, 3)
+
+    def test_thread(self):
+        self.write("report", "")
+        done = self.run_refused("REFUSED_START=1")
+        self.assertEqual(2, done.status)
+        self.assertRegex(done.errors, "the thread of the detector can.t be started: Resource temporarily unavailable")
+        self.assertEqual(0, size_of("report"))
+
+
+class LibraryTest(InsideTest):
+    def test_steps(self):
+        archive = os.path.join(TRACER, "..", "crates", "inside", "out", "libinside.a")
+        self.succeeds(CC, "-o", "steps", "tracer/tests/steps.c", archive)
+        self.assertEqual(STEPS, self.run_command("./steps").out)
+
+
+class OutputsTest(InsideTest):
+    def setUp(self):
+        super().setUp()
+        self.build("racy", "fib.c", "-DRACY")
+        self.run_command("./racy", SPBAGS_REPORT="wanted")
+        self.wanted = self.read("wanted")
+
+    def test_outputs(self):
+        with self.subTest("a file"):
+            self.assertEqual("races 88", self.wanted.partition("\n")[0])
+        for name, words, settings in (("standard error", '"$@" 2>&1 >/dev/null', {}),
+                                      ("a descriptor", '"$@" 3>&1 >/dev/null', {"SPBAGS_REPORT": "fd:3"}),
+                                      ("standard output", '"$@" 2>/dev/null', {"SPBAGS_REPORT": "-"})):
+            with self.subTest(name):
+                self.assertEqual(self.wanted, self.run_command("bash", "-c", words, "bash", "./racy", **settings).out)
+        with self.subTest("source lines"):
+            self.run_command("./racy", SPBAGS_REPORT="report", SPBAGS_PLACES="run.places")
+            said = self.run_command(cases.SPBAGS_LINES, "--brief", "./racy", "run.places", "report").out
+            self.assertEqual(cases.expected_races("fib.c"), said.replace("fib.c:", "").splitlines())
+        with self.subTest("SPBAGS_TRACE still writes the trace"):
+            os.unlink("report")
+            self.run_command("./racy", SPBAGS_REPORT="report", SPBAGS_TRACE="run.trace")
+            self.assertEqual(self.wanted, self.run_command(os.environ["SPBAGS"], "check", "run.trace").out)
+            self.assertFalse(os.path.exists("report"))
+
+    def test_failing(self):
+        for name, pattern in (("/dev/full", "cannot write /dev/full: No space left on device"),
+                              ("./no/report", "cannot open ./no/report"),
+                              ("fd:9", "SPBAGS_REPORT: descriptor 9: Bad file descriptor")):
+            with self.subTest(name):
+                self.ends_with(2, pattern, "./racy", SPBAGS_REPORT=name)
+        with self.subTest("a closed pipe"):
+            self.ends_with(2, "cannot write fd:3: Broken pipe", "bash", "-c", 'exec 3> >(exec true); wait $!; "$@"',
+                           "bash", "./racy", SPBAGS_REPORT="fd:3")
+        with self.subTest("a file that is too large"):
+            self.ends_with(2, "cannot write report: File too large", "bash", "-c", 'ulimit -f 1; "$@"', "bash",
+                           "./racy", SPBAGS_REPORT="report")
+            self.assertNotEqual(0, self.run_command(os.environ["SPBAGS"], "merge", "report").status)
+
+
+if __name__ == "__main__":
+    cases.main()

@@ -1,0 +1,309 @@
+#!/usr/bin/env python3
+"""What is linked: code that spbags-cc didn't compile, and shared libraries; and the compiler's options. The compiler is
+gcc."""
+import os
+import re
+import sys
+
+sys.dont_write_bytecode = True
+import cases
+from cases import SPBAGS_CC, SPBAGS_CPLUSPLUS, SPBAGS_RUN, TESTS, TRACER, TracerTest
+
+LINK = os.path.join(TESTS, "link")
+HERE_AT_RUN_TIME = "-Wl,-rpath,."
+OUTSIDE = ("outside_calls (outside.o)", "outside_jump (outside.o)", "outside_library (liboutside.so)",
+           "outside_member (libmember.a)", "outside_struct (outside.o)", "outside_words (outside.o)")
+KNOWN = """#include <cilk/cilk.h>
+#include <math.h>
+#include <stdio.h>
+#include <string.h>
+#include <time.h>
+static double table[2];
+static void child(int n) { table[n] = sin(n) * pow(n, 2.5) + clock() + hypot(n, 1) + strlen("word"); }
+int main(void) {
+    cilk_spawn child(0);
+    child(1);
+    cilk_sync;
+    printf("%g\\n", table[1]);
+}
+"""
+KNOWN_CPLUSPLUS = """#include <iostream>
+#include <map>
+#include <sstream>
+#include <vector>
+static std::string texts[2];
+int main(int count, char **) {
+    std::vector<int> numbers(2);
+#pragma omp parallel for
+    for (int i = 0; i < 2; i++) {
+        numbers[i] = i;
+        if (count > 1) {
+            std::ostringstream text;
+            text << i;
+            texts[i] = text.str();
+        }
+    }
+    std::cout << numbers[0] + numbers[1] << std::endl;
+}
+"""
+NESTED = """#include <cilk/cilk.h>
+int main(void) {
+    int around = 0;
+    void add(void) { around++; }
+    cilk_spawn add();
+    add();
+    cilk_sync;
+    return around - 2;
+}
+"""
+FILLS_ITSELF = """#include <omp.h>
+void fill(int *at) {
+#pragma omp parallel num_threads(3)
+    at[omp_get_thread_num()] = omp_get_num_threads();
+}
+"""
+FILLS_BOTH = """void fill(int *);
+int a[4];
+int main(void) {
+#pragma omp parallel for
+    for (int i = 0; i < 4; i++)
+        a[i] = i;
+    fill(a);
+    return a[0] != 3 || a[1] != 3 || a[2] != 3 || a[3] != 3;
+}
+"""
+FILL = """void fill(int *at) {
+#pragma omp parallel for
+    for (int i = 0; i < 9; i++)
+        at[i] = i;
+}
+"""
+THREE = """.globl three
+.type three, @function
+three: .byte 0xb8, 3, 0, 0, 0, 0xc3
+.section .note.GNU-stack,"",@progbits
+"""
+
+
+class LinkTest(TracerTest):
+    def not_seen(self, *words):
+        """The lines of a report about functions that weren't seen."""
+        done = self.run_command(SPBAGS_RUN, *words)
+        return [line for line in (done.out + done.errors).splitlines() if line.startswith(("not seen", "spbags"))]
+
+    def compile(self, name, text, *words, by="gcc"):
+        """Writes a source, and makes an object of it."""
+        self.write(name, text)
+        self.succeeds(by, *words, "-c", name)
+
+    def is_not_linked(self, pattern, *words):
+        self.ends_with(1, pattern, *words, "-o", "no_program")
+        self.assertFalse(os.path.exists("no_program"))
+
+
+class UnknownTest(LinkTest):
+    def test_functions(self):
+        self.succeeds("gcc", "-c", f"{LINK}/outside.c", f"{LINK}/member.c")
+        self.succeeds("ar", "rc", "libmember.a", "member.o")
+        self.succeeds("gcc", "-shared", "-fPIC", "-o", "liboutside.so", f"{LINK}/library.c")
+        parts = [f"{LINK}/main.c", "outside.o", "-L.", "-lmember", "-loutside", "-lm", HERE_AT_RUN_TIME]
+        with self.subTest("compile"):
+            self.succeeds("gcc", "-D_Cilk_spawn=", "-D_Cilk_sync=", f"-I{TRACER}/include", "-o", "plain", *parts)
+            self.succeeds(SPBAGS_CC, "-o", "linked", *parts)
+        with self.subTest("what the program prints"):
+            traced = self.run_command("./linked", SPBAGS_TRACE="run.trace")
+            self.assertEqual(self.run_command("./plain").out, traced.out)
+        with self.subTest("lines"):
+            self.assertEqual([f"not seen: {name}, called 2 times" for name in OUTSIDE], self.not_seen("--", "./linked"))
+        with self.subTest("status"):
+            self.ends_with(3, "", SPBAGS_RUN, "--", "./linked")
+        with self.subTest("what dlsym finds"):
+            self.assertEqual(["not seen: dlsym (libc.so.6), called 1 time"],
+                             self.not_seen("--unseen-ok", "outside_*", "--", "./linked", "word"))
+
+    def test_main(self):
+        self.compile("called.c", "int called(void) { return 0; }\n", by=SPBAGS_CC)
+        self.compile("calls.c", "int called(void); int main(void) { return called(); }\n")
+        self.succeeds(SPBAGS_CC, "-o", "calls", "calls.o", "called.o")
+        self.assertEqual(["not seen: main (calls.o), called 1 time"], self.not_seen("--", "./calls"))
+
+    def test_virtual(self):
+        self.write("shape.h", "struct shape { virtual int sides(); };\n")
+        self.compile("shape.cpp", '#include "shape.h"\nint shape::sides() { return 0; }\n', by="g++")
+        self.write("draws.cpp", '#include "shape.h"\nint main() { return (new shape)->sides(); }\n')
+        self.succeeds(SPBAGS_CPLUSPLUS, "-o", "draws", "draws.cpp", "shape.o")
+        self.reports(3, "calls to the virtual functions of shape aren't seen", "--", "./draws")
+
+    def test_nested(self):
+        self.write("nested.c", NESTED)
+        self.succeeds(SPBAGS_CC, "-O1", "-o", "nested", "nested.c")
+        self.reports(3, "what the nested function add accesses of the variables around it isn't seen", "--", "./nested")
+
+    def test_library_with_openmp(self):
+        self.write("fill_itself.c", FILLS_ITSELF)
+        self.write("fills_both.c", FILLS_BOTH)
+        self.succeeds("gcc", "-fopenmp", "-shared", "-fPIC", "-o", "libfill_itself.so", "fill_itself.c")
+        self.succeeds(SPBAGS_CC, "-fopenmp", "-o", "both", "fills_both.c", "-L.", "-lfill_itself", HERE_AT_RUN_TIME)
+        self.reports(3, "", "--", "./both")
+
+
+class KnownTest(LinkTest):
+    def test_mathematics(self):
+        self.write("known.c", KNOWN)
+        self.succeeds(SPBAGS_CC, "-o", "known", "known.c", "-lm")
+        self.reports(0, "", "--", "./known")
+
+    def test_libstdcplusplus(self):
+        line = ("not seen: std::__cxx11::basic_ostringstream<char, std::char_traits<char>, std::allocator<char> >"
+                "::str() const")
+        self.write("known.cpp", KNOWN_CPLUSPLUS)
+        self.succeeds(SPBAGS_CPLUSPLUS, "-fopenmp", "-o", "known", "known.cpp")
+        with self.subTest("streams are used when all else is done"):
+            self.reports(0, "", "--", "./known")
+        with self.subTest("a function"):
+            self.assertTrue(any(line in said for said in self.not_seen("--", "./known", "word")))
+        with self.subTest("the program runs by itself"):
+            self.assertIn(f"spbags: {line}", self.run_command("./known", "word", SPBAGS_TRACE="run.trace").errors)
+
+
+class RefusedTest(LinkTest):
+    def setUp(self):
+        super().setUp()
+        self.write("fills.c", "void fill(int *); int a[9]; int main(void) { fill(a); }\n")
+
+    def test_openmp(self):
+        self.compile("fill.c", FILL, "-fopenmp")
+        self.succeeds("ar", "rc", "libfill.a", "fill.o")
+        with self.subTest("an object"):
+            self.is_not_linked("fill.o: spbags-cc didn.t compile this, and it has parallel", SPBAGS_CC, "fills.c",
+                               "fill.o")
+        with self.subTest("an archive"):
+            self.is_not_linked(r"libfill.a\(fill.o\): spbags-cc didn.t compile this, and it has par", SPBAGS_CC,
+                               "-fopenmp", "fills.c", "libfill.a")
+
+    def test_forms(self):
+        for words, text in (
+                (("-fsanitize=thread",), "an older spbags-cc, or another compiler with -fsanitize=thread"),
+                (("-flto", "-fno-fat-lto-objects"), "spbags-cc didn.t compile this, and what it does isn.t known")):
+            with self.subTest(words):
+                self.compile("fill.c", FILL, *words)
+                self.is_not_linked(f"fill.o: {text}", SPBAGS_CC, "fills.c", "fill.o")
+
+    def test_functions(self):
+        self.compile("copy.c", "void *memcpy(void *to, const void *from, unsigned long n) { return to; }\n"
+                               "void fill(int *at) {}\n", "-w")
+        with self.subTest("another memcpy"):
+            self.is_not_linked("copy.o: spbags-cc didn.t compile this, and its memcpy would be taken", SPBAGS_CC,
+                               "fills.c", "copy.o")
+        with self.subTest("code of two compilers in one object"):
+            self.succeeds(SPBAGS_CC, "-c", "-o", "fills.o", "fills.c")
+            self.is_not_linked("copy.o: spbags-cc didn.t compile this, and one object can.t hold it", SPBAGS_CC, "-r",
+                               "fills.o", "copy.o")
+
+    def test_inline(self):
+        shared = "inline int shared(int n) { return n + 1; }\n"
+        self.compile("one.cpp", shared + "int one(int n) { return shared(n); }\n", by="g++")
+        self.compile("two.cpp", shared + "int one(int);\nint main() { return shared(one(-2)); }\n", by=SPBAGS_CPLUSPLUS)
+        with self.subTest("before"):
+            self.is_not_linked("one.o: spbags-cc didn.t compile this, and its _Z6sharedi is used in place of that of "
+                               "two.o", SPBAGS_CPLUSPLUS, "one.o", "two.o")
+        with self.subTest("behind"):
+            self.succeeds(SPBAGS_CPLUSPLUS, "-o", "twice", "two.o", "one.o")
+            self.succeeds("./twice")
+
+
+class OpenMPTest(LinkTest):
+    def test_object(self):
+        """OpenMP in an object, without -fopenmp at the link, and with a path of libgomp as CMake gives it."""
+        libgomp = self.run_command("gcc", "-print-file-name=libgomp.so").out.strip()
+        with self.subTest("compile"):
+            self.succeeds(SPBAGS_CC, "-fopenmp", "-DRACY", "-c", "openmp_fib.c")
+            self.succeeds(SPBAGS_CC, "-o", "fib", "openmp_fib.o", libgomp)
+            self.assertIn(" T GOMP_task\n", self.run_command("nm", "fib").out)
+        with self.subTest("races"):
+            self.assertEqual(cases.expected_races("openmp_fib.c"),
+                             self.races_in("openmp_fib.c", "./fib", SPBAGS_UNIT="4"))
+
+
+class OptionsTest(LinkTest):
+    def answer(self, compiler, words):
+        done = self.run_command(compiler, *words)
+        return [line for line in (done.out + done.errors).splitlines()
+                if not re.search("COLLECT|^collect2|/tmp", line)]
+
+    def test_answers(self):
+        """What the compiler says of each of these, in its own words."""
+        for words in (["-dumpversion"], ["-dumpmachine"], ["-dumpspecs"], ["-print-multiarch"], ["-print-prog-name=ld"],
+                      ["-print-search-dirs"], ["-v"], ["--version"], ["-E", "-dM", "-xc", "/dev/null"],
+                      ["-Wl,--version"]):
+            with self.subTest(words):
+                self.assertEqual(self.answer("gcc", words), self.answer(SPBAGS_CC, words))
+
+    def test_file(self):
+        self.write("words", """-DTEXT='"a b"'\n-o "from file"\nfil\\e.c\n""")
+        self.write("file.c", "#include <stdio.h>\nint main(void) { puts(TEXT); }\n")
+        self.succeeds(SPBAGS_CC, "@words")
+        self.assertEqual("a b\n", self.run_command("./from file", SPBAGS_TRACE="run.trace").out)
+
+    def test_syntax_only(self):
+        self.succeeds(SPBAGS_CC, "-fsyntax-only", "-DTEXT=", "fib.c")
+        self.assertFalse(os.path.exists("fib.o") or os.path.exists("a.out"))
+        self.write("wrong.c", "int f( { }\n")
+        with self.subTest("of what is wrong"):
+            self.assertNotEqual(0, self.run_command(SPBAGS_CC, "-fsyntax-only", "wrong.c").status)
+
+    def test_standard_input(self):
+        self.succeeds("bash", "-c", '"$1" -xc -o from_input - <fib.c', "bash", SPBAGS_CC)
+        self.assertEqual("55\n", self.run_command("./from_input", SPBAGS_TRACE="run.trace").out)
+        self.assertEqual("trace 2", cases.records_of("run.trace")[0])
+
+    def test_assembler(self):
+        self.write("three.S", THREE)
+        self.write("calls_three.c", "int three(void); int main(void) { return three() - 3; }\n")
+        self.succeeds(SPBAGS_CC, "-c", "three.S")
+        self.succeeds(SPBAGS_CC, "-o", "three", "calls_three.c", "three.S")
+        self.reports(3, "not seen: three (three.o), called 1 time", "--", "./three")
+
+
+class SharedLibrariesTest(LinkTest):
+    RACES = [(1, ("adding.c", 3), ("adding.c", 3))]
+
+    def setUp(self):
+        """A library that needs another one, and begins before the program."""
+        super().setUp()
+        self.write("adding.c", "int total;\nvoid add(int n) {\n    total += n;\n}\n")
+        self.write("twice.c", "void add(int);\nvoid twice(int n) {\n    add(n);\n    add(n);\n}\n")
+        self.write("adds.c", "#include <cilk/cilk.h>\nvoid twice(int);\nint main(void) {\n cilk_spawn twice(1);\n"
+                             " twice(2);\n}\n")
+        self.succeeds(SPBAGS_CC, "-fPIC", "-c", "adding.c")
+        self.succeeds(SPBAGS_CC, "-shared", "-Wl,-soname,libadding.so.1", "-o", "libadding.so", "adding.o")
+        self.succeeds(SPBAGS_CC, "-fPIC", "-shared", "-Wl,-z,defs", "-o", "libtwice.so", "twice.c", "-L.", "-ladding")
+
+    def test_link(self):
+        with self.subTest("a name of its own"):
+            self.assertIn("soname: [libadding.so.1]", self.run_command("readelf", "-d", "libadding.so").out)
+        with self.subTest("compile"):
+            self.succeeds(SPBAGS_CC, "-o", "adds", "adds.c", "-L.", "-ltwice")
+        with self.subTest("races"):
+            self.assertEqual(self.RACES, self.races_of("./adds"))
+
+    def test_moved(self):
+        os.mkdir("moved")
+        for name in ("libadding.so", "libtwice.so"):
+            os.rename(name, os.path.join("moved", name))
+        with self.subTest("races"):
+            self.succeeds(SPBAGS_CC, "-o", "adds", "adds.c", "moved/libtwice.so")
+            self.assertEqual(self.RACES, self.races_of("./adds"))
+        with self.subTest("one that lacks another"):
+            os.unlink("moved/libadding.so")
+            self.is_not_linked("moved/libtwice.so needs .*/libadding.so, which isn.t found", SPBAGS_CC, "adds.c",
+                               "moved/libtwice.so")
+
+    def test_dlopen(self):
+        self.write("opens.c", '#include <dlfcn.h>\nint main(void) { return !!dlopen("./libtwice.so", RTLD_LAZY); }\n')
+        self.succeeds(SPBAGS_CC, "-o", "opens", "opens.c")
+        self.ends_with(0, "", "./opens", SPBAGS_TRACE="run.trace")
+
+
+if __name__ == "__main__":
+    cases.main()

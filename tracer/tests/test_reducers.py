@@ -1,0 +1,80 @@
+#!/usr/bin/env python3
+"""Reducers in C, for each compiler and level."""
+import sys
+
+sys.dont_write_bytecode = True
+import cases
+from cases import INSIDE, LEVEL, SPBAGS_CC, TracerTest, line_of, lines_of
+
+C = "tracer/tests/reducers.c"
+
+
+class ReducersTest(TracerTest):
+    def lines(self, source, *words):
+        """The pairs of lines that race, without the number of locations."""
+        return sorted(race.partition(" ")[2] for race in self.races_in(source, *words))
+
+    def says(self, wanted, *words, status=0):
+        """A program prints this, and no race and nothing else is reported."""
+        said = self.reports(status, "", *words).splitlines()
+        self.assertEqual(wanted, [line for line in said if not line.startswith(("races", "not seen"))])
+
+
+def twice(number):
+    return f"{number} {number}"
+
+
+class CTest(ReducersTest):
+    def setUp(self):
+        super().setUp()
+        self.succeeds(SPBAGS_CC, LEVEL, "-Wall", "-Wextra", "-Werror", "-o", "reducers", C)
+
+    def racy_lines(self):
+        """The line of the value is two above that of the update."""
+        of_struct = line_of(C, "counts.all; /*")
+        yield from (f"{line} {line + 2}" for line in lines_of(C, "[value]") if line != of_struct)
+        yield from (f"{line_of(C, '[added]')} {line_of(C, tag)}" for tag in ("[before sync]", "[ends]", "[array ends]"))
+        yield from (twice(line_of(C, tag)) for tag in ("[shadowed]", "[other struct]"))
+
+    def test_races(self):
+        with self.subTest("clean"):
+            self.says(["6 8 4 3 4", "6", "6 4 4 -4", "2 4 13 2", "12 7", "6 3", "12 2 3 2"],
+                      "--", "./reducers", "clean")
+        with self.subTest("racy"):
+            self.assertEqual(sorted(self.racy_lines()), self.lines(C, "./reducers", "racy"))
+        with self.subTest("the same without repeats"):
+            self.is_same_without_repeats("./reducers")
+        if INSIDE:
+            with self.subTest("the report of the detector inside"):
+                self.succeeds(SPBAGS_CC, LEVEL, "--inside", "--inline-checks", "-o", "inside", C)
+                self.has_same_report("./inside")
+
+    def test_structs(self):
+        with self.subTest("clean"):
+            self.reports(3, "what add_counts does for the reducer counts in another schedule",
+                         "--", "./reducers", "struct")
+        with self.subTest("racy"):
+            value = line_of(C, "counts.all; /*")
+            self.assertEqual([f"{value} {value + 2}"], self.lines(C, "./reducers", "struct", "racy"))
+
+    def test_views(self):
+        kept = f"{line_of(C, '[kept]')}: what is done by this address of the reducer total"
+        for word, text in (("list", "what join does for the reducer list in another schedule"), ("kept", kept),
+                           ("child", "an update of a reducer spawns, and what its children access isn't seen")):
+            with self.subTest(word):
+                self.reports(3, text, "--", "./reducers", word)
+        with self.subTest("an argument that is evaluated before"):
+            self.assertEqual([twice(line_of(C, "[number]"))], self.lines(C, "./reducers", "arguments"))
+
+    def test_refused(self):
+        start = "#include <cilk/cilk.h>\nstatic int cilk_reducer(0, 0) {};\nint main(void) {{\nreturn 0; {};\n}}\n"
+        for variable, use, text in (("of[2]", "*of", "name one element of the reducers of"),
+                                    ("*of", "of++", "name what the pointer of points to"),
+                                    ("*of", "int *at = of", "what gets it is no pointer to a reducer")):
+            with self.subTest(use):
+                self.write("element.c", start.format(variable, use))
+                self.ends_with(1, f"(?m)^element.c:4: error: .*{text}", SPBAGS_CC, "element.c")
+
+
+if __name__ == "__main__":
+    cases.main()
