@@ -49,8 +49,9 @@ static const struct line lines[] = {[SPBAGS_SPAWN] = LINE("spawn"),
 
 /* Of a run that looks: how many records it would have written so far, and the place of the next that is looked at. */
 static uint64_t place_now, next_place = UINT64_MAX;
-static void look_at_structure(void);
-static void look_at_access(bool writes, uint64_t location, uintptr_t address, uintptr_t code);
+__attribute__((noinline, cold)) static void look_at_structure(void);
+__attribute__((noinline, cold)) static void look_at_access(bool writes, uint64_t location, uintptr_t address,
+                                                           uintptr_t code);
 static void note_pending(bool writes, uint64_t location, uintptr_t address, uintptr_t code);
 static void forget_pending(void);
 
