@@ -23,8 +23,9 @@ OBJECT, SHARED = 1, 3
 LTO = b".gnu.lto_"
 MEMBER = re.compile(r"\((.+)\)([^()]+)")
 
-# By nm: what gcc calls a function that stands within another one. clang has none, but makes functions of loops' bodies.
-NESTED = re.compile(r"^(.*): (?!__captured_stmt)(\w+)\.[0-9]+ t(?: .*)?$", re.MULTILINE)
+# By nm: what gcc calls a function that stands within another one. clang has none, but makes functions of loops' bodies
+# and for globals.
+NESTED = re.compile(r"^(.*): (?!__captured_stmt|__cxx_global_)(\w+)\.[0-9]+ t(?: .*)?$", re.MULTILINE)
 
 # A function, its name in the source, the file that has it, and whether each call counts; the others count where something
 # may run beside them.

@@ -92,11 +92,12 @@ def filtered(text):
 
 
 def rescheduled(text):
-    """A loop's directive with the schedule that the hooks need: 2 says that it was static, and 3 that it has no barrier
-    besides."""
-    has_nowait = any(name == "nowait" for name, _, _ in clauses_of(text))
+    """A loop's directive with the schedule that the hooks need: 2, 3 and 5 say that it was static, 3 and 5 that it has
+    no barrier besides, 4 and 5 that it has none but a lastprivate variable."""
+    names = {name for name, _, _ in clauses_of(text)}
     text, schedule = without(text, "schedule")
-    kind = 1 if not STATIC.match(schedule) else 3 if has_nowait else 2
+    has_nowait, has_last = "nowait" in names, {"nowait", "lastprivate"} <= names
+    kind = (2 + has_nowait + 2 * has_last) if STATIC.match(schedule) else 1 + 3 * has_last
     return text.rstrip(" ,") + f" schedule(dynamic,{kind})"
 
 

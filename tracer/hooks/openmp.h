@@ -15,6 +15,8 @@ struct loop {
     /* Where it begins. */
     uintptr_t code;
     bool is_static, has_no_barrier;
+    /* No barrier comes before what reads its lastprivate variables. */
+    bool has_late_last;
     /* Each member of the team does a block of its iterations, as one share. */
     bool in_blocks;
     /* The first member's reductions, and its memory for all. */
@@ -59,8 +61,8 @@ struct scope {
     uint64_t shares, taken;
     uint32_t loops_met, singles_met;
     bool has_master;
-    /* It is in the program's own code of its region; or nothing of it is recorded. */
-    bool in_body, is_silent;
+    /* It is in the program's own code of its region; nothing of it is recorded; its next barrier is clang's alone. */
+    bool in_body, is_silent, skips_barrier;
     /* No other scope has this number. */
     uint64_t number;
 };

@@ -70,7 +70,14 @@ void __kmpc_end_serialized_parallel(CLANG) { IGNORE, end_team(STACK_POINTER, COD
 
 /* ---- Barriers, and what one thread does ---- */
 
-void __kmpc_barrier(CLANG) { IGNORE, wait_at_barrier(CODE); }
+/* clang puts one behind a loop that has a lastprivate variable, also with nowait. */
+void __kmpc_barrier(CLANG) {
+    struct scope *thread = thread_now();
+    IGNORE;
+    if (!thread->skips_barrier)
+        wait_at_barrier(CODE);
+    thread->skips_barrier = false;
+}
 
 int32_t __kmpc_cancel_barrier(CLANG) {
     IGNORE, wait_at_barrier(CODE);
@@ -149,6 +156,7 @@ static void begin_dispatch(struct loop loop, int32_t schedule, uintptr_t code) {
         IGNORE; \
         if (!take_share(&begin, &end, STACK_POINTER, CODE)) { \
             be_silent(!thread_now()->in_body); \
+            thread_now()->skips_barrier = thread_now()->loop->has_late_last; \
             return 0; \
         } \
         const struct loop *loop = thread_now()->loop; \
@@ -214,13 +222,15 @@ void __kmpc_end_reduce_nowait(CLANG, void *lock) { IGNORE, (void)lock, end_sum(C
 
 /* ---- Tasks. The program fills in a block that it gets here; those of loops begin like this ---- */
 
-enum clang_task_flag { CLANG_FINAL = 2 };
+enum clang_task_flag { CLANG_FINAL = 2, HAS_DESTRUCTORS = 8 };
 struct clang_task {
     void *shared;
     int32_t (*run)(int32_t, struct clang_task *);
     int32_t part;
-    void *more[2];
-    uint64_t first, last;
+    int32_t (*destroy)(int32_t, struct clang_task *);
+    void *priority;
+    uint64_t first, last, step;
+    int32_t has_last;
 };
 
 /* Before such a block. */
@@ -258,10 +268,16 @@ struct clang_data {
     void (*copy)(struct clang_task *, struct clang_task *, int32_t);
 };
 
+static void end_clang_task(struct clang_task *task) {
+    if ((header_of(task)->flags & HAS_DESTRUCTORS) != 0)
+        task->destroy(thread_now()->thread, task);
+    free(header_of(task));
+}
+
 static void run_clang_task(void *of) {
     const struct clang_data *data = of;
     data->task->run(thread_now()->thread, data->task);
-    free(header_of(data->task));
+    end_clang_task(data->task);
 }
 
 static void do_clang_task(struct clang_task *block, uintptr_t stack_pointer, uintptr_t code) {
@@ -293,10 +309,9 @@ void __kmpc_omp_task_begin_if0(CLANG, struct clang_task *task) {
 }
 
 void __kmpc_omp_task_complete_if0(CLANG, struct clang_task *task) {
-    IGNORE;
+    IGNORE, end_clang_task(task);
     close_part(CODE);
     end_included(CODE);
-    free(header_of(task));
     if (tracing)
         clear_below(STACK_POINTER);
 }
@@ -349,7 +364,7 @@ void __kmpc_free(int32_t number, void *block, void *allocator) {
     free(block);
 }
 
-/* ---- Loops of tasks ---- */
+/* ---- Loops of tasks. The last of the bounds is that of the loop's last iteration ---- */
 
 static void copy_clang_data(void *to, void *from) {
     struct clang_data *data = to;
@@ -366,6 +381,7 @@ static void run_clang_loop_task(void *of) {
     const struct clang_data *data = of;
     data->task->first = data->bounds.first;
     data->task->last = data->bounds.end - 1;
+    data->task->has_last = data->task->last == data->bounds.last;
     run_clang_task(of);
 }
 
@@ -373,7 +389,7 @@ void __kmpc_taskloop(CLANG, struct clang_task *block, int32_t is_deferred, const
                      int64_t step, int32_t has_no_group, int32_t says, uint64_t wanted,
                      void (*copy)(struct clang_task *, struct clang_task *, int32_t)) {
     enum { SAYS_SIZE = 1 };
-    struct clang_data data = {.task = block, .copy = copy};
+    struct clang_data data = {.bounds.last = *last, .task = block, .copy = copy};
     struct task task = {.run = run_clang_loop_task,
                         .data = &data,
                         .copy = copy_clang_data,
@@ -384,5 +400,7 @@ void __kmpc_taskloop(CLANG, struct clang_task *block, int32_t is_deferred, const
     unsigned flags = (has_no_group ? NO_GROUP : 0) | (says == SAYS_SIZE ? GRAIN_SIZE : 0);
     IGNORE;
     do_taskloop(&task, unsigned_loop(true, *first, *last + 1, (uint64_t)step, 0), flags, wanted, STACK_POINTER, CODE);
-    free(header_of(block));
+    open_part(CALLED, STACK_POINTER, CODE);
+    end_clang_task(block);
+    close_part(CODE);
 }

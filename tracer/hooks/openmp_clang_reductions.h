@@ -1,5 +1,5 @@
 /* Reductions that tasks take part in, as clang compiles them. For each variable it hands over functions that begin and
-   end a copy, and that combine it. As a task runs at once, where it is made, it takes the copy of its thread, and that is
+   end a copy, and that combine it. As a task runs at once, where it is made, it takes the copy of its thread, which is
    combined where its group ends, or what its thread does in the region. */
 struct clang_reduction {
     void *shared, *original;

@@ -170,9 +170,10 @@ static bool next_share(uint64_t *first, uint64_t *end, uintptr_t stack_pointer, 
     return is_left;
 }
 
-/* What the wrapper makes of schedule(static), and of that with nowait. */
-static bool is_static(long most) { return most >= 2; }
-static bool is_static_nowait(long most) { return most == 3; }
+/* What the wrapper makes of schedule(static), of that with nowait, and of nowait with lastprivate. */
+static bool is_static(long most) { return most == 2 || most == 3 || most == 5; }
+static bool is_static_nowait(long most) { return most == 3 || most == 5; }
+static bool is_last_nowait(long most) { return most >= 4; }
 
 static struct loop signed_loop(long start, long end, long step, long most) {
     uint64_t first = (uint64_t)start, last = (uint64_t)end, size = (uint64_t)step, count = 0;
@@ -186,7 +187,8 @@ static struct loop signed_loop(long start, long end, long step, long most) {
                          .count = count,
                          .most = iterations,
                          .is_static = is_static(most),
-                         .has_no_barrier = is_static_nowait(most)};
+                         .has_no_barrier = is_static_nowait(most),
+                         .has_late_last = is_last_nowait(most)};
 }
 
 static struct loop unsigned_loop(bool up, uint64_t start, uint64_t end, uint64_t step, long most) {
@@ -201,7 +203,8 @@ static struct loop unsigned_loop(bool up, uint64_t start, uint64_t end, uint64_t
                          .count = count,
                          .most = iterations,
                          .is_static = is_static(most),
-                         .has_no_barrier = is_static_nowait(most)};
+                         .has_no_barrier = is_static_nowait(most),
+                         .has_late_last = is_last_nowait(most)};
 }
 
 #define NEXT(NAME, TYPE) \

@@ -298,6 +298,33 @@ check_openmp_refused() {
     count $? "spawns in C++11"
 }
 
+# Classes and exceptions in OpenMP.
+check_openmp_classes() {
+    local source=tracer/tests/openmp.cpp options=(-fopenmp -std=c++17) level
+    g++ -w "${options[@]}" -o plain "$source"
+    [ "${SPBAGS_CXX:-}" != clang++ ] || options+=(-fopenmp-version=51)
+    for level in -O0 -O1; do
+        "$here/spbags-c++" "$level" -Wall -Wextra -Werror "${options[@]}" -o classes "$source"
+        count $? "$source $level: compile without a warning"
+        SPBAGS_UNIT=1 SPBAGS_TRACE=run.trace ./classes clean >output 2>/dev/null &&
+            same "$(./plain clean)" "$(cat output)" && "$spbags" check run.trace >report
+        count $? "$source $level: clean"
+        SPBAGS_UNIT=1 found_by_run ./classes racy | sed "s,$source:,,g" | sort >found
+        same "$(tagged_races "$source")" "$(cat found)"
+        count $? "$source $level: racy"
+    done
+}
+
+# What clang doesn't compile.
+check_clang_refused() {
+    printf '#include <cilk/cilk.h>\nvoid f();\nvoid g() {\ncilk_spawn f();\n}\n' >cilk.cpp
+    ends_with 1 'cilk.cpp:4: error: Cilk in C++ can be traced only with g++' "$here/spbags-c++" -c cilk.cpp
+    count $? "clang++: Cilk"
+    printf '#include <tbb/parallel_for.h>\n' >tbb.cpp
+    ends_with 1 'can be traced only with g++' "$here/spbags-c++" -c tbb.cpp
+    count $? "clang++: oneTBB"
+}
+
 # The bytes that race by the tags of such a source, and their two lines, the lesser first.
 tagged_races() {
     awk '{ while (match($0, /\[[0-9]+ [a-z_]+ (first|second)\]/)) {
@@ -482,7 +509,9 @@ start_openmp() {
     if clang --version >/dev/null 2>&1; then
         CC=clang run_checks openmp_clang check_teams check_openmp_ways check_openmp_threads check_openmp_depend \
             check_clang_sections check_random_openmp &
+        CC=clang SPBAGS_CXX=clang++ level=-O1 run_checks cplusplus_clang check_cplusplus check_openmp_classes \
+            check_clang_refused &
     fi
     run_checks openmp check_openmp_outputs check_openmp_ways check_openmp_threads check_openmp_guards \
-        check_openmp_depend check_openmp_refused check_containers check_tbb_refused check_tbb_groups &
+        check_openmp_depend check_openmp_classes check_openmp_refused check_containers check_tbb_refused check_tbb_groups &
 }

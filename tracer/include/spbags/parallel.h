@@ -4,6 +4,9 @@
 #ifndef SPBAGS_PARALLEL_H
 #define SPBAGS_PARALLEL_H
 #pragma GCC system_header
+#ifdef __clang__
+#error "oneTBB and C++'s parallel algorithms can be traced only with g++"
+#endif
 
 #include <cstddef>
 #include <functional>
