@@ -6,7 +6,6 @@ import collections
 import glob
 import json
 import os
-import re
 import shlex
 import shutil
 import signal
@@ -41,20 +40,8 @@ def line_of(source, text):
     return number
 
 
-def tagged_races(source, left_out=" "):
-    """The bytes that race and their two lines, by tags such as `[4 name first]` and `[4 name second]`, but for names
-    that have this text."""
-    lines, races = collections.defaultdict(list), {}
-    with open(source, encoding="utf-8") as file:
-        for number, line in enumerate(file, 1):
-            for many, name, _ in re.findall(r"\[([0-9]+) ([a-z_]+) (first|second)\]", line):
-                lines[name].append(number)
-                races[name] = many
-    return sorted(f"{races[name]} {min(both)} {max(both)}" for name, both in lines.items() if left_out not in name)
-
-
 def expected_races(source):
-    """Those of an example by examples/expected, as `tagged_races` gives them."""
+    """Those of an example by examples/expected, as `races_in` gives them."""
     with open(os.path.join(TRACER, "examples", "expected"), encoding="utf-8") as file:
         rows = [line.split() for line in file if line.startswith(os.path.splitext(source)[0] + " ")]
     races = [(many, sorted((line_of(source, one), line_of(source, other)))) for _, unit, many, one, other in
@@ -110,11 +97,6 @@ class TracerTest(unittest.TestCase):
         self.assertEqual(status, done.status, said)
         self.assertIn(text, " ".join(said.split()))
         return said
-
-    def printed(self, *words, **settings):
-        """What a program prints before the report that spbags-run makes of it."""
-        done = self.run_command(SPBAGS_RUN, "--output", "report", *words, **settings)
-        return done.out.splitlines()
 
     def races_of(self, *words, options=(), **settings):
         """The number of locations and the two lines of each pair that spbags-run finds."""
