@@ -4,6 +4,7 @@
 #define _GNU_SOURCE
 #include <ctype.h>
 #include <dlfcn.h>
+#include <emmintrin.h>
 #include <errno.h>
 #include <fcntl.h>
 #include <inttypes.h>

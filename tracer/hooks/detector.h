@@ -124,7 +124,34 @@ static uint64_t *take_all(struct bundle *bundle, const uint64_t *end) {
 /* While nothing is gathered, such records stay where they are in the bundle. */
 static inline bool stays(uint64_t record) {
     uint64_t kind = record & 7;
-    return kind < SPBAGS_READ || (kind != strand_ends && !is_gathered(record >> 3));
+    return kind < SPBAGS_READ || (kind <= SPBAGS_WRITE && !is_gathered(record >> 3));
+}
+
+/* The bundle's records of numbers that have ended. They come last, so that the others are taken together. */
+static uint64_t endings[BUNDLE_RECORDS];
+static size_t endings_count;
+
+static uint64_t block_of_ending(uint64_t ending) {
+    return (ending >> 4) / ((uint64_t)BLOCK_UNITS / GROUP_NUMBERS << GROUP_NUMBERS);
+}
+
+static uint64_t units_of_ending(uint64_t ending) {
+    uint64_t group = ending >> 4 >> GROUP_NUMBERS, members = (ending >> 4) % (1u << GROUP_NUMBERS);
+    return members << group * GROUP_NUMBERS % BLOCK_UNITS;
+}
+
+static void take_endings(void) {
+    uint64_t block = 0, units = 0;
+    for (size_t at = 0; at < endings_count; at++) {
+        if (block_of_ending(endings[at]) != block) {
+            spbags_forget(session, location_in(block, 0) + 1, units);
+            block = block_of_ending(endings[at]);
+            units = 0;
+        }
+        units |= units_of_ending(endings[at]);
+    }
+    spbags_forget(session, location_in(block, 0) + 1, units);
+    endings_count = 0;
 }
 
 static void take_bundle(struct bundle *bundle) {
@@ -135,6 +162,10 @@ static void take_bundle(struct bundle *bundle) {
     for (const uint64_t *at = end; at < last; at++) {
         uint64_t kind = *at & 7, location = *at >> 3;
         bool is_access = kind == SPBAGS_READ || kind == SPBAGS_WRITE;
+        if (kind == numbers_end) {
+            endings[endings_count++] = *at;
+            continue;
+        }
         if (is_access && is_gathered(location)) {
             struct touched *touched = touched_with(&gathered, location);
             if (__builtin_expect(!touched, 0)) {
@@ -154,6 +185,7 @@ static void take_bundle(struct bundle *bundle) {
             end = take_all(bundle, end);
     }
     take_records(bundle->records, end);
+    take_endings();
 }
 
 /* Whether the report, once it is made, is more than the line `races 0`. */

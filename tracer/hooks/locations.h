@@ -35,14 +35,49 @@ static inline uint64_t location_of(uintptr_t address, uint32_t mark, unsigned sh
     return 2 * numbers[at >> shift] + 1;
 }
 
+/* The group of the newest number that has ended, and which of its numbers have; they go out with the next group. */
+static struct { uint64_t group; unsigned members; } ended;
+
+static inline void end_number(uint64_t number) {
+    uint64_t group = number / GROUP_NUMBERS;
+    if (group != ended.group) {
+        step(numbers_end, 2 * (ended.group << GROUP_NUMBERS | ended.members) + 1);
+        ended.group = group;
+        ended.members = 0;
+    }
+    ended.members |= 1u << number % GROUP_NUMBERS;
+}
+
+/* Those of the units with these marks whose bits are set. */
+__attribute__((noinline)) static void end_numbers(const uint32_t *marks, unsigned units) {
+    const uint64_t *first = numbers + (marks - stack_mark(stack_first));
+    begin_step();
+    for (; units != 0; units &= units - 1)
+        end_number(first[__builtin_ctz(units)]);
+    end_step();
+}
+
+static inline __m128i untouched_four(const uint32_t *marks) {
+    return _mm_cmpeq_epi32(_mm_loadu_si128((const void *)marks), _mm_setzero_si128());
+}
+
+/* A bit for each of so many marks that says that its unit is touched. */
+static inline unsigned touched_among(const uint32_t *marks) {
+    __m128i first = _mm_packs_epi32(untouched_four(marks), untouched_four(marks + 4)),
+            last = _mm_packs_epi32(untouched_four(marks + 8), untouched_four(marks + 12));
+    return (unsigned)_mm_movemask_epi8(_mm_packs_epi16(first, last)) ^ ((1u << CLEARED) - 1);
+}
+
 /* Down to the lowest of these marks, and so many together that those below may be among them. */
-static inline void clear_marks(uint32_t *lowest_mark, uint32_t *end) {
-    enum { FEW = 64 };
-    if (end - lowest_mark > FEW)
-        memset(lowest_mark, 0, (uintptr_t)end - (uintptr_t)lowest_mark);
-    else
-        while (end > lowest_mark)
-            __builtin_memset(end -= CLEARED, 0, CLEARED * sizeof *end);
+static inline void clear_marks(const uint32_t *lowest_mark, uint32_t *end) {
+    while (end > lowest_mark) {
+        unsigned units = touched_among(end -= CLEARED);
+        if (units == 0)
+            continue;
+        if (detecting)
+            end_numbers(end, units);
+        __builtin_memset(end, UNTOUCHED, CLEARED * sizeof *end);
+    }
 }
 
 /* The stack memory below this address has no variable any more. */
@@ -51,6 +86,12 @@ static inline void clear_below(uintptr_t address) {
         return;
     clear_marks(stack_mark(lowest), stack_mark(address));
     lowest = address & ~unit_mask;
+}
+
+static inline void clear_mark(uint32_t *mark) {
+    if (detecting && *mark != UNTOUCHED)
+        end_numbers(mark, 1);
+    *mark = UNTOUCHED;
 }
 
 static void clear_bytes(uintptr_t address, uintptr_t end);
@@ -62,7 +103,7 @@ static void clear(uintptr_t address, size_t size) {
         clear_bytes(address, address + size);
     if (end - stack_first <= stack_size)
         for (; first < end; first += unit_mask + 1)
-            *stack_mark(first) = UNTOUCHED;
+            clear_mark(stack_mark(first));
 }
 
 /* Whether there are views of reducers; their units are noted otherwise. */

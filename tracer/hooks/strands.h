@@ -11,6 +11,10 @@ enum { BLOCK_UNITS = 64 };
 #endif
 /* Where a strand ends without a record of the structure, the detector's thread gets this kind of record. */
 static const unsigned strand_ends = SPBAGS_WRITE + 1;
+/* And this kind where units of the stack have lost their numbers, for some numbers of one group, with a bit for each. No
+   number comes again, so what the detector keeps of them is of no use any more, at once or later. */
+static const unsigned numbers_end = SPBAGS_WRITE + 2;
+enum { GROUP_NUMBERS = 16 };
 
 /* What a strand has touched of a block, with a bit for each location; and the block's slot below. */
 struct touched {
