@@ -140,17 +140,24 @@ static uint64_t units_of_ending(uint64_t ending) {
     return members << group * GROUP_NUMBERS % BLOCK_UNITS;
 }
 
+static void forget(uint64_t block, uint64_t units) {
+    uint8_t status = spbags_forget(session, location_in(block, 0) + 1, units);
+    if (status != SPBAGS_TAKEN)
+        refuse_step(status);
+}
+
+/* Those of one block together, where they come so. */
 static void take_endings(void) {
     uint64_t block = 0, units = 0;
     for (size_t at = 0; at < endings_count; at++) {
         if (block_of_ending(endings[at]) != block) {
-            spbags_forget(session, location_in(block, 0) + 1, units);
+            forget(block, units);
             block = block_of_ending(endings[at]);
             units = 0;
         }
         units |= units_of_ending(endings[at]);
     }
-    spbags_forget(session, location_in(block, 0) + 1, units);
+    forget(block, units);
     endings_count = 0;
 }
 

@@ -36,7 +36,10 @@ static inline uint64_t location_of(uintptr_t address, uint32_t mark, unsigned sh
 }
 
 /* The group of the newest number that has ended, and which of its numbers have; they go out with the next group. */
-static struct { uint64_t group; unsigned members; } ended;
+static struct {
+    uint64_t group;
+    unsigned members;
+} ended;
 
 static inline void end_number(uint64_t number) {
     uint64_t group = number / GROUP_NUMBERS;

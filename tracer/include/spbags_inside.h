@@ -45,10 +45,10 @@ uint8_t spbags_steps(void *handle, const uint64_t *records, size_t count);
    A read of each whose bit i is set in `reads` comes by ascending i, then the same of `writes`: all or none. */
 uint8_t spbags_block(void *handle, uint64_t location, uint64_t reads, uint64_t writes);
 
-/* Begins a new life of some locations: those of which bit i is set in `units`, with i as above, in the block of a location,
-   even or odd; that of an odd one has the locations 128 * b + 2 * i + 1. Accesses to them from now on don't race with
-   those before. Races that were found stay, and memory that nothing else needs is used again. */
-void spbags_forget(void *handle, uint64_t location, uint64_t units);
+/* Begins a new life for locations in the block of this one: those of which bit i is set in `units`, as above, and odd if
+   this one is. What comes of them later races with nothing that came before. Races that were found stay. The memory of
+   the former life is used again. */
+uint8_t spbags_forget(void *handle, uint64_t location, uint64_t units);
 
 /* Makes the text of the report of all records that were taken. No record is taken after that. */
 uint8_t spbags_report(void *handle);

@@ -1,6 +1,6 @@
 /* The detector's library by its header alone: a child and its parent write one location, by a call for each record and by
-   one call for all; and the child writes two locations of a block, of which the parent reads all. Compiled by the plain
-   compiler. */
+   one call for all; and the child writes two locations of a block, of which the parent reads all. And locations that both
+   write begin another life between, before their race or behind it. Compiled by the plain compiler. */
 #include "../include/spbags_inside.h"
 #include <inttypes.h>
 #include <stdio.h>
@@ -62,6 +62,22 @@ static void in_blocks(void *session, uint64_t location) {
     expect("a block after the end", SPBAGS_AFTER_END, spbags_block(session, location, ends, 0));
 }
 
+/* Of three locations one has no other life before the race. */
+static void in_two_lives(void *session, uint64_t location) {
+    const uint64_t odd = location + 5, bit_of_odd = 1 << 2;
+    expect("a spawn", SPBAGS_TAKEN, spbags_step(session, SPBAGS_SPAWN, 0));
+    expect("a write", SPBAGS_TAKEN, spbags_step(session, SPBAGS_WRITE, odd));
+    expect("two writes", SPBAGS_TAKEN, spbags_block(session, location, 0, 3));
+    expect("the child's return", SPBAGS_TAKEN, spbags_step(session, SPBAGS_RETURN, 0));
+    expect("another life", SPBAGS_TAKEN, spbags_forget(session, odd, bit_of_odd));
+    expect("another life", SPBAGS_TAKEN, spbags_forget(session, location, 1));
+    expect("a write", SPBAGS_TAKEN, spbags_step(session, SPBAGS_WRITE, odd));
+    expect("two writes", SPBAGS_TAKEN, spbags_block(session, location, 0, 3));
+    expect("another life", SPBAGS_TAKEN, spbags_forget(session, location, UINT64_MAX));
+    expect("the root's return", SPBAGS_TAKEN, spbags_step(session, SPBAGS_RETURN, 0));
+    expect("another life after the end", SPBAGS_TAKEN, spbags_forget(session, location, UINT64_MAX));
+}
+
 static void print_report(void (*run)(void *session, uint64_t location), uint64_t location) {
     void *session = aligned_alloc(16, (spbags_room() + 15) / 16 * 16);
     spbags_new(session);
@@ -81,5 +97,6 @@ int main(void) {
     print_report(step_by_step, UINT64_MAX);
     print_report(all_at_once, 5);
     print_report(in_blocks, 128);
+    print_report(in_two_lives, 128);
     return 0;
 }

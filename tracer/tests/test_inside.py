@@ -35,6 +35,8 @@ race 5 write 2 write 4
 races 2
 race 128 write 2 read 5
 race 254 write 3 read 68
+races 1
+race 130 write 4 write 8
 """
 
 
@@ -166,6 +168,15 @@ class LibraryTest(InsideTest):
         archive = os.path.join(TRACER, "..", "crates", "inside", "out", "libinside.a")
         self.succeeds(CC, "-o", "steps", "tracer/tests/steps.c", archive)
         self.assertEqual(STEPS, self.run_command("./steps").out)
+
+    def test_memory_of_locals(self):
+        """The locals of a million calls have had their turn, and few at once: the run has less than 24 MB."""
+        self.build("locals", "fib.c", "-DN=30")
+        self.write("most.py", """import resource, subprocess
+subprocess.run(["./locals"], stdout=subprocess.DEVNULL, check=True)
+print(resource.getrusage(resource.RUSAGE_CHILDREN).ru_maxrss)
+""")
+        self.assertLess(int(self.succeeds(sys.executable, "most.py", SPBAGS_REPORT="/dev/null").out), 24000)
 
 
 class OutputsTest(InsideTest):
