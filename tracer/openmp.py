@@ -1,5 +1,5 @@
-"""Rewrites the OpenMP of a preprocessed source: every loop gets the schedule `dynamic,1`, so that the runtime is asked
-for each iteration. What can't be traced is refused, with its file and line."""
+"""Rewrites the OpenMP of a preprocessed source: every loop gets the schedule `dynamic`, so that the runtime is asked for
+each iteration. What can't be traced is refused, with its file and line."""
 import re
 
 MARKER = re.compile(r'#(?:line)? *([0-9]+) *("(?:\\.|[^"\\])*")?')
@@ -20,7 +20,8 @@ DIRECTIVES = {
     "metadirective": "metadirective", "dispatch": "dispatch", "interop": "interop"}
 # The number of a body's kind in the hooks, by the last word of its directive.
 BODIES = {"parallel": 0, "single": 1, "master": 2, "masked": 2}
-SIMD_BODY, SECTION_BODY = 3, 4
+SIMD_BODY, SECTION_BODY, LAST_BODY = 3, 4, 5
+PRIVATE = {"private", "firstprivate", "lastprivate", "reduction"}
 REFUSED_CLAUSES = {"detach": "detach", "allocate": "allocate"}
 
 
@@ -92,13 +93,11 @@ def filtered(text):
 
 
 def rescheduled(text):
-    """A loop's directive with the schedule that the hooks need: 2, 3 and 5 say that it was static, 3 and 5 that it has
-    no barrier besides, 4 and 5 that it has none but a lastprivate variable."""
+    """A loop's directive with the schedule that the hooks need, whose size says what clauses it had."""
     names = {name for name, _, _ in clauses_of(text)}
     text, schedule = without(text, "schedule")
-    has_nowait, has_last = "nowait" in names, {"nowait", "lastprivate"} <= names
-    kind = (2 + has_nowait + 2 * has_last) if STATIC.match(schedule) else 1 + 3 * has_last
-    return text.rstrip(" ,") + f" schedule(dynamic,{kind})"
+    size = 1 + 2 * bool(STATIC.match(schedule)) + 4 * ("nowait" in names) + 8 * ("lastprivate" in names)
+    return text.rstrip(" ,") + f" schedule(dynamic,{size + 16 * bool(PRIVATE & names)})"
 
 
 def body(kind, file, line, next_line):
@@ -141,6 +140,8 @@ class Source:
             return f'{master}# {self.line} "{self.file}"\n#pragma omp {text[rest:]}\n'
         if self.is_clang and names[-1:] == ["sections"]:
             self.awaits = "brace"
+            if {"nowait", "lastprivate"} <= {name for name, _, _ in clauses}:
+                return body(LAST_BODY, self.file, self.line, self.line) + f"#pragma omp{text}\n"
         if self.is_clang and names == ["section"]:
             return with_body(text, SECTION_BODY, self.file, self.line)
         if names == ["simd"]:

@@ -23,6 +23,8 @@ __attribute__((noinline)) static void other_access(bool writes, uintptr_t at, si
     if (!tracing || initialising > 0)
         return;
     leave_jumped(stack_pointer, code);
+    if (top <= silent_frame)
+        return;
     if (!is_on_the_way(self) && (watching || !is_old(writes, at, size)))
         touch(writes, at, size, code);
 }

@@ -17,6 +17,8 @@ struct loop {
     bool is_static, has_no_barrier;
     /* No barrier comes before what reads its lastprivate variables. */
     bool has_late_last;
+    /* Each thread has variables of its own beside, which may be objects. */
+    bool has_private;
     /* Each member of the team does a block of its iterations, as one share. */
     bool in_blocks;
     /* The first member's reductions, and its memory for all. */
@@ -38,6 +40,8 @@ struct scope {
     /* Of what this scope made and no sync has joined: the children, what a taskwait doesn't wait for, and what the
        compiler put behind loops. */
     uint64_t children, others, following;
+    /* Of the others, what a group's end doesn't wait for either. */
+    uint64_t shares_left;
     /* Where the first of the others came from. */
     uintptr_t others_code;
     /* How often it has waited for what it made. */
@@ -61,8 +65,8 @@ struct scope {
     uint64_t shares, taken;
     uint32_t loops_met, singles_met;
     bool has_master;
-    /* It is in the program's own code of its region; nothing of it is recorded; its next barrier is clang's alone. */
-    bool in_body, is_silent, skips_barrier;
+    /* It is in the program's own code of its region; its next barrier is clang's alone. */
+    bool in_body, skips_barrier;
     /* No other scope has this number. */
     uint64_t number;
 };
@@ -127,6 +131,14 @@ static size_t thread_at(void) {
 }
 
 static struct scope *thread_now(void) { return &scopes[thread_at()]; }
+
+/* The newest scope but for the groups in it. */
+static size_t holder_at(void) {
+    size_t at = newest_scope;
+    while (scopes[at].kind == GROUP)
+        at--;
+    return at;
+}
 
 static struct scope *team_now(void) {
     struct scope *thread = thread_now();
@@ -226,6 +238,7 @@ static void close_child(uintptr_t code) {
     write_return(code);
     scopes[newest_scope].children += is_task;
     scopes[newest_scope].following += child->follows_loop;
+    scopes[newest_scope].shares_left += is_other;
     leave_others(unsynced(child) + is_other, code);
 }
 
@@ -236,7 +249,7 @@ static void join_from(size_t first, uintptr_t code) {
     for (size_t at = newest_scope + 1; at-- > first;) {
         struct scope *scope = &scopes[at];
         left += unsynced(scope);
-        scope->children = scope->others = scope->following = 0;
+        scope->children = scope->others = scope->following = scope->shares_left = 0;
         scope->has_master = false;
         scope->waits++;
         if (at > first && scope->owns) {
@@ -367,4 +380,13 @@ void GOMP_taskyield(void) {}
 
 void GOMP_taskgroup_start(void) { push_scope(GROUP, false); }
 
-void GOMP_taskgroup_end(void) { close_waiting(CODE); }
+static void note_shares_left(uintptr_t code) {
+    const struct scope *group = &scopes[newest_scope];
+    if (group->shares_left > 0)
+        note_outlived(group->shares_left, code, group->others_code);
+}
+
+void GOMP_taskgroup_end(void) {
+    note_shares_left(CODE);
+    close_waiting(CODE);
+}

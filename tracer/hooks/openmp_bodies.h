@@ -1,5 +1,6 @@
 /* ---- Bodies. spbags-cc puts `for (__spbags_body(KIND); __spbags_goes_on();)` before each of these: of a parallel
-   region, of a single one, and of a master's, a loop with simd alone, and with clang a section ---- */
+   region, of a single one, and of a master's, a loop with simd alone, and with clang a section, and sections with nowait
+   and lastprivate ---- */
 
 /* Where a master region waits for what the team has made before, as one thread does all of them. */
 static uintptr_t second_master;
@@ -32,12 +33,12 @@ static void begin_parallel_body(uintptr_t code) {
     if (thread->kind == MEMBER)
         thread->team->code = code;
     thread->in_body = true;
-    be_silent(false);
+    follow_body();
 }
 
 static void end_parallel_body(void) {
     scopes[newest_scope].in_body = false;
-    be_silent(true);
+    follow_body();
 }
 
 /* A masked region is for the thread of this number. One that the program's own wish leaves out is done by nobody. */
@@ -54,27 +55,32 @@ int __spbags_filter(int number) {
 
 /* One thread of the team does this, beside what the others do. */
 static void begin_child_body(struct body *body, uintptr_t stack_pointer, uintptr_t code) {
-    struct scope *team = &scopes[newest_scope];
-    body->is_child = is_thread(team) && !team->alone && (body->kind != SECTION_BODY || !team->loop->in_blocks);
+    size_t holder = holder_at();
+    struct scope *thread = &scopes[holder];
+    body->is_child = is_thread(thread) && !thread->alone && (body->kind != SECTION_BODY || !thread->loop->in_blocks);
+    be_silent(NULL);
     if (!body->is_child)
         return;
-    if (body->kind == MASTER_BODY && team->has_master) {
+    if (body->kind == MASTER_BODY && thread->has_master) {
         second_master = second_master ? second_master : code;
-        join_from(newest_scope, code);
+        join_from(holder, code);
     }
-    team->has_master |= body->kind == MASTER_BODY;
+    thread->has_master |= body->kind == MASTER_BODY;
     open_child(SHARE, code);
     open_part(LOOP_PART, stack_pointer, code);
     const char *names[] = {[SINGLE_BODY] = "single", [MASTER_BODY] = "master", [SECTION_BODY] = "sections"};
-    uint64_t number = body->kind == SECTION_BODY ? ++team->shares : 0;
+    uint64_t number = body->kind == SECTION_BODY ? ++thread->shares : 0;
     note_part((struct part){.of = names[body->kind], .first = number, .last = number});
 }
 
-static void end_child_body(uintptr_t code) {
-    close_part(code);
-    close_child(code);
-    if (tracing)
+static void end_child_body(const struct body *body, uintptr_t code) {
+    if (body->is_child) {
+        close_part(code);
+        close_child(code);
+    }
+    if (body->is_child && tracing)
         clear_below(scopes[newest_scope].stack_end);
+    follow_body();
 }
 
 int __spbags_goes_on(void) {
@@ -87,10 +93,10 @@ int __spbags_goes_on(void) {
         end_parallel_body();
     else if (body->kind == SIMD_BODY)
         simd_loop = simd_loop ? simd_loop : CODE;
-    else if (begins)
+    else if (begins && body->kind != LAST_BODY)
         begin_child_body(body, STACK_POINTER, CODE);
-    else if (body->is_child)
-        end_child_body(CODE);
+    else if (body->kind != LAST_BODY)
+        end_child_body(body, CODE);
     newest_body -= !begins;
     return begins;
 }
@@ -105,5 +111,11 @@ void GOMP_critical_start(void) { enter_guard((uintptr_t)critical_name, "the crit
 void GOMP_critical_end(void) { leave_guard((uintptr_t)critical_name); }
 void GOMP_critical_name_start(void **name) { enter_guard((uintptr_t)name, critical_name); }
 void GOMP_critical_name_end(void **name) { leave_guard((uintptr_t)name); }
-void GOMP_atomic_start(void) { enter_guard(ATOMIC, "atomic"); }
-void GOMP_atomic_end(void) { leave_guard(ATOMIC); }
+void GOMP_atomic_start(void) {
+    enter_guard(ATOMIC, "atomic");
+    hide_combining(1);
+}
+void GOMP_atomic_end(void) {
+    hide_combining(-1);
+    leave_guard(ATOMIC);
+}

@@ -40,9 +40,7 @@ static void ask_in_team(struct scope *thread) {
 /* gcc would ask once for a whole loop, and asks for itself in a master region, so programs have another name for it. */
 int __spbags_thread_num(void) {
     struct scope *thread = thread_now();
-    size_t task = newest_scope;
-    while (scopes[task].kind == GROUP)
-        task--;
+    size_t task = holder_at();
     if (thread->kind == MEMBER && scopes[task].kind != TASK)
         ask_in_team(thread);
     else if (task_asks == 0 && active_levels > 0 && scopes[task].kind != TEAM)

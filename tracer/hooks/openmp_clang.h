@@ -74,7 +74,9 @@ void __kmpc_end_serialized_parallel(CLANG) { IGNORE, end_team(STACK_POINTER, COD
 void __kmpc_barrier(CLANG) {
     struct scope *thread = thread_now();
     IGNORE;
-    if (!thread->skips_barrier)
+    if (thread->skips_barrier)
+        end_following(CODE);
+    else
         wait_at_barrier(CODE);
     thread->skips_barrier = false;
 }
@@ -147,6 +149,15 @@ static void begin_dispatch(struct loop loop, int32_t schedule, uintptr_t code) {
         begin_loop(loop);
 }
 
+/* With nowait the last values are stored behind the shares, up to a barrier that is clang's alone. */
+static void end_shares(uintptr_t stack_pointer, uintptr_t code) {
+    struct scope *thread = thread_now();
+    follow_body();
+    thread->skips_barrier = thread->loop->has_late_last;
+    if (thread->skips_barrier)
+        begin_following(thread, stack_pointer, code);
+}
+
 #define DISPATCH(SUFFIX, TYPE, STEP, LOOP) \
     void __kmpc_dispatch_init_##SUFFIX(CLANG, int32_t schedule, TYPE first, TYPE last, STEP step, STEP most) { \
         IGNORE, begin_dispatch(LOOP, schedule, CODE); \
@@ -155,8 +166,7 @@ static void begin_dispatch(struct loop loop, int32_t schedule, uintptr_t code) {
         uint64_t begin, end; \
         IGNORE; \
         if (!take_share(&begin, &end, STACK_POINTER, CODE)) { \
-            be_silent(!thread_now()->in_body); \
-            thread_now()->skips_barrier = thread_now()->loop->has_late_last; \
+            end_shares(STACK_POINTER, CODE); \
             return 0; \
         } \
         const struct loop *loop = thread_now()->loop; \
@@ -182,6 +192,7 @@ void __kmpc_for_static_init_4(CLANG, int32_t schedule, int32_t *is_last, int32_t
     struct loop *loop = thread->loop;
     uint64_t left = loop->count - loop->begun, size = loop->in_blocks ? left_of_block(thread, left) : left;
     loop->code = loop->code ? loop->code : CODE;
+    loop->has_late_last = bodies[newest_body].kind == LAST_BODY;
     *first = (int32_t)loop->begun;
     *last = *first + (int32_t)size - 1;
     loop->begun += size;
@@ -190,19 +201,22 @@ void __kmpc_for_static_init_4(CLANG, int32_t schedule, int32_t *is_last, int32_t
     if (loop->in_blocks)
         note_long_share(thread, size);
 }
-void __kmpc_for_static_fini(CLANG) { IGNORE; }
+void __kmpc_for_static_fini(CLANG) { IGNORE, end_shares(STACK_POINTER, CODE); }
 
 /* ---- Sums: each thread combines its own, under the guard of the runtime ---- */
 
 static int32_t begin_sum(uintptr_t stack_pointer, uintptr_t code) {
     begin_following(thread_now(), stack_pointer, code);
     enter_guard(ATOMIC, "atomic");
+    hide_combining(1);
     return 1;
 }
 
 static void end_sum(uintptr_t code) {
+    hide_combining(-1);
     leave_guard(ATOMIC);
-    end_following(code);
+    if (!thread_now()->skips_barrier)
+        end_following(code);
 }
 
 #define SUMS CLANG, int32_t count, size_t size, void *data, void (*combine)(void *, void *), void *lock

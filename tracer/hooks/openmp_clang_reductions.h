@@ -80,7 +80,10 @@ static void end_group(uintptr_t stack_pointer, uintptr_t code) {
 }
 
 void __kmpc_taskgroup(CLANG) { IGNORE, GOMP_taskgroup_start(); }
-void __kmpc_end_taskgroup(CLANG) { IGNORE, end_group(STACK_POINTER, CODE); }
+void __kmpc_end_taskgroup(CLANG) {
+    IGNORE, note_shares_left(CODE);
+    end_group(STACK_POINTER, CODE);
+}
 
 void *__kmpc_taskred_init(int32_t number, int32_t count, const struct clang_reduction *list) {
     (void)number;

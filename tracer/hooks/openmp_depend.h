@@ -61,9 +61,7 @@ static void follow_depend(const struct named *names, size_t count, bool is_named
     first_depend = first_depend ? first_depend : code;
     if (depend_way == IGNORED)
         return;
-    const struct scope *parent = &scopes[newest_scope];
-    while (parent->kind == GROUP)
-        parent--;
+    const struct scope *parent = &scopes[holder_at()];
     if (depends_on_older(names, count, parent) && wait_for_tasks(code))
         depend_wait = depend_wait ? depend_wait : code;
     if (is_named)

@@ -1,4 +1,4 @@
-/* Loops and sections. The wrapper gives every loop the schedule `dynamic,1`, so that gcc asks for each iteration
+/* Loops and sections. The wrapper gives every loop the schedule `dynamic`, so that gcc asks for each iteration
    here: then the share before ends, and a new one begins. The first member of a team that comes does all of them, so
    the others find nothing left, unless each of them has a block of its own. Variables of a thread are private to each share,
    so all stack memory below its region's loses its numbers between two. */
@@ -99,7 +99,7 @@ static void note_share(const struct loop *loop, uint64_t first) {
 /* A block is no child, but a part of what its thread does. */
 static void begin_share(struct scope *thread, uint64_t first, uintptr_t stack_pointer, uintptr_t code) {
     struct loop *loop = thread->loop;
-    be_silent(false);
+    be_silent(NULL);
     if (loop->code == 0)
         loop->code = code;
     if (thread->alone || loop->in_blocks)
@@ -113,8 +113,8 @@ static void begin_share(struct scope *thread, uint64_t first, uintptr_t stack_po
 /* What the compiler puts between the last share and the loop's end, as a reduction's sums, is no code of the program's:
    it is done beside that, as a share is. */
 static void begin_following(const struct scope *thread, uintptr_t stack_pointer, uintptr_t code) {
-    be_silent(true);
-    if (!thread->in_body || thread->thread != 0 || thread->alone || !is_thread(&scopes[newest_scope]))
+    be_silent(top);
+    if (!thread->in_body || thread->thread != 0 || thread->alone || !is_thread(&scopes[holder_at()]))
         return;
     open_child(SHARE, code)->follows_loop = true;
     open_part(LOOP_PART, stack_pointer, code);
@@ -128,7 +128,7 @@ static void end_following(uintptr_t code) {
         if (tracing)
             clear_below(scopes[newest_scope].stack_end);
     }
-    be_silent(!thread_now()->in_body);
+    follow_body();
 }
 
 static void note_long_share(const struct scope *thread, uint64_t size) {
@@ -170,10 +170,22 @@ static bool next_share(uint64_t *first, uint64_t *end, uintptr_t stack_pointer, 
     return is_left;
 }
 
-/* What the wrapper makes of schedule(static), of that with nowait, and of nowait with lastprivate. */
-static bool is_static(long most) { return most == 2 || most == 3 || most == 5; }
-static bool is_static_nowait(long most) { return most == 3 || most == 5; }
-static bool is_last_nowait(long most) { return most >= 4; }
+/* What the wrapper makes of a loop's clauses, beside 1. PRIVATE is any of those that give each thread a variable. */
+enum clause { STATIC = 2, NOWAIT = 4, LAST = 8, PRIVATE = 16 };
+
+static bool has_clauses(long most, long clauses) { return (most & clauses) == clauses; }
+
+static struct loop loop_of(uint64_t start, uint64_t end, uint64_t step, uint64_t count, long most) {
+    return (struct loop){.start = start,
+                         .step = step,
+                         .end = end,
+                         .count = count,
+                         .most = iterations,
+                         .is_static = has_clauses(most, STATIC),
+                         .has_no_barrier = has_clauses(most, STATIC | NOWAIT),
+                         .has_late_last = has_clauses(most, NOWAIT | LAST),
+                         .has_private = has_clauses(most, PRIVATE)};
+}
 
 static struct loop signed_loop(long start, long end, long step, long most) {
     uint64_t first = (uint64_t)start, last = (uint64_t)end, size = (uint64_t)step, count = 0;
@@ -181,14 +193,7 @@ static struct loop signed_loop(long start, long end, long step, long most) {
         count = count_steps(last - first, size);
     if (step < 0 && start > end)
         count = count_steps(first - last, -size);
-    return (struct loop){.start = first,
-                         .step = size,
-                         .end = last,
-                         .count = count,
-                         .most = iterations,
-                         .is_static = is_static(most),
-                         .has_no_barrier = is_static_nowait(most),
-                         .has_late_last = is_last_nowait(most)};
+    return loop_of(first, last, size, count, most);
 }
 
 static struct loop unsigned_loop(bool up, uint64_t start, uint64_t end, uint64_t step, long most) {
@@ -197,14 +202,7 @@ static struct loop unsigned_loop(bool up, uint64_t start, uint64_t end, uint64_t
         count = count_steps(end - start, step);
     if (!up && start > end)
         count = count_steps(start - end, -step);
-    return (struct loop){.start = start,
-                         .step = step,
-                         .end = end,
-                         .count = count,
-                         .most = iterations,
-                         .is_static = is_static(most),
-                         .has_no_barrier = is_static_nowait(most),
-                         .has_late_last = is_last_nowait(most)};
+    return loop_of(start, end, step, count, most);
 }
 
 #define NEXT(NAME, TYPE) \
@@ -299,6 +297,7 @@ unsigned GOMP_sections_next(void) { return next_section(STACK_POINTER, CODE); }
 void GOMP_parallel_sections(void (*run)(void *), void *data, unsigned threads, unsigned count, unsigned flags) {
     (void)flags;
     struct loop whole = sections(count);
+    whole.has_private = true;
     do_region(run, data, threads, &whole, STACK_POINTER, CODE);
 }
 

@@ -59,7 +59,7 @@ static void begin_loop(struct loop loop);
 /* ---- Stacks ---- */
 
 /* What spbags-cc puts before some parts of OpenMP. */
-enum body_kind { PARALLEL_BODY, SINGLE_BODY, MASTER_BODY, SIMD_BODY, SECTION_BODY };
+enum body_kind { PARALLEL_BODY, SINGLE_BODY, MASTER_BODY, SIMD_BODY, SECTION_BODY, LAST_BODY };
 
 /* Whether it has begun, and is a child. */
 struct body {
@@ -81,6 +81,7 @@ static void leave_stack(void) {
     stack->frames_end = frames_end;
     stack->top = top;
     stack->grouped = grouped;
+    stack->silent_frame = silent_frame;
     stack->parts = parts;
     stack->lowest = lowest;
     stack->bodies = bodies;
@@ -99,6 +100,7 @@ static void enter_stack(struct stack *stack) {
     frames_end = stack->frames_end;
     top = stack->top;
     grouped = stack->grouped;
+    silent_frame = stack->silent_frame;
     parts = stack->parts;
     lowest = stack->lowest;
     bodies = stack->bodies;
@@ -215,14 +217,33 @@ static void wait_for_members(uintptr_t code) {
         push_scope(GROUP, false)->reductions = kept[group].reductions;
 }
 
-/* What the compiler puts beside the program's own code into a region each member does, as copies of variables, or what
-   combines those of a reduction. The first member's is recorded. */
-static void be_silent(bool silent) {
-    struct scope *thread = thread_now();
-    if (thread->kind != MEMBER || thread->thread == 0 || thread->is_silent == silent)
+/* What the compiler puts beside the program's own code into a region each member does, as copies of variables. The first
+   member's is recorded; of the others' what functions of the program do, as a private variable's constructor. FRAME is
+   that of the function with such code, or NULL where the program's own begins. */
+static void be_silent(struct frame *frame) {
+    const struct scope *thread = thread_now();
+    if (thread->kind != MEMBER || thread->thread == 0)
         return;
-    thread->is_silent = silent;
-    initialising += silent ? 1u : -1u;
+    silent_frame = frame;
+    find_short_way();
+}
+
+/* clang makes two functions of a region. */
+static void run_microtask(void *data);
+
+/* Outside of a region's body its function is silent. */
+static void follow_body(void) {
+    const struct scope *thread = thread_now();
+    bool is_silent = thread->kind == MEMBER && !thread->in_body;
+    be_silent(is_silent ? thread->member->base + (thread->team->run == run_microtask ? 2 : 1) : NULL);
+}
+
+/* What combines a reduction's copies begins, by 1, or ends, by -1. Of the other members' not even functions are
+   recorded. */
+static void hide_combining(int change) {
+    if (top > silent_frame)
+        return;
+    initialising += (unsigned)change;
     find_short_way();
 }
 
@@ -236,11 +257,11 @@ static void run_member(struct team *team, struct member *member, uintptr_t end) 
     note_part((struct part){(uintptr_t)team->data, region_name, (uint64_t)member->scope.thread,
                             (uint64_t)member->scope.thread, team->whole != NULL});
     member->base = top;
-    be_silent(true);
+    follow_body();
     if (team->whole)
         begin_loop(*team->whole);
     team->run(team->data);
-    be_silent(false);
+    be_silent(NULL);
     close_part(team->code);
     end_part(team->code);
     member->has_ended = true;
@@ -315,7 +336,7 @@ static struct stack *next_stack(struct member *member, uint32_t node) {
     struct stack *stack = &stacks[stacks_used++];
     stack->top = stack->frames;
     *stack->top = (struct frame){.kind = ROOT, .end = UINTPTR_MAX, .node = node};
-    stack->grouped = NULL;
+    stack->grouped = stack->silent_frame = NULL;
     stack->newest_body = stack->guards_held = stack->initialising = stack->hidden_updates = 0;
     stack->member = member;
     return stack;
@@ -402,10 +423,11 @@ static void end_team(uintptr_t stack_pointer, uintptr_t code) {
         clear_below(stack_pointer);
 }
 
-/* Where the loop is all of the region the other members have nothing to do once the first one has done it. */
+/* Where the loop is all of the region the other members have nothing to do once the first one has done it, but for what
+   objects of their own do. */
 static bool is_done(const struct team *team) {
     const struct loop *loop = &loops[team->first_loop];
-    return team->whole && loop->begun == loop->count;
+    return team->whole && loop->begun == loop->count && !loop->has_private;
 }
 
 static void run_members(struct team *team) {
@@ -481,10 +503,7 @@ void GOMP_parallel(void (*run)(void *), void *data, unsigned threads, unsigned f
 /* ---- Barriers and single regions ---- */
 
 static void join_team(uintptr_t code) {
-    size_t at = newest_scope;
-    while (scopes[at].kind == GROUP)
-        at--;
-    if (scopes[at].kind == MEMBER) {
+    if (scopes[holder_at()].kind == MEMBER) {
         wait_for_members(code);
         return;
     }

@@ -12,7 +12,7 @@ struct stack {
     uintptr_t first, end;
     /* No mark of it stands below this address. */
     uintptr_t lowest;
-    struct frame *frames, *frames_end, *top, *grouped;
+    struct frame *frames, *frames_end, *top, *grouped, *silent_frame;
     struct part *parts;
     struct body *bodies;
     size_t newest_body;

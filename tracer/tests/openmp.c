@@ -268,6 +268,37 @@ static void two_masters(void) {
     }
 }
 
+/* No thread waits for another one's single region, or its iterations, where its own group ends. */
+static void left_by_groups(void) {
+#pragma omp parallel
+    {
+#pragma omp taskgroup
+        {
+#pragma omp for nowait
+            for (int i = 0; i < 4; i++)
+                row[i] = i;
+        }
+#pragma omp single
+        one = row[3];
+    }
+}
+
+static void groups_wait(void) {
+#pragma omp parallel
+    {
+#pragma omp taskgroup
+        {
+#pragma omp single
+            one = 1;
+#pragma omp for
+            for (int i = 0; i < 4; i++)
+                row[i] = one;
+        }
+#pragma omp master
+        one = row[3];
+    }
+}
+
 static void masked_out(void) {
 #pragma omp parallel
     {
@@ -418,6 +449,8 @@ int main(int count, char **words) {
                 {"wants_more", wants_more, true},
                 {"exits", exits, true},
                 {"two_masters", two_masters, true},
+                {"left_by_groups", left_by_groups, true},
+                {"groups_wait", groups_wait, true},
                 {"masked_out", masked_out, true},
                 {"cancels", cancels, true},
                 {"task_of_critical", task_of_critical, true},

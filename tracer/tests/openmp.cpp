@@ -112,6 +112,83 @@ struct Made {
     }
 };
 
+static int begun, ended, copied;
+struct Begun {
+    int number = 1;
+    Begun() {
+        if (racy)
+            begun++; // [4 begun first] [4 begun second]
+    }
+};
+struct Ended {
+    int number = 1;
+    ~Ended() {
+        if (racy)
+            ended++; // [4 end first] [4 end second]
+    }
+};
+struct Copied {
+    int number = 1;
+    Copied() = default;
+    Copied(const Copied &other) : number(other.number) {
+        if (racy)
+            copied++; // [4 copy first] [4 copy second]
+    }
+};
+
+// All that a region does is a loop, or sections.
+static int looped, sectioned, bounded;
+struct Looped {
+    int number = 1;
+    Looped() {
+        if (racy)
+            looped++; // [4 looped first] [4 looped second]
+    }
+};
+struct Sectioned {
+    int number = 1;
+    Sectioned() {
+        if (racy)
+            sectioned++; // [4 sectioned first] [4 sectioned second]
+    }
+};
+
+// Its memory is a thread's own, and so is what it counts under the guard of a sum.
+struct Block {
+    int *number = new int(0);
+    Block() = default;
+    Block(const Block &other) : number(new int(*other.number)) {}
+    ~Block() { delete number; }
+    void add(const Block &other) {
+        *number += *other.number;
+        bounded++;
+    }
+};
+#pragma omp declare reduction(+ : Block : omp_out.add(omp_in))
+
+static void objects_of_threads() {
+    Begun one;
+    Ended two;
+    Copied three;
+    Looped four;
+    Sectioned five;
+    Block six, seven, sum;
+    int all = 0;
+#pragma omp parallel private(one, two, six) firstprivate(three, seven) reduction(+ : sum)
+    *sum.number += one.number + two.number + three.number + ++*six.number + ++*seven.number;
+#pragma omp parallel for private(four)
+    for (int i = 0; i < 4; i++)
+        four.number = i;
+#pragma omp parallel sections private(five) reduction(+ : all)
+    {
+#pragma omp section
+        all += five.number;
+#pragma omp section
+        all += 2;
+    }
+    std::printf("%d %d\n", *sum.number % 5, all);
+}
+
 // Each thread has an object of its own.
 static void privates() {
     Made one;
@@ -203,6 +280,7 @@ int main(int, char **words) {
     lasts();
     sums();
     privates();
+    objects_of_threads();
     exceptions();
     caught_too_late();
     if (!racy)

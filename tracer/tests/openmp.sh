@@ -505,9 +505,9 @@ start_openmp() {
     CC=gcc run_checks link check_link &
     CC=gcc run_checks link_built check_cmake check_meson &
     run_checks random_cplusplus check_random_cplusplus &
-    CC=gcc run_checks teams check_teams check_random_openmp &
+    CC=gcc run_checks teams check_teams check_team_notes check_random_openmp &
     if clang --version >/dev/null 2>&1; then
-        CC=clang run_checks openmp_clang check_teams check_openmp_ways check_openmp_threads check_openmp_depend \
+        CC=clang run_checks openmp_clang check_teams check_team_notes check_openmp_ways check_openmp_threads check_openmp_depend \
             check_clang_sections check_random_openmp &
         CC=clang SPBAGS_CXX=clang++ level=-O1 run_checks cplusplus_clang check_cplusplus check_openmp_classes \
             check_clang_refused &

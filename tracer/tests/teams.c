@@ -271,6 +271,58 @@ static void last_values(void) {
     demand(both >= 12);
 }
 
+/* Whoever does the single region may come before the last iteration's thread stores its value. */
+static void last_and_single(void) {
+    int last = 0, sum = 0;
+#pragma omp parallel
+    {
+#pragma omp for lastprivate(last) reduction(+ : sum) nowait
+        for (int i = 0; i < 4; i++) {
+            last = i;
+            sum += i;
+        }
+#pragma omp single
+        demand(last < 4);
+    }
+    demand(last == 3 && sum == 6);
+}
+
+static void last_of_sections(void) {
+    int last = 0;
+#pragma omp parallel
+    {
+#pragma omp sections lastprivate(last) nowait
+        {
+            last = 1;
+#pragma omp section
+            last = 2;
+        }
+        demand(last < 3);
+    }
+    demand(last == 2);
+}
+
+static void last_of_sections_waits(void) {
+    int last = 0, later = 0;
+#pragma omp parallel
+    {
+#pragma omp sections lastprivate(last) nowait
+        {
+            last = 1;
+#pragma omp section
+            last = 2;
+        }
+#pragma omp barrier
+        demand(last == 2);
+#pragma omp sections lastprivate(later)
+        {
+#pragma omp section
+            later = 3;
+        }
+        demand(later == 3);
+    }
+}
+
 static void loops_of_one_thread(void) {
 #pragma omp parallel
     {
@@ -364,6 +416,61 @@ static void barrier_in_group(void) {
     }
 }
 
+static void master_and_single_in_group(void) {
+#pragma omp parallel
+    {
+#pragma omp taskgroup
+        {
+#pragma omp master
+            one = 1;
+#pragma omp single
+            demand(one < 2);
+        }
+    }
+}
+
+static void masters_in_groups(void) {
+#pragma omp parallel
+    {
+#pragma omp master
+        one = 1;
+#pragma omp taskgroup
+        {
+#pragma omp master
+            one++;
+        }
+    }
+}
+
+static void summed_in_group(void) {
+    int sum = 0;
+#pragma omp parallel
+    {
+#pragma omp taskgroup
+        {
+#pragma omp for reduction(+ : sum) nowait
+            for (int i = 0; i < 4; i++)
+                sum += i;
+#pragma omp single
+            demand(sum < 7);
+        }
+    }
+}
+
+static void masked_alone(void) {
+#if defined(__clang__) && __clang_major__ < 15
+#pragma omp parallel
+#pragma omp masked filter(1)
+#else
+#pragma omp parallel masked filter(1)
+#endif
+    {
+#pragma omp task
+        one = 1;
+        one = 2;
+    }
+}
+
 static void shared_local(void) {
     int local = 0;
 #pragma omp parallel
@@ -448,6 +555,9 @@ static const struct {
             {"summed_and_counted", summed_and_counted, "data"},
             {"summed_too_early", summed_too_early, "data"},
             {"last_values", last_values, "none"},
+            {"last_and_single", last_and_single, "data"},
+            {"last_of_sections", last_of_sections, "data"},
+            {"last_of_sections_waits", last_of_sections_waits, "none"},
             {"loops_of_one_thread", loops_of_one_thread, "none"},
             {"loops_of_any_thread", loops_of_any_thread, "data"},
             {"counted_by_number", counted_by_number, "none"},
@@ -455,6 +565,10 @@ static const struct {
             {"own_memory", own_memory, "none"},
             {"tasks", tasks, "none"},
             {"barrier_in_group", barrier_in_group, "none"},
+            {"master_and_single_in_group", master_and_single_in_group, "data"},
+            {"masters_in_groups", masters_in_groups, "none"},
+            {"summed_in_group", summed_in_group, "data"},
+            {"masked_alone", masked_alone, "data"},
             {"shared_local", shared_local, "data"},
             {"sections", sections, "none"},
             {"in_order", in_order, "none"},
