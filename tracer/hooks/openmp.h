@@ -52,9 +52,10 @@ struct scope {
     bool is_watched;
     /* Of a share: whether it is what follows a loop, up to its end. */
     bool follows_loop;
-    /* Of a team: how many threads it has; and its members, if they are several. */
+    /* Of a team: how many threads it has; its members, if they are several; and where it begins, if not. */
     unsigned size;
     struct team *team;
+    uintptr_t code;
     /* Of a thread, which is a member or all of a team: its number, and which member it is. The stack memory below is
        its own. Its loop, how many shares and iterations of that it has begun, and the loops and single regions that it has
        met in this phase. Whether the master has done something that nothing has waited for. */

@@ -30,8 +30,7 @@ static void begin_parallel_body(uintptr_t code) {
     struct scope *thread = &scopes[newest_scope];
     if (tracing)
         name_part(code);
-    if (thread->kind == MEMBER)
-        thread->team->code = code;
+    *(thread->kind == MEMBER ? &thread->team->code : &thread->code) = code;
     thread->in_body = true;
     follow_body();
 }

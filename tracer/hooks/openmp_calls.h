@@ -32,7 +32,7 @@ static uintptr_t task_asks;
 /* A member may do what only one of its number does, so loops aren't all the first member's any more. */
 static void ask_in_team(struct scope *thread) {
     thread->team->asks = true;
-    note_asking_team(thread->team);
+    note_asking_team(thread->size, thread->team->wanted, thread->team->code);
     if (scopes[newest_scope].kind == SHARE && thread->loop && !thread->loop->ordered)
         thread->loop->in_blocks = true;
 }
@@ -45,6 +45,8 @@ int __spbags_thread_num(void) {
         ask_in_team(thread);
     else if (task_asks == 0 && active_levels > 0 && scopes[task].kind != TEAM)
         task_asks = CODE;
+    if (thread->kind == TEAM && !thread->alone)
+        note_asking_team(thread->size, thread->team_wanted, thread->code);
     return thread->thread;
 }
 
@@ -127,10 +129,9 @@ struct lock {
     int count;
 };
 
-/* One that its owner may set again: a task, by its number. */
+/* One that its owner may set again: a task, by its number. That of LLVM's omp.h has eight bytes. */
 struct nested_lock {
-    int count;
-    uint64_t owner;
+    uint64_t owner : 48, count : 16;
 };
 
 __attribute__((noreturn)) static void wait_for_ever(void) {
@@ -167,9 +168,12 @@ void omp_destroy_nest_lock(struct nested_lock *lock) { (void)lock; }
 int omp_test_nest_lock(struct nested_lock *lock) {
     if (lock->count > 0 && lock->owner != current_task()->number)
         return 0;
+    if (lock->count == UINT16_MAX)
+        fail("one lock is set more than %d times", UINT16_MAX);
     lock->owner = current_task()->number;
+    lock->count++;
     enter_guard((uintptr_t)lock, lock_name);
-    return ++lock->count;
+    return lock->count;
 }
 
 void omp_set_nest_lock(struct nested_lock *lock) {

@@ -350,19 +350,16 @@ static uintptr_t small_team;
 static uint64_t small_team_has, small_team_wants;
 static bool small_team_asks;
 
-/* Where neither the program nor the user says how many threads there are, there may be more. */
-static bool is_as_wanted(const struct team *team) {
-    return team->wanted > 0 ? team->wanted <= team->size : team_is_chosen;
-}
-
-/* What only threads with other numbers do isn't run. */
-static void note_asking_team(const struct team *team) {
-    if (small_team_asks || is_as_wanted(team))
+/* What only threads with other numbers do isn't run, in a team of this size that wants so many, or 0. Where neither the
+   program nor the user says how many there are, there may be more. */
+static void note_asking_team(uint64_t size, uint64_t wanted, uintptr_t code) {
+    bool is_as_wanted = wanted > 0 ? wanted <= size : team_is_chosen;
+    if (small_team_asks || is_as_wanted)
         return;
     small_team_asks = true;
-    small_team = team->code;
-    small_team_has = team->size;
-    small_team_wants = team->wanted;
+    small_team = code;
+    small_team_has = size;
+    small_team_wants = wanted;
 }
 
 /* How many threads there may be, where the program wants so many, or as many as there are. */
@@ -405,6 +402,7 @@ static void begin_team(unsigned threads, void *data, uintptr_t stack_pointer, ui
     team->alone = alone;
     team->size = alone ? 1 : size_of_team(wanted, code);
     team->team_wanted = wanted;
+    team->code = code;
     team->stack_end = stack_pointer;
     team->loop = &loops[loops_begun++];
     *team->loop = (struct loop){0};

@@ -38,6 +38,23 @@ static void in_lock(void) {
     }
 }
 
+static void in_nested_lock(void) {
+    struct {
+        omp_nest_lock_t lock;
+        long behind;
+    } both = {.behind = 5};
+    omp_init_nest_lock(&both.lock);
+#pragma omp parallel
+    {
+        omp_set_nest_lock(&both.lock);
+        demand(omp_test_nest_lock(&both.lock) == 2);
+        one++;
+        omp_unset_nest_lock(&both.lock);
+        omp_unset_nest_lock(&both.lock);
+    }
+    demand(both.behind == 5);
+}
+
 static void barriers(void) {
 #pragma omp parallel
     {
@@ -538,6 +555,7 @@ static const struct {
 } ways[] = {{"every_thread", every_thread, "data"},
             {"in_critical", in_critical, "guarded"},
             {"in_lock", in_lock, "guarded"},
+            {"in_nested_lock", in_nested_lock, "guarded"},
             {"barriers", barriers, "none"},
             {"orphaned", orphaned, "none"},
             {"master_and_barrier", master_and_barrier, "none"},
