@@ -6,6 +6,7 @@ import collections
 import glob
 import json
 import os
+import re
 import shlex
 import shutil
 import signal
@@ -40,13 +41,73 @@ def line_of(source, text):
     return number
 
 
-def expected_races(source):
-    """Those of an example by examples/expected, as `races_in` gives them."""
+def compiler_of(source):
+    return SPBAGS_CPLUSPLUS if source.endswith(".cpp") else SPBAGS_CC
+
+
+def as_races(rows):
+    """These numbers of locations and pairs of lines as `races_in` gives them."""
+    return sorted(f"{many} {min(lines)} {max(lines)}" for many, *lines in rows)
+
+
+def tagged_races(source, names="[a-z_]+"):
+    """Those of a source by its tags `[BYTES NAME first]` and `[BYTES NAME second]` with such names."""
+    with open(source, encoding="utf-8") as file:
+        tags = [(number, *tag) for number, line in enumerate(file, 1)
+                for tag in re.findall(rf"\[([0-9]+) ({names}) (first|second)\]", line)]
+    many = {name: many for _, many, name, _ in tags}
+    line = {(name, which): number for number, _, name, which in tags}
+    return as_races((many[name], line[name, "first"], line[name, "second"]) for name in many)
+
+
+def races_of_report(report):
+    """The number of locations and the two lines of each pair of a report in JSON."""
+    races = collections.Counter()
+    for pair in report["pairs"]:
+        frames = [pair[side]["user_frame"] for side in ("first", "second")]
+        races[tuple(sorted((frame["file"], frame["line"]) for frame in frames))] += pair["races"]
+    return sorted((many, *lines) for lines, many in races.items())
+
+
+def race_of(line):
+    """One of `spbags-lines --brief`, in the same form."""
+    many, *places = line.split()
+    return int(many), *((file, int(line)) for file, _, line in (place.rpartition(":") for place in places))
+
+
+def by_call(source, races):
+    """The number of races of each call: their places but for that of the parent, which is in this source."""
+    parents = {(source, line_of(source, tag)) for tag in ("[write]", "[read]")}
+    found = collections.Counter()
+    for many, *places in races:
+        parent = next((place for place in places if place in parents), None)
+        found[tuple(place for place in places if place is not parent)] += many
+    return +found
+
+
+class Example:
+    """What examples/expected says of one."""
+
+    def __init__(self, source):
+        self.source = source
+        with open(os.path.join(TRACER, "examples", "expected"), encoding="utf-8") as file:
+            rows = [line.split(maxsplit=2) for line in file if line.startswith(os.path.splitext(source)[0] + " ")]
+        self.unit = rows[0][1]
+        self.notes = [text.strip() for _, kind, text in rows if kind == "note"]
+        self.rows = [text.split() for _, kind, text in rows if kind != "note"]
+
+    def races(self, but=()):
+        """As `races_in` gives them, without those whose second tag is one of these."""
+        return as_races((many, line_of(self.source, one), line_of(self.source, other))
+                        for many, one, other in self.rows if other not in but)
+
+
+def examples(pattern):
+    """The sources whose names match, in the order of examples/expected."""
     with open(os.path.join(TRACER, "examples", "expected"), encoding="utf-8") as file:
-        rows = [line.split() for line in file if line.startswith(os.path.splitext(source)[0] + " ")]
-    races = [(many, sorted((line_of(source, one), line_of(source, other)))) for _, unit, many, one, other in
-             (row for row in rows if row[1] != "note")]
-    return sorted(f"{many} {one} {other}" for many, (one, other) in races)
+        names = dict.fromkeys(line.split()[0] for line in file if not line.startswith("#"))
+    files = (name + end for name in names for end in (".c", ".cpp"))
+    return [file for file in files if re.fullmatch(pattern, file) and os.path.exists(os.path.join(TRACER, "examples", file))]
 
 
 class TracerTest(unittest.TestCase):
@@ -90,6 +151,13 @@ class TracerTest(unittest.TestCase):
             self.assertRegex(done.errors, pattern)
         return done
 
+    def refused_lines(self, pattern, compiler, *words):
+        """The lines of a source about which the compiler says this, and it makes nothing then."""
+        done = self.run_command(compiler, *words, "-c", "-o", "refused.o")
+        self.assertEqual((1, False), (done.status, os.path.exists("refused.o")), done.errors)
+        found = re.findall(rf"(?m)^\S*{re.escape(words[-1])}:([0-9]+):.*{pattern}", done.errors)
+        return sorted({int(line) for line in found})
+
     def reports(self, status, text, *words, **settings):
         """spbags-run with these words has this status, and this in its report; gives the report."""
         done = self.run_command(SPBAGS_RUN, *words, **settings)
@@ -99,20 +167,38 @@ class TracerTest(unittest.TestCase):
         return said
 
     def races_of(self, *words, options=(), **settings):
-        """The number of locations and the two lines of each pair that spbags-run finds."""
+        """What spbags-run finds."""
         done = self.run_command(SPBAGS_RUN, "--json", "--most", "100000", *options, "--", *words, **settings)
         self.assertIn(done.status, (0, 1, 3), done.errors)
-        races = collections.Counter()
-        for pair in json.loads(done.out)["pairs"]:
-            frames = [pair[side]["user_frame"] for side in ("first", "second")]
-            races[tuple(sorted((frame["file"], frame["line"]) for frame in frames))] += pair["races"]
-        return sorted((many, *lines) for lines, many in races.items())
+        return races_of_report(json.loads(done.out))
 
     def races_in(self, source, *words, options=(), **settings):
         """The same with the lines' numbers, which are all of this source."""
-        races = self.races_of(*words, options=options, **settings)
+        return self.lines_in(source, self.races_of(*words, options=options, **settings))
+
+    def lines_in(self, source, races):
         self.assertEqual({source} if races else set(), {file for _, *lines in races for file, _ in lines})
-        return sorted(f"{many} {one} {other}" for many, (_, one), (_, other) in races)
+        return as_races((many, one, other) for many, (_, one), (_, other) in races)
+
+    def check(self, *words):
+        return self.run_command(os.environ["SPBAGS"], "check", *words)
+
+    def traced_races(self, program, *words):
+        """Those of run.trace by `spbags check` and spbags-lines, and the notes."""
+        checked = self.check(*words, "run.trace")
+        self.assertIn(checked.status, (0, 1), checked.errors)
+        self.write("report", checked.out)
+        said = self.run_command(SPBAGS_LINES, "--brief", program, "run.trace", "report")
+        self.assertEqual(checked.status, said.status, said.errors)
+        notes = [line for line in said.out.splitlines() if line.startswith("note: ")]
+        return [race_of(line) for line in said.out.splitlines() if line not in notes], notes
+
+    def is_same_inside(self, source, *flags, words=(), **settings):
+        """The report of the detector inside is that of the trace, with the checks in the program and without."""
+        for options in (["--inline-checks"], []):
+            with self.subTest("the report of the detector inside", options=options):
+                self.succeeds(compiler_of(source), "--inside", *options, *flags, "-o", "inside", source)
+                self.has_same_report("./inside", *words, **settings)
 
     def ended_from_outside(self, number, after, program, grows, **settings):
         """The status of a run that a signal ends so many seconds after the first records, which make a file grow."""
@@ -258,10 +344,14 @@ class Count(unittest.TestResult):
 
     addError = addFailure
 
+    def addSkip(self, test, reason):
+        super().addSkip(test, reason)
+        print(f"{test}: skipped: {reason}", file=sys.stderr)
+
 
 def main():
     """Runs the tests of the classes that are named, or of all."""
-    os.environ["SPBAGS"] = os.path.realpath(os.environ["SPBAGS"])
+    os.environ["SPBAGS"] = os.path.realpath(os.environ.get("SPBAGS", os.path.join(TRACER, "..", "spbags")))
     result = Count()
     module, loader = sys.modules["__main__"], unittest.defaultTestLoader
     named = sys.argv[1:]

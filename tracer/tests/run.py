@@ -1,8 +1,7 @@
 #!/usr/bin/env python3
 """Tries spbags-run on run.c, and on programs and files that go wrong. What has to come out is written here by hand,
 with the lines that tags in the source name. SPBAGS names the checker, and CC the compiler. The last line says how many
-passed and failed. With --inside the programs have the detector inside. With the word `brief` it prints the JSON object
-on standard input, a line for each pair of source lines."""
+passed and failed. With --inside the programs have the detector inside."""
 import contextlib
 import json
 import os
@@ -781,17 +780,6 @@ def build():
         subprocess.run([*compiler, "-o", name, name + ".c"], check=True)
 
 
-def brief():
-    """The pairs of source lines, each with its number of locations."""
-    races = {}
-    for pair in json.load(sys.stdin)["pairs"]:
-        frames = [pair[side]["user_frame"] for side in ("first", "second")]
-        lines = tuple(sorted((frame["file"], frame["line"]) for frame in frames))
-        races[lines] = races.get(lines, 0) + pair["races"]
-    for lines, count in sorted(races.items()):
-        print(count, *(f"{file}:{line}" for file, line in lines))
-
-
 def run_checks(names, build):
     """Runs the checks of a module in a folder of their own, and says how many passed and failed."""
     os.environ["SPBAGS"] = os.path.realpath(os.environ["SPBAGS"])
@@ -812,4 +800,4 @@ def run_checks(names, build):
 
 
 if __name__ == "__main__":
-    sys.exit(brief() if sys.argv[1:] == ["brief"] else run_checks(globals(), build))
+    sys.exit(run_checks(globals(), build))

@@ -71,7 +71,7 @@ class TraceTest(TracerTest):
         with self.subTest("the same without repeats"):
             self.is_same_without_repeats("./strands", most_blocks=2, most_odd=3)
         with self.subTest("spbags-run"):
-            self.assertEqual(cases.expected_races("matmul.c"), self.races_in("matmul.c", "./strands"))
+            self.assertEqual(cases.Example("matmul.c").races(), self.races_in("matmul.c", "./strands"))
         if INSIDE:
             with self.subTest("inside"):
                 self.succeeds(SPBAGS_CC, "--inside", "-DRACY", "-o", "strands", "matmul.c", **few)

@@ -197,7 +197,7 @@ class OutputsTest(InsideTest):
         with self.subTest("source lines"):
             self.run_command("./racy", SPBAGS_REPORT="report", SPBAGS_PLACES="run.places")
             said = self.run_command(cases.SPBAGS_LINES, "--brief", "./racy", "run.places", "report").out
-            self.assertEqual(cases.expected_races("fib.c"), said.replace("fib.c:", "").splitlines())
+            self.assertEqual(cases.Example("fib.c").races(), said.replace("fib.c:", "").splitlines())
         with self.subTest("SPBAGS_TRACE still writes the trace"):
             os.unlink("report")
             self.run_command("./racy", SPBAGS_REPORT="report", SPBAGS_TRACE="run.trace")

@@ -3,6 +3,7 @@
 gcc."""
 import os
 import re
+import shutil
 import sys
 
 sys.dont_write_bytecode = True
@@ -82,6 +83,10 @@ THREE = """.globl three
 .type three, @function
 three: .byte 0xb8, 3, 0, 0, 0, 0xc3
 .section .note.GNU-stack,"",@progbits
+"""
+MESON = """project('adds', 'c')
+adding = shared_library('adding', 'cmake/adding.c')
+executable('adds', 'cmake/main.c', 'cmake/still.c', link_with: adding, dependencies: dependency('openmp'))
 """
 
 
@@ -221,7 +226,7 @@ class OpenMPTest(LinkTest):
             self.succeeds(SPBAGS_CC, "-o", "fib", "openmp_fib.o", libgomp)
             self.assertIn(" T GOMP_task\n", self.run_command("nm", "fib").out)
         with self.subTest("races"):
-            self.assertEqual(cases.expected_races("openmp_fib.c"),
+            self.assertEqual(cases.Example("openmp_fib.c").races(),
                              self.races_in("openmp_fib.c", "./fib", SPBAGS_UNIT="4"))
 
 
@@ -303,6 +308,40 @@ class SharedLibrariesTest(LinkTest):
         self.write("opens.c", '#include <dlfcn.h>\nint main(void) { return !!dlopen("./libtwice.so", RTLD_LAZY); }\n')
         self.succeeds(SPBAGS_CC, "-o", "opens", "opens.c")
         self.ends_with(0, "", "./opens", SPBAGS_TRACE="run.trace")
+
+
+class BuildTest(LinkTest):
+    """Programs that CMake and Meson build."""
+    RACES = [(1, ("cmake/adding.c", 3), ("cmake/adding.c", 3))]
+    COMPILERS = {"CC": SPBAGS_CC, "CXX": SPBAGS_CPLUSPLUS}
+
+    def setUp(self):
+        super().setUp()
+        shutil.copytree(f"{LINK}/cmake", "cmake")
+
+    def need(self, tool):
+        if not shutil.which(tool):
+            self.skipTest(f"there is no {tool}")
+
+    def test_cmake(self):
+        self.need("cmake")
+        said = self.succeeds("cmake", "-S", "cmake", "-B", "made", **self.COMPILERS)
+        self.succeeds("cmake", "--build", "made", **self.COMPILERS)
+        with self.subTest("CMAKE_INTERPROCEDURAL_OPTIMIZATION"):
+            self.assertIn("whole programs: YES", said.out)
+        for program in ("in_c", "in_cplusplus"):
+            with self.subTest(program):
+                self.assertEqual(self.RACES, self.races_of(f"made/{program}"))
+        with self.subTest("an installed program"):
+            self.succeeds("cmake", "--install", "made", "--prefix", os.path.abspath("installed"))
+            self.assertEqual(self.RACES, self.races_of("installed/bin/in_cplusplus"))
+
+    def test_meson(self):
+        self.need("meson")
+        self.write("meson.build", MESON)
+        self.succeeds("meson", "setup", "meson", CC=SPBAGS_CC)
+        self.succeeds("meson", "compile", "-C", "meson", CC=SPBAGS_CC)
+        self.assertEqual(self.RACES, self.races_of("meson/adds"))
 
 
 if __name__ == "__main__":

@@ -1,12 +1,19 @@
 #!/usr/bin/env python3
-"""Reducers in C, for each compiler and level."""
+"""Reducers, for each level: in C for each compiler, and in C++."""
 import sys
 
 sys.dont_write_bytecode = True
 import cases
-from cases import INSIDE, LEVEL, SPBAGS_CC, TracerTest, line_of, lines_of
+from cases import INSIDE, LEVEL, SPBAGS_CC, SPBAGS_CPLUSPLUS, TracerTest, line_of, lines_of
 
-C = "tracer/tests/reducers.c"
+C, CPLUSPLUS = "tracer/tests/reducers.c", "tracer/tests/reducers.cpp"
+PRINTED = """out 7 12 3 4 26 10
+10 15 10 4 10
+21 20 12 20
+11 24 f0 7 4 4 1 1 6 4
+ and 8
+4 eeeeeeeeeeeeeeeeeeee tbbbbbbbbbbccccccccccddddddddddeeeeeeeeee
+"""
 
 
 class ReducersTest(TracerTest):
@@ -74,6 +81,18 @@ class CTest(ReducersTest):
             with self.subTest(use):
                 self.write("element.c", start.format(variable, use))
                 self.ends_with(1, f"(?m)^element.c:4: error: .*{text}", SPBAGS_CC, "element.c")
+
+
+class CPlusPlusTest(ReducersTest):
+    def test_reducers(self):
+        self.succeeds(SPBAGS_CPLUSPLUS, LEVEL, "-Wall", "-Wextra", "-Werror", "-o", "reducers", CPLUSPLUS)
+        with self.subTest("clean"):
+            self.says(PRINTED.splitlines(), "--unseen-ok", "std::allocator*", "--", "./reducers", "clean")
+        with self.subTest("racy"):
+            self.assertEqual(sorted(f"{line} {line + 1}" for line in lines_of(CPLUSPLUS, "[update]")),
+                             self.lines(CPLUSPLUS, "./reducers", "racy"))
+        with self.subTest("a monoid of its own"):
+            self.reports(3, "what the monoid Union does in another schedule", "--", "./reducers", "own")
 
 
 if __name__ == "__main__":

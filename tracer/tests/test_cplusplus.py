@@ -1,0 +1,218 @@
+#!/usr/bin/env python3
+"""C++, with OpenMP and with Cilk: for each level, and for clang++ what it compiles. The races are those of the tags."""
+import os
+import re
+import signal
+import subprocess
+import sys
+import time
+
+sys.dont_write_bytecode = True
+import cases
+from cases import INSIDE, LEVEL, SPBAGS_CPLUSPLUS, SPBAGS_RUN, TRACER, TracerTest, by_call, line_of, lines_of, tagged_races
+
+CLASSES, SHARED, LOOPS, SPAWNS, COPIES, CONTAINERS, REFUSED = (
+    f"tracer/tests/{name}.cpp" for name in ("openmp", "cplusplus", "loops", "spawns", "copies", "containers", "refused"))
+IS_CLANG = os.environ.get("SPBAGS_CXX") == "clang++"
+SERIAL = ("-D_Cilk_spawn=", "-D_Cilk_sync=", "-D_Cilk_scope=", f"-I{TRACER}/include")
+# libstdc++ counts a pointer's owners without atomic operations where a process has one thread.
+POINTER = """#include <memory>
+int main() {
+    auto all = std::make_shared<int>(1);
+#pragma omp parallel for
+    for (int i = 0; i < 4; i++) {
+        std::shared_ptr<int> one = all;
+        if (*one != 1)
+            one.reset();
+    }
+}
+"""
+# A task waits for what comes later in the serial order.
+FUTURE = """#include <future>
+int main() {
+    std::promise<int> promise;
+    auto future = promise.get_future();
+#pragma omp task shared(future)
+    future.get();
+    promise.set_value(3);
+}
+"""
+THROWN = "int main() {\ntry {\ncilk_for (int i = 0; i < 2; i++) throw i;\n} catch (int) {}\n}\n"
+UNIT = {"SPBAGS_UNIT": "1"}
+
+
+class CPlusPlusTest(TracerTest):
+    def build(self, name, source, *flags):
+        self.succeeds(SPBAGS_CPLUSPLUS, LEVEL, *flags, "-o", name, source)
+
+    def has_tagged_races(self, source, program, **settings):
+        self.assertEqual(tagged_races(source), self.races_in(source, program, "racy", **UNIT, **settings))
+
+    def has_no_race(self, wanted, program, **settings):
+        """The clean way prints this too."""
+        traced = self.succeeds(program, "clean", SPBAGS_TRACE="run.trace", **UNIT, **settings)
+        self.assertEqual(wanted, traced.out)
+        self.assertEqual("races 0\n", self.check("run.trace").out)
+
+    def prints(self, wanted, status, *words):
+        """Of what spbags-run shows, without the last line of its report."""
+        said = self.reports(status, "", "--", *words).splitlines()
+        self.assertEqual(wanted, [line for line in said if not line.startswith("races")])
+
+
+class OpenMPTest(CPlusPlusTest):
+    def test_library(self):
+        self.build("cplusplus", SHARED, "-fopenmp")
+        with self.subTest("racy"):
+            self.has_tagged_races(SHARED, "./cplusplus")
+        with self.subTest("clean"):
+            self.has_no_race("early late: two threw, 24 letters, 4 sides\n", "./cplusplus")
+
+    def test_shared_pointer(self):
+        """Its counter is atomic."""
+        self.write("shared.cpp", POINTER)
+        self.build("shared", "shared.cpp", "-fopenmp")
+        said = self.run_command(SPBAGS_RUN, "--json", "--", "./shared").out
+        self.assertEqual(['"guard": "atomic"'], sorted(set(re.findall('"guard": [^,]*', said))))
+
+    def test_refused(self):
+        with self.subTest("a delete of its own"):
+            self.write("own_delete.cpp", "void operator delete(void *block) noexcept { }\n"
+                                         "int main() { delete new int; }\n")
+            self.ends_with(1, "leave out the program.s", SPBAGS_CPLUSPLUS, "-o", "own_delete", "own_delete.cpp")
+        with self.subTest("std::thread"):
+            self.write("thread.cpp", "#include <thread>\nint main() { std::thread([] {}).join(); }\n")
+            self.succeeds(SPBAGS_CPLUSPLUS, "-o", "thread", "thread.cpp")
+            self.ends_with(2, "the program starts a thread", "./thread", SPBAGS_TRACE="run.trace")
+
+    def test_future(self):
+        """It waits without end, and a line says so."""
+        self.write("future.cpp", FUTURE)
+        self.succeeds(SPBAGS_CPLUSPLUS, "-fopenmp", "-o", "future", "future.cpp")
+        with open("errors", "w", encoding="utf-8") as errors, subprocess.Popen(
+                ["./future"], stderr=errors, env={**os.environ, "SPBAGS_TRACE": "run.trace"}) as run:
+            end = time.monotonic() + 60
+            while "and so for ever" not in self.read("errors") and time.monotonic() < end:
+                time.sleep(0.01)
+            run.send_signal(signal.SIGTERM)
+        self.assertIn("and so for ever", self.read("errors"))
+
+
+class ClassesTest(CPlusPlusTest):
+    """Those that OpenMP copies, and exceptions. What a program prints doesn't depend on the number of threads."""
+
+    def check_level(self, level):
+        options = ["-fopenmp", "-std=c++17"]
+        self.succeeds("g++", "-w", *options, "-o", "plain", CLASSES)
+        options += ["-fopenmp-version=51"] if IS_CLANG else []
+        self.succeeds(SPBAGS_CPLUSPLUS, level, "-Wall", "-Wextra", "-Werror", *options, "-o", "classes", CLASSES)
+        with self.subTest("clean"):
+            self.has_no_race(self.run_command("./plain", "clean").out, "./classes")
+        with self.subTest("racy"):
+            self.has_tagged_races(CLASSES, "./classes")
+
+    def test_unoptimized(self):
+        self.check_level("-O0")
+
+    def test_optimized(self):
+        self.check_level("-O1")
+
+
+class CilkTest(CPlusPlusTest):
+    def test_loops(self):
+        self.build("loops", LOOPS)
+        with self.subTest("clean"):
+            self.assertEqual([], self.races_in(LOOPS, "./loops", "clean"))
+        with self.subTest("racy"):
+            wanted = [line_of(LOOPS, f"[{tag}]") for tag in ("last", "shared", "step", "thrower")]
+            self.assertEqual(sorted(wanted), sorted(int(race.split()[2])
+                                                    for race in self.races_in(LOOPS, "./loops", "racy")))
+        with self.subTest("exceptions that loops throw again"):
+            self.prints(["218 2222 10"], 0, "./loops", "thrown")
+
+    def test_thrown(self):
+        self.write("thrown.cpp", THROWN)
+        with self.subTest("C++11"):
+            self.build("loops", "thrown.cpp", "-std=c++11", "-include", "cilk/cilk.h")
+            self.reports(0, "", "--", "./loops")
+        with self.subTest("without Cilk's header"):
+            self.build("loops", "thrown.cpp", "-Dcilk_for=_Cilk_for")
+            self.reports(3, "thrown.cpp:3: an exception leaves a child here", "--", "./loops")
+
+    def test_spawns(self):
+        """They do what the serial program does."""
+        self.build("spawns", SPAWNS, "-Wall", "-Wextra", "-Werror")
+        self.succeeds("g++", "-w", *SERIAL, "-o", "plain", SPAWNS)
+        printed = self.run_command("./plain", "clean").out
+        for version in "12":
+            with self.subTest("clean", version=version):
+                self.has_no_race(printed, "./spawns", SPBAGS_VERSION=version)
+            with self.subTest("racy", version=version):
+                self.has_tagged_races(SPAWNS, "./spawns", SPBAGS_VERSION=version)
+        with self.subTest("the same without repeats"):
+            self.is_same_without_repeats("setarch", "-R", "./spawns", "racy", **UNIT)
+        with self.subTest("an exception"):
+            self.reports(3, f"{SPAWNS}:{line_of(SPAWNS, '[thrown]')}: an exception leaves a child here", "--", "./spawns",
+                         "thrown")
+        with self.subTest("exceptions that a sync throws again"):
+            self.prints(["22 221 221 15 7 1 8 6 10", "1"], 0, "./spawns", "kept")
+        if INSIDE:
+            with self.subTest("the report of the detector inside"):
+                self.build("inside", SPAWNS, "--inside")
+                self.has_same_report("./inside", "racy", **UNIT)
+
+
+class CopiesTest(CPlusPlusTest):
+    def test_copies(self):
+        """Structs that calls take or give, by the line of each."""
+        for options in ([], ["-march=native"]):
+            with self.subTest(options):
+                self.build("copies", COPIES, "-fopenmp", *options)
+                wanted = by_call(COPIES, map(cases.race_of, self.run_command("./copies").out.splitlines()))
+                self.assertTrue(wanted)
+                self.assertEqual(wanted, by_call(COPIES, self.races_of("./copies", **UNIT)))
+        with self.subTest("the other syntax of the assembler"):
+            self.write("intel.cpp", "struct S { int a, b; } x;\nint f(S);\nint g() { return f(x); }\n")
+            self.ends_with(1, "can.t be traced with -masm=intel", SPBAGS_CPLUSPLUS, LEVEL, "-masm=intel", "-c",
+                           "intel.cpp")
+
+
+class ContainersTest(CPlusPlusTest):
+    def test_containers(self):
+        """What the library has of them is seen, and does what the library's own does."""
+        self.build("containers", CONTAINERS, "-fopenmp")
+        self.succeeds("g++", "-o", "plain", CONTAINERS)
+        with self.subTest("the same output, and nothing that isn't seen"):
+            self.prints(self.run_command("./plain").out.splitlines(), 0, "./containers")
+        with self.subTest("races"):
+            wanted = [f"{line_of(CONTAINERS, f'[{tag}]')} {line_of(CONTAINERS, f'[into {tag}]')}"
+                      for tag in ("list", "tree")]
+            found = self.races_in(CONTAINERS, "./containers", "racy")
+            self.assertEqual(sorted(wanted), sorted(race.partition(" ")[2] for race in found))
+
+
+class RefusedTest(CPlusPlusTest):
+    def test_spawns(self):
+        with self.subTest("what can't be rewritten"):
+            self.assertEqual(lines_of(REFUSED, "// [refused]"), self.refused_lines("error: ", SPBAGS_CPLUSPLUS, REFUSED))
+        with self.subTest("operators that are built in"):
+            self.assertEqual(lines_of(REFUSED, "// [built in]"), self.refused_lines(
+                " error: .*: a spawn has to be a call, ", SPBAGS_CPLUSPLUS, "-DBUILT_IN", REFUSED))
+        with self.subTest("C++11"):
+            self.ends_with(1, "error: a spawn needs C..14", SPBAGS_CPLUSPLUS, "-std=c++11", "-c", REFUSED)
+
+
+class ClangTest(CPlusPlusTest):
+    def test_refused(self):
+        """What clang++ doesn't compile."""
+        for name, text, pattern in (
+                ("cilk.cpp", "#include <cilk/cilk.h>\nvoid f();\nvoid g() {\ncilk_spawn f();\n}\n",
+                 r"cilk.cpp:4: error: Cilk in C\+\+ can be traced only with g\+\+"),
+                ("tbb.cpp", "#include <tbb/parallel_for.h>\n", r"can be traced only with g\+\+")):
+            with self.subTest(name):
+                self.write(name, text)
+                self.ends_with(1, pattern, SPBAGS_CPLUSPLUS, "-c", name, SPBAGS_CXX="clang++", CC="clang")
+
+
+if __name__ == "__main__":
+    cases.main()

@@ -1,0 +1,98 @@
+#!/usr/bin/env python3
+"""The examples, for each level and, in C with Cilk, for each compiler. A program does what the plain one does, and its
+races are those of examples/expected: by the trace, by spbags-run, and by the detector inside."""
+import re
+import sys
+
+sys.dont_write_bytecode = True
+import cases
+from cases import CC, INSIDE, LEVEL, TRACER, Example, TracerTest, compiler_of
+
+SERIAL = ("-D_Cilk_spawn=", "-D_Cilk_sync=", "-D_Cilk_for=for", "-D_Cilk_scope=", "-D_Hyperobject(...)=",
+          f"-I{TRACER}/include")
+# What those in C++ with Cilk print.
+PRINTED = {"queens_for.cpp": "10 boards, the first 0 2", "search_for.cpp": "6 after 32 looks",
+           "cholesky_for.cpp": "17.5914", "fft_for.cpp": "336.0", "knapsack_for.cpp": "13 in 10",
+           "strassen_for.cpp": "30"}
+
+
+class ExampleTest(TracerTest):
+    def build(self, example, *flags):
+        self.flags = (LEVEL, *flags)
+        self.settings = {"SPBAGS_UNIT": example.unit}
+        self.wanted = example.races() if "-DRACY" in flags else []
+        self.succeeds(compiler_of(example.source), *self.flags, "-o", "program", example.source)
+
+    def has_races(self, example):
+        """Those that are wanted, of run.trace; and gives its notes."""
+        races, notes = self.traced_races("./program")
+        self.assertEqual(self.wanted, self.lines_in(example.source, races))
+        return notes
+
+    def has_them_every_way(self, example, jumps=False):
+        """The trace without repeats, spbags-run and the detector inside have them too."""
+        with self.subTest("the same without repeats"):
+            self.is_same_without_repeats("./program", jumps=jumps, **self.settings)
+        with self.subTest("spbags-run"):
+            self.assertEqual(self.wanted, self.races_in(example.source, "./program", **self.settings))
+        if INSIDE:
+            self.is_same_inside(example.source, *self.flags, **self.settings)
+            with self.subTest("spbags-run with the detector inside"):
+                self.assertEqual(self.wanted, self.races_in(example.source, "./inside", **self.settings))
+
+
+class CilkTest(ExampleTest):
+    def check_example(self, source, *flags):
+        example = Example(source)
+        self.build(example, *flags)
+        self.succeeds(CC, LEVEL, *flags, *SERIAL, "-o", "plain", source)
+        printed = self.run_command("./plain").out
+        for version in "12":
+            with self.subTest("run", version=version):
+                run = self.succeeds("./program", SPBAGS_VERSION=version, SPBAGS_TRACE="run.trace", **self.settings)
+                self.assertEqual(printed, run.out)
+            with self.subTest("races", version=version):
+                told = [re.sub(rf"^note: {source}:[0-9]+: ", "", note) for note in self.has_races(example)]
+                self.assertEqual(example.notes, told)
+        # The longjmp in traps.c begins a strand without a record.
+        self.has_them_every_way(example, jumps=source == "traps.c")
+
+
+class OpenMPTest(ExampleTest):
+    def check_example(self, source, *flags):
+        example = Example(source)
+        self.build(example, "-fopenmp", *flags)
+        with self.subTest("run"):
+            self.succeeds("./program", SPBAGS_TRACE="run.trace", **self.settings)
+        with self.subTest("races"):
+            self.has_races(example)
+        self.has_them_every_way(example)
+
+
+class CPlusPlusTest(ExampleTest):
+    def check_example(self, source, *flags):
+        example = Example(source)
+        self.build(example, "-Wall", "-Wextra", *flags)
+        with self.subTest("races"):
+            self.assertEqual(self.wanted, self.races_in(source, "./program"))
+        if not flags:
+            with self.subTest("what it prints"):
+                run = self.run_command("./program", SPBAGS_TRACE="run.trace")
+                self.assertEqual(PRINTED[source] + "\n", run.out)
+
+
+def add_tests(case, pattern):
+    """One for each of these examples, with races and without."""
+    for source in cases.examples(pattern):
+        for flags in ((), ("-DRACY",)):
+            def test(self, source=source, flags=flags):
+                self.check_example(source, *flags)
+            setattr(case, "_".join(["test", source, *flags]), test)
+
+
+add_tests(CilkTest, r"(?!openmp_).*\.c")
+add_tests(OpenMPTest, r"openmp_.*")
+add_tests(CPlusPlusTest, r"(?!openmp_).*\.cpp")
+
+if __name__ == "__main__":
+    cases.main()

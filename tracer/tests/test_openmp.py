@@ -1,0 +1,266 @@
+#!/usr/bin/env python3
+"""OpenMP, for gcc and clang: what a report says of the ways of tests/openmp.c and the members of a team of
+tests/teams.c, and what is refused. The examples are in test_examples.py, and classes in test_cplusplus.py."""
+import json
+import os
+import re
+import sys
+
+sys.dont_write_bytecode = True
+import cases
+from cases import CC, SPBAGS_CC, SPBAGS_RUN, TESTS, Example, TracerTest, line_of, lines_of
+
+WAYS, TEAMS = "tracer/tests/openmp.c", "tracer/tests/teams.c"
+IS_CLANG = CC == "clang"
+# clang has `masked` in a later version of OpenMP than its usual one.
+OPENMP = ["-fopenmp", *(["-fopenmp-version=51"] if IS_CLANG else [])]
+EACH, BLOCKS = '"construct": "region"', "threads does a block of this loop"
+INNER = "a team inside another one has one thread"
+TWO = "this parallel region has 2 threads, and asks"
+# The first section may have no directive.
+SECTIONS = """int x, y;
+int main(void) {
+#pragma omp parallel sections
+    { x = 1;
+#pragma omp section
+        { y = 1; x++; }
+    }
+#pragma omp parallel
+    {
+#pragma omp sections
+        {
+            { x = 2; }
+#pragma omp section
+            y = 2;
+        }
+    }
+}
+"""
+
+
+def at(tag):
+    """The line of tests/openmp.c with this tag, as reports name it."""
+    return f"openmp.c:{line_of(os.path.join(TESTS, 'openmp.c'), f'[{tag}]')}"
+
+
+class OpenMPTest(TracerTest):
+    def build(self, name, source, *flags):
+        self.succeeds(SPBAGS_CC, *OPENMP, "-Wall", "-Werror", *flags, "-o", name, source)
+
+    def pair(self, one, other, many=1):
+        return [f"{many} {line_of(WAYS, f'[{one}]')} {line_of(WAYS, f'[{other}]')}"] if one else []
+
+
+class TraceTest(OpenMPTest):
+    """A program that writes its trace says what it doesn't model on standard error, and spbags-lines in its notes."""
+
+    def setUp(self):
+        super().setUp()
+        self.build("ways", WAYS)
+        self.wait = rf"{at('waits')}.* wait for 2 .* from .*{at('makes')}"
+
+    def says(self, way, status, line, wanted, **settings):
+        with self.subTest(f"{way}: {line}", **settings):
+            self.ends_with(status, line, "./ways", way, SPBAGS_TRACE="run.trace", **settings)
+        with self.subTest(f"{way}: races", **settings):
+            races, notes = self.traced_races("./ways")
+            self.assertEqual(wanted, self.lines_in(WAYS, races))
+        if line:
+            with self.subTest(f"{way}: the report says it too", **settings):
+                self.assertRegex("\n".join(notes), f"note: .*{line}")
+
+    def test_waits(self):
+        self.says("outlives", 0, self.wait, [])
+        self.says("outlives", 3, "this wait doesn.t wait for 2 ", [], SPBAGS_EXITCODE="9")
+        self.says("grouped", 0, "", [])
+        self.says("no_barrier", 0, rf"{at('waits_on')}.* wait for 4 ", [])
+
+    def test_blocks(self):
+        self.says("neighbours", 0, "", self.pair("turn", "turn", 4))
+        self.says("neighbours", 0, "SPBAGS_ITERATIONS=2 makes", [], SPBAGS_ITERATIONS="2")
+        self.says("numbered", 0, "", self.pair("numbered", "numbered"), SPBAGS_TEAM="1")
+        self.says("numbered", 0, f"each of 3 {BLOCKS}", [], SPBAGS_TEAM="3")
+        self.says("thread_memory", 0, "variables of which each thread has its own, 4 bytes", [])
+
+    def test_statuses(self):
+        for words, settings, status in ((["outlives"], {"SPBAGS_INCOMPLETE_OK": "1"}, 0), (["outlives", "5"], {}, 5)):
+            with self.subTest(status):
+                self.ends_with(status, "", "./ways", *words, SPBAGS_TRACE="run.trace", SPBAGS_EXITCODE="9", **settings)
+        for words, status in ((["--"], 3), (["--incomplete-ok", "--"], 0)):
+            with self.subTest(words):
+                said = self.reports(status, "", *words, "./ways", "outlives")
+                self.assertRegex(" ".join(said.split()), self.wait)
+        with self.subTest("races, and what isn't modelled"):
+            self.reports(1, "SPBAGS_ITERATIONS=4 makes", "--", "./ways", "numbered", SPBAGS_TEAM="1",
+                         SPBAGS_ITERATIONS="4")
+        with self.subTest("no trace"):
+            self.succeeds("./ways", "outlives")
+
+    def test_refused(self):
+        for way, line, settings in (
+                ("lock", "waits for a lock that is never unset", {}),
+                ("grouped", "leave out SPBAGS_VERSION=1", {"SPBAGS_VERSION": "1"}),
+                ("grouped", "SPBAGS_TEAM=0: expected a number of threads", {"SPBAGS_TEAM": "0"}),
+                ("by_number", "OMP_NUM_THREADS=2,0: expected numbers", {"OMP_NUM_THREADS": "2,0"}),
+                ("depends", "openmp.c:.* what depend orders can't be traced", {}),
+                ("depends", "SPBAGS_DEPEND=all: expected ignore or order", {"SPBAGS_DEPEND": "all"})):
+            with self.subTest(line):
+                self.ends_with(2, line, "./ways", way, SPBAGS_TRACE="run.trace", **settings)
+
+
+# Each way with the status of spbags-run, a line that its report has or nothing if all was modelled, the tags of both
+# lines that race, and settings.
+ANSWERS = [
+    ("each_thread", 1, EACH, "each", "each", {}),
+    ("each_task", 1, EACH, "each task", "each task", {}),
+    ("each_inner", 1, EACH, "each inner", "each inner", {}),
+    ("late_thread", 1, "", "late", "single", {}),
+    ("single_nowait", 1, "", "nowait", "beside nowait", {}),
+    ("master", 1, "", "master", "beside master", {}),
+    ("master_loop", 1, "", "masked", "beside masked", {}),
+    ("summed_nowait", 1, "", "summed", "sum", {}),
+    ("no_race", 0, "", "", "", {}),
+    ("by_number", 3, TWO, "", "", {}),
+    ("by_number", 0, "", "", "", {"SPBAGS_TEAM": "2"}),
+    ("by_number", 0, "", "", "", {"OMP_NUM_THREADS": "2"}),
+    ("by_number", 3, TWO, "", "", {"OMP_NUM_THREADS": "9"}),
+    ("by_number", 3, "has one thread by OMP_NUM_THREADS", "", "", {"SPBAGS_TEAM": "9", "OMP_NUM_THREADS": "1"}),
+    ("wants_more", 3, f"{at('wants')}: this parallel region has 2 threads", "", "", {}),
+    ("exits", 3, f"{at('exits')}: the run ends inside", "", "", {}),
+    ("two_masters", 3, f"{at('second master')}: there is no barrier", "", "", {}),
+    ("masked_out", 3, f"{at('masked out')}: this region is for thread 5", "", "", {}),
+    ("cancels", 0, "", "", "", {}),
+    ("cancels", 3, f"{at('cancels')}: OMP_CANC", "", "", {"OMP_CANCELLATION": "true"}),
+    ("after_ordered", 3, f"{at('after ordered')}: this access", "", "", {}),
+    ("ordered_last", 0, "", "", "", {}),
+    ("alike", 3, f"each of 2 {BLOCKS}, since with schedule", "", "", {}),
+    ("lanes", 0, f"{at('lanes')}: a loop with simd alone", "", "", {}),
+    ("task_number", 0, "", "", "", {}),
+    ("numbered", 3, f"each of 2 {BLOCKS}, since its region asks", "", "", {}),
+    ("nested", 3, INNER, "", "", {}),
+    ("nested", 1, "", "inner thread", "inner thread", {"SPBAGS_NESTED": "1"}),
+    ("each_inner", 1, INNER, "each inner", "each inner", {"OMP_NUM_THREADS": "2,2"}),
+    ("nested", 3, "has one thread by OMP_NUM_THREADS", "", "", {"OMP_NUM_THREADS": "2,1", "SPBAGS_NESTED": "1"}),
+    ("numbered", 1, f"{at('numbered')}: a task or an iteration", "numbered", "numbered", {"SPBAGS_TEAM": "1"}),
+    ("numbered", 0, "", "", "", {"SPBAGS_TEAM": "8"}),
+    ("depends", 1, "nothing waits for data", "reads first", "writes last", {"SPBAGS_DEPEND": "ignore"}),
+    ("depends", 3, "this depends on a task, and waits for all before it", "", "", {"SPBAGS_DEPEND": "order"}),
+    ("depends_on_none", 1, "", "apart", "apart", {"SPBAGS_DEPEND": "order"}),
+    ("depends_on_one", 3, "this depends on a task", "", "", {"SPBAGS_DEPEND": "order"})]
+
+
+class AnswersTest(OpenMPTest):
+    def setUp(self):
+        super().setUp()
+        self.build("ways", WAYS)
+
+    def answer(self, status, *words, **settings):
+        done = self.run_command(SPBAGS_RUN, "--json", *words, **settings)
+        self.assertEqual(status, done.status, done.errors)
+        return json.loads(done.out)
+
+    def races(self, report):
+        return self.lines_in(WAYS, cases.races_of_report(report))
+
+    def test_ways(self):
+        for way, status, line, one, other, settings in ANSWERS:
+            with self.subTest(way, **settings):
+                report = self.answer(status, "--", "./ways", way, **settings)
+                self.assertEqual(self.pair(one, other), self.races(report))
+                if line:
+                    self.assertIn(line, json.dumps(report))
+                else:
+                    self.assertEqual([], report["incomplete"])
+
+    def test_guards(self):
+        with self.subTest("what is held"):
+            guards = [pair["guard"] for pair in self.answer(1, "--", "./ways", "guarded")["pairs"]]
+            self.assertEqual(["atomic", "the critical region without a name", "the lock "],
+                             sorted(re.sub("at 0x[0-9a-f]*", "", guard) for guard in guards))
+        with self.subTest("no data race"):
+            self.answer(0, "--data-races", "--", "./ways", "guarded")
+        with self.subTest("a task doesn't hold what its thread held"):
+            report = self.answer(1, "--data-races", "--", "./ways", "task_of_critical")
+            self.assertEqual(self.pair("in a task", "in a task"), self.races(report))
+
+
+class TeamsTest(OpenMPTest):
+    def build_teams(self, level):
+        self.build("teams", TEAMS, level)
+
+    def check_ways(self, level):
+        """A program aborts if a thread sees what it mustn't."""
+        self.build_teams(level)
+        ways = [row.split() for row in self.succeeds("./teams").out.splitlines()]
+        self.assertTrue(ways)
+        for threads in "23":
+            for way, race in ways:
+                with self.subTest(way, threads=threads):
+                    self.succeeds("timeout", "60", "./teams", way, SPBAGS_TEAM=threads, SPBAGS_TRACE="run.trace")
+                    self.assertEqual(race != "none", self.check("run.trace").status)
+
+    def test_unoptimized(self):
+        self.check_ways("-O0")
+
+    def test_optimized(self):
+        self.check_ways("-O1")
+
+    def test_answers(self):
+        self.build_teams("-O1")
+        with self.subTest("threads of a region in the report"):
+            said = self.reports(1, "", "--", "./teams", "every_thread", SPBAGS_TEAM="2")
+            self.assertRegex(" ".join(said.split()), "threads of the region at .* may do this at once")
+        with self.subTest("a lock of two members"):
+            self.reports(0, "", "--data-races", "--", "./teams", "in_lock", SPBAGS_TEAM="2")
+        with self.subTest("too large a team"):
+            self.ends_with(2, "a team has at most 64 threads", "./teams", "every_thread", SPBAGS_TEAM="65",
+                           SPBAGS_TRACE="run.trace")
+
+
+class SectionsTest(OpenMPTest):
+    def test_first(self):
+        self.write("sections.c", SECTIONS)
+        self.succeeds(SPBAGS_CC, "-fopenmp", "-o", "sections", "sections.c")
+        self.assertEqual(["1 4 6"], self.races_in("sections.c", "./sections"))
+
+
+class ExamplesTest(OpenMPTest):
+    """Those for gcc alone."""
+
+    def test_outputs(self):
+        """The answers of those that have no race are the serial ones."""
+        for source in ("openmp_fib.c", "openmp_stencil.c", "openmp_nqueens.cpp"):
+            with self.subTest(source):
+                self.succeeds(cases.compiler_of(source), "-fopenmp", "-o", "program", source)
+                self.succeeds("g++" if source.endswith(".cpp") else "gcc", "-o", "plain", source)
+                traced = self.succeeds("./program", SPBAGS_TRACE="run.trace")
+                self.assertEqual(self.run_command("./plain").out, traced.out)
+
+    def test_guards(self):
+        """With --data-races what both do under one guard is left out."""
+        self.succeeds(SPBAGS_CC, "-fopenmp", "-DRACY", "-o", "guarded", "openmp_traps.c")
+        self.assertEqual(Example("openmp_traps.c").races(but=("[critical]", "[atomic]", "[locked]")),
+                         self.races_in("openmp_traps.c", "./guarded", options=["--data-races"]))
+
+
+class RefusedTest(OpenMPTest):
+    def test_directives(self):
+        source = "tracer/tests/openmp_refused.c"
+        self.assertEqual(lines_of(source, "/* [refused] */"),
+                         self.refused_lines("error: OpenMP", SPBAGS_CC, "-fopenmp", source))
+
+    def test_functions(self):
+        for name, parameter in (("omp_display_env", "int"), ("__kmpc_begin", "void")):
+            with self.subTest(name):
+                self.write("unknown.c", f"void {name}({parameter});\nint main(void) {{\n"
+                                        f"{name}({'0' if parameter == 'int' else ''});\n}}\n")
+                self.ends_with(1, f"unknown.c:3: {name} can.t be traced: it is a part of OpenMP", SPBAGS_CC,
+                               "-fopenmp", "-o", "unknown", "unknown.c")
+
+    def test_cilk(self):
+        self.ends_with(1, "fib.c:8: error: Cilk can.t be traced together with OpenMP", SPBAGS_CC, "-fopenmp", "-c",
+                       "fib.c")
+
+
+if __name__ == "__main__":
+    cases.main()
