@@ -11,8 +11,9 @@ void __tsan_vptr_read(void *at) { OFTEN(false, at, sizeof at); }
    follow the block are of no matter: its size, its alignment, and that nothing is thrown. */
 #define DELETE(NAME) \
     void NAME(void *block) { \
-        if (tracing && is_program(CODE)) \
-            LIBRARY_WRITE(block, (malloc_usable_size(block) + 7) & ~(size_t)7, NAME); \
+        if (is_program(CODE)) \
+            END_BLOCK(block, NAME); \
+        free(block); \
     }
 DELETE(_ZdlPv)
 DELETE(_ZdlPvm)

@@ -17,36 +17,74 @@ static bool detecting;
 static void *session;
 
 /* The detector has a thread of its own, which alone calls it. The program's thread hands it the records in bundles, and
-   fills one while the detector goes through those before. A bundle that isn't full is the last. */
+   fills one while the detector goes through those before. */
 enum { BUNDLE_RECORDS = 1 << 13, BUNDLES = 8 };
 static struct bundle {
     size_t used;
+    bool is_last;
     uint64_t records[BUNDLE_RECORDS];
 } bundles[BUNDLES];
 static sem_t full_bundles, free_bundles;
 static pthread_t detector;
-/* The bundle that is filled, where the next record goes, and where the bundle ends. */
+/* The bundle that is filled, and where the next record goes. */
 static struct bundle *filling;
-static uint64_t *next_record, *bundle_end;
+static uint64_t *next_record;
+/* Where the window begins, and where it or the bundle ends. What is behind that beginning goes into the next bundle. */
+static uint64_t *window, *window_end;
+/* So far is a record in memory from its place among all that went before. */
+static uintptr_t records_origin;
+
+static inline void limit_window(void) {
+    uint64_t *bundle_end = filling->records + BUNDLE_RECORDS;
+    window_end = bundle_end - window < WINDOW ? bundle_end : window + WINDOW;
+}
+
+/* What went before can't be left out any more. */
+static inline void pass_steps(void) {
+    window = next_record;
+    limit_window();
+}
+
+static inline void begin_steps(void) {
+    pass_steps();
+    window_number = last_number;
+}
 
 static void fill_bundle(size_t number) {
     filling = &bundles[number];
-    next_record = filling->records;
-    bundle_end = next_record + BUNDLE_RECORDS;
+    next_record = window = filling->records;
+    limit_window();
 }
 
-static void hand_over(void) {
-    filling->used = (size_t)(next_record - filling->records);
+static void hand_over(const uint64_t *end) {
+    filling->used = (size_t)(end - filling->records);
     sem_post(&full_bundles);
 }
 
 /* The program's errno is none of ours. */
-__attribute__((noinline)) static void next_bundle(void) {
+static void next_bundle(void) {
     int error = errno;
-    hand_over();
+    const uint64_t *kept = window, *end = next_record;
+    hand_over(kept);
     wait_for(&free_bundles);
     fill_bundle((size_t)(filling - bundles + 1) % BUNDLES);
+    records_origin += (uintptr_t)window - (uintptr_t)kept;
+    while (kept < end)
+        *next_record++ = *kept++;
     errno = error;
+}
+
+/* Whether a record goes to the detector, and that is all. In a program with the detector few runs do anything else. */
+static bool only_detects;
+
+/* The window has as many records as it may have, or the bundle. */
+__attribute__((noinline)) static void end_steps(void) {
+    if (!only_detects)
+        pass_steps();
+    else if (next_record - window == WINDOW)
+        begin_steps();
+    if (next_record == filling->records + BUNDLE_RECORDS)
+        next_bundle();
 }
 
 /* While a record is put into a bundle, a signal waits. */
@@ -72,19 +110,40 @@ static inline void end_step(void) {
 /* Between both of these. */
 static inline void step(unsigned kind, uint64_t location) {
     *next_record++ = spbags_record(kind, location);
-    if (__builtin_expect(next_record == bundle_end, 0))
-        next_bundle();
+    if (__builtin_expect(next_record == window_end, 0))
+        end_steps();
+}
+
+/* How many records went before, but for those that are left out. */
+static inline uintptr_t steps_so_far(void) { return (uintptr_t)next_record - records_origin; }
+
+/* Up to here has_new_step has seen the newest bundle. */
+static const uint64_t *seen_steps;
+
+/* The accesses of the numbers that die are left out; before so many records there are none. */
+static void leave_out_steps(uintptr_t before) {
+    uint64_t *to = (uint64_t *)(before + records_origin);
+    if (to < window || to > next_record)
+        to = window;
+    for (const uint64_t *from = to; from < next_record; from++) {
+        uint64_t record = *from, kind = record & 7, number = record >> 4;
+        bool is_of_stack = (kind == SPBAGS_READ || kind == SPBAGS_WRITE) && (record >> 3) % 2 == 1;
+        *to = record;
+        to += !(is_of_stack && is_dying(number));
+    }
+    next_record = to;
+    if (seen_steps > to)
+        seen_steps = to;
 }
 
 /* Whether the newest bundle has a record, since this was asked last, that isn't an access of the stack's memory, whose
    locations are odd. */
 static bool has_new_step(void) {
-    static const uint64_t *seen;
-    const uint64_t *at = seen;
-    seen = next_record;
+    const uint64_t *at = seen_steps, *seen = next_record;
+    seen_steps = seen;
     if (at < filling->records || at > seen)
         at = filling->records;
-    while (at < seen && (*at & 7) >= SPBAGS_READ && (*at >> 3) % 2 == 1)
+    while (at < seen && ((*at & 7) == numbers_end || ((*at & 7) >= SPBAGS_READ && (*at >> 3) % 2 == 1)))
         at++;
     return at < seen;
 }
@@ -103,15 +162,29 @@ static void take_records(const uint64_t *first, const uint64_t *end) {
 }
 
 /* What the strand has touched that the detector hasn't taken. */
-static struct strand gathered;
+static struct lives taken_lives;
+static struct strand gathered = {.lives = &taken_lives};
+
+/* Of each span's life what the detector has taken: a bit for each KB. */
+enum { TAKEN_BITS = 10, TAKEN_PARTS = 64 };
+static uint64_t *taken_parts;
+
+static void take_touched(struct touched *touched) {
+    if ((touched->reads | touched->writes) == 0)
+        return;
+    uint8_t status = spbags_block(session, first_location(&gathered, touched->block), touched->reads, touched->writes);
+    if (status != SPBAGS_TAKEN)
+        refuse_step(status);
+    touched->reads = touched->writes = 0;
+    uintptr_t address = address_of_block(touched->block);
+    if (span_at(address) < SPANS)
+        taken_parts[span_at(address)] |= (uint64_t)1 << (address >> TAKEN_BITS) % TAKEN_PARTS;
+}
 
 static void take_strand(void) {
     size_t used = next_part(&gathered);
-    for (const struct touched *touched = gathered.list; touched < gathered.list + used; touched++) {
-        uint8_t status = spbags_block(session, location_in(touched->block, 0), touched->reads, touched->writes);
-        if (status != SPBAGS_TAKEN)
-            refuse_step(status);
-    }
+    for (struct touched *touched = gathered.list; touched < gathered.list + used; touched++)
+        take_touched(touched);
 }
 
 /* Takes the bundle's records up to this end, and what is gathered. Others go to the bundle's beginning then. */
@@ -140,25 +213,89 @@ static uint64_t units_of_ending(uint64_t ending) {
     return members << group * GROUP_NUMBERS % BLOCK_UNITS;
 }
 
-static void forget(uint64_t block, uint64_t units) {
-    uint8_t status = spbags_forget(session, location_in(block, 0) + 1, units);
+static void forget(uint64_t location, uint64_t units) {
+    uint8_t status = spbags_forget(session, location, units);
     if (status != SPBAGS_TAKEN)
         refuse_step(status);
 }
+
+static void forget_numbers(uint64_t block, uint64_t units) { forget(2 * BLOCK_UNITS * block + 1, units); }
 
 /* Those of one block together, where they come so. */
 static void take_endings(void) {
     uint64_t block = 0, units = 0;
     for (size_t at = 0; at < endings_count; at++) {
         if (block_of_ending(endings[at]) != block) {
-            forget(block, units);
+            forget_numbers(block, units);
             block = block_of_ending(endings[at]);
             units = 0;
         }
         units |= units_of_ending(endings[at]);
     }
-    forget(block, units);
+    forget_numbers(block, units);
     endings_count = 0;
+}
+
+/* All blocks of locations from that address on, by its name. */
+static void forget_blocks(uintptr_t name, size_t blocks) {
+    for (size_t block = 0; block < blocks; block++)
+        forget(2 * ((name >> unit_shift) + block * BLOCK_UNITS), UINT64_MAX);
+}
+
+static void forget_span(size_t span) {
+    uintptr_t name = name_in_life(&taken_lives, span_first(span));
+    for (; taken_parts[span] != 0; taken_parts[span] &= taken_parts[span] - 1) {
+        uintptr_t part = (uintptr_t)__builtin_ctzll(taken_parts[span]) << TAKEN_BITS;
+        forget_blocks(name + part, ((size_t)1 << TAKEN_BITS >> unit_shift) / BLOCK_UNITS);
+    }
+}
+
+/* What is gathered of the span's life goes out, or all if locations of the dead may have races. No location of that
+   life has an access any more. */
+static uint64_t *end_life(struct bundle *bundle, uint64_t *records_end, struct life_end end) {
+    leave_out_dead(&gathered, end);
+    if (end.is_dead_used)
+        records_end = take_all(bundle, records_end);
+    for (uint64_t block = first_block(end.span); gathered.used > 0 && block < first_block(end.span + 1); block++) {
+        struct touched *touched = left_of(&gathered, block);
+        if (!touched)
+            continue;
+        take_records(bundle->records, records_end);
+        records_end = bundle->records;
+        take_touched(touched);
+    }
+    forget_span(end.span);
+    forget_blocks(name_of_dead(&taken_lives, end.span), end.dead);
+    begin_life(&taken_lives, end.span);
+    return records_end;
+}
+
+static struct life_end life_end_of(uint64_t record) {
+    uint64_t what = record >> 4;
+    return (struct life_end){
+        .span = what >> (DEAD_BITS + 1), .dead = (what >> 1) % (1u << DEAD_BITS), .is_dead_used = what % 2 == 1};
+}
+
+/* An access of an even location, where what was gathered before may have to go out: where others go then. */
+static inline uint64_t *gather(struct bundle *bundle, uint64_t *end, bool writes, uint64_t location) {
+    struct touched *touched = touched_with(&gathered, location);
+    if (__builtin_expect(!touched, 0)) {
+        end = take_all(bundle, end);
+        touched = touched_with(&gathered, location);
+    }
+    *(writes ? &touched->writes : &touched->reads) |= bit_in_block(location);
+    return end;
+}
+
+/* A record of what has ended but the strand; the same. */
+static uint64_t *take_ending(struct bundle *bundle, uint64_t *end, uint64_t record) {
+    if ((record & 7) == strand_ends)
+        return end_life(bundle, end, life_end_of(record));
+    if (is_of_heap(record))
+        leave_out_block(&gathered, record);
+    else
+        endings[endings_count++] = record;
+    return end;
 }
 
 static void take_bundle(struct bundle *bundle) {
@@ -169,17 +306,12 @@ static void take_bundle(struct bundle *bundle) {
     for (const uint64_t *at = end; at < last; at++) {
         uint64_t kind = *at & 7, location = *at >> 3;
         bool is_access = kind == SPBAGS_READ || kind == SPBAGS_WRITE;
-        if (kind == numbers_end) {
-            endings[endings_count++] = *at;
+        if (is_access && is_gathered(location)) {
+            end = gather(bundle, end, kind == SPBAGS_WRITE, location);
             continue;
         }
-        if (is_access && is_gathered(location)) {
-            struct touched *touched = touched_with(&gathered, location);
-            if (__builtin_expect(!touched, 0)) {
-                end = take_all(bundle, end);
-                touched = touched_with(&gathered, location);
-            }
-            *(kind == SPBAGS_WRITE ? &touched->writes : &touched->reads) |= bit_in_block(location);
+        if (kind == numbers_end || (kind == strand_ends && is_of_heap(*at))) {
+            end = take_ending(bundle, end, *at);
             continue;
         }
         if (!is_access && gathered.used > 0)
@@ -217,7 +349,7 @@ static void *detect(void *nothing) {
     for (size_t number = 0; !is_last; number = (number + 1) % BUNDLES) {
         wait_for(&full_bundles);
         take_bundle(&bundles[number]);
-        is_last = bundles[number].used < BUNDLE_RECORDS;
+        is_last = bundles[number].is_last;
         sem_post(&free_bundles);
     }
     put_report();
@@ -227,7 +359,8 @@ static void *detect(void *nothing) {
 
 /* Hands over what is left, and waits until the report is made. */
 static void end_detector(void) {
-    hand_over();
+    filling->is_last = true;
+    hand_over(next_record);
     pthread_join(detector, NULL);
 }
 #else
@@ -236,6 +369,9 @@ static void start_detector(void) {}
 static inline void begin_step(void) {}
 static inline void end_step(void) {}
 static inline bool has_new_step(void) { return false; }
+static inline void begin_steps(void) {}
+static inline uintptr_t steps_so_far(void) { return 0; }
+static void leave_out_steps(uintptr_t before) { (void)before; }
 static inline void step(unsigned kind, uint64_t location) { (void)kind, (void)location; }
 static void end_detector(void) {}
 #endif

@@ -38,8 +38,8 @@ static void *large_addresses(size_t size) {
         return NULL;
     size_t before = -(uintptr_t)found & (LARGE - 1);
     if (before > 0)
-        munmap(found, before);
-    munmap(found + before + size, LARGE - before);
+        __real_munmap(found, before);
+    __real_munmap(found + before + size, LARGE - before);
     return found + before;
 }
 
@@ -49,8 +49,9 @@ static void *resize_large(struct large_block *block, size_t size) {
     void *first = large_addresses(size);
     if (!first)
         return NULL;
-    bool done = block->first ? mremap(block->first, block->size, size, MREMAP_MAYMOVE | MREMAP_FIXED, first) == first
-                             : mprotect(first, size, PROT_READ | PROT_WRITE) == 0;
+    bool done = block->first
+                    ? __real_mremap(block->first, block->size, size, MREMAP_MAYMOVE | MREMAP_FIXED, first) == first
+                    : mprotect(first, size, PROT_READ | PROT_WRITE) == 0;
     /* The addresses stay reserved: after a mremap that failed they may be another one's. */
     if (!done)
         return NULL;
@@ -91,7 +92,7 @@ struct rattle_block rattle_realloc(void *block, size_t kept, size_t size, size_t
 void rattle_dealloc(void *block) {
     struct large_block *large = large_block_at(block);
     if (large) {
-        munmap(block, large->size);
+        __real_munmap(block, large->size);
         *large = (struct large_block){NULL, 0};
     } else
         library_free(block);

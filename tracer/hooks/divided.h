@@ -34,7 +34,7 @@ static struct divided *slot_of_unit(uint64_t location) {
 
 static void put_byte(struct divided *unit, size_t byte, bool writes, uintptr_t address, uintptr_t code) {
     uint64_t around = unit->fresh[byte] != 0 ? unit->fresh[byte] : unit->location;
-    take_access(writes, first_byte + MOST_BYTES * around + byte, address, code, site_word(true, code));
+    begin_access(writes, first_byte + MOST_BYTES * around + byte, address, code, site_word(true, code));
 }
 
 /* The run's course is that of the units. */
@@ -47,10 +47,11 @@ static void follow_unit(struct divided *unit, bool writes, uintptr_t address, ui
 }
 
 __attribute__((noinline)) static bool divide_access(bool writes, uint64_t location, uintptr_t address, uintptr_t code) {
-    struct divided *unit = slot_of_unit(location);
+    struct divided *unit = slot_of_unit(is_gathered(location) ? named_location(&spans_lives, location) : location);
     if (unit->location == 0)
         return false;
-    *mark_of(address, unit_shift) = TOUCHED;
+    uint32_t *mark = mark_of(address, unit_shift);
+    *mark = *mark == DEAD ? DEAD : TOUCHED;
     follow_unit(unit, writes, address, code);
     unsigned left_out = bytes_left_out(address);
     for (size_t byte = 0; byte <= unit_mask; byte++)

@@ -38,6 +38,7 @@ static void end_trace(void) {
     sigprocmask(SIG_BLOCK, &all, &before);
     stop_tracing();
     tell_course();
+    pass_window();
     put_strand();
     trace.most = next_place = last_record = UINT64_MAX;
     while (procedures > 0)
@@ -86,6 +87,7 @@ static void end_racy(void) {
 static void stop_at_limit(void) {
     uint64_t most = trace.most;
     next_part(&pending);
+    recent.used = recent.gone = 0;
     end_trace();
     fail_by(tell_numbered("end limit", most).text,
             "the trace has reached its limit of %llu bytes, so the run ends here, and the trace has what came before: "

@@ -2,6 +2,7 @@
 #define SPBAGS_GUARDS_H
 
 #include "common.h"
+#include "spans.h"
 
 /* What the program holds now: locks, critical regions, and of an atomic access itself. It is noted beside an access by a
    run that looks and by one that keeps its places: two accesses that hold one same guard aren't a data race, though
@@ -29,7 +30,7 @@ void note_guards(void);
    are held at once no more are noted. */
 static inline void enter_guard(uintptr_t id, const char *name) {
     if (notes_guards && guards_held < MOST_GUARDS)
-        guards[guards_held++] = (struct guard){id, name};
+        guards[guards_held++] = (struct guard){name_in_life(&spans_lives, id), name};
 }
 
 /* Before all others, so that it is the one that is told where two accesses hold several. */
@@ -38,6 +39,8 @@ void enter_first_guard(uintptr_t id, const char *name);
 /* The last entry of it is left; of what isn't held nothing is. */
 static inline void leave_guard(uintptr_t id) {
     unsigned at = guards_held;
+    if (at > 0)
+        id = name_in_life(&spans_lives, id);
     while (at > 0 && guards[at - 1].id != id)
         at--;
     if (at == 0)

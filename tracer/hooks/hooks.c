@@ -36,6 +36,8 @@ enum { MOST_DEPTH = 1000000, DEFAULT_DEPTH = 65536 };
 #define FRAME_END (*(uintptr_t *)__builtin_frame_address(0) + 16)
 
 long __real_syscall(long number, ...);
+int __real_munmap(void *at, size_t size);
+void *__real_mremap(void *at, size_t before, size_t size, int flags, ...);
 int __real_execvp(const char *name, char *const words[]);
 int __real_pthread_create(pthread_t *, const pthread_attr_t *, void *(*)(void *), void *);
 int __real_thrd_create(thrd_t *, thrd_start_t, void *);
@@ -49,6 +51,7 @@ static uintptr_t unit_mask;
 static bool looking;
 
 #include "strands.h"
+#include "window.h"
 #include "detector.h"
 #include "detector_heap.h"
 #include "stacks.h"

@@ -235,14 +235,36 @@ BY_HAND(bool, _ZNSt8ios_base15sync_with_stdioEb, bool shares) {
 
 /* ---- Others ---- */
 
-void *__wrap_reallocarray(void *block, size_t count, size_t size) {
-    size_t whole;
-    if (__builtin_mul_overflow(count, size, &whole)) {
-        errno = ENOMEM;
-        return NULL;
-    }
-    LIBRARY_WRITE(block, (malloc_usable_size(block) + 7) & ~(size_t)7, __wrap_reallocarray);
-    return realloc(block, whole);
+/* What the system maps for the program it doesn't map there again, where it would be other memory: its addresses stay
+   taken. */
+static void keep_addresses(uintptr_t first, uintptr_t end) {
+    int flags = MAP_PRIVATE | MAP_ANONYMOUS | MAP_NORESERVE | MAP_FIXED_NOREPLACE;
+    if (tracing && first < end)
+        mmap((void *)first, end - first, PROT_NONE, flags, -1, 0);
+}
+
+static uintptr_t end_of_pages(void *at, size_t size) { return ((uintptr_t)at + size + 4095) & ~(uintptr_t)4095; }
+
+BY_HAND(int, munmap, void *at, size_t size) {
+    if (tracing)
+        LIBRARY_WRITE(at, least(size, 1 << 20), __wrap_munmap);
+    int result = __real_munmap(at, size);
+    if (result == 0)
+        keep_addresses((uintptr_t)at, end_of_pages(at, size));
+    return result;
+}
+
+BY_HAND(void *, mremap, void *at, size_t before, size_t size, int flags, ...) {
+    va_list rest;
+    va_start(rest, flags);
+    void *wish = (flags & MREMAP_FIXED) != 0 ? va_arg(rest, void *) : NULL;
+    va_end(rest);
+    void *result = __real_mremap(at, before, size, flags, wish);
+    if (result == MAP_FAILED)
+        return result;
+    uintptr_t first = result == at ? end_of_pages(at, size) : (uintptr_t)at;
+    keep_addresses(first, end_of_pages(at, before));
+    return result;
 }
 
 /* The library has no form of it that takes a list. */

@@ -1,9 +1,9 @@
 /* Accesses are told in units. Stack memory comes again for other variables, so a unit of it gets a fresh number at its
-   first touch, and loses it when its frame ends: an odd location. Other memory is never given back, so its units keep
-   theirs: twice the address in units, an even location. */
+   first touch, and loses it when its frame ends: an odd location. Other memory has an even one: twice the address in
+   units, by which that of the heap is named as it goes out. */
 static uintptr_t stack_first, stack_size;
 /* By unit of the stack, from its first address on: a unit that is marked has its number. */
-static uint64_t *numbers, last_number;
+static uint64_t *numbers;
 
 static uint64_t narrow_accesses;
 static uintptr_t narrow_bits;
@@ -29,6 +29,8 @@ static inline uint64_t location_of(uintptr_t address, uint32_t mark, unsigned sh
     if (at >= stack_size)
         return 2 * (address >> shift);
     if (mark == UNTOUCHED) {
+        if (__builtin_expect(is_window_full(), 0))
+            end_window();
         numbers[at >> shift] = ++last_number;
         lower(address);
     }
@@ -44,7 +46,7 @@ static struct {
 static inline void end_number(uint64_t number) {
     uint64_t group = number / GROUP_NUMBERS;
     if (group != ended.group) {
-        step(numbers_end, 2 * (ended.group << GROUP_NUMBERS | ended.members) + 1);
+        record_end(2 * (ended.group << GROUP_NUMBERS | ended.members) + 1);
         ended.group = group;
         ended.members = 0;
     }
@@ -54,10 +56,11 @@ static inline void end_number(uint64_t number) {
 /* Those of the units with these marks whose bits are set. */
 __attribute__((noinline)) static void end_numbers(const uint32_t *marks, unsigned units) {
     const uint64_t *first = numbers + (marks - stack_mark(stack_first));
-    begin_step();
-    for (; units != 0; units &= units - 1)
-        end_number(first[__builtin_ctz(units)]);
-    end_step();
+    for (; units != 0; units &= units - 1) {
+        uint64_t number = first[__builtin_ctz(units)];
+        if (!dies_in_window(number))
+            end_number(number);
+    }
 }
 
 static inline __m128i untouched_four(const uint32_t *marks) {
@@ -71,28 +74,22 @@ static inline unsigned touched_among(const uint32_t *marks) {
     return (unsigned)_mm_movemask_epi8(_mm_packs_epi16(first, last)) ^ ((1u << CLEARED) - 1);
 }
 
+static inline bool counts_ends(void) { return detecting || leaves_out; }
+
 /* Down to the lowest of these marks, and so many together that those below may be among them. */
 static inline void clear_marks(const uint32_t *lowest_mark, uint32_t *end) {
     while (end > lowest_mark) {
         unsigned units = touched_among(end -= CLEARED);
         if (units == 0)
             continue;
-        if (detecting)
+        if (counts_ends())
             end_numbers(end, units);
         __builtin_memset(end, UNTOUCHED, CLEARED * sizeof *end);
     }
 }
 
-/* The stack memory below this address has no variable any more. */
-static inline void clear_below(uintptr_t address) {
-    if (lowest >= address)
-        return;
-    clear_marks(stack_mark(lowest), stack_mark(address));
-    lowest = address & ~unit_mask;
-}
-
 static inline void clear_mark(uint32_t *mark) {
-    if (detecting && *mark != UNTOUCHED)
+    if (counts_ends() && *mark != UNTOUCHED)
         end_numbers(mark, 1);
     *mark = UNTOUCHED;
 }
@@ -107,14 +104,21 @@ static void clear(uintptr_t address, size_t size) {
     if (end - stack_first <= stack_size)
         for (; first < end; first += unit_mask + 1)
             clear_mark(stack_mark(first));
+    if (any_dies())
+        leave_out_dying(0);
 }
 
 /* Whether there are views of reducers; their units are noted otherwise. */
 static bool has_views;
 static bool note_view(uintptr_t unit, uint32_t *mark, unsigned shift, uintptr_t code);
 
+/* Whether a block is used that died in the strand of its birth; and then the record has gone out. */
+static bool use_dead(bool writes, uintptr_t address, uintptr_t code);
+
 /* A unit that is accessed, by its first address and its mark: it is no repeat. */
 static inline void note_unit(bool writes, uintptr_t address, uint32_t *mark, unsigned shift, uintptr_t code) {
+    if (__builtin_expect(*mark == DEAD, 0) && use_dead(writes, address, code))
+        return;
     if (__builtin_expect(has_views, 0) && note_view(address, mark, shift, code))
         return;
     uint64_t location = location_of(address, *mark, shift);

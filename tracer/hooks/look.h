@@ -8,6 +8,8 @@
 /* An access of a race: its place and kind as the report says them, and what was noted there. */
 struct look {
     uint64_t place;
+    /* The strand of the last access that may be this one; of that strand it is the first. */
+    uint64_t strand;
     uintptr_t code;
     uint32_t node, guards;
     bool writes, is_narrow;
@@ -243,8 +245,8 @@ static bool is_racy(uint64_t first, uint64_t last) {
     return at < races_count && races[at].location <= last;
 }
 
-static bool has_race(uintptr_t address, size_t size) {
-    uint64_t first = 2 * (uint64_t)(address >> unit_shift), last = 2 * (uint64_t)((address + size - 1) >> unit_shift);
+/* The same of a unit's location up to that of another one, or of a byte of them. */
+static bool has_race(uint64_t first, uint64_t last) {
     return is_racy(first, last) ||
            is_racy(first_byte + MOST_BYTES * first, first_byte + MOST_BYTES * last + MOST_BYTES - 1);
 }
@@ -257,9 +259,13 @@ static uint64_t site_of(uintptr_t code, uint32_t node) {
     return site | 1;
 }
 
+static uint64_t location_of_dead(uintptr_t address);
+
 /* A block with a race is noted, and who allocates it. A function that longjmp left is no caller. */
 static void look_at_block(uintptr_t address, size_t size, uintptr_t stack_pointer, uintptr_t code) {
-    if (size == 0 || !has_race(address, size))
+    uint64_t dead = location_of_dead(address), first = location_in_life(&spans_lives, address);
+    address = name_in_life(&spans_lives, address);
+    if (size == 0 || !(has_race(first, 2 * ((address + size - 1) >> unit_shift)) || has_race(dead, dead)))
         return;
     size_t frame = top_at(), at = blocks_count++;
     while (frames[frame].end <= stack_pointer)
@@ -374,7 +380,7 @@ static void take_look(struct race *race, struct look *look, uintptr_t address, u
     look->is_narrow = bytes_left_out(address) != 0;
     if (look == &race->first)
         return;
-    race->address = address;
+    race->address = name_in_life(&spans_lives, address);
     race->frame = frame_owner(address, look);
     race->data = data_owner(address, look);
     race->is_view = is_view(address);
@@ -384,13 +390,15 @@ static void take_look(struct race *race, struct look *look, uintptr_t address, u
 
 /* It may be one of the report, if that has its location and its kind at one of the places that what is pending gets. */
 static void note_pending(bool writes, uint64_t location, uintptr_t address, uintptr_t code) {
-    const uint64_t most_pending = 2 * BLOCK_UNITS * MOST_BLOCKS + MOST_ODD;
+    const uint64_t most_pending = 2 * BLOCK_UNITS * MOST_BLOCKS + MOST_ODD + WINDOW;
     struct race *race = next_place - place_now <= most_pending ? &races[race_from(location)] : NULL;
     if (!race || race == races + races_count || race->location != location)
         return;
     struct look *look = race->first.place > place_now ? &race->first : &race->second;
-    if (look->writes != writes || look->place <= place_now || look->place - place_now > most_pending)
+    if (look->writes != writes || look->place <= place_now || look->place - place_now > most_pending ||
+        look->strand == strand_now())
         return;
+    look->strand = strand_now();
     take_look(race, look, address, code);
     if (look == &race->second) {
         race->next_pending = newest_pending;
@@ -399,15 +407,30 @@ static void note_pending(bool writes, uint64_t location, uintptr_t address, uint
     }
 }
 
-/* All that is pending goes out. Of a function's races only those of this strand may stand before one that is pending. */
+/* Of a function's races only those of this strand may stand before one that is pending. */
+static void leave_meeting(const struct race *race) {
+    struct race **at = &nodes[race->meeting].race;
+    while (*at && *at != race)
+        at = &(*at)->next;
+    if (*at)
+        *at = race->next;
+}
+
+/* All that is pending goes out. */
 static void forget_pending(void) {
-    for (; newest_pending; newest_pending = newest_pending->next_pending) {
-        struct race **at = &nodes[newest_pending->meeting].race;
-        while (*at && *at != newest_pending)
-            at = &(*at)->next;
-        if (*at)
-            *at = newest_pending->next;
-    }
+    for (; newest_pending; newest_pending = newest_pending->next_pending)
+        leave_meeting(newest_pending);
+}
+
+/* This race goes out, and others may be pending. */
+static void forget_one_pending(const struct race *race) {
+    struct race **at = &newest_pending;
+    while (*at && *at != race)
+        at = &(*at)->next_pending;
+    if (!*at)
+        return;
+    *at = race->next_pending;
+    leave_meeting(race);
 }
 
 /* ---- Places ---- */
@@ -432,16 +455,16 @@ static void look_at_structure(void) {
     next_stop();
 }
 
-static void look_at_access(bool writes, uint64_t location, uintptr_t address, uintptr_t code) {
+static void look_at_access(bool writes, uint64_t location) {
     struct race *race = stops[stops_met].race;
     struct look *look = race->first.place == place_now ? &race->first : &race->second;
     if (look->writes != writes || race->location != location) {
         go_astray("a %s of location %" PRIu64, writes ? "write" : "read", location);
     } else {
-        if (!is_gathered(location))
-            take_look(race, look, address, code);
-        if (look == &race->second)
+        if (look == &race->second) {
+            forget_one_pending(race);
             add_race(race);
+        }
     }
     next_stop();
 }

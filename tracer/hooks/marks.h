@@ -1,8 +1,9 @@
 /* A strand is what runs between two records of the structure. In one strand an access of a location that the strand
    has written before, or a read where it has read before, is a repeat: it makes no race of any location and unmakes
    none, so it isn't written. Each unit of memory has a mark, which says what was done there last: twice the number of
-   the strand, and one more where it wrote. */
-enum { UNTOUCHED = 0, TOUCHED = 1 };
+   the strand, and one more where it wrote. What died in the strand in which it was born has a mark of its own, which
+   stays. */
+enum { UNTOUCHED = 0, TOUCHED = 1, DEAD = 2, FIRST_READ = 4 };
 /* So many marks are cleared at once. */
 enum { CLEARED = 16 };
 /* The greatest number of a strand. */
@@ -12,7 +13,9 @@ enum { CLEARED = 16 };
 
 /* What the current strand has read has this mark, and what it has written one more. Like all whose names in the
    assembler's text stand here, this is of use beside the accesses too. */
-uint32_t has_read __asm__("__spbags_has_read") = 2;
+uint32_t has_read __asm__("__spbags_has_read") = FIRST_READ;
+/* How often the numbers of strands have begun again. */
+static uint32_t strands_again;
 /* Each record of an access begins a strand, so that there are no repeats. */
 static bool writes_repeats;
 
@@ -23,6 +26,9 @@ static const uint32_t own_mark = UINT32_MAX;
 static inline bool is_repeat(bool writes, uint32_t mark) { return writes ? mark > has_read : mark >= has_read; }
 
 static inline uint32_t new_mark(bool writes) { return has_read + writes; }
+
+/* The strand that runs has this number in the whole run. */
+static inline uint64_t strand_now(void) { return (uint64_t)strands_again << 32 | has_read; }
 
 /* The marks of a region of memory come with its first access. Those of the stack are there from the start. */
 enum { REGION_BITS = 24, REGIONS = 1 << 23 };
@@ -103,6 +109,19 @@ static void mark_own(uintptr_t first, uintptr_t end) {
 static void forget_divided(void);
 static void forget_views(void);
 
+/* Only the dead have marks in this region any more. */
+static void forget_region(size_t region) {
+    uint32_t *marks = region_marks(region), *end = marks + region_size() / sizeof *marks;
+    if (span_at((uintptr_t)region << REGION_BITS) >= SPANS) {
+        if (madvise(marks, region_size(), MADV_DONTNEED) != 0)
+            fail("out of memory: %s", strerror(errno));
+        return;
+    }
+    for (; marks < end; marks++)
+        if (*marks > DEAD)
+            *marks = UNTOUCHED;
+}
+
 /* A unit of the stack keeps its number. */
 static void forget_stack(const struct stack *stack) {
     uintptr_t from = stack == running ? lowest : stack->lowest;
@@ -118,17 +137,17 @@ __attribute__((noinline, cold)) static void forget_strands(void) {
     for (unsigned number = 0; number < stacks_count; number++)
         forget_stack(&stacks[number]);
     for (uint32_t at = 0; at < regions_added; at++)
-        if (madvise(region_marks(added[at]), region_size(), MADV_DONTNEED) != 0)
-            fail("out of memory: %s", strerror(errno));
+        forget_region(added[at]);
     for (size_t at = THREAD; at <= COPIES; at++)
         mark_own(own[at].first, own[at].end);
     forget_divided();
     forget_views();
-    has_read = 0;
+    has_read = FIRST_READ - 2;
+    strands_again++;
 }
 
 static inline void begin_strand(void) {
-    if (__builtin_expect(has_read / 2 == MOST_STRANDS, 0))
+    if (__builtin_expect(has_read / 2 >= MOST_STRANDS, 0))
         forget_strands();
     has_read += 2;
 }

@@ -2,13 +2,20 @@
 
 #include "tell.h"
 
-void *reserve(size_t size) {
+void *reserve_or_none(size_t size) {
     static uintptr_t wish = (uintptr_t)1 << 44;
     int flags = MAP_PRIVATE | MAP_ANONYMOUS | MAP_NORESERVE;
     void *memory = mmap((void *)wish, size, PROT_READ | PROT_WRITE, flags, -1, 0);
     if (memory == MAP_FAILED)
-        fail("out of memory: %s", strerror(errno));
+        return NULL;
     wish += (size + 0xfff) & ~(size_t)0xfff;
+    return memory;
+}
+
+void *reserve(size_t size) {
+    void *memory = reserve_or_none(size);
+    if (!memory)
+        fail("out of memory: %s", strerror(errno));
     return memory;
 }
 

@@ -129,6 +129,7 @@ static void switch_to(struct stack *next) {
     sigprocmask(SIG_BLOCK, &all, &before);
     give_turn(next);
     wait_for(&stack->turn);
+    run_thread = __builtin_thread_pointer();
     sigprocmask(SIG_SETMASK, &before, NULL);
     errno = error;
 }
@@ -284,6 +285,7 @@ static void *take_turns(void *with) {
     sigfillset(&all);
     for (bool is_prepared = false;; is_prepared = true) {
         wait_for(&stack->turn);
+        run_thread = __builtin_thread_pointer();
         if (!is_prepared)
             prepare_thread();
         sigprocmask(SIG_SETMASK, &members_mask, NULL);

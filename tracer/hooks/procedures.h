@@ -15,6 +15,8 @@ struct frame {
     uint32_t children;
     /* In a run that looks, what stands for it there, or NONE. */
     uint32_t node;
+    /* How many records went before it. */
+    uintptr_t position;
     /* Of a child: its parent's stack pointer at the spawn, and what it calls. */
     uintptr_t stack_pointer;
     __spbags_function callee;
@@ -28,6 +30,16 @@ static void look_at_wait(const struct frame *frame, uintptr_t code, bool ends);
 static struct frame *frames, *frames_end;
 /* The newest frame. */
 static struct frame *top;
+
+/* The stack memory below this address has no variable any more. What had one began after the newest frame. */
+static inline void clear_below(uintptr_t address) {
+    if (lowest >= address)
+        return;
+    clear_marks(stack_mark(lowest), stack_mark(address));
+    lowest = address & ~unit_mask;
+    if (__builtin_expect(any_dies(), 0))
+        leave_out_dying(top->position);
+}
 
 /* How many local statics of C++ are being initialised, while nothing is recorded. */
 static unsigned initialising;
@@ -77,6 +89,7 @@ static inline void structure(enum spbags_kind kind, uintptr_t code) {
         begin_step();
         step(kind, 0);
         count_procedures(kind);
+        begin_steps();
         end_step();
     } else
         other_structure(kind, code);
@@ -161,6 +174,7 @@ static inline void push_frame(enum kind kind, uintptr_t end) {
     top->kind = kind;
     top->called = false;
     top->children = top->node = NONE;
+    top->position = records_so_far();
     follow_top();
 }
 

@@ -1,8 +1,6 @@
 /* What goes out for each record of the run: a line of the trace, a step of the detector inside, or in a run that looks
    nothing but its number. */
 #ifdef SPBAGS_INSIDE
-/* Whether a record goes to the detector, and that is all. In a program with the detector few runs do anything else. */
-static bool only_detects;
 #define OTHERWISE __attribute__((noinline)) static
 #else
 enum { only_detects = false };
@@ -50,8 +48,7 @@ static const struct line lines[] = {[SPBAGS_SPAWN] = LINE("spawn"),
 /* Of a run that looks: how many records it would have written so far, and the place of the next that is looked at. */
 static uint64_t place_now, next_place = UINT64_MAX;
 __attribute__((noinline, cold)) static void look_at_structure(void);
-__attribute__((noinline, cold)) static void look_at_access(bool writes, uint64_t location, uintptr_t address,
-                                                           uintptr_t code);
+__attribute__((noinline, cold)) static void look_at_access(bool writes, uint64_t location);
 static void note_pending(bool writes, uint64_t location, uintptr_t address, uintptr_t code);
 static void forget_pending(void);
 
@@ -96,9 +93,9 @@ static inline void step_access(bool writes, uint64_t location) {
 
 /* ---- What goes out when the strand has ended, in a run that does more than detect ---- */
 
-/* What the strand has touched that hasn't gone out, and the number of the site of each access. */
-static struct strand pending;
-static uint16_t pending_sites[MOST_BLOCKS][2][BLOCK_UNITS];
+/* What the strand has touched that hasn't gone out. */
+static block_sites pending_sites[MOST_BLOCKS];
+static struct strand pending = {.lives = &spans_lives, .sites = pending_sites};
 
 static inline void begin_record(void) {
     if (__builtin_expect(changes > 0, 0) && tracing)
@@ -106,10 +103,9 @@ static inline void begin_record(void) {
     begin_change();
 }
 
-/* Of one that was pending a look needs neither the address nor the code. */
-static inline void put_access(bool writes, uint64_t location, uintptr_t address, uintptr_t code, uint16_t site) {
+static inline void put_access(bool writes, uint64_t location, uint16_t site) {
     if (looking && ++place_now == next_place)
-        look_at_access(writes, location, address, code);
+        look_at_access(writes, location);
     if (has_places)
         write_place(site);
     if (!detecting && !looking)
@@ -117,12 +113,17 @@ static inline void put_access(bool writes, uint64_t location, uintptr_t address,
 }
 
 static void put_accesses(struct touched *touched, bool writes) {
-    uint64_t *units = writes ? &touched->writes : &touched->reads;
+    uint64_t *units = writes ? &touched->writes : &touched->reads, first = first_location(&pending, touched->block);
     const uint16_t *own_sites = pending_sites[touched - pending.list][writes];
     for (; *units != 0; *units &= *units - 1) {
         unsigned unit = (unsigned)__builtin_ctzll(*units);
-        put_access(writes, location_in(touched->block, unit), 0, 0, own_sites[unit]);
+        put_access(writes, first + 2 * unit, own_sites[unit]);
     }
+}
+
+static void put_touched(struct touched *touched) {
+    put_accesses(touched, false);
+    put_accesses(touched, true);
 }
 
 /* Where the run ends meanwhile, as a signal handler may end it, the rest goes out then. */
@@ -130,39 +131,182 @@ static void put_strand(void) {
     static size_t at;
     if (looking)
         forget_pending();
-    for (; at < pending.used; at++) {
-        put_accesses(&pending.list[at], false);
-        put_accesses(&pending.list[at], true);
-    }
+    for (; at < pending.used; at++)
+        put_touched(&pending.list[at]);
     at = 0;
     next_part(&pending);
 }
 
-/* A strand ends without a record of the structure. */
-static void end_strand(void) {
-    if (detecting) {
-        begin_step();
-        step(strand_ends, 1);
-        end_step();
-    }
-    put_strand();
-}
-
 /* The access goes out when its strand has ended. */
-static void keep_access(bool writes, uint64_t location, uintptr_t address, uintptr_t code, uint16_t site) {
+static void keep_access(bool writes, uint64_t location, uint16_t site) {
     struct touched *touched = touched_with(&pending, location);
     if (__builtin_expect(!touched, 0)) {
         put_strand();
         touched = touched_with(&pending, location);
     }
     uint64_t *units = writes ? &touched->writes : &touched->reads, bit = bit_in_block(location);
-    if ((*units & bit) != 0)
-        return;
-    *units |= bit;
-    if (has_places)
+    if ((*units & bit) == 0 && has_places)
         pending_sites[touched - pending.list][writes][location / 2 % BLOCK_UNITS] = site;
-    if (looking)
-        note_pending(writes, location, address, code);
+    *units |= bit;
+}
+
+static inline void take_access(bool writes, uint64_t location, uint16_t site) {
+    if (detecting)
+        step_access(writes, location);
+    if (is_gathered(location)) {
+        if (!detecting || has_places)
+            keep_access(writes, location, site);
+        return;
+    }
+    put_access(writes, location, site);
+    if (ends_part(&pending))
+        put_strand();
+}
+
+/* ---- The window, in such a run ---- */
+
+/* Its records, as the detector has them in its bundle, with the numbers of their sites; how many have gone out, and how
+   many went before. */
+static struct {
+    struct recent {
+        uint64_t record;
+        uint16_t site;
+    } list[WINDOW];
+    size_t used, gone;
+    uintptr_t before;
+} recent;
+
+static void step_record(uint64_t record) {
+    if (!detecting)
+        return;
+    begin_step();
+    step(record & 7, record >> 3);
+    end_step();
+}
+
+static void pass_record(struct recent *passed) {
+    unsigned kind = passed->record & 7;
+    if (kind != numbers_end) {
+        take_access(kind == SPBAGS_WRITE, passed->record >> 3, passed->site);
+        return;
+    }
+    step_record(passed->record);
+    if (is_of_heap(passed->record))
+        leave_out_block(&pending, passed->record);
+}
+
+/* What is in the window goes on, and another one begins. */
+static void pass_window(void) {
+    while (recent.gone < recent.used)
+        pass_record(&recent.list[recent.gone++]);
+    recent.before += recent.used;
+    recent.used = recent.gone = 0;
+    window_number = last_number;
+}
+
+static void keep_recent(uint64_t record, uint16_t site) {
+    recent.list[recent.used++] = (struct recent){record, site};
+    if (recent.used == WINDOW)
+        pass_window();
+}
+
+static inline uint64_t unit_of(uint64_t location);
+
+static void leave_out_recent(uintptr_t before) {
+    size_t to = before > recent.before ? before - recent.before : 0;
+    for (size_t from = to; from < recent.used; from++) {
+        uint64_t record = recent.list[from].record, location = unit_of(record >> 3);
+        recent.list[to] = recent.list[from];
+        to += !((record & 7) != numbers_end && location % 2 == 1 && is_dying(location / 2));
+    }
+    recent.used = to;
+}
+
+/* ---- The window in any run ---- */
+
+/* How many records went before, but for those that are left out. */
+static inline uintptr_t records_so_far(void) {
+    return __builtin_expect(only_detects, 1) ? steps_so_far() : recent.before + recent.used;
+}
+
+__attribute__((noinline)) static void end_window(void) {
+    if (only_detects) {
+        begin_steps();
+        return;
+    }
+    begin_record();
+    pass_window();
+    end_change();
+}
+
+/* The accesses of the numbers that die are left out; before so many records there are none. */
+static void leave_out_dying(uintptr_t before) {
+    if (only_detects) {
+        begin_step();
+        leave_out_steps(before);
+        end_step();
+    } else {
+        begin_record();
+        leave_out_recent(before);
+        end_change();
+    }
+    end_dying();
+}
+
+/* A record of an end, for some numbers of the stack or some memory of the heap. */
+static void record_end(uint64_t location) {
+    uint64_t record = location << 3 | numbers_end;
+    if (only_detects) {
+        step_record(record);
+    } else {
+        begin_record();
+        keep_recent(record, NO_SITE);
+        end_change();
+    }
+}
+
+/* The accesses of this memory of the heap, some whole units and GRAINs, are left out as far as they are of this strand
+   and haven't gone out. */
+static void leave_out_record(uintptr_t address, size_t size) {
+    const size_t most = (((size_t)1 << LENGTH_BITS) - 1) * GRAIN;
+    for (size_t part; size > 0; address += part, size -= part) {
+        part = size < most ? size : most;
+        record_end(2 * ((address - heap_first) / GRAIN << LENGTH_BITS | part / GRAIN));
+    }
+}
+
+/* A strand ends without a record of the structure. */
+static void end_strand(void) {
+    pass_window();
+    step_record(spbags_record(strand_ends, 1));
+    if (only_detects)
+        begin_steps();
+    put_strand();
+}
+
+/* As the detector's thread does it, of what is pending. */
+static void put_life(struct life_end end) {
+    leave_out_dead(&pending, end);
+    if (end.is_dead_used)
+        put_strand();
+    for (uint64_t block = first_block(end.span); block < first_block(end.span + 1); block++) {
+        struct touched *touched = left_of(&pending, block);
+        if (touched)
+            put_touched(touched);
+    }
+}
+
+/* A span begins another life. */
+static void end_life_record(struct life_end end) {
+    begin_record();
+    pass_window();
+    uint64_t what = (uint64_t)end.span << (DEAD_BITS + 1) | end.dead << 1 | end.is_dead_used;
+    step_record(spbags_record(strand_ends, 2 * what));
+    if (only_detects)
+        begin_steps();
+    put_life(end);
+    end_change();
+    begin_life(&spans_lives, end.span);
 }
 
 /* ---- Records as they come ---- */
@@ -171,6 +315,7 @@ static void keep_access(bool writes, uint64_t location, uintptr_t address, uintp
 static uint64_t news;
 
 OTHERWISE void other_structure_record(enum spbags_kind kind, uintptr_t code) {
+    pass_window();
     put_strand();
     news++;
     if (has_places || looking)
@@ -179,11 +324,8 @@ OTHERWISE void other_structure_record(enum spbags_kind kind, uintptr_t code) {
         look_at_structure();
     if (has_places)
         write_place(site_number(code));
-    if (detecting) {
-        begin_step();
-        step(kind, 0);
-        end_step();
-    } else if (!looking)
+    step_record(spbags_record(kind, 0));
+    if (!detecting && !looking)
         write_structure(kind);
 }
 
@@ -198,18 +340,10 @@ static inline void follow_access(bool writes, uint64_t location, uintptr_t unit,
                   site);
 }
 
-static inline void take_access(bool writes, uint64_t location, uintptr_t address, uintptr_t code, uint64_t site) {
-    uint16_t number = has_places ? site_number(site) : NO_SITE;
-    if (detecting)
-        step_access(writes, location);
-    if (is_gathered(location)) {
-        if (!detecting || has_places)
-            keep_access(writes, location, address, code, number);
-        return;
-    }
-    put_access(writes, location, address, code, number);
-    if (ends_part(&pending))
-        put_strand();
+static inline void begin_access(bool writes, uint64_t location, uintptr_t address, uintptr_t code, uint64_t site) {
+    if (looking)
+        note_pending(writes, is_gathered(location) ? named_location(&spans_lives, location) : location, address, code);
+    keep_recent(spbags_record(writes ? SPBAGS_WRITE : SPBAGS_READ, location), has_places ? site_number(site) : NO_SITE);
 }
 
 OTHERWISE void other_access_record(bool writes, uint64_t location, uintptr_t address, uintptr_t code) {
@@ -219,7 +353,7 @@ OTHERWISE void other_access_record(bool writes, uint64_t location, uintptr_t add
         uint64_t site = has_places ? site_of_access(address, code) : 0;
         if (has_places || looking)
             follow_access(writes, location, address, site);
-        take_access(writes, location, address, code, site);
+        begin_access(writes, location, address, code, site);
     }
     if (writes_repeats) {
         end_strand();

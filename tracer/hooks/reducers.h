@@ -4,7 +4,8 @@
    memory has, and a mark of a write says there that the strand has updated it. */
 struct view {
     uintptr_t first, end;
-    /* Of a view on the stack the number of its first unit: another variable there has another one. */
+    /* Of a view on the stack the number of its first unit, and of any other the name of its memory: another variable
+       there has another one. */
     uint64_t number;
     /* The mark of the strand that wrote the view last; or that no access has been an update yet. */
     uint32_t wrote;
@@ -44,13 +45,17 @@ static uint64_t stack_number(uintptr_t address) {
     return *mark_of(unit, unit_shift) == UNTOUCHED ? 0 : numbers[(unit - stack_first) >> unit_shift];
 }
 
-/* The view with this byte. One whose function has ended is none any more. */
+static uint64_t number_at(uintptr_t address) {
+    return is_of_stack(address) ? stack_number(address) : name_in_life(&spans_lives, address);
+}
+
+/* The view with this byte. One whose memory has ended is none any more. */
 static struct view *view_at(uintptr_t address) {
     for (;;) {
         size_t at = view_above(address);
         if (at == views_count || views[at].first > address)
             return NULL;
-        if (!is_of_stack(address) || stack_number(views[at].first) == views[at].number)
+        if (number_at(views[at].first) == views[at].number)
             return &views[at];
         remove_view(at);
     }
@@ -137,8 +142,8 @@ static struct view *add_view(uintptr_t first, size_t size, const char *note) {
     if (is_of_stack(first)) {
         location_of(first & ~unit_mask, *mark, unit_shift);
         *mark = *mark == UNTOUCHED ? TOUCHED : *mark;
-        views[at].number = stack_number(first);
     }
+    views[at].number = number_at(first);
     if (note)
         tell_not_run(note);
     return &views[at];

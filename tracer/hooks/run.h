@@ -98,9 +98,9 @@ static void start_thread(void) {
     enum { BLOCKS = 1 << 20, STACK = 1 << 20 };
     sigset_t all, before;
     pthread_attr_t small;
-    uintptr_t at = heap_at, end = heap_end;
-    heap_at = (uintptr_t)reserve(BLOCKS);
-    heap_end = heap_at + BLOCKS;
+    aside.at = (uintptr_t)reserve(BLOCKS);
+    aside.end = aside.at + BLOCKS;
+    is_aside = true;
     sem_init(&full_bundles, 0, 0);
     sem_init(&free_bundles, 0, BUNDLES - 1);
     fill_bundle(0);
@@ -113,8 +113,7 @@ static void start_thread(void) {
     sigprocmask(SIG_SETMASK, &before, NULL);
     if (error != 0)
         fail("the thread of the detector can't be started: %s", strerror(error));
-    heap_at = at;
-    heap_end = end;
+    is_aside = false;
 }
 
 /* The report goes where SPBAGS_REPORT says, named as a trace is, or else to standard error. */
@@ -129,6 +128,8 @@ static void start_detector(void) {
         open_places(places_name);
     find_heap();
     session = reserve(spbags_room());
+    spans_need(&taken_lives);
+    taken_parts = reserve(SPANS * sizeof *taken_parts);
     start_thread();
     detecting = true;
 }
@@ -271,6 +272,10 @@ __attribute__((constructor(101))) static void start(void) {
     writes_repeats = settings_is(SETTING_REPEATS, "1");
     patience = least(settings_number(SETTING_PATIENCE), SECOND) * SECOND;
     judges_order = settings_is(SETTING_STREAMS, "1");
+    reuses = settings_is(SETTING_REUSE, "1");
+    leaves_out = reuses && !writes_repeats;
+    spans_need(&spans_lives);
+    run_thread = __builtin_thread_pointer();
     fill_digits();
     give_streams_buffers();
     claim_threads();

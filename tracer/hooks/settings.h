@@ -16,6 +16,7 @@
     SETTING(VERSION, "1 or 2", "2", "the version of the trace's text") \
     SETTING(REPEATS, "0 or 1", "0", "1 writes repeats too") \
     SETTING(STREAMS, "0 or 1", "0", "1: to use a stream or descriptor is a write") \
+    SETTING(REUSE, "0 or 1", "1", "0: no memory of the heap comes again, and none is left out") \
     SETTING(PATIENCE, "a number of seconds", "30", \
             "after these a line says that the program does nothing new") \
     SETTING(EXITCODE, "a status from 0 to 255", "the program's", "the status if the report has races") \

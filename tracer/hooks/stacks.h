@@ -26,6 +26,8 @@ struct stack {
 static struct stack stacks[MOST_STACKS];
 static unsigned stacks_count = 1;
 static struct stack *running = stacks;
+/* The thread that has it, by its pointer. */
+static void *run_thread;
 
 /* The signals have a stack of their own, since the program's may be used up. */
 static _Alignas(16) char signal_stack[1 << 18];

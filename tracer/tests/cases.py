@@ -241,11 +241,11 @@ class TracerTest(unittest.TestCase):
             self.assertTrue(wanted)
             self.assertEqual(wanted, self.read("run.races"))
 
-    def is_same_without_repeats(self, *words, jumps=False, most_blocks=1024, most_odd=65536, **settings):
+    def is_same_without_repeats(self, *words, jumps=False, most_blocks=4096, most_odd=65536, **settings):
         """The trace without repeats has the same races, and the other's records in its own order. If the program jumps
         a strand may begin without a record. A strand goes out in parts of so many blocks, or odd accesses."""
         for name, repeats in (("run.trace", "0"), ("all.trace", "1")):
-            self.run_command(*words, SPBAGS_TRACE=name, SPBAGS_REPEATS=repeats, **settings)
+            self.run_command(*words, SPBAGS_TRACE=name, SPBAGS_REPEATS=repeats, SPBAGS_REUSE="0", **settings)
 
         def in_one_order(records):
             return ordered(without_repeats(records), most_blocks, most_odd)

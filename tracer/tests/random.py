@@ -1,7 +1,8 @@
 #!/usr/bin/env python3
 """Random Cilk programs, traced and judged. Each is written twice: as a program in C for spbags-cc, and as one that
 tells judge.h what it does, which says by definition which variables race. Their names have to be those of the locations
-that `spbags check` reports of the trace, with repeats and without, and both reports have to name the same locations.
+that `spbags check` reports of the trace, with repeats and without, and both reports have to name the same locations
+if memory doesn't come again; if it does, what dies in its strand isn't in the trace, and the names are the same.
 With --inside the programs have the detector inside, and its report of each run has to be the checker's. With --c++ they
 are of C++, and spawn members, lambdas, templates, what is handed over by reference and what throws.
 
@@ -26,6 +27,7 @@ sys.path.insert(0, TRACER)
 import answers
 SPBAGS = os.path.realpath(os.environ.get("SPBAGS", os.path.join(TRACER, "..", "spbags")))
 BATCH, GLOBALS, MOST_STEPS = 25, 4, 400
+WAYS = {}, {"SPBAGS_REUSE": "0"}, {"SPBAGS_REUSE": "0", "SPBAGS_REPEATS": "1"}
 # Of a loop with two iterations, with the numbers 0 and 1.
 HEADERS = ("int i = 0; i < 2; i++", "long i = 1; i >= 0; --i", "unsigned i = 0; 2 != i; i += 1", "short i = 1; i > -1; i -= 1")
 
@@ -37,6 +39,11 @@ typedef volatile int number;
 static void zero(void *view) { *(int *)view = 0; }
 static void add(void *left, void *right) { *(int *)left += *(int *)right; }
 static void add_to(int *sum, int n) { *sum += n; }
+/* So many blocks of one size that a span is full of them. */
+static void fill_spans(void) {
+    for (int at = 0; at < 5000; at++)
+        free(malloc(sizeof(number)));
+}
 """
 # What a child of C++ does: it writes what it gets by reference, and by a pointer that it gets in an object.
 CPLUSPLUS_HEAD = HEAD + """\
@@ -71,6 +78,8 @@ class Writer:
     def __init__(self, number, source, function):
         self.random, self.number, self.function = source, number, function
         self.cilk, self.judged = [], []
+        # Whether what is free is used. In all others the memory comes again.
+        self.uses_freed = source.random() < 0.5
         self.steps = []  # by function: how many steps a call of it takes
         self.tags = {}   # by line of `cilk`: the variable whose first access it is
 
@@ -104,7 +113,9 @@ class Function:
     def __init__(self, writer, at, names, sum):
         self.writer, self.random, self.at, self.globals = writer, writer.random, at, names
         self.name = f"p{writer.number}_f{at}"
-        self.locals, self.steps, self.sums = [], 0, [sum]
+        self.locals, self.names, self.steps, self.sums = [], 0, 0, [sum]
+        # By the names of those on the heap.
+        self.tags = {}
 
     def variable(self):
         """A variable: its address in C, itself in C, and for the judge."""
@@ -115,12 +126,16 @@ class Function:
         if kind < 4:
             name = self.random.choice(self.globals)
             return "&" + name, name, name
-        name, on_heap = self.random.choice(self.locals)
+        name, on_heap = self.random.choice(self.locals or [(self.random.choice(self.globals), False)])
         return (name, "*" + name, name) if on_heap else ("&" + name, name, name)
+
+    def new_name(self):
+        self.names += 1
+        return f"v{self.names}"
 
     def declare(self):
         for _ in range(self.random.randint(1, 3)):
-            name, on_heap = f"v{len(self.locals)}", self.random.random() < 0.3
+            name, on_heap = self.new_name(), self.random.random() < 0.3
             tag = f"{self.name}.{len(self.writer.cilk)}.{name}"
             if on_heap:
                 self.writer.line(f"number *{name} = (number *)malloc(sizeof *{name});", "")
@@ -129,6 +144,8 @@ class Function:
                 made = f"number {name} = 0;"
             self.writer.tagged(tag, made, f'int {name} = variable("{tag}"); touch({name}, true);')
             self.locals.append((name, on_heap))
+            if on_heap:
+                self.tags[name] = tag
         if self.random.random() < 0.3:
             name = f"w{len(self.sums)}"
             tag = f"{self.name}.{len(self.writer.cilk)}.{name}"
@@ -141,6 +158,17 @@ class Function:
         told = "".join(f"touch({name}, true); " for name in self.sums[known:])
         del self.sums[known:]
         return told
+
+    def free(self, known=0):
+        """Some blocks of the heap, of those behind so many locals. Who got the address may use them still, as may the
+        children, and this function."""
+        for name, on_heap in list(self.locals[known:]):
+            if on_heap and name in self.tags and self.random.random() < 0.4:
+                self.writer.tagged(self.tags.pop(name), f"free((void *){name});", f"touch({name}, true);")
+                if not self.writer.uses_freed:
+                    self.locals.remove((name, True))
+        if not self.writer.uses_freed and self.random.random() < 0.4:
+            self.writer.line("fill_spans();", "")
 
     def reduce(self):
         """An update of a reducer is a read of it, and all else a write."""
@@ -217,6 +245,8 @@ class Function:
         self.writer.line(f"cilk_for ({header}) {{", f"enter(); for ({header}) {{ spawn(); enter();")
         self.declare()
         (iteration or self.statements)(deep)
+        if not iteration:
+            self.free(known)
         self.writer.line("}", self.ends(known_sums) + "leave(); spawned(); } leave();")
         del self.locals[known:]
         self.steps += self.steps - before
@@ -232,6 +262,9 @@ class Function:
         self.declare()
         for _ in range(self.random.randint(2, 8)):
             self.statement(0)
+            if self.random.random() < 0.15:
+                self.free()
+        self.free()
         self.writer.line("return 1; }", self.ends(1) + "leave(); }")
         self.writer.steps.append(self.steps + 1)
 
@@ -355,7 +388,7 @@ class CplusplusFunction(Function):
             self.spawn_argument()
             return
         callee, (a, _, judged_a) = self.random.randrange(self.at), self.variable()
-        name = f"v{len(self.locals)}"
+        name = self.new_name()
         tag = f"{self.name}.{len(self.writer.cilk)}.{name}"
         told = f"p{self.writer.number}_f{callee}({judged_a}, {judged_a});"
         self.writer.tagged(tag, f"number {name} = cilk_spawn p{self.writer.number}_f{callee}({a}, {a});",
@@ -414,16 +447,16 @@ class Batch:
         batch = self.numbers[0] // BATCH
         ways = ("-O0", "-O1")[batch % 2], *[["--inline-checks"], []][batch // 2 % 2]
         self.run(os.path.join(TRACER, self.compiler), *self.inside, *ways, "-w", "-o", self.name,
-                 self.name + self.ending)
+                 self.name + self.ending, CC=os.environ.get("CC", "gcc") + " -DFREE_SPANS=0")
         self.run("gcc" if not os.environ.get("CC") else os.environ["CC"], "-w", "-O1", "-I" + HERE, "-o",
                  self.name + "_judged", self.name + "_judged.c")
         told = self.run(self.name + "_judged")
         self.wanted = {int(words[0]): collections.Counter(words[1:]) for words in map(str.split, told.splitlines())}
 
-    def racy(self, number, repeats):
+    def racy(self, number, way):
         """The racy locations of a traced run, and the code of the first access of each."""
         trace = f"{self.name}.{number}"
-        settings = {"SPBAGS_REPEATS": str(repeats), "SPBAGS_VERSION": str(1 + number % 2)}
+        settings = {**way, "SPBAGS_VERSION": str(1 + number % 2)}
         self.run(self.name, str(number), SPBAGS_TRACE=trace, SPBAGS_REPORT="", **settings)
         report = self.run(SPBAGS, "check", trace)
         if self.inside and report != self.own_report(number, trace[:-1] + "~", settings):
@@ -460,13 +493,13 @@ class Batch:
     def wrong(self):
         """The numbers of the programs whose races aren't those that the judge names."""
         self.build()
-        runs = {number: (self.racy(number, 0), self.racy(number, 1)) for number in self.numbers}
+        runs = {number: [self.racy(number, way) for way in WAYS] for number in self.numbers}
         names = self.names({code for run in runs.values() for codes in run for code in codes.values()})
         wrong = []
-        for number, (codes, all_codes) in runs.items():
-            found = collections.Counter(names[code] for code in codes.values())
-            if found != self.wanted[number] or codes != all_codes:
-                print(f"program {number}: wanted {dict(self.wanted[number])}, found {dict(found)}", file=sys.stderr)
+        for number, (left_out, codes, all_codes) in runs.items():
+            found = [collections.Counter(names[code] for code in run.values()) for run in (left_out, codes)]
+            if found != 2 * [self.wanted[number]] or codes != all_codes:
+                print(f"program {number}: wanted {dict(self.wanted[number])}, found {found}", file=sys.stderr)
                 wrong.append(number)
         return self.differ.union(wrong)
 

@@ -1,0 +1,179 @@
+/* Memory of the heap that dies in its strand, that outlives it, and that comes again. The words say what is run. */
+#include <cilk/cilk.h>
+#include <stdio.h>
+#include <stdlib.h>
+#include <string.h>
+#include <sys/mman.h>
+
+static int *given;
+static volatile int sink;
+
+static void give_and_end(void) {
+    int *block = malloc(10 * sizeof *block); /* [given] */
+    given = block; /* [give] */
+    free(block);   /* [end] */
+}
+
+static void use_given(void) {
+    int *block = given; /* [take] */
+    sink = block[3];    /* [use] */
+}
+
+/* A block that died in one strand is used by a parallel one; and behind a sync. */
+static void use_in_parallel(void) {
+    cilk_spawn give_and_end();
+    use_given();
+    cilk_sync;
+}
+
+static void use_later(void) {
+    cilk_spawn give_and_end();
+    cilk_sync;
+    use_given();
+}
+
+static void end_block(int *block) { free(block); /* [end of another's] */ }
+
+/* A child ends its parent's block, while the parent reads that. */
+static void end_in_parallel(void) {
+    int *block = calloc(10, sizeof *block); /* [parent's] */
+    cilk_spawn end_block(block);
+    sink = block[4]; /* [read] */
+    cilk_sync;
+}
+
+static void move_block(int *block) { given = realloc(block, 100 * sizeof *block); /* [move] */ }
+
+static void move_in_parallel(void) {
+    int *block = calloc(10, sizeof *block);
+    cilk_spawn move_block(block);
+    sink = block[4]; /* [read of moved] */
+    cilk_sync;
+    free(given);
+}
+
+static void end_many(int count) {
+    for (int at = 0; at < count; at++) {
+        int *block = malloc((size_t)(400 + at % 7 * 100));
+        block[0] = block[99] = at;
+        free(block);
+    }
+}
+
+/* Memory comes again in parallel children, which have no race. */
+static void end_in_strands(void) {
+    for (int child = 0; child < 8; child++)
+        cilk_spawn end_many(5000);
+    cilk_sync;
+}
+
+static int *made(void) {
+    int *block = malloc(1000 * sizeof *block);
+    block[5] = 7;
+    return block;
+}
+
+static void fill(int *block) { block[5] = 1; /* [fill] */ }
+
+/* So do blocks that outlive their strands. */
+static void outlive_strands(void) {
+    for (int turn = 0; turn < 1000; turn++) {
+        int *one = cilk_spawn made();
+        int *other = made();
+        cilk_sync;
+        cilk_spawn fill(one);
+        fill(other);
+        cilk_sync;
+        free(one);
+        free(other);
+    }
+}
+
+static void race(void) {
+    int *block = malloc(1000 * sizeof *block); /* [later] */
+    cilk_spawn fill(block);
+    block[5] = 2; /* [beside] */
+    cilk_sync;
+    free(block);
+}
+
+static void race_in_a_later_life(void) {
+    outlive_strands();
+    race();
+    outlive_strands();
+}
+
+static void grow(void) {
+    char *text = NULL;
+    for (size_t size = 1; size < 300000; size *= 2) {
+        text = realloc(text, size);
+        text[size - 1] = 1;
+    }
+    free(text);
+}
+
+/* Blocks of several spans. */
+static void grow_in_parallel(void) {
+    for (int turn = 0; turn < 40; turn++) {
+        cilk_spawn grow();
+        grow();
+        cilk_sync;
+    }
+}
+
+static int zeros(int bytes) {
+    for (int at = 0; at < 3000; at++) {
+        char *block = calloc(1, (size_t)bytes);
+        for (int byte = 0; byte < bytes; byte++)
+            if (block[byte] != 0)
+                return 1;
+        memset(block, 1, (size_t)bytes);
+        free(block);
+    }
+    return 0;
+}
+
+/* What comes again is zero where calloc gives it, and where the program asks for a multiple it gets one. */
+static int keep_promises(void) {
+    for (int at = 0; at < 20000; at++) {
+        void *block = aligned_alloc(256, 512);
+        if ((size_t)block % 256 != 0)
+            return 1;
+        memset(block, 1, 512);
+        free(block);
+    }
+    return zeros(200) || zeros(20000);
+}
+
+static void map_and_end(void) {
+    for (int turn = 0; turn < 10; turn++) {
+        char *memory = mmap(NULL, 1 << 16, PROT_READ | PROT_WRITE, MAP_PRIVATE | MAP_ANONYMOUS, -1, 0);
+        memory[100] = 1;
+        munmap(memory, 1 << 16);
+    }
+}
+
+/* What the system maps doesn't come again at the same addresses. */
+static void map_in_parallel(void) {
+    cilk_spawn map_and_end();
+    map_and_end();
+    cilk_sync;
+}
+
+static int run(const char *word) {
+    static void (*const functions[])(void) = {use_in_parallel,      use_later,        end_in_parallel,
+                                              move_in_parallel,     end_in_strands,   outlive_strands,
+                                              race_in_a_later_life, grow_in_parallel, map_in_parallel};
+    static const char *const names[] = {"used",    "later",      "ended", "moved", "strands",
+                                        "outlive", "later life", "large", "mapped"};
+    for (size_t at = 0; at < sizeof names / sizeof *names; at++)
+        if (strcmp(word, names[at]) == 0)
+            functions[at]();
+    return strcmp(word, "promises") == 0 && keep_promises();
+}
+
+int main(int count, char **words) {
+    for (int at = 1; at < count; at++)
+        if (run(words[at]) != 0)
+            return 7;
+}

@@ -1,0 +1,94 @@
+#!/usr/bin/env python3
+"""Memory of the heap: what dies in its strand, what outlives it, and what comes again."""
+import json
+import os
+import sys
+
+sys.dont_write_bytecode = True
+import cases
+from cases import INSIDE, SPBAGS_CC, SPBAGS_RUN, TESTS, TracerTest, line_of
+
+SOURCE = os.path.join(TESTS, "heap.c")
+# The pairs of tags whose lines race.
+RACES = {
+    "used": [("[end]", "[use]"), ("[give]", "[take]")],
+    "later": [],
+    "ended": [("[end of another's]", "[read]")],
+    "moved": [("[move]", "[read of moved]")],
+    "strands": [],
+    "outlive": [],
+    "later life": [("[fill]", "[beside]")],
+    "large": [],
+    "mapped": [],
+}
+# What a run of these may take, in KB: with memory that doesn't come again each takes more.
+MOST = {"strands": 40000, "outlive": 20000, "large": 40000}
+
+
+class HeapTest(TracerTest):
+    def setUp(self):
+        super().setUp()
+        self.succeeds(SPBAGS_CC, "-Wall", "-Wextra", "-Werror", "-o", "heap", SOURCE)
+
+    def lines(self, word, **settings):
+        races = self.races_of("./heap", word, **settings)
+        return sorted(tuple(sorted(line for _, line in lines)) for _, *lines in races)
+
+    def test_races(self):
+        """The same with memory that comes again and without."""
+        for word, tags in RACES.items():
+            wanted = sorted(tuple(sorted(line_of(SOURCE, tag) for tag in pair)) for pair in tags)
+            for reuse in "10":
+                with self.subTest(word, reuse=reuse):
+                    self.assertEqual(wanted, self.lines(word, SPBAGS_REUSE=reuse))
+
+    def block_of(self, word):
+        """The block that a pair names: the offset of the race, the size, and the line of the allocation."""
+        done = self.run_command(SPBAGS_RUN, "--json", "--", "./heap", word)
+        self.assertEqual(1, done.status, done.errors)
+        block, = (pair["variable"] for pair in json.loads(done.out)["pairs"] if pair["variable"]["kind"] == "heap")
+        return block["offset"], block["size"], block["stack"][0]["line"]
+
+    def test_names(self):
+        for word, offset, size, tag in (("used", 12, 40, "[given]"), ("ended", 16, 40, "[parent's]"),
+                                        ("later life", 20, 4000, "[later]")):
+            with self.subTest(word):
+                self.assertEqual((offset, size, line_of(SOURCE, tag)), self.block_of(word))
+
+    def test_promises(self):
+        self.assertEqual(0, self.run_command("./heap", "promises", SPBAGS_TRACE="/dev/null").status)
+
+
+class InsideTest(TracerTest):
+    def setUp(self):
+        super().setUp()
+        self.succeeds(SPBAGS_CC, "--inside", "-o", "heap", SOURCE)
+
+    def test_reports(self):
+        for word in RACES:
+            for reuse in "10":
+                with self.subTest(word, reuse=reuse):
+                    self.has_same_report("./heap", word, SPBAGS_REUSE=reuse)
+
+    def test_memory(self):
+        """The most that is resident, with and without memory that comes again."""
+        for word, most in MOST.items():
+            with self.subTest(word):
+                used = [self.peak(word, reuse) for reuse in "10"]
+                self.assertLess(used[0], most)
+                self.assertGreater(used[1], most)
+
+    def peak(self, word, reuse):
+        self.command = f"SPBAGS_REUSE={reuse} ./heap {word}"
+        settings = {**os.environ, "SPBAGS_REPORT": "report", "SPBAGS_REUSE": reuse}
+        process = os.posix_spawn("./heap", ["./heap", word], settings,
+                                 file_actions=[(os.POSIX_SPAWN_OPEN, 2, os.devnull, os.O_WRONLY, 0)])
+        _, status, usage = os.wait4(process, 0)
+        self.assertEqual(0, status)
+        return usage.ru_maxrss
+
+
+if __name__ == "__main__":
+    if not INSIDE:
+        del InsideTest
+    cases.main()
