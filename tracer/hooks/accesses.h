@@ -44,9 +44,18 @@ __attribute__((noinline)) static void note_several(bool writes, uintptr_t at, si
             note_unit(writes, unit, mark, USUAL_SHIFT, code);
 }
 
+__attribute__((noinline)) static void note_one(bool writes, uintptr_t at, uint32_t *mark, uintptr_t code) {
+    note_unit(writes, at, mark, USUAL_SHIFT, code);
+}
+
 /* Of the short way: the only unit isn't a repeat. */
 __attribute__((noinline)) static void note_usual(bool writes, uintptr_t at, uint32_t *mark, uintptr_t code) {
-    note_unit(writes, at, mark, USUAL_SHIFT, code);
+    if (!notes_quickly || *mark < FIRST_READ || at - stack_first < stack_size) {
+        note_one(writes, at, mark, code);
+        return;
+    }
+    *mark = new_mark(writes);
+    step_access(writes, 2 * (at >> USUAL_SHIFT));
 }
 
 /* Some units of the usual size in one region. */

@@ -357,6 +357,14 @@ static void *detect(void *nothing) {
     return nothing;
 }
 
+/* Room for what the detector's thread knows of the heap. */
+static void make_taken(void) {
+    if (!detecting)
+        return;
+    spans_need(&taken_lives);
+    taken_parts = reserve(SPANS * sizeof *taken_parts);
+}
+
 /* Hands over what is left, and waits until the report is made. */
 static void end_detector(void) {
     filling->is_last = true;
@@ -373,6 +381,7 @@ static inline void begin_steps(void) {}
 static inline uintptr_t steps_so_far(void) { return 0; }
 static void leave_out_steps(uintptr_t before) { (void)before; }
 static inline void step(unsigned kind, uint64_t location) { (void)kind, (void)location; }
+static void make_taken(void) {}
 static void end_detector(void) {}
 #endif
 

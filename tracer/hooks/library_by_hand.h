@@ -262,8 +262,9 @@ BY_HAND(void *, mremap, void *at, size_t before, size_t size, int flags, ...) {
     void *result = __real_mremap(at, before, size, flags, wish);
     if (result == MAP_FAILED)
         return result;
-    uintptr_t first = result == at ? end_of_pages(at, size) : (uintptr_t)at;
-    keep_addresses(first, end_of_pages(at, before));
+    if (tracing && result != at)
+        LIBRARY_WRITE(at, least(before, 1 << 20), __wrap_mremap);
+    keep_addresses(result == at ? end_of_pages(at, size) : (uintptr_t)at, end_of_pages(at, before));
     return result;
 }
 

@@ -108,8 +108,12 @@ static void clear(uintptr_t address, size_t size) {
         leave_out_dying(0);
 }
 
-/* Whether there are views of reducers; their units are noted otherwise. */
-static bool has_views;
+/* Whether there are views of reducers; their units are noted otherwise. Without them, if the run detects and that is all,
+   a unit that isn't of the stack and was accessed before is noted quickly. */
+static bool has_views, notes_quickly;
+
+static inline void follow_views(void) { notes_quickly = only_detects && !has_views; }
+
 static bool note_view(uintptr_t unit, uint32_t *mark, unsigned shift, uintptr_t code);
 
 /* Whether a block is used that died in the strand of its birth; and then the record has gone out. */

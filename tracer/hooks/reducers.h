@@ -37,6 +37,7 @@ static size_t view_above(uintptr_t address) {
 static void remove_view(size_t at) {
     memmove(views + at, views + at + 1, (views_count - at - 1) * sizeof *views);
     has_views = --views_count > 0;
+    follow_views();
 }
 
 /* The number of the stack's unit with this address, which has none if nothing has touched it. */
@@ -138,6 +139,7 @@ static struct view *add_view(uintptr_t first, size_t size, const char *note) {
     views[at] = (struct view){.first = first, .end = first + size, .count = 1};
     views_count++;
     has_views = true;
+    follow_views();
     uint32_t *mark = mark_of(first & ~unit_mask, unit_shift);
     if (is_of_stack(first)) {
         location_of(first & ~unit_mask, *mark, unit_shift);

@@ -128,8 +128,6 @@ static void start_detector(void) {
         open_places(places_name);
     find_heap();
     session = reserve(spbags_room());
-    spans_need(&taken_lives);
-    taken_parts = reserve(SPANS * sizeof *taken_parts);
     start_thread();
     detecting = true;
 }
@@ -274,7 +272,6 @@ __attribute__((constructor(101))) static void start(void) {
     judges_order = settings_is(SETTING_STREAMS, "1");
     reuses = settings_is(SETTING_REUSE, "1");
     leaves_out = reuses && !writes_repeats;
-    spans_need(&spans_lives);
     run_thread = __builtin_thread_pointer();
     fill_digits();
     give_streams_buffers();
@@ -288,6 +285,8 @@ __attribute__((constructor(101))) static void start(void) {
     settings_forget(SETTING_TRACE);
     settings_forget(SETTING_REPORT);
     settings_forget(SETTING_PLACES);
+    spans_need(&spans_lives);
+    make_taken();
     find_stack();
     *top = (struct frame){.kind = ROOT, .end = UINTPTR_MAX};
     procedures = most_procedures = 1;
@@ -300,6 +299,7 @@ __attribute__((constructor(101))) static void start(void) {
         put_header();
 #ifdef SPBAGS_INSIDE
     only_detects = detecting && !looking && !has_places && !divides && !writes_repeats;
+    follow_views();
 #endif
     tracing = true;
     find_short_way();

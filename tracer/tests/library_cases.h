@@ -460,7 +460,7 @@ CASE(NUMBER((optind = 1, getopt_long_only(2, words, c, AS(struct option, big), N
 pid_t __waitpid(pid_t, int *, int);
 CASE((wait(NULL), waitpid(-1, NULL, 0), __waitpid(-1, NULL, 0), wait3(NULL, 0, NULL), wait4(-1, NULL, 0, NULL), waitid(P_ALL, 0, NULL, 0)), NO_MORE)
 CASE(NUMBER(mincore(page, 4096, AS(unsigned char, a))), W(a, 0, 1)) CASE(NUMBER(msync(page, 4096, MS_ASYNC)), R(page, 0, 4096))
-CASE(NUMBER(munmap(big + 1, 16)), W(big, 1, 16)) CASE(NUMBER(msgsnd(-1, big, 4, 0)), R(big, 0, 12)) CASE(NUMBER(msgrcv(-1, big, 4, 0, 0)), NO_MORE)
+CASE(NUMBER(munmap(big + 1, 16)), W(big, 1, 16)) CASE(NUMBER((long)mremap(big + 1, 16, 32, 0)), NO_MORE) CASE(NUMBER(msgsnd(-1, big, 4, 0)), R(big, 0, 12)) CASE(NUMBER(msgrcv(-1, big, 4, 0, 0)), NO_MORE)
 CASE(NUMBER(semop(-1, AS(struct sembuf, big), 2)), R(big, 0, 2 * sizeof(struct sembuf))) CASE(NUMBER(mq_send(-1, b, 4, 0)), R(b, 0, 4))
 CASE((mq_receive(-1, a, 4, NULL), mq_getattr(-1, AS(struct mq_attr, big))), NO_MORE) CASE(NUMBER(mq_setattr(-1, AS(struct mq_attr, big), NULL)), R(big, ONE(struct mq_attr)))
 
