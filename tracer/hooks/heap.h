@@ -100,6 +100,8 @@ static struct life_end end_of_life(size_t span) {
 static void end_span(size_t span) {
     if (tracing)
         end_life_record(end_of_life(span));
+    else
+        begin_life(&spans_lives, span);
     spans[span] = (struct span){0};
 }
 

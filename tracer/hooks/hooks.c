@@ -3,13 +3,13 @@
    file instead of the sanitizer's own runtime. This file is compiled without that flag. The program runs on one thread,
    in the serial order: a spawned child runs at once, as an ordinary call.
 
-   The files with a .c of their own stand alone: settings, lines about the run, what goes out, memory, formats, what is
-   held, and places. Each part here stands on those before it: the order in a strand; the detector and its heap, where
-   SPBAGS_INSIDE is defined; stacks; what a strand has done; records; locations, and bytes; procedures; a look at the
-   races' places; reducers; scopes and loops of Cilk; the hooks of accesses, of C++'s spawns, of library functions and
-   of jumps; a watch for waits without end; the hooks of locks; the heap; those of C++, of its parallel libraries and,
-   where SPBAGS_OPENMP is defined, of OpenMP; functions that nothing is known of, and what of the code has no hook of
-   the compiler's; the ends of the run, and its beginning. */
+   The files with a .c of their own stand alone: settings, lines about the run, what goes out, memory, spans of the
+   heap, formats, what is held, and places. Each part here stands on those before it: the order in a strand, and its
+   newest records; the detector and its heap, where SPBAGS_INSIDE is defined; stacks; what a strand has done; records;
+   locations, and bytes; procedures; a look at the races' places; reducers; scopes and loops of Cilk; the hooks of
+   accesses, of C++'s spawns, of library functions and of jumps; a watch for waits without end; the hooks of locks;
+   the heap; those of C++, of its parallel libraries and, where SPBAGS_OPENMP is defined, of OpenMP; functions that
+   nothing is known of, and what of the code has no hook of the compiler's; the ends of the run, and its beginning. */
 #include "common.h"
 
 #include "../include/spbags_inside.h"
