@@ -17,6 +17,10 @@ VARIABLE = re.compile(r"  (%[\w.]+) = alloca (?!.*, i[0-9]+ [%\w.]+, align).*, a
 # A use that isn't one of its address.
 PLAIN_USE = re.compile(r"  (?:%[\w.]+ = load|store) (?!volatile|atomic).* (%[\w.]+), align [0-9]+")
 DESCRIPTION = re.compile(r" +(?:call void @llvm\.dbg\.declare\(metadata|#dbg_declare\()")
+# A hook before an atomic access, which has one of its own.
+ATOMIC = re.compile(r"^  call void @__sanitizer_cov_(?:load|store)[0-9]+\(.*\n"
+                    r"(?=(?:  %\S+ = bitcast .*\n)*  (?:%\S+ = )?call \S+ @__tsan_atomic[0-9]+_(?:load|store)\()",
+                    re.MULTILINE)
 # The same address as another type, which clang 14 puts before a hook.
 OTHER_TYPE = re.compile(r"  (%[\w.]+) = bitcast .* (%[\w.]+) to ")
 
@@ -52,7 +56,7 @@ def named(text):
 
 def hooked(text):
     """The text without the hooks that it doesn't need. None of the others becomes one with another."""
-    text = FUNCTION.sub(lambda function: "\n".join(needed(function[0].split("\n"))), text)
+    text = FUNCTION.sub(lambda function: "\n".join(needed(function[0].split("\n"))), ATOMIC.sub("", text))
     return DECLARED_HOOK.sub(r"\g<0> nomerge", text)
 
 

@@ -118,3 +118,13 @@ void GOMP_atomic_end(void) {
     hide_combining(-1);
     leave_guard(ATOMIC);
 }
+
+/* What gcc calls in an atomic update, in place of an instruction that its sanitizer leaves out. */
+#define COMPARE_AND_STORE(BYTES, BITS, TYPE) \
+    int compare_and_store_##BYTES(volatile TYPE *, TYPE *, TYPE, int, int) __asm__( \
+        "__atomic_compare_exchange_" #BYTES) __attribute__((alias("__tsan_atomic" #BITS "_compare_exchange_strong")));
+COMPARE_AND_STORE(1, 8, uint8_t)
+COMPARE_AND_STORE(2, 16, uint16_t)
+COMPARE_AND_STORE(4, 32, uint32_t)
+COMPARE_AND_STORE(8, 64, uint64_t)
+COMPARE_AND_STORE(16, 128, unsigned __int128)

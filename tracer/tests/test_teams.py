@@ -5,9 +5,78 @@ import sys
 
 sys.dont_write_bytecode = True
 import cases
-from cases import CC, SPBAGS_CC, TESTS, TracerTest, line_of
+from cases import CC, SPBAGS_CC, SPBAGS_RUN, TESTS, TracerTest, line_of
 
 SOURCE = os.path.join(TESTS, "openmp.c")
+
+
+# With a second word the second thread's access is a plain one.
+ATOMICS = """
+#include <omp.h>
+#include <stdlib.h>
+#include <string.h>
+static volatile double real;
+static volatile float small;
+static volatile int whole = 1;
+static volatile unsigned char byte;
+static void use(double value) { if (value == -77) abort(); }
+static void is_real(void) {
+#pragma omp atomic
+    real += 2.0;
+}
+static void is_small(void) {
+#pragma omp atomic
+    small -= 1;
+}
+static void is_whole(void) {
+#pragma omp atomic
+    whole *= 3;
+}
+static void is_byte(void) {
+#pragma omp atomic
+    byte |= 3;
+}
+static void is_captured(void) {
+    double value;
+#pragma omp atomic capture
+    value = real += 2;
+    use(value);
+}
+static void is_written(void) {
+#pragma omp atomic write
+    real = 2;
+}
+static const struct {
+    const char *name;
+    void (*run)(void);
+} kinds[] = {{"real", is_real}, {"small", is_small}, {"whole", is_whole}, {"byte", is_byte},
+             {"captured", is_captured}, {"written", is_written}};
+int main(int count, char **words) {
+    for (size_t at = 0; at < sizeof kinds / sizeof *kinds; at++)
+        if (strcmp(words[1], kinds[at].name) == 0) {
+#pragma omp parallel num_threads(2)
+            {
+                if (count > 2 && omp_get_thread_num() == 1)
+                    use(real + small + whole + byte);
+                else
+                    kinds[at].run();
+            }
+        }
+}
+"""
+
+
+class AtomicTest(TracerTest):
+    """Two atomic accesses are no data race, and one beside a plain one is."""
+
+    def test_atomic(self):
+        self.write("atomics.c", ATOMICS)
+        self.succeeds(SPBAGS_CC, "-fopenmp", "-w", "-o", "atomics", "atomics.c")
+        for name in ("real", "small", "whole", "byte", "captured", "written"):
+            with self.subTest(name):
+                self.ends_with(1, "", SPBAGS_RUN, "--", "./atomics", name)
+                self.ends_with(0, "", SPBAGS_RUN, "--data-races", "--", "./atomics", name)
+                self.ends_with(1, "", SPBAGS_RUN, "--data-races", "--", "./atomics", name, "plain")
 
 
 class NoteTest(TracerTest):
