@@ -89,6 +89,12 @@ class Places:
     def held(lists, number):
         return lists[number] if number != NO_LIST else None
 
+    def need(self, wanted):
+        """All these places are of this trace."""
+        for place in wanted:
+            if not 0 < place <= self.count:
+                raise Failure(f"{self.name} has no place {place}: does the report belong to another trace?")
+
     def site(self, place):
         """None where it isn't known."""
         if not 0 < place <= self.count:
@@ -104,8 +110,6 @@ def places_of(name):
 
 def codes_of(places, wanted):
     """The code address of each of these places, or 0 where it isn't known."""
-    for place in wanted:
-        if not 0 < place <= places.count:
-            raise Failure(f"{places.name} has no place {place}: does the report belong to another trace?")
+    places.need(wanted)
     sites = {place: places.site(place) for place in wanted}
     return {place: site.code if site else 0 for place, site in sites.items()}

@@ -101,7 +101,9 @@ class Pair:
     borrowed: bool = False
     # Whether the variable is a reducer, of which an update is a read, and any use of the value a write.
     reducer: bool = False
-    kinds: tuple = field(default_factory=lambda: (set(), set()))
+
+    def __post_init__(self):
+        self.kinds = tuple({side.kind} for side in self.sides)
 
     def key(self):
         return (*sorted(side.lead() for side in self.sides), self.guard or "", self.identity())
@@ -390,17 +392,19 @@ def named_by(guard, variable):
 
 
 def merged(pairs):
-    """One pair for each pair of source positions, what guards it and the variable. Those of one variable stand
-    together. The most frequent come first, and the guarded last."""
-    found, variables_races = {}, {}
+    """One pair for each pair of source positions, what guards it and the variable."""
+    found = {}
     for pair in pairs:
         known = found.setdefault(pair.key(), pair)
         if known is not pair:
             known.add(pair)
-        else:
-            for kinds, side in zip(pair.kinds, pair.sides):
-                kinds.add(side.kind)
-    for pair in found.values():
+    return list(found.values())
+
+
+def in_order(pairs):
+    """Those of one variable stand together. The most frequent come first, and the guarded last."""
+    variables_races = {}
+    for pair in pairs:
         races = variables_races.setdefault(pair.identity(), [0, True])
         races[0] -= pair.races
         races[1] &= pair.is_guarded()
@@ -408,7 +412,7 @@ def merged(pairs):
     def order(pair):
         races, is_guarded = variables_races[pair.identity()]
         return is_guarded, races, pair.identity(), pair.is_guarded(), -pair.races, pair.key()
-    return sorted(found.values(), key=order)
+    return sorted(pairs, key=order)
 
 
 @dataclass
@@ -464,6 +468,18 @@ def by_sites(races, places):
     return list(found.values())
 
 
+def by_lines(name, races, places):
+    """The pairs of source positions of these races by their places alone, each with the lesser position first."""
+    groups = by_sites(races, places)
+    positions = source.positions_of(name, [code for group in groups for code, _ in group.codes])
+    found = []
+    for group in groups:
+        sides = sorted((source.leading(positions[code]), kind) for kind, (code, _) in zip(group.kinds, group.codes))
+        sides = [Side(kind, False, [Frame(kind, position, 1)]) for position, kind in sides]
+        found.append(Pair(len(group.locations), group.locations[0], sides, {"kind": "memory"}, None, None))
+    return sorted(merged(found), key=Pair.key)
+
+
 def pairs_of(name, unit, notes, races, places):
     """The pairs of what a run noted, and without stacks those of these races by their places."""
     groups = by_sites(races, places)
@@ -473,7 +489,7 @@ def pairs_of(name, unit, notes, races, places):
     bare = (pair for group in groups for pair in group.pairs(program))
     # Those of a variable whose stacks are its own come first.
     found = sorted([*whole, *bare], key=lambda pair: pair.borrowed)
-    return list(map(program.complete, merged(found)))
+    return list(map(program.complete, in_order(merged(found))))
 
 
 # A line of a file with suppressions, and what it leaves out.

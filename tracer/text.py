@@ -335,6 +335,36 @@ def stack_rows(program, codes):
     return ["    " + "  ".join(f"{cell:{width}}" for cell, width in zip(row, [*widths, 0])).rstrip() for row in rows]
 
 
+# ---- Answers of `spbags` with their source lines ----
+
+def source_line(position):
+    return f"{position.file}:{position.line}"
+
+
+def side_lines(sides):
+    """Each side is a position and what happens there."""
+    width = max(len(source_line(position)) for position, _ in sides)
+    for position, what in sides:
+        yield (f"{INDENT}{source_line(position):{width}}  {what:5}  in {position.function}:  "
+               f"{source.text_of(position)}").rstrip()
+
+
+def pair_lines(pairs):
+    """A paragraph for each pair; a race alone has its location, if the answer says it."""
+    yield f"races {sum(pair.races for pair in pairs)}, pairs of lines {len(pairs)}"
+    for pair in pairs:
+        named = f" of location {pair.location}" if pair.races == 1 and pair.location is not None else ""
+        yield f"\n{many(pair.races, 'race')}{named}"
+        yield from side_lines([(side.lead(), " or ".join(sorted(kinds))) for side, kinds in zip(pair.sides, pair.kinds)])
+
+
+def brief_lines(pairs):
+    for pair in pairs:
+        yield " ".join([str(pair.races), *(source_line(side.lead()) for side in pair.sides)])
+
+
+# ---- Suppressions ----
+
 def suppressions(pairs):
     """Lines that leave out each of these, with a comment before each that says which."""
     for line, alike in groupby(sorted(pairs, key=suppression_of), key=suppression_of):
