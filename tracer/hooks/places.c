@@ -60,14 +60,16 @@ static uint64_t put_lists(void) {
     return bytes;
 }
 
+/* spbags-run has the lines of the report by their records. For who reads a trace that is kept they stand here. */
 void end_places(void) {
     static const char mark[8] = "spbplace";
     if (places.file < 0)
         return;
     uint64_t count = (places.written + places.used) / sizeof(uint16_t);
+    uint64_t lines = tells_records() && places.is_spare ? 0 : tell_kept_length;
     add_to_places(sites, sites_count * sizeof *sites);
-    uint64_t bytes = put_lists(), counts[] = {count, sites_count, bytes, tell_kept_length};
-    add_to_places(tell_kept, tell_kept_length);
+    uint64_t bytes = put_lists(), counts[] = {count, sites_count, bytes, lines};
+    add_to_places(tell_kept, lines);
     add_to_places(counts, sizeof counts);
     add_to_places(mark, sizeof mark);
 }

@@ -7,7 +7,8 @@
 
 /* The file of places says of each record where it comes from. A site is a code address, with what is held there and
    whether the access there doesn't fill its unit; a run has few. The file has the number of its site for each record, 2
-   bytes, and behind all of them the sites, the lists of guards, the lines of the report, and how many those are. */
+   bytes, and behind all of them the sites, the lists of guards, the lines of the report if nobody else has them, and how
+   many those are. */
 enum { MOST_SITES = 65535, NO_SITE = 65535, SITE_SLOTS = 1 << 17 };
 /* So many are for code that holds nothing. */
 enum { FREE_SITES = 1 << 14 };

@@ -27,7 +27,7 @@ __attribute__((noreturn, format(__printf__, 2, 3))) void fail_by(const char *rec
 
 /* ---- Lines of the report ---- */
 
-/* What the report has to say beside the races, a line each. They stand behind the places too. */
+/* What the report has to say beside the races, a line each: for a trace that is kept they stand behind its places. */
 extern char tell_kept[1 << 16];
 extern size_t tell_kept_length;
 /* How many say that something wasn't seen or modelled. */

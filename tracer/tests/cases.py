@@ -18,6 +18,8 @@ import unittest
 
 TESTS = os.path.dirname(os.path.realpath(__file__))
 TRACER = os.path.dirname(TESTS)
+# The modules of the tracer itself.
+sys.path.insert(0, TRACER)
 CC, LEVEL, INSIDE = os.environ.get("CC", "gcc"), os.environ.get("LEVEL", "-O1"), bool(os.environ.get("INSIDE"))
 SPBAGS_CC, SPBAGS_CPLUSPLUS, SPBAGS_RUN, SPBAGS_LINES = (
     os.path.join(TRACER, name) for name in ("spbags-cc", "spbags-c++", "spbags-run", "spbags-lines"))
@@ -106,8 +108,9 @@ def examples(pattern):
     """The sources whose names match, in the order of examples/expected."""
     with open(os.path.join(TRACER, "examples", "expected"), encoding="utf-8") as file:
         names = dict.fromkeys(line.split()[0] for line in file if not line.startswith("#"))
-    files = (name + end for name in names for end in (".c", ".cpp"))
-    return [file for file in files if re.fullmatch(pattern, file) and os.path.exists(os.path.join(TRACER, "examples", file))]
+    files = set(os.listdir(os.path.join(TRACER, "examples")))
+    return [name + end for name in names for end in (".c", ".cpp") if name + end in files
+            and re.fullmatch(pattern, name + end)]
 
 
 class TracerTest(unittest.TestCase):

@@ -8,6 +8,7 @@ import sys
 
 sys.dont_write_bytecode = True
 import cases
+import answers
 from cases import CC, SPBAGS_CC, SPBAGS_RUN, TESTS, Example, TracerTest, line_of, lines_of
 
 WAYS, TEAMS = "tracer/tests/openmp.c", "tracer/tests/teams.c"
@@ -81,6 +82,17 @@ class TraceTest(OpenMPTest):
         self.says("numbered", 0, "", self.pair("numbered", "numbered"), SPBAGS_TEAM="1")
         self.says("numbered", 0, f"each of 3 {BLOCKS}", [], SPBAGS_TEAM="3")
         self.says("thread_memory", 0, "variables of which each thread has its own, 4 bytes", [])
+
+    def test_notes(self):
+        """A trace that is kept has them behind its places. By records they go out once."""
+        with self.subTest("spbags-run --keep"):
+            self.reports(3, "", "--keep", "run.trace", "--", "./ways", "outlives")
+            self.assertRegex("\n".join(self.traced_races("./ways")[1]), f"note: .*{self.wait}")
+        with self.subTest("records"):
+            self.succeeds("bash", "-c", "./ways outlives 3>said 4>run.places", SPBAGS_TRACE="run.trace",
+                          SPBAGS_SAYS="fd:3", SPBAGS_PLACES="fd:4")
+            self.assertIn("\nincomplete: ", "\n" + self.read("said"))
+            self.assertEqual([], answers.places_of("run.places").notes)
 
     def test_statuses(self):
         for words, settings, status in ((["outlives"], {"SPBAGS_INCOMPLETE_OK": "1"}, 0), (["outlives", "5"], {}, 5)):
