@@ -1,0 +1,448 @@
+/* Parts of the hooks, each alone: the word names one, whose demands hold by the definitions. The compiler gets small
+   limits of a strand and of their number. */
+#include "../hooks/common.h"
+
+#include "../hooks/changes.h"
+#include "../hooks/formats.h"
+#include "../hooks/guards.h"
+#include "../hooks/memory.h"
+#include "../hooks/tell.h"
+#include "../hooks/spans.h"
+#include "../include/spbags_inside.h"
+#include "../spbags_cilk.h"
+
+#define DEMAND(HOLDS) \
+    do { \
+        if (!(HOLDS)) { \
+            printf("%s:%d: %s\n", __FILE__, __LINE__, #HOLDS); \
+            exit(1); \
+        } \
+    } while (false)
+
+/* ---- What the parts stand on ---- */
+
+void __real__exit(int status) { _exit(status); }
+void end_by_signal(int number) { _exit(number); }
+volatile sig_atomic_t changes, waiting_signal;
+
+static unsigned unit_shift = 2;
+static uintptr_t unit_mask = 3;
+static const bool detecting = true, divides = false, only_detects = false;
+static bool tracing, looking;
+
+static void end_window(void);
+static void leave_out_dying(uintptr_t before);
+static void record_end(uint64_t location);
+static void forget_divided(void) {}
+static void forget_views(void) {}
+static void clear_bytes(uintptr_t address, uintptr_t end) { (void)address, (void)end; }
+static bool note_view(uintptr_t unit, uint32_t *mark, unsigned shift, uintptr_t code) {
+    (void)unit, (void)mark, (void)shift, (void)code;
+    return false;
+}
+static struct range { uintptr_t first, end; } narrow;
+static void access_record(bool writes, uint64_t location, uintptr_t address, uintptr_t code);
+static void look_at_block(uintptr_t block, size_t size, uintptr_t stack_pointer, uintptr_t code) {
+    (void)block, (void)size, (void)stack_pointer, (void)code;
+}
+static bool is_program(uintptr_t code) { return code == 0; }
+static unsigned initialising;
+static struct { uintptr_t end; } root, *top = &root;
+static bool is_on_the_way(__spbags_function self) { return !self; }
+static void leave_jumped(uintptr_t stack_pointer, uintptr_t code) { (void)stack_pointer, (void)code; }
+#define STACK_POINTER 0
+#define CODE 0
+#define LIBRARY_WRITE(AT, SIZE, SELF) (void)(SELF)
+
+#include "../hooks/strands.h"
+
+#include "../hooks/window.h"
+
+#include "../hooks/stacks.h"
+
+#include "../hooks/marks.h"
+
+#include "../hooks/locations.h"
+
+static void end_life_record(struct life_end end) { begin_life(&spans_lives, end.span); }
+static void leave_out_record(uintptr_t address, size_t size) { (void)address, (void)size; }
+int __real_munmap(void *at, size_t size) { return munmap(at, size); }
+
+#include "../hooks/heap.h"
+
+/* Numbers that look random, and are those of each run. */
+static unsigned drawn(unsigned below) {
+    static uint64_t state = 1;
+    state = state * 6364136223846793005u + 1442695040888963407u;
+    return (unsigned)(state >> 33) % below;
+}
+
+/* ---- The blocks of a strand ---- */
+
+/* They are in the order of their first touch, and those beyond the limit have no room. */
+static void strand_blocks(void) {
+    static struct strand strand;
+    for (int round = 0; round < 1000; round++) {
+        uint64_t order[MOST_BLOCKS] = {0};
+        size_t used = 0;
+        for (int access = 0; access < 20; access++) {
+            uint64_t block = drawn(8) * (drawn(2) ? 1 : (uint64_t)1 << 40), location = 128 * block + 2 * drawn(64);
+            struct touched *touched = touched_with(&strand, location);
+            size_t at = 0;
+            while (at < used && order[at] != block)
+                at++;
+            if (at == MOST_BLOCKS) {
+                DEMAND(touched == NULL);
+                continue;
+            }
+            DEMAND(touched == &strand.list[at] && touched->block == block);
+            touched->reads |= bit_in_block(location);
+            if (at == used)
+                order[used++] = block;
+        }
+        DEMAND(next_part(&strand) == used && strand.used == 0);
+    }
+}
+
+static void strand_locations(void) {
+    static struct strand strand = {.lives = &spans_lives};
+    DEMAND(first_location(&strand, 5) == 128 * 5);
+    for (unsigned unit = 0; unit < 64; unit++) {
+        uint64_t location = 128 * 5 + 2 * unit;
+        DEMAND(block_with(location) == 5 && bit_in_block(location) == (uint64_t)1 << unit);
+        DEMAND(is_gathered(location) && !is_gathered(location + 1));
+    }
+}
+
+/* What is left out has no access any more, and a block of which nothing is left makes room. */
+static void strand_left_out(void) {
+    enum { MOST = 3 * BLOCK_UNITS };
+    static struct strand strand;
+    bool reads[MOST] = {false}, writes[MOST] = {false};
+    for (int round = 0; round < 20000; round++) {
+        unsigned unit = drawn(MOST), first = drawn(MOST), last = first + drawn(MOST - first);
+        struct touched *touched = touched_with(&strand, 2 * unit);
+        DEMAND(touched && touched->block == unit / BLOCK_UNITS);
+        bool is_write = drawn(2);
+        *(is_write ? &touched->writes : &touched->reads) |= bit_in_block(2 * unit);
+        (is_write ? writes : reads)[unit] = true;
+        if (drawn(20) != 0)
+            continue;
+        leave_out(&strand, (uintptr_t)first << unit_shift, (size_t)(last - first + 1) << unit_shift);
+        for (unsigned gone = first; gone <= last; gone++)
+            reads[gone] = writes[gone] = false;
+        for (unsigned at = 0; at < MOST; at++) {
+            const struct touched *left = left_of(&strand, at / BLOCK_UNITS);
+            DEMAND((left && (left->reads & bit_in_block(2 * at)) != 0) == reads[at]);
+            DEMAND((left && (left->writes & bit_in_block(2 * at)) != 0) == writes[at]);
+        }
+    }
+    for (uint64_t block = 10; block < 100; block++) {
+        DEMAND(touched_with(&strand, 128 * block));
+        leave_out_units(&strand, 0, 100 * BLOCK_UNITS);
+    }
+}
+
+/* Odd accesses count behind the first block alone. */
+static void strand_parts(void) {
+    static struct strand strand;
+    for (int access = 0; access < 2 * MOST_ODD; access++)
+        DEMAND(!ends_part(&strand));
+    touched_with(&strand, 0);
+    for (int access = 1; access < MOST_ODD; access++)
+        DEMAND(!ends_part(&strand));
+    DEMAND(ends_part(&strand));
+}
+
+/* ---- Marks, and the numbers of the stack ---- */
+
+enum { UNITS = 200, STACK_BYTES = 1 << 20 };
+static char *stack_memory;
+static uint32_t memory[UNITS];
+
+static void make_stack(void) {
+    stack_memory = reserve(STACK_BYTES);
+    running_first = stack_first = stacks[0].first = (uintptr_t)stack_memory;
+    running_size = stack_size = STACK_BYTES;
+    stacks[0].end = stack_first + STACK_BYTES;
+    make_marks(stack_first, stacks[0].end);
+    numbers = reserve((stack_size >> unit_shift) * sizeof *numbers);
+}
+
+static uintptr_t stack_unit(unsigned number) { return stack_first + STACK_BYTES - 4 * (uintptr_t)(number + 1); }
+static uintptr_t memory_unit(unsigned number) { return (uintptr_t)&memory[number]; }
+
+static unsigned records;
+static uint64_t recorded;
+static void access_record(bool writes, uint64_t location, uintptr_t address, uintptr_t code) {
+    (void)writes, (void)address, (void)code;
+    records++;
+    recorded = location;
+}
+
+/* In a strand an access is a repeat behind a write, and a read behind any. */
+static void marks_repeats(void) {
+    enum { READ_IT = 1, WROTE_IT = 2 };
+    unsigned done[2 * UNITS] = {0};
+    make_stack();
+    for (int access = 0; access < 100000; access++) {
+        unsigned unit = drawn(2 * UNITS), writes = drawn(2);
+        bool repeats = (done[unit] & WROTE_IT) != 0 || (!writes && done[unit] != 0);
+        records = 0;
+        touch(writes, unit < UNITS ? memory_unit(unit) : stack_unit(unit - UNITS), 4, 0);
+        DEMAND(records == !repeats);
+        done[unit] |= writes ? WROTE_IT : READ_IT;
+        if (drawn(500) == 0) {
+            begin_strand();
+            memset(done, 0, sizeof done);
+        }
+    }
+}
+
+/* What is a thread's own has no records, also when the numbers of strands begin again. */
+static void marks_own(void) {
+    make_stack();
+    own[COPIES] = (struct own_memory){memory_unit(3), memory_unit(5)};
+    mark_own(own[COPIES].first, own[COPIES].end);
+    for (int strand = 0; strand < 3 * (int)MOST_STRANDS; strand++) {
+        records = 0;
+        touch(true, memory_unit(2), 16, 0);
+        DEMAND(records == 2);
+        begin_strand();
+    }
+}
+
+/* A record for each unit that an access touches a part of. */
+static void marks_units(void) {
+    make_stack();
+    for (unsigned first = 0; first < 8; first++)
+        for (unsigned size = 0; size < 20; size++) {
+            records = 0;
+            touch(true, memory_unit(10) + first, size, 0);
+            DEMAND(records == (size == 0 ? 0 : (first + size - 1) / 4 - first / 4 + 1));
+            begin_strand();
+        }
+}
+
+/* The numbers that have ended, but for those of the newest group. */
+static bool is_ended[100000];
+static void record_end(uint64_t location) {
+    DEMAND(location % 2 == 1);
+    uint64_t group = location / 2 >> GROUP_NUMBERS, members = location / 2 % (1 << GROUP_NUMBERS);
+    for (unsigned member = 0; member < GROUP_NUMBERS; member++)
+        if ((members >> member & 1) != 0) {
+            DEMAND(!is_ended[group * GROUP_NUMBERS + member]);
+            is_ended[group * GROUP_NUMBERS + member] = true;
+        }
+}
+
+static void end_window(void) { window_number = last_number; }
+static void leave_out_dying(uintptr_t before) {
+    (void)before;
+    end_dying();
+}
+
+static bool has_ended(uint64_t number) {
+    bool is_of_newest = number / GROUP_NUMBERS == ended.group && (ended.members >> number % GROUP_NUMBERS & 1) != 0;
+    return is_ended[number] || is_of_newest;
+}
+
+/* A unit of the stack has a fresh odd location at each first touch, keeps it until its memory ends, and then it has
+   ended. Others have twice their address in units. */
+static void stack_numbers(void) {
+    static bool ends[100000];
+    uint64_t number[UNITS] = {0}, newest = 0;
+    unsigned unit = 0;
+    make_stack();
+    for (int round = 0; round < 2000; round++) {
+        unit = drawn(2) ? drawn(UNITS) : (unit + 1) % UNITS;
+        touch(true, stack_unit(unit), 4, 0);
+        newest += number[unit] == 0;
+        number[unit] = number[unit] == 0 ? newest : number[unit];
+        DEMAND(recorded == 2 * number[unit] + 1);
+        begin_strand();
+        unsigned kept = drawn(UNITS);
+        if (drawn(5) != 0)
+            continue;
+        clear_marks(stack_mark(lowest), stack_mark(stack_unit(kept)));
+        for (unsigned gone = kept + 1; gone < UNITS; gone++) {
+            ends[number[gone]] = number[gone] != 0;
+            number[gone] = 0;
+        }
+    }
+    touch(true, memory_unit(7), 4, 0);
+    DEMAND(recorded == 2 * (memory_unit(7) / 4));
+    for (uint64_t at = 1; at <= newest; at++)
+        DEMAND(ends[at] == has_ended(at));
+}
+
+/* A number that ends in the window in which it began dies there, and isn't told. */
+static void stack_window(void) {
+    make_stack();
+    leaves_out = true;
+    touch(true, stack_unit(0), 4, 0);
+    end_window();
+    touch(true, stack_unit(1), 4, 0);
+    touch(true, stack_unit(2), 4, 0);
+    clear(stack_unit(1), 4);
+    DEMAND(!any_dies());
+    clear_marks(stack_mark(stack_unit(2)), stack_mark(stack_unit(0)) + 1);
+    DEMAND(any_dies() && !is_dying(1) && !is_dying(2) && is_dying(3) && !is_dying(4));
+    end_dying();
+    DEMAND(!any_dies() && !is_dying(3) && has_ended(1) && !has_ended(2) && !has_ended(3));
+}
+
+/* ---- The heap ---- */
+
+static void check_block(char *block, size_t size, char filled) {
+    DEMAND(malloc_usable_size(block) == size);
+    for (size_t at = 0; at < size; at++)
+        DEMAND(block[at] == filled);
+}
+
+/* Blocks are aligned and apart, keep what is in them as long as they live, and their memory comes again. */
+static void heap_blocks(void) {
+    enum { LIVE = 50 };
+    struct {
+        char *at, filled;
+        size_t size;
+    } live[LIVE] = {{NULL, 0, 0}};
+    run_thread = __builtin_thread_pointer();
+    for (int number = 0; number < 30000; number++) {
+        unsigned at = drawn(LIVE);
+        size_t alignment = (size_t)1 << drawn(13), size = drawn(20) == 0 ? drawn(100000) : drawn(3000);
+        if (live[at].at)
+            check_block(live[at].at, live[at].size, live[at].filled);
+        free(live[at].at);
+        char *block = drawn(2) ? calloc(size, 1) : aligned_alloc(alignment, size);
+        DEMAND(block && (uintptr_t)block % 16 == 0);
+        live[at].at = memset(block, live[at].filled = (char)number, live[at].size = size);
+    }
+    for (unsigned at = 0; at < LIVE; at++)
+        check_block(live[at].at, live[at].size, live[at].filled);
+    DEMAND(spans_lives.newest > 0);
+}
+
+static void heap_zero(void) {
+    run_thread = __builtin_thread_pointer();
+    for (int number = 0; number < 20000; number++) {
+        char *block = calloc(100, 10);
+        check_block(block, 1000, 0);
+        free(memset(block, 1, 1000));
+    }
+    for (size_t alignment = 1; alignment <= 1 << 20; alignment *= 2)
+        DEMAND((uintptr_t)aligned_alloc(alignment, 1) % alignment == 0);
+    DEMAND(spans_lives.newest > 0 && spans_taken < 100);
+}
+
+/* One larger than what the system gives at once, and what no system has. */
+static void heap_sizes(void) {
+    char *large = malloc((size_t)3 * CHUNK);
+    DEMAND(large && large[3 * CHUNK - 1] == 0);
+    volatile size_t most = SIZE_MAX;
+    errno = 0;
+    DEMAND(!malloc(most) && errno == ENOMEM);
+    DEMAND(!malloc(most - 100) && !calloc(most / 2, 3) && !aligned_alloc(4096, most - 4096));
+    errno = 0;
+    DEMAND(!aligned_alloc(48, 1) && errno == EINVAL);
+    DEMAND(malloc(0) && malloc_usable_size(NULL) == 0);
+}
+
+static void heap_moves(void) {
+    char *block = malloc(3);
+    memcpy(block, "abc", 3);
+    char *larger = realloc(block, 64);
+    static const char wanted[64] = "abc";
+    DEMAND(larger != block && memcmp(larger, wanted, 64) == 0);
+    char *smaller = realloc(larger, 2);
+    DEMAND(malloc_usable_size(smaller) == 2 && memcmp(smaller, "ab", 2) == 0 && realloc(NULL, 1));
+}
+
+/* ---- Formats ---- */
+
+/* What a format touches, a letter and the size of each, as in `R3 W4`. Arguments that are touched are among these. */
+static char touched_text[200];
+static char word[] = "abc", other[] = "xy";
+static wchar_t wide_word[] = L"abcd";
+static int number;
+
+static void note_touch(bool writes, uintptr_t at, size_t size, const void *with) {
+    const void *places[] = {word, other, wide_word, &number};
+    size_t place = 0, length = strlen(touched_text);
+    while (place < 4 && (uintptr_t)places[place] != at)
+        place++;
+    DEMAND(with == touched_text && place < 4);
+    snprintf(touched_text + length, sizeof touched_text - length, "%s%c%zu%c", length > 0 ? " " : "", "wovn"[place],
+             size, writes ? '!' : '?');
+}
+
+static bool prints(const char *wanted, const char *format, ...) {
+    va_list list;
+    va_start(list, format);
+    touched_text[0] = '\0';
+    formats_printed(format, &list, note_touch, touched_text);
+    va_end(list);
+    return strcmp(wanted, touched_text) == 0;
+}
+
+static bool scans(const char *wanted, int stored, const char *format, ...) {
+    va_list list;
+    va_start(list, format);
+    touched_text[0] = '\0';
+    formats_scanned(format, &list, stored, note_touch, touched_text);
+    va_end(list);
+    return strcmp(wanted, touched_text) == 0;
+}
+
+static void formats_print(void) {
+    DEMAND(prints("w4? o3?", "%d %s %% %s", 1, word, other));
+    DEMAND(prints("w2? w4?", "%.2s %.9s", word, word) && prints("w0?", "%.s", word));
+    DEMAND(prints("w1? o3?", "%*.*s|%-8s", 5, 1, word, other) && prints("w4?", "%.*s", -1, word));
+    DEMAND(prints("n4! n8! n2! n1!", "%n%ln%hn%hhn", &number, &number, &number, &number));
+    DEMAND(prints("o3?", "%f %e %g %a %Lf %s", 1., 1., 1., 1., 1.L, other));
+    DEMAND(prints("o3?", "%c %hhd %ld %llu %zu %jd %td %p %x %m %s", 'a', 1, 1L, 1ULL, (size_t)1, (intmax_t)1,
+                  (ptrdiff_t)1, (void *)word, 1u, other));
+    DEMAND(prints("o3?", "%d %d %d %d %d %Lf %#x %s", 1, 1, 1, 1, 1, 1.L, 1u, other));
+    DEMAND(prints("v20? v20?", "%ls %S", wide_word, wide_word));
+    DEMAND(prints("", "%s %ls", NULL, NULL) && prints("", "no conversion") && prints("", "%") && prints("", NULL));
+    DEMAND(prints("o3? w4?", "%3$s %1$s %2$f", word, 1., other) && prints("w2?", "%1$.*2$s", word, 2));
+}
+
+static void formats_scan(void) {
+    DEMAND(scans("n4! w4! o3!", 3, "%d %s %s", &number, word, other) && scans("n4!", 1, "%d %s", &number, word));
+    DEMAND(scans("", 0, "%d", &number) && scans("", -1, "%n", &number));
+    DEMAND(scans("n8! n2! n1! n8! n4! n16!", 6, "%ld %hd %hhd %lf %f %Lf", &number, &number, &number, &number, &number,
+                 &number));
+    DEMAND(scans("w3! o1!", 2, "%3c%c", word, other) && scans("n4!", 1, "%*s %*d %d", &number));
+    DEMAND(scans("w4! n4!", 2, "%[]%s]%d", word, &number));
+    DEMAND(scans("w4! n4!", 2, "%[^]%s]%d", word, &number) && scans("n8! n8!", 2, "%ms %m[a]", &number, &number));
+    DEMAND(scans("n4! n4!", 1, "%d%n", &number, &number) && scans("v20! n8!", 2, "%ls%p", wide_word, &number));
+    DEMAND(scans("o3! w4!", 2, "%2$s %1$s", word, other));
+}
+
+static void formats_narrow(void) {
+    char room[6];
+    DEMAND(strcmp(formats_narrowed(L"%l\u00e9s", room, sizeof room), "%l?s") == 0);
+    DEMAND(strcmp(formats_narrowed(L"1234567", room, sizeof room), "12345") == 0);
+    DEMAND(strcmp(formats_narrowed(NULL, room, sizeof room), "") == 0);
+}
+
+int main(int count, char **words) {
+    static const struct {
+        const char *name;
+        void (*run)(void);
+    } parts[] = {{"strand_blocks", strand_blocks}, {"strand_locations", strand_locations},
+                 {"strand_parts", strand_parts},   {"marks_repeats", marks_repeats},
+                 {"marks_own", marks_own},         {"marks_units", marks_units},
+                 {"stack_numbers", stack_numbers}, {"heap_blocks", heap_blocks},
+                 {"heap_zero", heap_zero},         {"strand_left_out", strand_left_out},
+                 {"stack_window", stack_window},   {"heap_sizes", heap_sizes},
+                 {"heap_moves", heap_moves},       {"formats_print", formats_print},
+                 {"formats_scan", formats_scan},   {"formats_narrow", formats_narrow}};
+    for (size_t at = 0; at < sizeof parts / sizeof *parts; at++)
+        if (count == 1)
+            puts(parts[at].name);
+        else if (strcmp(words[1], parts[at].name) == 0)
+            parts[at].run();
+    return 0;
+}
