@@ -198,7 +198,7 @@ class TracerTest(unittest.TestCase):
 
     def is_same_inside(self, source, *flags, words=(), **settings):
         """The report of the detector inside is that of the trace, with the checks in the program and without."""
-        for options in (["--inline-checks"], []):
+        for options in ([], ["--no-inline-checks"]):
             with self.subTest("the report of the detector inside", options=options):
                 self.succeeds(compiler_of(source), "--inside", *options, *flags, "-o", "inside", source)
                 self.has_same_report("./inside", *words, **settings)

@@ -445,7 +445,7 @@ class Batch:
 
     def build(self):
         batch = self.numbers[0] // BATCH
-        ways = ("-O0", "-O1")[batch % 2], *[["--inline-checks"], []][batch // 2 % 2]
+        ways = ("-O0", "-O1")[batch % 2], *[[], ["--no-inline-checks"]][batch // 2 % 2]
         self.run(os.path.join(TRACER, self.compiler), *self.inside, *ways, "-w", "-o", self.name,
                  self.name + self.ending, CC=os.environ.get("CC", "gcc") + " -DFREE_SPANS=0")
         self.run("gcc" if not os.environ.get("CC") else os.environ["CC"], "-w", "-O1", "-I" + HERE, "-o",
