@@ -78,7 +78,7 @@ static void end_child_body(const struct body *body, uintptr_t code) {
         close_child(code);
     }
     if (body->is_child && tracing)
-        clear_below(scopes[newest_scope].stack_end);
+        clear_below(thread_now()->stack_end);
     follow_body();
 }
 

@@ -126,7 +126,7 @@ static void end_following(uintptr_t code) {
         close_part(code);
         close_child(code);
         if (tracing)
-            clear_below(scopes[newest_scope].stack_end);
+            clear_below(thread_now()->stack_end);
     }
     follow_body();
 }

@@ -446,6 +446,27 @@ static void master_and_single_in_group(void) {
     }
 }
 
+/* What a thread has on its own stack is its own. */
+static void own_in_group(void) {
+    int sum = 0;
+#pragma omp parallel
+    {
+        volatile int local = 0;
+#pragma omp taskgroup
+        {
+#pragma omp master
+            local = 1;
+            demand(local < 2);
+#pragma omp for reduction(+ : sum) nowait
+            for (int i = 0; i < 4; i++) {
+                local = i;
+                sum += i;
+            }
+            local++;
+        }
+    }
+}
+
 static void masters_in_groups(void) {
 #pragma omp parallel
     {
@@ -584,6 +605,7 @@ static const struct {
             {"tasks", tasks, "none"},
             {"barrier_in_group", barrier_in_group, "none"},
             {"master_and_single_in_group", master_and_single_in_group, "data"},
+            {"own_in_group", own_in_group, "none"},
             {"masters_in_groups", masters_in_groups, "none"},
             {"summed_in_group", summed_in_group, "data"},
             {"masked_alone", masked_alone, "data"},
