@@ -18,7 +18,6 @@ use stretch::Stretch;
 use stretches::Stretches;
 
 pub mod laws;
-mod look_up;
 mod nested;
 mod nesting;
 mod search;

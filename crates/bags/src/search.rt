@@ -6,8 +6,8 @@ ghost use Rattle.dag.specs.Bounds.{most_records};
 ghost use Rattle.bags.specs.Search.{first_at, IsAscending, IsKeeper, IsStart};
 ghost use Rattle.bags.specs.Numbers.{digits};
 
-use crate::look_up::Probes;
 use crate::stretch::Stretch;
+use crate::stretches::Probes;
 use std::marker::Model;
 
 /// Where a search among a number of stretches begins.

@@ -4,7 +4,7 @@
 ghost use Rattle.std.specs.Prelude.{◌≡◌, ◌+◌, ◌*◌, ◌<◌, ◌≤◌, ◌^◌, ◌↔◌, IsTrue};
 ghost use Rattle.dag.specs.Bounds.{most_records};
 
-use crate::look_up::Probes;
+use crate::stretches::Probes;
 use std::marker::Model;
 
 /// A run of procedures in one bag: the first of them, which no one can read, and whether the bag is a P-bag.

@@ -1,20 +1,44 @@
-//! The stretches of the active procedures, and the look-up among them. It has no number of an active
-//! procedure.
+//! The stretches of the active procedures, and the look-up among them. It has no number of an active procedure. It
+//! makes the counter of a look-up's probes, at 0; no other code makes one.
 #![tactic(auto)]
 
-ghost use Rattle.std.specs.Prelude.{◌≡◌, ◌≢◌, ◌+◌, ◌-◌, ◌<◌, ◌≤◌, false, [], ◌∷◌, ◌++◌};
-ghost use Rattle.std.specs.Prelude.{length, take, get_or, IfOk, OnOk, OnErr};
+ghost use Rattle.std.specs.Prelude.{◌≡◌, ◌≢◌, ◌+◌, ◌-◌, ◌^◌, ◌<◌, ◌≤◌, [], ◌∷◌, ◌++◌};
+ghost use Rattle.std.specs.Prelude.{length, take, IfOk, OnOk, OnErr};
 ghost use Rattle.dag.specs.Bounds.{most_records};
 ghost use Rattle.bags.specs.Numbers.{digits};
 ghost use Rattle.bags.specs.Search.{first_at, IsAscending, IsKeeper};
 ghost use Rattle.bags.specs.Stretch.{bag_before};
 
-use crate::look_up::look_up;
-use crate::search::Start;
+use crate::search::{Start, keeper_of};
 use crate::stretch::Stretch;
 use dag::NoMemory;
 use std::alloc::Global;
 use std::marker::Model;
+
+/// The number of probes that a look-up has made.
+#[derive(Drop)]
+pub struct Probes {
+    made: u32,
+}
+
+impl Model for Probes {
+    ghost use Rattle.std.specs.Prelude.{ℕ};
+
+    ghost Value = { ℕ };
+
+    ghost view = { λ p. p.made };
+}
+
+impl Probes {
+    /// Counts one more probe.
+    #[inline(always)]
+    pub fn add(&mut self)
+        requires { self.old + 1 < 2 ^ 32 }
+        ensures { self.new ≡ self.old + 1 }
+    {
+        self.made += 1;
+    }
+}
 
 /// Stretches, and where a search among them begins. There is at least one.
 #[derive(Drop)]
@@ -106,6 +130,8 @@ impl Stretches {
         ensures keeper { IsKeeper self.now procedure result.0 }
         ensures probes { result.1 ≤ digits (length self.now) }
     {
-        look_up(&self.list, self.start, procedure)
+        let mut probes = Probes { made: 0 };
+        let keeper = keeper_of(&self.list, self.start, procedure, &mut probes);
+        (keeper, probes.made)
     }
 }

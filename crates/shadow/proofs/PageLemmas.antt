@@ -71,6 +71,26 @@ put_here es fs page seat c put =
     let here : cell_in fs page seat ≡ (if page == page && seat == seat then c else cell_in es page seat) = put page seat in
     rw (eq-eqb page page refl, eq-eqb seat seat refl) at here
 
+-- the page that was changed, where each look-up says so
+pub numbered_here : (es fs : List (ℕ × Page)) (page : ℕ) (b : Page) → ((q : ℕ) → lookup (nat_eq q) fs ≡ cond (nat_eq page q) (Some b) (lookup (nat_eq q) es)) → page_numbered fs page ≡ b
+numbered_here es fs page b looks = ap (λ o. unwrap_or o no_page) (looks page ∙ ap (λ t. cond t (Some b) (lookup (nat_eq page) es)) (eq-eqb page page refl))
+
+-- a page that was changed in one seat
+pub seat_changed : (es fs : List (ℕ × Page)) (page seat : ℕ) (old new : Page) → old ≡ page_numbered es page
+    → ((q : ℕ) → lookup (nat_eq q) fs ≡ cond (nat_eq page q) (Some new) (lookup (nat_eq q) es))
+    → ((k : ℕ) → k ≢ seat → cell_at new k ≡ cell_at old k) → HasPut page seat (cell_in fs page seat) es fs
+seat_changed es fs page seat old new is looks others =
+    let put : HasPut page seat (cell_at new seat) es fs = put_changed es fs page seat (cell_at new seat) new (λ k. but_one_seat old new seat others k ∙ ap (λ p. if k == seat then cell_at new seat else cell_at p k) is) looks in
+    subst (λ (c : Cell). HasPut page seat c es fs) (sym (put_here es fs page seat (cell_at new seat) put)) put
+
+-- and whose seat an access touched
+pub seat_touched : {s : Procedures} {l place : ℕ} {kind : Kind} {race : Option RaceAt} (es fs : List (ℕ × Page)) (page seat : ℕ) (old new : Page) → old ≡ page_numbered es page
+    → ((q : ℕ) → lookup (nat_eq q) fs ≡ cond (nat_eq page q) (Some new) (lookup (nat_eq q) es))
+    → HasTouched s l kind place (cell_at old seat) (cell_at new seat) race → HasTouched s l kind place (cell_in es page seat) (cell_in fs page seat) race
+seat_touched {s = s} {l = l} {place = place} {kind = kind} {race = race} es fs page seat old new is looks t =
+    subst (λ (p : Page). HasTouched s l kind place (cell_in es page seat) (cell_at p seat) race) (sym (numbered_here es fs page new looks))
+    (subst (λ (p : Page). HasTouched s l kind place (cell_at p seat) (cell_at new seat) race) is t)
+
 -- a put over pages that keep the same
 pub put_over : (es ps fs : List (ℕ × Page)) (page seat : ℕ) (c : Cell) → HasSameCells es ps → HasPut page seat c ps fs → HasPut page seat c es fs
 put_over es ps fs page seat c same put q k = put q k ∙ ap (λ d. if q == page && k == seat then c else d) (same q k)
@@ -127,7 +147,3 @@ put_is_of n es fs l c some put q = put (page_of n q) (seat_of n q) ∙ ap (λ t.
         not_both (inl (p, pages)) (inl (s, seats)) = absurd (ne (one_seat n q l some pages seats))
         not_both (inl (p, pages)) (inr (s, seats)) = rw (p, s) refl
         not_both (inr (p, pages)) s = rw p refl
-
--- the page that was changed, where each look-up says so
-pub numbered_here : (es fs : List (ℕ × Page)) (page : ℕ) (b : Page) → ((q : ℕ) → lookup (nat_eq q) fs ≡ cond (nat_eq page q) (Some b) (lookup (nat_eq q) es)) → page_numbered fs page ≡ b
-numbered_here es fs page b looks = ap (λ o. unwrap_or o no_page) (looks page ∙ ap (λ t. cond t (Some b) (lookup (nat_eq page) es)) (eq-eqb page page refl))

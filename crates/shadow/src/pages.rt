@@ -50,25 +50,6 @@ impl Page {
         }
     }
 
-    /// Takes an access to the location in this seat, and reports its race, if any. The other seats don't change.
-    #[inline(always)]
-    fn touch_seat(
-        &mut self,
-        seat: usize,
-        bags: &Bags,
-        location: u64,
-        kind: Kind,
-        place: u64,
-    ) -> Option<Race>
-        requires within { seat < 8 }
-        requires may { MayTouch bags.now place (cell_at self.old seat) }
-        ensures touched { HasTouched bags.now location kind place
-            (cell_at self.old seat) (cell_at self.new seat) result }
-        ensures others { (k : ℕ) → k ≢ seat → cell_at self.new k ≡ cell_at self.old k }
-    {
-        self.names[seat].update(&mut self.reported[seat], bags, location, kind, place)
-    }
-
     /// The location in this seat is as it was before its first access.
     fn forget_seat(&mut self, seat: usize)
         requires within { seat < 8 }
@@ -236,7 +217,13 @@ impl<S: BuildHasher> Pages<S> {
         ensures others { HasPut spot.page spot.seat (cell_in self.new spot.page spot.seat) self.old self.new }
     {
         match self.map.get_index_mut(at) {
-            Some(page) => page.touch_seat(spot.seat, bags, location, kind, place),
+            Some(page) => page.names[spot.seat].update(
+                &mut page.reported[spot.seat],
+                bags,
+                location,
+                kind,
+                place,
+            ),
             None => unreachable!(),
         }
     }
