@@ -131,7 +131,7 @@ in_race_on_at : (s r : RaceAt) (rs : List RaceAt) (o : Option RaceAt) (b : Bool)
 in_race_on_at s r rs o true e f = inl (cc)
 in_race_on_at s r rs o false e f = inr (f e)
 
-in_race_on : (l : ℕ) (rs : List RaceAt) (r : RaceAt) → race_on l rs ≡ Some r → In r rs
+pub in_race_on : (l : ℕ) (rs : List RaceAt) (r : RaceAt) → race_on l rs ≡ Some r → In r rs
 in_race_on l [] r e = absurd (cc)
 in_race_on l (s ∷ rs) r e = in_race_on_at s r rs (race_on l rs) (eqb s.location l) e (in_race_on l rs r)
 

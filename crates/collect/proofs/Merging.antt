@@ -57,12 +57,12 @@ module _ {X : Type 0} where
   ]
 
 module _ {X Y : Type 0} (f : X → Y) where
-  in_map : (xs : List X) (x : X) → In x xs → In (f x) (map f xs)
+  pub in_map : (xs : List X) (x : X) → In x xs → In (f x) (map f xs)
   in_map [] x h = absurd h
   in_map (z ∷ xs) x (inl e) = inl (ap f e)
   in_map (z ∷ xs) x (inr h) = inr (in_map xs x h)
 
-  from_map : (xs : List X) (y : Y) → In y (map f xs) → (x : X) × In x xs × (f x ≡ y)
+  pub from_map : (xs : List X) (y : Y) → In y (map f xs) → (x : X) × In x xs × (f x ≡ y)
   from_map [] y h = absurd h
   from_map (z ∷ xs) y (inl e) = (z, inl refl, e)
   from_map (z ∷ xs) y (inr h) = let p = from_map xs y h in (p.0, inr p.1, p.2)

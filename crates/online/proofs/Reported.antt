@@ -1,5 +1,5 @@
 -- The report of all lives, and that of a run in which each location has but one.
-use Rattle.std.proofs.Common.{◌≡◌, ◌≢◌, ◌↔◌, ◌⊎◌, inl, inr, ℕ, ◌/◌, ◌%◌, ◌^◌, ◌<◌, ◌≤◌, Bool, true, false, cond, nat_eq, List, [], ◌∷◌, ◌++◌, map, Option, Some, None, refl, sym, ap, subst, ◌∙◌, ⊎_elim, arith}
+use Rattle.std.proofs.Common.{◌≡◌, ◌≢◌, ◌↔◌, ◌⊎◌, ℕ, ◌/◌, ◌%◌, ◌^◌, ◌<◌, ◌≤◌, true, false, List, [], ◌∷◌, map, Option, Some, None, refl, sym, ap, subst, ◌∙◌, ⊎_elim, arith}
 use Rattle.std.specs.List.{AllByRecursion}
 use Rattle.std.proofs.lemmas.Bool.{cases_lt}
 use Rattle.dag.specs.declared.back.Back.{Back}
@@ -9,10 +9,11 @@ use Rattle.dag.specs.Accesses.{RaceAt}
 use Rattle.shadow.specs.Cells.{Cell, untouched}
 use Rattle.shadow.specs.Found.{state_at_start, state_after, found, put_in, by_location, verdict}
 use Rattle.shadow.proofs.FoundLaws.{found_from-apart, found-reported}
-use Rattle.collect.specs.Collected.{KeepsBest, IsCollected, best, race_on}
+use Rattle.collect.specs.Collected.{KeepsBest, IsCollected, best}
 use Rattle.collect.proofs.Sorted.{collected_is_sorted}
 use Rattle.collect.proofs.Ascending.{Ascends-from_increasing}
-use Rattle.collect.proofs.FirstLeast.{KeptOf, kept_best, race_on_in}
+use Rattle.collect.proofs.FirstLeast.{KeptOf, all_in, in_race_on, in_round, kept_best, race_on_in}
+use Rattle.collect.proofs.Merging.{from_map, in_map}
 use Rattle.dag.proofs.Once.{In, In_from, Contains_from}
 use Rattle.shadow.proofs.Listed.{In-by_location, In-from_by_location}
 use Rattle.shadow.proofs.Headlines.{racy}
@@ -52,33 +53,6 @@ reported_first u d rs h collected =
 
 -- ---- the locations that are reported
 
-in_middle : (a b : List RaceAt) (x : RaceAt) → In x (a ++ x ∷ b)
-in_middle [] b x = inl refl
-in_middle (y ∷ a) b x = inr (in_middle a b x)
-
-in_map : (rs : List RaceAt) (r : RaceAt) → In r rs → In (at_home r) (map at_home rs)
-in_map [] r h = absurd h
-in_map (s ∷ rs) r (inl e) = inl (ap at_home e)
-in_map (s ∷ rs) r (inr h) = inr (in_map rs r h)
-
-from_map : (rs : List RaceAt) (r : RaceAt) → In r (map at_home rs) → (y : RaceAt) × In y rs × (at_home y ≡ r)
-from_map [] r h = absurd h
-from_map (s ∷ rs) r (inl e) = (s, inl refl, e)
-from_map (s ∷ rs) r (inr h) = let y = from_map rs r h in (y.0, inr y.1, y.2)
-
-here_or_later : (s r : RaceAt) (rs : List RaceAt) (o : Option RaceAt) (b : Bool) → cond b (Some s) o ≡ Some r → (o ≡ Some r → In r rs) → (s ≡ r) ⊎ In r rs
-here_or_later s r rs o true e f = inl (cc)
-here_or_later s r rs o false e f = inr (f e)
-
-on_it : (l : ℕ) (rs : List RaceAt) (r : RaceAt) → race_on l rs ≡ Some r → In r rs
-on_it l [] r e = absurd (cc)
-on_it l (s ∷ rs) r e = here_or_later s r rs (race_on l rs) (nat_eq s.location l) e (on_it l rs r)
-
-none_on : (rs : List RaceAt) (l : ℕ) (r : RaceAt) → AllByRecursion (λ s. s.location ≢ l) rs → In r rs → r.location ≢ l
-none_on [] l r a h = absurd h
-none_on (s ∷ rs) l r a (inl e) = λ x. a.0 (ap (λ (q : RaceAt). q.location) e ∙ x)
-none_on (s ∷ rs) l r a (inr h) = none_on rs l r a.1 h
-
 module _ (u : List Record) (n d : ℕ) (rs : List RaceAt) (nested : IsWellNested u n d) (h : IsReportOfLives (placed u) rs) (l : ℕ) where
   abbrev all : List RaceAt
   all = found (placed u)
@@ -87,18 +61,18 @@ module _ (u : List Record) (n d : ℕ) (rs : List RaceAt) (nested : IsWellNested
   to_life (r, c, e) =
       let best_is : best r.location (map at_home all) ≡ Some r = sym (h.best_on r.location) ∙ race_on_in rs r (Ascends-from_increasing rs h.ascending.ascending) (In_from rs r c) in
       let least = (subst (KeptOf r.location (map at_home all)) best_is (kept_best r.location (map at_home all))).1 in
-      let y = from_map all r (subst (In r) (sym least.came) (in_middle least.before least.after r)) in
+      let y = from_map at_home all r (subst (In r) (sym least.came) (in_round least.before least.after r)) in
       (y.0.location, ap (λ (q : RaceAt). q.location) y.2 ∙ e, (racy u nested y.0.location).1 (y.0, Contains_from (verdict u) y.0 (In-by_location y.0 all y.1), refl))
 
   from_life : HasRacyLife u l → HasLocation rs l
   from_life (x, e, race) =
       let y = (racy u nested x).0 race in
-      let inside : In (at_home y.0) (map at_home all) = in_map all y.0 (In-from_by_location y.0 all (In_from (verdict u) y.0 y.1)) in
+      let inside : In (at_home y.0) (map at_home all) = in_map at_home all y.0 (In-from_by_location y.0 all (In_from (verdict u) y.0 y.1)) in
       go (best l (map at_home all)) refl (kept_best l (map at_home all)) y.0 inside (ap (λ q. q % 2 ^ 64) y.2 ∙ e)
     where
       go : (o : Option RaceAt) → best l (map at_home all) ≡ o → KeptOf l (map at_home all) o → (y : RaceAt) → In (at_home y) (map at_home all) → home y.location ≡ l → HasLocation rs l
-      go None b k y i q = absurd (none_on (map at_home all) l (at_home y) k i q)
-      go (Some s) b k y i q = (s, Contains_from rs s (on_it l rs s (h.best_on l ∙ b)), k.0)
+      go None b k y i q = absurd (all_in (λ s. s.location ≢ l) (map at_home all) (at_home y) k i q)
+      go (Some s) b k y i q = (s, Contains_from rs s (in_race_on l rs s (h.best_on l ∙ b)), k.0)
 
   pub lives_racy : HasLocation rs l ↔ HasRacyLife u l
   lives_racy = (to_life, from_life)
