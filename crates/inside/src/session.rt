@@ -4,6 +4,7 @@ ghost use Rattle.dag.specs.declared.records.Record.{Record};
 ghost use Rattle.online.specs.Online.{IsAfter};
 ghost use Rattle.inside.specs.declared.session.Session.{Session};
 ghost use Rattle.inside.specs.Naming.{named_with};
+ghost use Rattle.inside.specs.Statuses.{answered_status};
 ghost use Rattle.online.specs.Lives.{first_lives};
 ghost use Rattle.inside.specs.Sessions.{unpacked, no_memory, IsNamed, HasTaken, report_text, IsTextOfLives};
 ghost use Rattle.inside.specs.Sessions.{HasStepped, HaveStepped, HasTakenBlock, HasForgotten, HasReported, HasNext};
@@ -98,12 +99,10 @@ impl Session {
         match self {
             Session::Taking(detector, _) => match record_of(kind, location) {
                 None => UNKNOWN_KIND,
-                Some(what) => match detector.take(what) {
-                    Ok(()) => TAKEN,
-                    Err(Refusal::AfterEnd) => AFTER_END,
-                    Err(Refusal::TooMany) => TOO_MANY,
-                    Err(Refusal::NoMemory) => self.stop(),
-                },
+                Some(what) => {
+                    let answer = detector.take(what);
+                    self.settle(answer)
+                }
             },
             Session::Giving(..) => GIVEN,
             Session::Stopped => NO_MEMORY,
@@ -116,12 +115,10 @@ impl Session {
         ensures { HasTakenBlock self.old location reads writes self.new result }
     {
         match self {
-            Session::Taking(detector, _) => match detector.take_block(location, reads, writes) {
-                Ok(()) => TAKEN,
-                Err(Refusal::AfterEnd) => AFTER_END,
-                Err(Refusal::TooMany) => TOO_MANY,
-                Err(Refusal::NoMemory) => self.stop(),
-            },
+            Session::Taking(detector, _) => {
+                let answer = detector.take_block(location, reads, writes);
+                self.settle(answer)
+            }
             Session::Giving(..) => GIVEN,
             Session::Stopped => NO_MEMORY,
         }
@@ -138,6 +135,21 @@ impl Session {
             }
             Session::Giving(..) => GIVEN,
             Session::Stopped => NO_MEMORY,
+        }
+    }
+
+    // The status of what the detector answers. After a refused growth the session is stopped.
+    #[inline(always)]
+    fn settle(&mut self, answer: Result<(), Refusal>) -> u8
+        ensures status { result ≡ answered_status answer }
+        ensures unchanged { result ≢ no_memory → self.new ≡ self.old }
+        ensures stops { result ≡ no_memory → self.new ≡ Session.Stopped }
+    {
+        match answer {
+            Ok(()) => TAKEN,
+            Err(Refusal::AfterEnd) => AFTER_END,
+            Err(Refusal::TooMany) => TOO_MANY,
+            Err(Refusal::NoMemory) => self.stop(),
         }
     }
 
