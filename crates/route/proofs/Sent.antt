@@ -1,15 +1,18 @@
 -- What stands on the lanes after a put.
-use Rattle.std.proofs.Common.{◌≡◌, ℕ, ◌+◌, ◌<◌, ◌≤◌, Bool, true, false, cond, ◌&&◌, nat_lt, List, [], ◌∷◌, ◌++◌, length, map, sym, ap, subst, ◌∙◌, Option, Some, None, append-nil, ◌⊎◌, ⊎_elim, arith}
-use Rattle.std.proofs.lemmas.Bool.{cases_eq, cases_order, lt-ltb, le-ltb, cond-true, cond-false, and_left}
+use Rattle.std.proofs.Common.{◌≡◌, ℕ, ◌+◌, ◌%◌, ◌<◌, ◌≤◌, Bool, true, false, cond, ◌&&◌, nat_lt, List, [], ◌∷◌, ◌++◌, length, map, refl, sym, ap, subst, ◌∙◌, Option, Some, None, append-nil, ◌⊎◌, ⊎_elim, arith}
+use Rattle.std.proofs.lemmas.Bool.{cases_eq, cases_order, lt-ltb, le-ltb, eq-eqb, ne_eqb, cond-true, cond-false, and_left}
+use Rattle.std.proofs.Math.Nat.{mod-lt}
 use Rattle.std.proofs.lemmas.List.{length-set, get_or-set_same, get_or-set_other, map-append}
 use Rattle.lane.specs.declared.item.Item.{Item}
 use Rattle.lane.specs.declared.item.Item.TheVariants.{One, Finish}
 use Rattle.lane.specs.Items.{has_mark}
 use Rattle.lane.proofs.Marks.{has_mark_more}
 use Rattle.dag.specs.declared.records.Placed.{Placed}
-use Rattle.dag.specs.Shares.{goes_placed, share}
+use Rattle.dag.specs.declared.records.Record.{Record}
+use Rattle.dag.specs.declared.records.Record.TheVariants.{Spawn, Call, Return, Sync, Read, Write}
+use Rattle.dag.specs.Shares.{goes, goes_placed, share}
 use Rattle.dag.proofs.ShareLemmas.{share-push}
-use Rattle.route.specs.Sending.{put_on, with_put, portion, mark_of, AllSent, sent_whole, HaveMarks}
+use Rattle.route.specs.Sending.{first_lane, put_on, with_put, portion, mark_of, AllSent, sent_whole, HaveMarks}
 
 abbrev pub Items : Type 0
 Items = List (Item Placed)
@@ -93,9 +96,36 @@ sent-last puts w i p m none h goes last all =
     let Q : ℕ → Type 0 = λ j. (k : ℕ) → k < length (with_put puts i (One p)) → put_on (with_put puts i (One p)) k ≡ map One (share k j (w ++ p ∷ []) ++ []) ++ mark_of k m in
     subst Q (sym (length-set puts i (put_on puts i ++ One p ∷ []))) (each_after P puts i (One p) h here others)
 
+-- the first lane that a record goes to is one of them, and no lane before it gets the record
+pub first_lane_within : (n : ℕ) (r : Record) → 1 ≤ n → first_lane n r < n
+first_lane_within n Spawn some = some
+first_lane_within n Call some = some
+first_lane_within n Return some = some
+first_lane_within n Sync some = some
+first_lane_within n (Read l) some = mod-lt l some
+first_lane_within n (Write l) some = mod-lt l some
+
+pub goes-first_lane : (n : ℕ) (r : Record) → goes (first_lane n r) n r ≡ true
+goes-first_lane n Spawn = refl
+goes-first_lane n Call = refl
+goes-first_lane n Return = refl
+goes-first_lane n Sync = refl
+goes-first_lane n (Read l) = eq-eqb (l % n) (l % n) refl
+goes-first_lane n (Write l) = eq-eqb (l % n) (l % n) refl
+
+goes-before : (n j : ℕ) (r : Record) → j < first_lane n r → goes j n r ≡ false
+goes-before n j (Read l) before = ne_eqb (l % n) j (λ e. omega arith)
+goes-before n j (Write l) before = ne_eqb (l % n) j (λ e. omega arith)
+goes-before n j Spawn before = absurd (omega arith)
+goes-before n j Call before = absurd (omega arith)
+goes-before n j Return before = absurd (omega arith)
+goes-before n j Sync before = absurd (omega arith)
+
 -- a record was offered
-pub sent-offer : (puts : List Items) (w : List Placed) (t i m : ℕ) (p : Placed) → ((j : ℕ) → j < i → goes_placed j (length puts) p ≡ false) → OnPuts w t None m puts → OnPuts w i (Some p) m puts
-sent-offer puts w t i m p none all = λ k l. all k l ∙ ap (λ (x : List Placed). map One (share k (length puts) w ++ x) ++ mark_of k m) (sym (portion-first k (length puts) i p none))
+pub sent-offer : (puts : List Items) (w : List Placed) (t i m : ℕ) (p : Placed) → i ≡ first_lane (length puts) p.what → OnPuts w t None m puts → OnPuts w i (Some p) m puts
+sent-offer puts w t i m p first all =
+    let none : (j : ℕ) → j < i → goes_placed j (length puts) p ≡ false = λ j before. goes-before (length puts) j p.what (omega (arith, first, before)) in
+    λ k l. all k l ∙ ap (λ (x : List Placed). map One (share k (length puts) w ++ x) ++ mark_of k m) (sym (portion-first k (length puts) i p none))
 
 -- a mark was put
 pub sent-mark : (puts : List Items) (w : List Placed) (t m : ℕ) → m < length puts → OnPuts w t None m puts → OnPuts w t None (m + 1) (with_put puts m Finish)

@@ -1,6 +1,5 @@
-use Rattle.std.proofs.Common.{◌≡◌, ℕ, ◌<◌, false, length, Option, refl, subst, ap, ◌∙◌, arith}
+use Rattle.std.proofs.Common.{◌≡◌, ℕ, length, Option, refl, subst, ap, ◌∙◌, arith}
 use Rattle.dag.specs.declared.records.Placed.{Placed}
-use Rattle.dag.specs.Shares.{goes_placed}
 use Rattle.route.specs.Senders.{puts}
 use Rattle.route.specs.Sending.{first_lane}
 use Rattle.route.specs.Steps.{IsIdle, HasOffered}
@@ -15,8 +14,7 @@ returns c =
     let s = c.self.inside in
     let p = c.args.placed in
     let count : c.len.result ≡ length (puts s.senders.items) = omega (arith, puts_counted s.senders, c.len.ensures) in
-    let next = c.first_lane-self-inside.ensures.value ∙ ap (λ (n : ℕ). first_lane n p.what) count in
-    let N : ℕ → Type 0 = λ n. (j : ℕ) → j < c.first_lane-self-inside.result → goes_placed j n p ≡ false in
+    let next = c.first_lane-self-inside.ensures ∙ ap (λ (n : ℕ). first_lane n p.what) count in
     over_view (λ o n. IsIdle o → HasOffered p o n) _ _ _ c.self.view_is (λ idle. record {
       on = record { lanes = refl; capacities = refl; count = refl };
       puts = refl;
@@ -25,6 +23,6 @@ returns c =
       marked = idle.none_marked;
       sent = λ w h.
           let O : Option Placed → Type 0 = λ o. OnPuts w s.next o s.marked (puts s.senders.items) in
-          sent-offer (puts s.senders.items) w s.next c.first_lane-self-inside.result s.marked p (subst N count c.first_lane-self-inside.ensures.first) (subst O idle.none_pending h);
+          sent-offer (puts s.senders.items) w s.next c.first_lane-self-inside.result s.marked p next (subst O idle.none_pending h);
       run = λ w. step_event-offer (length (puts s.senders.items)) w s.pending p s.next c.first_lane-self-inside.result s.marked idle.none_pending next;
     }) c.requires

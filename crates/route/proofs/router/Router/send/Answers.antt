@@ -3,12 +3,12 @@ use Rattle.std.proofs.lemmas.List.{length-set}
 use Rattle.lane.specs.declared.item.Item.TheVariants.{One}
 use Rattle.lane.specs.Items.{has_mark}
 use Rattle.dag.specs.declared.records.Placed.{Placed}
-use Rattle.dag.specs.Shares.{goes_placed}
+use Rattle.dag.specs.Shares.{goes, goes_placed}
 use Rattle.route.specs.Senders.{puts, with_refusal}
-use Rattle.route.specs.Sending.{put_on, with_put}
+use Rattle.route.specs.Sending.{first_lane, put_on, with_put}
 use Rattle.route.specs.Routers.{RouterState, HasSent}
 use Rattle.route.proofs.Lists.{puts_counted, put_at, put_ok, put_err}
-use Rattle.route.proofs.Sent.{Items, OnPuts, sent-offer, sent-next, sent-last, unmarked_at}
+use Rattle.route.proofs.Sent.{Items, OnPuts, first_lane_within, goes-first_lane, sent-offer, sent-next, sent-last, unmarked_at}
 use Rattle.route.proofs.Steps.{router_same, router_put, router_aim, aimed_at, has_sent_record, has_stuck}
 use Rattle.route.proofs.router.Router.send.Goals as goal
 
@@ -19,16 +19,16 @@ lanes-init c =
     let count : c.len-count.result ≡ length (puts s.senders.items) = omega (arith, puts_counted s.senders, c.len-count.ensures) in
     let idle : s.pending ≡ None = ap (λ (o : RouterState). o.pending) v ∙ c.requires.none_pending in
     let unmarked : s.marked ≡ 0 = ap (λ (o : RouterState). o.marked) v ∙ c.requires.none_marked in
-    let N : ℕ → Type 0 = λ n. (j : ℕ) → j < c.first_lane-lane.result → goes_placed j n c.args.placed ≡ false in
+    let n = c.len-count.result in let what = c.args.placed.what in let first = c.first_lane-lane.ensures in
     record {
-      within = c.first_lane-lane.ensures.within;
+      within = subst (λ (j : ℕ). j < n) (sym first) (first_lane_within n what (omega (arith, count, s.kept.some)));
       counted = count;
-      aimed = c.first_lane-lane.ensures.goes;
+      aimed = ap (λ (j : ℕ). goes j n what) first ∙ goes-first_lane n what;
       sent = λ w h.
           let P : RouterState → Type 0 = λ o. HasSent w o in
           let O : Option Placed → Type 0 = λ o. OnPuts w s.next o s.marked (puts s.senders.items) in
           let M : ℕ → Type 0 = λ m. OnPuts w s.next None m (puts s.senders.items) in
-          sent-offer (puts s.senders.items) w s.next c.first_lane-lane.result 0 c.args.placed (subst N count c.first_lane-lane.ensures.first) (subst M unmarked (subst O idle (subst P (sym v) h)));
+          sent-offer (puts s.senders.items) w s.next c.first_lane-lane.result 0 c.args.placed (first ∙ ap (λ (m : ℕ). first_lane m what) count) (subst M unmarked (subst O idle (subst P (sym v) h)));
       idle = idle;
       unmarked = unmarked;
       none_refused = ap (λ (o : RouterState). o.refusals) v;
