@@ -446,20 +446,22 @@ static void master_and_single_in_group(void) {
     }
 }
 
+static void set(int *at, int value) { *at = value; }
+
 /* What a thread has on its own stack is its own. */
 static void own_in_group(void) {
     int sum = 0;
 #pragma omp parallel
     {
-        volatile int local = 0;
+        int local = 0;
 #pragma omp taskgroup
         {
 #pragma omp master
-            local = 1;
+            set(&local, 1);
             demand(local < 2);
 #pragma omp for reduction(+ : sum) nowait
             for (int i = 0; i < 4; i++) {
-                local = i;
+                set(&local, i);
                 sum += i;
             }
             local++;
