@@ -31,7 +31,7 @@ struct span {
 static struct span *spans;
 /* How many have memory, and how many have been taken. */
 static size_t spans_mapped, spans_taken;
-/* Whether no memory is to be had at the addresses of more spans. */
+/* Whether something else has the addresses of more spans. */
 static bool has_no_spans;
 /* The free ones, in the order in which they became so. */
 static uint32_t free_first, free_last, free_count;
@@ -66,24 +66,27 @@ static void *map_chunk(uintptr_t wish, size_t size) {
 static bool map_spans(size_t count) {
     uintptr_t wish = span_first(spans_mapped);
     size_t size = (count * span_size + CHUNK - 1) & ~(size_t)(CHUNK - 1);
-    if (spans_mapped + size / span_size > SPANS)
+    if (has_no_spans || spans_mapped + size / span_size > SPANS)
         return false;
     if (!spans && !(spans_begin(&spans_lives) && (spans = reserve_or_none(SPANS * sizeof *spans))))
         return false;
     void *chunk = map_chunk(wish, size);
-    if (chunk == MAP_FAILED || (uintptr_t)chunk == wish)
-        return chunk != MAP_FAILED && (spans_mapped += size / span_size, true);
-    __real_munmap(chunk, size);
-    return false;
+    if (chunk == MAP_FAILED)
+        return false;
+    if ((uintptr_t)chunk != wish) {
+        has_no_spans = true;
+        __real_munmap(chunk, size);
+        return false;
+    }
+    spans_mapped += size / span_size;
+    return true;
 }
 
 /* The first of so many that were never taken, or SPANS. */
 static size_t new_spans(size_t count) {
     size_t missing = spans_taken + count > spans_mapped ? spans_taken + count - spans_mapped : 0;
-    if (has_no_spans || count >= SPANS || (missing > 0 && !map_spans(missing))) {
-        has_no_spans = true;
+    if (count >= SPANS || (missing > 0 && !map_spans(missing)))
         return SPANS;
-    }
     spans_taken += count;
     return spans_taken - count;
 }
