@@ -333,7 +333,8 @@ class Count(unittest.TestResult):
         self.failed += error is not None
         if error:
             case = getattr(test, "test_case", test)
-            print(f"{test}: after {case.command}\n{self._exc_info_to_string(error, case)}", file=sys.stderr)
+            command = getattr(case, "command", "")
+            print(f"{test}: after {command}\n{self._exc_info_to_string(error, case)}", file=sys.stderr)
 
     def addSubTest(self, test, subtest, error):
         self.count(subtest, error)

@@ -87,7 +87,7 @@ def add_tests(case, pattern):
         for flags in ((), ("-DRACY",)):
             def test(self, source=source, flags=flags):
                 self.check_example(source, *flags)
-            setattr(case, re.sub(r"\W+", "_", "_".join(["test", source, *flags])), test)
+            setattr(case, re.sub(r"[\W_]+", "_", "_".join(["test", source, *flags])), test)
 
 
 add_tests(CilkTest, r"(?!openmp_).*\.c")
