@@ -79,7 +79,7 @@ class Function:
         if made and self.lock:
             made = [f'enter_guard((uintptr_t)state({self.lock}), "the lock of {self.lock}");', *made,
                     f"leave_guard((uintptr_t)state({self.lock}));"]
-        return ["    if (tracing) {", *("        " + note for note in made), "    }"] if made else []
+        return ["    if (doing.tracing) {", *("        " + note for note in made), "    }"] if made else []
 
     def takes_list(self):
         return any(item[0].startswith(("strings of ", "fields of ")) for item in self.reads + self.writes)

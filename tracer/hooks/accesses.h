@@ -20,7 +20,7 @@ static inline bool is_on_the_way(__spbags_function self) { return top->kind == C
 
 __attribute__((noinline)) static void other_access(bool writes, uintptr_t at, size_t size, __spbags_function self,
                                                    uintptr_t stack_pointer, uintptr_t code) {
-    if (!tracing || initialising > 0)
+    if (!doing.tracing || initialising > 0)
         return;
     leave_jumped(stack_pointer, code);
     if (top <= silent_frame)
@@ -31,7 +31,7 @@ __attribute__((noinline)) static void other_access(bool writes, uintptr_t at, si
 
 static inline void any_access(bool writes, uintptr_t at, size_t size, __spbags_function self, uintptr_t stack_pointer,
                               uintptr_t code) {
-    if (!tracing || (is_on_the_way(self) && stack_pointer < top->end))
+    if (!doing.tracing || (is_on_the_way(self) && stack_pointer < top->end))
         return;
     other_access(writes, at, size, self, stack_pointer, code);
 }
@@ -89,7 +89,7 @@ static inline void usual_access(bool writes, uintptr_t at, size_t size, uintptr_
 void __spbags_stored(const volatile void *at, unsigned long size) {
     if (short_way_bits != 0 && size == 1 << USUAL_SHIFT && ((uintptr_t)at & (size - 1)) == 0)
         usual_units(true, (uintptr_t)at, 1 << USUAL_SHIFT, CODE);
-    else if (tracing)
+    else if (doing.tracing)
         touch(true, (uintptr_t)at, size, CODE);
 }
 

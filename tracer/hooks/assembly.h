@@ -1,6 +1,6 @@
 /* What spbags-cc puts beside a statement of the assembler. */
 void __spbags_asm(const volatile void *at, unsigned long size, int writes, int locked) {
-    if (!tracing)
+    if (!doing.tracing)
         return;
     if (locked)
         enter_guard(ATOMIC, "atomic");
@@ -25,7 +25,7 @@ static bool is_untold(uintptr_t place) {
 
 /* One outside of functions, or that is a whole function. */
 void __spbags_asm_outside(const char *place) {
-    if (tracing)
+    if (doing.tracing)
         tell_incomplete("%s: the assembly here may access memory, and isn't seen", place);
 }
 

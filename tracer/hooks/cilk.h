@@ -3,7 +3,7 @@
 
 /* A scope of the function that calls this; it ends with the function at the latest. */
 const char *__spbags_enter(const char *place) {
-    if (tracing) {
+    if (doing.tracing) {
         back_to_function(STACK_POINTER, CODE);
         push_frame(SCOPE, top->kind == SCOPE ? top->end : top->end - 1);
     }
@@ -11,7 +11,7 @@ const char *__spbags_enter(const char *place) {
 }
 
 void __spbags_leave(const char *const *place) {
-    if (!tracing)
+    if (!doing.tracing)
         return;
     leave_jumped(STACK_POINTER, CODE);
     if (top->kind == CHILD)
@@ -27,7 +27,7 @@ static long counter;
 
 void __spbags_iteration(long value, long shown) {
     counter = value;
-    if (!tracing)
+    if (!doing.tracing)
         return;
     uintptr_t code = CODE;
     /* No library function is the child itself. */

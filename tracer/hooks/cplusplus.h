@@ -35,7 +35,7 @@ DELETE(_ZdaPvSt11align_val_tRKSt9nothrow_t)
     void __wrap_##NAME(void *guard) { \
         __real_##NAME(guard); \
         CHANGE; \
-        if (tracing) \
+        if (doing.tracing) \
             find_short_way(); \
     }
 GUARD(__cxa_guard_release, initialising--)
@@ -45,7 +45,7 @@ __attribute__((weak)) int __real___cxa_guard_acquire(void *guard);
 int __wrap___cxa_guard_acquire(void *guard) {
     int first = __real___cxa_guard_acquire(guard);
     initialising += first != 0;
-    if (tracing)
+    if (doing.tracing)
         find_short_way();
     return first;
 }

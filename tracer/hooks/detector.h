@@ -8,12 +8,9 @@ __attribute__((unused)) static void wait_for(sem_t *semaphore) {
 }
 
 #ifdef SPBAGS_INSIDE
-enum { HAS_DETECTOR = true };
 /* By this spbags-run knows that a program has it. */
 __attribute__((used)) static const char inside_mark[] = "SPBAGS_INSIDE";
 static void start_detector(void);
-/* Whether the run writes no trace, and its records go to the detector. */
-static bool detecting;
 static void *session;
 
 /* The detector has a thread of its own, which alone calls it. The program's thread hands it the records in bundles, and
@@ -74,12 +71,9 @@ static void next_bundle(void) {
     errno = error;
 }
 
-/* Whether a record goes to the detector, and that is all. In a program with the detector few runs do anything else. */
-static bool only_detects;
-
 /* The window has as many records as it may have, or the bundle. */
 __attribute__((noinline)) static void end_steps(void) {
-    if (!only_detects)
+    if (!only_detects())
         pass_steps();
     else if (next_record - window == WINDOW)
         begin_steps();
@@ -337,8 +331,8 @@ static void put_report(void) {
         refuse_step(status);
     size_t size = 0;
     for (unsigned byte; (byte = spbags_next(session)) < SPBAGS_AT_END; size++) {
-        *room(&trace) = (char)byte;
-        trace.used++;
+        *room(&outcome) = (char)byte;
+        outcome.used++;
     }
     has_races = size > strlen("races 0\n");
 }
@@ -359,7 +353,7 @@ static void *detect(void *nothing) {
 
 /* Room for what the detector's thread knows of the heap. */
 static void make_taken(void) {
-    if (!detecting)
+    if (!detects())
         return;
     spans_need(&taken_lives);
     taken_parts = reserve(SPANS * sizeof *taken_parts);
@@ -372,7 +366,7 @@ static void end_detector(void) {
     pthread_join(detector, NULL);
 }
 #else
-enum { HAS_DETECTOR = false, detecting = false, stepping = false, has_races = false };
+enum { stepping = false, has_races = false };
 static void start_detector(void) {}
 static inline void begin_step(void) {}
 static inline void end_step(void) {}
@@ -386,4 +380,4 @@ static void end_detector(void) {}
 #endif
 
 /* What the run makes, for a line about it. */
-static const char *made(void) { return detecting ? "report" : "trace"; }
+static const char *made(void) { return detects() ? "report" : "trace"; }

@@ -42,7 +42,7 @@ static void follow_unit(struct divided *unit, bool writes, uintptr_t address, ui
     if (is_repeat(writes, unit->mark))
         return;
     unit->mark = new_mark(writes);
-    if (has_places || looking)
+    if (doing.keeping_places || doing.looking)
         follow_access(writes, unit->location, address, site_of_access(address, code));
 }
 

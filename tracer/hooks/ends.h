@@ -4,10 +4,10 @@
 /* The process that is traced, and not one that fork or vfork made. */
 static pid_t traced_process;
 
-static bool is_traced(void) { return tracing && getpid() == traced_process; }
+static bool is_traced(void) { return doing.tracing && getpid() == traced_process; }
 
 static void stop_tracing(void) {
-    tracing = false;
+    doing.tracing = false;
     find_short_way();
 }
 
@@ -21,7 +21,7 @@ static void tell_narrow(unsigned unit) {
 static void tell_notes(void) {
     if (narrow_accesses > 0)
         tell_narrow(1u << __builtin_ctzl(narrow_bits));
-    if (most_procedures > DEFAULT_DEPTH + 1 && !detecting)
+    if (most_procedures > DEFAULT_DEPTH + 1 && !detects())
         tell_record(tell_numbered("depth", most_procedures - 1).text,
                     "procedures nest %u deep, so spbags needs --depth %u or more", most_procedures - 1,
                     most_procedures - 1);
@@ -40,16 +40,16 @@ static void end_trace(void) {
     tell_course();
     pass_window();
     put_strand();
-    trace.most = next_place = last_record = UINT64_MAX;
+    outcome.most = next_place = last_record = UINT64_MAX;
     while (procedures > 0)
         close_procedure(0);
-    if (looking)
+    if (doing.looking)
         put_notes();
     tell_notes();
-    if (detecting)
+    if (detects())
         end_detector();
     output_close(&places);
-    output_close(&trace);
+    output_close(&outcome);
     sigprocmask(SIG_SETMASK, &before, NULL);
 }
 
@@ -85,7 +85,7 @@ static void end_racy(void) {
 }
 
 static void stop_at_limit(void) {
-    uint64_t most = trace.most;
+    uint64_t most = outcome.most;
     next_part(&pending);
     recent.used = recent.gone = 0;
     end_trace();

@@ -101,7 +101,7 @@ static struct life_end end_of_life(size_t span) {
 
 /* No unit of the span has an access any more. */
 static void end_span(size_t span) {
-    if (tracing)
+    if (doing.tracing)
         end_life_record(end_of_life(span));
     else
         begin_life(&spans_lives, span);
@@ -243,7 +243,7 @@ static void *new_block(size_t alignment, size_t size) {
     uintptr_t block = taken + HEAD;
     if (alignment > 0)
         block = (block + alignment - 1) & ~(alignment - 1);
-    bool is_in_strand = tracing && is_of_run() && leaves_out;
+    bool is_in_strand = doing.tracing && is_of_run() && leaves_out;
     head_of((void *)block)->size = size;
     ((struct head *)taken)->born = is_in_strand ? strand_now() : NOT_IN_STRAND;
     return (void *)block;
@@ -299,7 +299,7 @@ static void mark_dead(uintptr_t address, size_t size) {
 /* Whether the block was born in the strand that runs. */
 static bool is_of_strand(uintptr_t block) {
     size_t span = span_of_block(block);
-    return tracing && is_of_run() && span < SPANS && *born_at(span, block) == strand_now();
+    return doing.tracing && is_of_run() && span < SPANS && *born_at(span, block) == strand_now();
 }
 
 /* The block dies in the strand of its birth. */
@@ -313,7 +313,7 @@ static void die(uintptr_t block, size_t size) {
 
 /* Whoever may still use a block that the program gives back has a race, as if all of it were written. */
 static void end_block(void *block, __spbags_function self, uintptr_t stack_pointer, uintptr_t code) {
-    if (!block || !tracing || initialising > 0 || (is_on_the_way(self) && stack_pointer < top->end))
+    if (!block || !doing.tracing || initialising > 0 || (is_on_the_way(self) && stack_pointer < top->end))
         return;
     leave_jumped(stack_pointer, code);
     if (is_on_the_way(self))
@@ -375,7 +375,7 @@ static void give_back(void *block) {
 /* For who called the hook. */
 #define BLOCK(ALIGNMENT, SIZE) seen_block(new_block(ALIGNMENT, SIZE), SIZE, STACK_POINTER, CODE)
 static inline void *seen_block(void *block, size_t size, uintptr_t stack_pointer, uintptr_t code) {
-    if (__builtin_expect(looking, 0) && block)
+    if (__builtin_expect(doing.looking, 0) && block)
         look_at_block((uintptr_t)block, size, stack_pointer, code);
     return block;
 }
@@ -422,7 +422,7 @@ int posix_memalign(void **block, size_t alignment, size_t size) {
     void *made = BLOCK(alignment, size);
     if (!made)
         return errno;
-    if (tracing && is_program(CODE))
+    if (doing.tracing && is_program(CODE))
         LIBRARY_WRITE(block, sizeof *block, posix_memalign);
     *block = made;
     return 0;

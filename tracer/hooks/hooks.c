@@ -15,6 +15,7 @@
 #include "../include/spbags_inside.h"
 #include "../spbags_cilk.h"
 #include "changes.h"
+#include "doing.h"
 #include "formats.h"
 #include "guards.h"
 #include "library_words.h"
@@ -42,13 +43,11 @@ int __real_execvp(const char *name, char *const words[]);
 int __real_pthread_create(pthread_t *, const pthread_attr_t *, void *(*)(void *), void *);
 int __real_thrd_create(thrd_t *, thrd_start_t, void *);
 
-static bool tracing;
+struct doing doing;
 static unsigned version;
 /* The unit of accesses is 1 << unit_shift bytes. */
 static unsigned unit_shift;
 static uintptr_t unit_mask;
-/* The run writes no trace, and looks at the places of races. */
-static bool looking;
 
 #include "strands.h"
 #include "window.h"

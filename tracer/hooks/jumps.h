@@ -2,7 +2,7 @@
 
 /* For the stubs below: with the address and the stack pointer of the call. */
 __attribute__((used)) static void write_jump_buffer(void *at, uintptr_t code, uintptr_t stack_pointer) {
-    if (tracing)
+    if (doing.tracing)
         any_access(true, (uintptr_t)at, sizeof(jmp_buf), NULL, stack_pointer, code);
 }
 
@@ -20,7 +20,7 @@ SETS("__sigsetjmp")
 #define JUMPS(NAME) \
     __attribute__((noreturn)) void __real_##NAME(void *at, int value); \
     __attribute__((noreturn)) void __wrap_##NAME(void *at, int value) { \
-        if (tracing) \
+        if (doing.tracing) \
             LIBRARY_READ(at, sizeof(jmp_buf), __wrap_##NAME); \
         hide_updates(0); \
         __real_##NAME(at, value); \

@@ -83,7 +83,7 @@ void *__tsan_memset(void *to, int byte, size_t size) {
 }
 
 static void refuse_thread(void) {
-    if (tracing)
+    if (doing.tracing)
         fail("the program starts a thread, and only a serial run can be traced");
 }
 

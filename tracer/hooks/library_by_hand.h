@@ -7,7 +7,7 @@
 static char *state_of_strtok;
 char *__wrap_strtok(char *from, const char *set) {
     char *at = from ? from : state_of_strtok;
-    if (tracing) {
+    if (doing.tracing) {
         LIBRARY_READ(set, all(set), __wrap_strtok);
         LIBRARY_READ(state(strtok), from ? 0 : sizeof(char *), __wrap_strtok);
         LIBRARY_WRITE(state(strtok), sizeof(char *), __wrap_strtok);
@@ -20,10 +20,10 @@ char *__wrap_strtok(char *from, const char *set) {
 /* What its order reads is seen where it reads. */
 BY_HAND(void *, lsearch, const void *key, void *at, size_t *n, size_t size, int (*order)(const void *, const void *)) {
     size_t before = *n;
-    if (tracing)
+    if (doing.tracing)
         LIBRARY_READ(n, sizeof *n, __wrap_lsearch);
     void *result = __real_lsearch(key, at, n, size, order);
-    if (tracing && *n != before) {
+    if (doing.tracing && *n != before) {
         LIBRARY_READ(key, size, __wrap_lsearch);
         LIBRARY_WRITE((char *)at + before * size, size, __wrap_lsearch);
         LIBRARY_WRITE(n, sizeof *n, __wrap_lsearch);
@@ -32,7 +32,7 @@ BY_HAND(void *, lsearch, const void *key, void *at, size_t *n, size_t size, int 
 }
 
 BY_HAND(ENTRY *, hsearch, ENTRY item, ACTION action) {
-    if (tracing) {
+    if (doing.tracing) {
         LIBRARY_READ(item.key, all(item.key), __wrap_hsearch);
         LIBRARY_READ(state(hsearch), sizeof(int), __wrap_hsearch);
         LIBRARY_WRITE(state(hsearch), action == ENTER ? sizeof(int) : 0, __wrap_hsearch);
@@ -53,7 +53,7 @@ BY_HAND(size_t, iconv, iconv_t with, char **from, size_t *n, char **to, size_t *
     char *first = from ? *from : NULL, *first_to = to ? *to : NULL;
     size_t before = from ? *n : 0, before_to = to ? *m : 0;
     size_t result = __real_iconv(with, from, n, to, m);
-    if (tracing) {
+    if (doing.tracing) {
         note_converted(false, first, before, from, n, BY(__wrap_iconv));
         note_converted(true, first_to, before_to, to, m, BY(__wrap_iconv));
     }
@@ -71,7 +71,7 @@ BY_HAND(size_t, iconv, iconv_t with, char **from, size_t *n, char **to, size_t *
 #define OPENS(NAME) \
     BY_HAND(int, NAME, const char *path, int flags, ...) { \
         LAST(unsigned, flags); \
-        if (tracing) \
+        if (doing.tracing) \
             LIBRARY_READ(path, all(path), __wrap_##NAME); \
         return __real_##NAME(path, flags, last); \
     }
@@ -81,7 +81,7 @@ OPENS(open64)
 #define OPENS_AT(NAME) \
     BY_HAND(int, NAME, int folder, const char *path, int flags, ...) { \
         LAST(unsigned, flags); \
-        if (tracing) \
+        if (doing.tracing) \
             LIBRARY_READ(path, all(path), __wrap_##NAME); \
         return __real_##NAME(folder, path, flags, last); \
     }
@@ -94,7 +94,7 @@ BY_HAND(mqd_t, mq_open, const char *path, int flags, ...) {
     unsigned mode = va_arg(list, unsigned);
     const struct mq_attr *with = va_arg(list, const struct mq_attr *);
     va_end(list);
-    if (tracing) {
+    if (doing.tracing) {
         LIBRARY_READ(path, all(path), __wrap_mq_open);
         LIBRARY_READ(with, (flags & O_CREAT) && with ? sizeof *with : 0, __wrap_mq_open);
     }
@@ -106,7 +106,7 @@ BY_HAND(sem_t *, sem_open, const char *path, int flags, ...) {
     va_start(list, flags);
     unsigned mode = va_arg(list, unsigned), number = va_arg(list, unsigned);
     va_end(list);
-    if (tracing)
+    if (doing.tracing)
         LIBRARY_READ(path, all(path), __wrap_sem_open);
     return __real_sem_open(path, flags, mode, number);
 }
@@ -125,10 +125,10 @@ static size_t control_writes(int command) {
 #define CONTROLS(NAME) \
     BY_HAND(int, NAME, int file, int command, ...) { \
         LAST(uintptr_t, command); \
-        if (tracing) \
+        if (doing.tracing) \
             LIBRARY_READ(last, control_reads(command), __wrap_##NAME); \
         int result = __real_##NAME(file, command, last); \
-        if (tracing && result == 0) \
+        if (doing.tracing && result == 0) \
             LIBRARY_WRITE(last, control_writes(command), __wrap_##NAME); \
         return result; \
     }
@@ -139,7 +139,7 @@ CONTROLS(fcntl64)
 
 /* The stream reads and writes it later. */
 static void note_buffer(const char *name, void *buffer, size_t size, struct caller by) {
-    if (!tracing || !buffer)
+    if (!doing.tracing || !buffer)
         return;
     any_access(true, (uintptr_t)buffer, size, by.self, by.stack_pointer, by.code);
     tell_incomplete("%s gives a stream a buffer of the program's, and what the stream does there later isn't seen",
@@ -164,9 +164,9 @@ BY_HAND(void, setbuf, FILE *stream, char *buffer) {
 /* Whatever is written by such a stream goes to the program's memory, or comes from there. */
 #define STREAM_OF_MEMORY(NAME) \
     static bool told; \
-    if (tracing && !told) \
+    if (doing.tracing && !told) \
         tell_incomplete(NAME " makes a stream of the program's memory, and what it does there later isn't seen"); \
-    told = tracing
+    told = doing.tracing
 
 BY_HAND(FILE *, fmemopen, void *at, size_t size, const char *mode) {
     STREAM_OF_MEMORY("fmemopen");
@@ -203,7 +203,7 @@ BY_HAND(int, dup3, int from, int to, int flags) {
 
 /* What another child still does with the stream comes before its end, or it fails. */
 BY_HAND(int, fclose, FILE *stream) {
-    if (tracing && judges_order && stream)
+    if (doing.tracing && judges_order && stream)
         LIBRARY_WRITE(stream, sizeof(uint64_t), __wrap_fclose);
     if (stream)
         end_file(fileno(stream));
@@ -239,14 +239,14 @@ BY_HAND(bool, _ZNSt8ios_base15sync_with_stdioEb, bool shares) {
    taken. */
 static void keep_addresses(uintptr_t first, uintptr_t end) {
     int flags = MAP_PRIVATE | MAP_ANONYMOUS | MAP_NORESERVE | MAP_FIXED_NOREPLACE;
-    if (tracing && first < end)
+    if (doing.tracing && first < end)
         mmap((void *)first, end - first, PROT_NONE, flags, -1, 0);
 }
 
 static uintptr_t end_of_pages(void *at, size_t size) { return ((uintptr_t)at + size + 4095) & ~(uintptr_t)4095; }
 
 BY_HAND(int, munmap, void *at, size_t size) {
-    if (tracing)
+    if (doing.tracing)
         LIBRARY_WRITE(at, least(size, 1 << 20), __wrap_munmap);
     int result = __real_munmap(at, size);
     if (result == 0)
@@ -262,7 +262,7 @@ BY_HAND(void *, mremap, void *at, size_t before, size_t size, int flags, ...) {
     void *result = __real_mremap(at, before, size, flags, wish);
     if (result == MAP_FAILED)
         return result;
-    if (tracing && result != at)
+    if (doing.tracing && result != at)
         LIBRARY_WRITE(at, least(before, 1 << 20), __wrap_mremap);
     keep_addresses(result == at ? end_of_pages(at, size) : (uintptr_t)at, end_of_pages(at, before));
     return result;
@@ -274,7 +274,7 @@ void __wrap_error(int status, int number, const char *format, ...) {
     va_list list, copy;
     va_start(list, format);
     va_copy(copy, list);
-    if (tracing) {
+    if (doing.tracing) {
         LIBRARY_READ(format, all(format), __wrap_error);
         LIBRARY_STRINGS(format, copy, __wrap_error);
     }

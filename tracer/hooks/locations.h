@@ -74,7 +74,7 @@ static inline unsigned touched_among(const uint32_t *marks) {
     return (unsigned)_mm_movemask_epi8(_mm_packs_epi16(first, last)) ^ ((1u << CLEARED) - 1);
 }
 
-static inline bool counts_ends(void) { return detecting || leaves_out; }
+static inline bool counts_ends(void) { return detects() || leaves_out; }
 
 /* Down to the lowest of these marks, and so many together that those below may be among them. */
 static inline void clear_marks(const uint32_t *lowest_mark, uint32_t *end) {
@@ -112,7 +112,7 @@ static void clear(uintptr_t address, size_t size) {
    a unit that isn't of the stack and was accessed before is noted quickly. */
 static bool has_views, notes_quickly;
 
-static inline void follow_views(void) { notes_quickly = only_detects && !has_views; }
+static inline void follow_views(void) { notes_quickly = only_detects() && !has_views; }
 
 static bool note_view(uintptr_t unit, uint32_t *mark, unsigned shift, uintptr_t code);
 

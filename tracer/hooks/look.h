@@ -102,7 +102,7 @@ static size_t top_at(void) { return (size_t)(top - frames); }
 
 /* Of the part that the newest frame is. */
 static inline void note_part(struct part part) {
-    if (__builtin_expect(looking, 0))
+    if (__builtin_expect(doing.looking, 0))
         parts[top_at()] = part;
 }
 
@@ -477,9 +477,9 @@ static struct own_memory thread_memory;
 __attribute__((format(__printf__, 1, 2))) static void put(const char *format, ...) {
     va_list rest;
     va_start(rest, format);
-    int length = vsnprintf(room(&trace), LONGEST, format, rest);
+    int length = vsnprintf(room(&outcome), LONGEST, format, rest);
     va_end(rest);
-    trace.used += (size_t)(length < LONGEST ? length : LONGEST - 1);
+    outcome.used += (size_t)(length < LONGEST ? length : LONGEST - 1);
 }
 
 static void put_text(const char *text) {
@@ -680,5 +680,5 @@ static void start_look(int file) {
     rows = reserve(MOST_PAIRS * sizeof *rows);
     slots = reserve(PAIR_SLOTS * sizeof *slots);
     note_guards();
-    looking = true;
+    doing.looking = true;
 }

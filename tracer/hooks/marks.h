@@ -16,8 +16,6 @@ enum { CLEARED = 16 };
 uint32_t has_read __asm__("__spbags_has_read") = FIRST_READ;
 /* How often the numbers of strands have begun again. */
 static uint32_t strands_again;
-/* Each record of an access begins a strand, so that there are no repeats. */
-static bool writes_repeats;
 
 /* What is a thread's own isn't shared, so nothing in it is recorded: with this mark all that is done there counts as a
    repeat. No other mark is above that of a write in the current strand. */

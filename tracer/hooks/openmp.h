@@ -95,7 +95,7 @@ static void note_outlived(uint64_t count, uintptr_t wait, uintptr_t code) {
 
 /* Accesses are looked at as the newest scope says. */
 static void follow_scope(void) {
-    bool wanted = tracing && scopes[newest_scope].is_watched;
+    bool wanted = doing.tracing && scopes[newest_scope].is_watched;
     if (wanted == watching)
         return;
     watching = wanted;
@@ -174,7 +174,7 @@ static bool has_older(void) {
 
 /* What follows stands in a part of its own on the stack, above the function that calls the hooks here. */
 static void open_part(enum kind kind, uintptr_t stack_pointer, uintptr_t code) {
-    if (!tracing)
+    if (!doing.tracing)
         return;
     leave_jumped(stack_pointer, code);
     push_frame(kind, kind == LOOP_PART ? top->end - 1 : stack_pointer);
@@ -183,7 +183,7 @@ static void open_part(enum kind kind, uintptr_t stack_pointer, uintptr_t code) {
 }
 
 static void close_part(uintptr_t code) {
-    if (!tracing)
+    if (!doing.tracing)
         return;
     while (top > frames && top->kind < CALLED)
         leave_top(code);
@@ -192,22 +192,22 @@ static void close_part(uintptr_t code) {
 
 /* The function that calls the hooks here waits. */
 static void write_sync(uintptr_t code) {
-    if (tracing)
+    if (doing.tracing)
         structure(SPBAGS_SYNC, code);
 }
 
 static void note_wait(uintptr_t code) {
-    if (tracing && top->node != NONE)
+    if (doing.tracing && top->node != NONE)
         look_at_wait(top, code, false);
 }
 
 static void write_open(enum spbags_kind kind, uintptr_t code) {
-    if (tracing)
+    if (doing.tracing)
         open_procedure(kind, code);
 }
 
 static void write_return(uintptr_t code) {
-    if (tracing)
+    if (doing.tracing)
         close_procedure(code);
 }
 
@@ -326,7 +326,7 @@ struct bounds {
 /* Copies the data of a task, and runs it. What its caller has below the stack pointer is dead before and after, and a
    task that may run later holds none of the caller's locks. With BOUNDS the first two words of the data are those. */
 static void run_task(const struct task *task, const struct bounds *bounds, uintptr_t stack_pointer, uintptr_t code) {
-    if (tracing)
+    if (doing.tracing)
         clear_below(stack_pointer);
     bool is_final = current_task()->final;
     char room[task->size + task->alignment];
@@ -352,7 +352,7 @@ static void run_task(const struct task *task, const struct bounds *bounds, uintp
         end_included(code);
     memcpy(guards, kept, held * sizeof *kept);
     guards_held = deferred ? held : guards_held;
-    if (tracing)
+    if (doing.tracing)
         clear_below(stack_pointer);
 }
 

@@ -28,7 +28,7 @@ static void name_part(uintptr_t code) {
 
 static void begin_parallel_body(uintptr_t code) {
     struct scope *thread = &scopes[newest_scope];
-    if (tracing)
+    if (doing.tracing)
         name_part(code);
     *(thread->kind == MEMBER ? &thread->team->code : &thread->code) = code;
     thread->in_body = true;
@@ -77,7 +77,7 @@ static void end_child_body(const struct body *body, uintptr_t code) {
         close_part(code);
         close_child(code);
     }
-    if (body->is_child && tracing)
+    if (body->is_child && doing.tracing)
         clear_below(thread_now()->stack_end);
     follow_body();
 }

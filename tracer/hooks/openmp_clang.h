@@ -52,7 +52,7 @@ void __kmpc_fork_call(const void *place, int32_t count, void (*run)(int32_t *, i
 
 /* The caller goes on in the part that has begun. */
 static void stay_in_function(void) {
-    if (!tracing)
+    if (!doing.tracing)
         return;
     top->end = top[-1].end - 1;
     follow_top();
@@ -314,7 +314,7 @@ int32_t __kmpc_omp_task(CLANG, struct clang_task *task) {
 void __kmpc_omp_task_begin_if0(CLANG, struct clang_task *task) {
     IGNORE;
     bool is_final = current_task()->final || (header_of(task)->flags & CLANG_FINAL) != 0;
-    if (tracing)
+    if (doing.tracing)
         clear_below(STACK_POINTER);
     push_scope(TASK, false)->final = is_final;
     open_part(CALLED, STACK_POINTER, CODE);
@@ -326,7 +326,7 @@ void __kmpc_omp_task_complete_if0(CLANG, struct clang_task *task) {
     IGNORE, end_clang_task(task);
     close_part(CODE);
     end_included(CODE);
-    if (tracing)
+    if (doing.tracing)
         clear_below(STACK_POINTER);
 }
 

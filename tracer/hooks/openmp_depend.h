@@ -52,7 +52,7 @@ static void name_all(const struct named *names, size_t count, const struct scope
 
 static void follow_depend(const struct named *names, size_t count, bool is_named, uintptr_t code) {
     char line[400];
-    if (!tracing)
+    if (!doing.tracing)
         return;
     if (depend_way == REFUSED)
         fail("%s: what depend orders can't be traced: SPBAGS_DEPEND=ignore leaves it out, and with SPBAGS_DEPEND=order "

@@ -85,7 +85,7 @@ static void end_share(struct scope *thread, uintptr_t code) {
     close_child(code);
     if (thread->loop->in_blocks)
         join_from(newest_scope, code);
-    if (tracing)
+    if (doing.tracing)
         clear_below(thread->stack_end);
 }
 
@@ -125,7 +125,7 @@ static void end_following(uintptr_t code) {
     if (scopes[newest_scope].follows_loop) {
         close_part(code);
         close_child(code);
-        if (tracing)
+        if (doing.tracing)
             clear_below(thread_now()->stack_end);
     }
     follow_body();

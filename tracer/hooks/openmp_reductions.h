@@ -11,7 +11,7 @@ static uintptr_t own_block(size_t alignment, size_t size) {
     own[COPIES].end = (block + size + 15) & ~(uintptr_t)15;
     if (own[COPIES].end - own[COPIES].first > most_copies)
         fail("out of memory for the copies of reductions");
-    if (tracing)
+    if (doing.tracing)
         mark_own(block, own[COPIES].end);
     return block;
 }

@@ -43,6 +43,6 @@ __attribute__((constructor(102))) static void start_openmp(void) {
     iterations = settings_number(SETTING_ITERATIONS);
     own[COPIES].first = own[COPIES].end = (uintptr_t)reserve(most_copies);
     dl_iterate_phdr(find_thread_memory, &own[THREAD]);
-    if (tracing)
+    if (doing.tracing)
         mark_own(own[THREAD].first, own[THREAD].end);
 }

@@ -113,7 +113,7 @@ static void enter_stack(struct stack *stack) {
 }
 
 static void give_turn(struct stack *next) {
-    if (looking)
+    if (doing.looking)
         node_of(top_at());
     leave_stack();
     enter_stack(next);
@@ -158,7 +158,7 @@ static void close_calls(const struct member *member, uintptr_t code) {
 static void end_part(uintptr_t code) {
     struct scope *scope = &scopes[newest_scope];
     struct member *member = scope->member;
-    if (tracing)
+    if (doing.tracing)
         close_calls(member, code);
     member->scope = *scope;
     member->scope.children = member->scope.others = member->scope.following = 0;
@@ -176,7 +176,7 @@ static struct member *member_from(const struct team *team, unsigned number) {
 
 /* All members have come to the barrier. */
 static void join_members(struct team *team, uintptr_t code) {
-    if (looking && tracing)
+    if (doing.looking && doing.tracing)
         look_at_wait(team->region, code, false);
     join_from(newest_scope, code);
     team->singles = 0;
@@ -274,7 +274,7 @@ static void prepare_thread(void) {
     struct own_memory memory;
     sigaltstack(&(stack_t){.ss_sp = signal_stack, .ss_size = sizeof signal_stack}, NULL);
     dl_iterate_phdr(find_thread_memory, &memory);
-    if (tracing)
+    if (doing.tracing)
         mark_own(memory.first, memory.end);
     start_watch();
 }
@@ -325,7 +325,7 @@ static void add_stack(void) {
     *stack = (struct stack){.first = first, .end = end, .lowest = end};
     stack->frames = reserve(most_frames * sizeof *frames);
     stack->frames_end = stack->frames + most_frames;
-    stack->parts = looking ? reserve(most_frames * sizeof *parts) : NULL;
+    stack->parts = doing.looking ? reserve(most_frames * sizeof *parts) : NULL;
     stack->bodies = reserve(MOST_SCOPES * sizeof(struct body));
     stacks_count++;
     start_member_thread(stack);
@@ -366,7 +366,7 @@ static void note_asking_team(uint64_t size, uint64_t wanted, uintptr_t code) {
 
 /* How many threads there may be, where the program wants so many, or as many as there are. */
 static unsigned size_of_team(uint64_t wanted, uintptr_t code) {
-    uint64_t most = tracing ? least(team_size, MOST_STACKS - stacks_used + 1) : 1;
+    uint64_t most = doing.tracing ? least(team_size, MOST_STACKS - stacks_used + 1) : 1;
     if (wanted > most && small_team == 0) {
         small_team = code;
         small_team_has = most;
@@ -396,7 +396,7 @@ static bool is_alone(uint64_t wanted, uintptr_t code) {
 static void begin_team(unsigned threads, void *data, uintptr_t stack_pointer, uintptr_t code) {
     uint64_t wanted = threads > 0 ? threads : (uint64_t)current_task()->threads_wanted;
     bool alone = is_alone(wanted, code);
-    if (tracing)
+    if (doing.tracing)
         clear_below(stack_pointer);
     struct scope *team = push_scope(TEAM, false);
     int inner = threads_by_variable(level(false));
@@ -419,7 +419,7 @@ static void end_team(uintptr_t stack_pointer, uintptr_t code) {
     loops_begun = (uint32_t)(team->loop - loops);
     close_part(code);
     close_waiting(code);
-    if (tracing)
+    if (doing.tracing)
         clear_below(stack_pointer);
 }
 
@@ -432,7 +432,7 @@ static bool is_done(const struct team *team) {
 
 static void run_members(struct team *team) {
     note_part((struct part){.of = region_name, .is_hidden = !team->whole});
-    uint32_t node = looking ? node_of(top_at()) : NONE;
+    uint32_t node = doing.looking ? node_of(top_at()) : NONE;
     unsigned used = stacks_used, scope = (unsigned)newest_scope;
     for (unsigned number = 0; number < team->size; number++) {
         struct member *member = &team->members[number];

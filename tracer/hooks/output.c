@@ -5,7 +5,7 @@
 
 volatile sig_atomic_t changes, waiting_signal;
 
-struct output trace = {.file = -1, .room = LONGEST, .most = UINT64_MAX};
+struct output outcome = {.file = -1, .room = LONGEST, .most = UINT64_MAX};
 struct output places = {.file = -1, .room = LONGEST, .most = UINT64_MAX};
 
 /* A closed pipe and a file past its size limit kill by a signal, unless that is blocked: then the write fails. */

@@ -22,7 +22,7 @@ struct output {
 };
 
 /* What the run makes; and where each record of it comes from. */
-extern struct output trace, places;
+extern struct output outcome, places;
 
 void output_write(struct output *output);
 void output_close(struct output *output);

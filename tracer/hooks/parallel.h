@@ -7,7 +7,7 @@ static uint32_t parts_begun;
 /* A child of the function or scope that calls this begins: one of a construct, at this code of the program's, with these
    as its first and its last iteration. It returns by __spbags_return. */
 void __spbags_part(const char *of, const void *code, long first, long last) {
-    if (!tracing)
+    if (!doing.tracing)
         return;
     begin_child((__spbags_function)__spbags_counter, STACK_POINTER, CODE);
     top->code = code ? (uintptr_t)code : CODE;
@@ -20,7 +20,7 @@ unsigned long __spbags_child_number(void) {
     const struct frame *frame = top;
     while (frame > frames && (frame->kind != CHILD || frame->called == 0))
         frame--;
-    return tracing && frame->kind == CHILD ? frame->called : 0;
+    return doing.tracing && frame->kind == CHILD ? frame->called : 0;
 }
 
 /* ---- Lines of the report ---- */
@@ -63,7 +63,7 @@ static void tell_at(uintptr_t code, const char *what) {
 
 /* Something isn't modelled here, or at this code of the program's. */
 void __spbags_tell(const char *what, const void *code) {
-    if (tracing)
+    if (doing.tracing)
         tell_at(code ? (uintptr_t)code : CODE, what);
 }
 
@@ -72,7 +72,7 @@ static const char leaves_child[] = "an exception leaves a child here, and what c
 /* The end of a scope that __spbags_enter began. */
 void __spbags_leave_parallel(const char *const *unused) {
     (void)unused;
-    if (!tracing)
+    if (!doing.tracing)
         return;
     leave_jumped(STACK_POINTER, CODE);
     if (top->kind == CHILD)
@@ -157,7 +157,7 @@ static size_t group_at(const void *id, const struct frame *holder) {
 
 /* A task of a group begins, as a child. */
 void __spbags_group_run(const void *id, const char *of, const void *code, long first, long last) {
-    if (!tracing)
+    if (!doing.tracing)
         return;
     uintptr_t stack_pointer = STACK_POINTER, here = code ? (uintptr_t)code : CODE;
     back_to_function(stack_pointer, CODE);
@@ -193,7 +193,7 @@ static void wait_for_group(const void *id, uintptr_t code) {
 
 /* Waits for the tasks of a group. */
 void __spbags_group_wait(const void *id) {
-    if (!tracing)
+    if (!doing.tracing)
         return;
     back_to_function(STACK_POINTER, CODE);
     wait_for_group(id, CODE);
@@ -201,7 +201,7 @@ void __spbags_group_wait(const void *id) {
 
 /* The same at the end of a scope. */
 void __spbags_leave_group(const void *const *id) {
-    if (!tracing)
+    if (!doing.tracing)
         return;
     leave_jumped(STACK_POINTER, CODE);
     if (top->kind == CHILD)
@@ -215,7 +215,7 @@ void __spbags_leave_group(const void *const *id) {
 /* From here on nothing is recorded, or again: MORE is 1 or -1. */
 void __spbags_pause(int change) {
     initialising += (unsigned)change;
-    if (tracing)
+    if (doing.tracing)
         find_short_way();
 }
 

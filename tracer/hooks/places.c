@@ -1,6 +1,7 @@
 #include "places.h"
 
 #include "changes.h"
+#include "doing.h"
 #include "memory.h"
 #include "tell.h"
 
@@ -9,14 +10,13 @@ static uint64_t *sites;
 static uint32_t sites_count;
 uint64_t *site_keys;
 uint16_t *site_numbers;
-bool has_places;
 struct course course;
 uint64_t last_record = UINT64_MAX;
 
 void tell_course(void) {
     char line[100];
     snprintf(line, sizeof line, "course %" PRIu64 " %" PRIx64, course.records, course.digest);
-    if (has_places && tells_records())
+    if (doing.keeping_places && tells_records())
         tell_text(line, "");
 }
 
@@ -100,7 +100,7 @@ void keep_places(const char *name) {
     site_keys = reserve(SITE_SLOTS * sizeof *site_keys);
     site_numbers = reserve(SITE_SLOTS * sizeof *site_numbers);
     note_guards();
-    has_places = true;
+    doing.keeping_places = true;
     places.at_limit = give_up_places;
     places.is_spare = strncmp(name, "fd:", 3) == 0;
     if (places.is_spare && fstatvfs(places.file, &space) == 0)

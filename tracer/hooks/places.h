@@ -18,8 +18,6 @@ enum { LIST_SHIFT = 48, NARROW_SHIFT = 63, MOST_SITE_LISTS = 0x7fff };
 /* By a hash: a site's word and one, and its number. */
 extern uint64_t *site_keys;
 extern uint16_t *site_numbers;
-/* Each record's place is kept, as long as there is room, and the course of the run is followed. */
-extern bool has_places;
 
 /* The course of a run: how many records it has had, and a digest of them. A run whose course is the same did the same,
    as far as that can be told. */

@@ -57,7 +57,7 @@ static uintptr_t short_way_bits;
 static inline void follow_top(void) { short_way_end = top->kind != CHILD ? top->end & short_way_bits : 0; }
 
 static void find_short_way(void) {
-    bool records = tracing && initialising == 0 && !silent_frame;
+    bool records = doing.tracing && initialising == 0 && !silent_frame;
     short_way_stack = records ? stack_size : 0;
     short_way_bits = records && !watching && unit_shift == USUAL_SHIFT ? UINTPTR_MAX : 0;
     follow_top();
@@ -85,7 +85,7 @@ OTHERWISE void other_structure(enum spbags_kind kind, uintptr_t code) {
 
 /* With each record of the structure a strand ends and another begins. */
 static inline void structure(enum spbags_kind kind, uintptr_t code) {
-    if (__builtin_expect(only_detects, 1)) {
+    if (__builtin_expect(only_detects(), 1)) {
         begin_step();
         step(kind, 0);
         count_procedures(kind);
@@ -218,14 +218,14 @@ static inline void begin_child(__spbags_function callee, uintptr_t stack_pointer
 }
 
 __spbags_function __spbags_spawn(__spbags_function callee) {
-    if (tracing)
+    if (doing.tracing)
         begin_child(callee, STACK_POINTER, CODE);
     return callee;
 }
 
 /* Arguments that pass on the stack stood below the stack pointer at the spawn. */
 void __spbags_return(const volatile void *result, unsigned long size) {
-    if (!tracing)
+    if (!doing.tracing)
         return;
     uintptr_t code = CODE;
     leave_below(STACK_POINTER, code);
@@ -237,7 +237,7 @@ void __spbags_return(const volatile void *result, unsigned long size) {
 }
 
 void __spbags_sync(void) {
-    if (!tracing)
+    if (!doing.tracing)
         return;
     back_to_function(STACK_POINTER, CODE);
     if (__builtin_expect(top <= grouped, 0))
@@ -246,7 +246,7 @@ void __spbags_sync(void) {
 }
 
 __attribute__((noinline)) static void enter_function(uintptr_t end, uintptr_t code) {
-    if (!tracing)
+    if (!doing.tracing)
         return;
     if (end - stack_first > stack_size)
         fail("the program runs on a stack of its own, or on more than %zu bytes of stack", (size_t)stack_size);
@@ -256,7 +256,7 @@ __attribute__((noinline)) static void enter_function(uintptr_t end, uintptr_t co
 }
 
 __attribute__((noinline)) static void leave_function(uintptr_t end, uintptr_t code) {
-    if (!tracing)
+    if (!doing.tracing)
         return;
     leave_below(end, code);
     clear_below(end);

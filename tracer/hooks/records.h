@@ -3,7 +3,6 @@
 #ifdef SPBAGS_INSIDE
 #define OTHERWISE __attribute__((noinline)) static
 #else
-enum { only_detects = false };
 #define OTHERWISE static inline
 #endif
 
@@ -53,9 +52,9 @@ static void note_pending(bool writes, uint64_t location, uintptr_t address, uint
 static void forget_pending(void);
 
 static inline void write_structure(enum spbags_kind kind) {
-    __builtin_memcpy(room(&trace), lines[kind].bytes, sizeof lines[kind].bytes);
+    __builtin_memcpy(room(&outcome), lines[kind].bytes, sizeof lines[kind].bytes);
     in_order();
-    trace.used += lines[kind].length;
+    outcome.used += lines[kind].length;
 }
 
 /* From 00 to 99. */
@@ -80,9 +79,9 @@ static inline void write_access(bool writes, uint64_t location) {
     at -= 6;
     __builtin_memcpy(at, writes ? "write " : " read ", 6);
     at += !writes;
-    __builtin_memcpy(room(&trace), at, 32);
+    __builtin_memcpy(room(&outcome), at, 32);
     in_order();
-    trace.used += (size_t)(line + 32 - at);
+    outcome.used += (size_t)(line + 32 - at);
 }
 
 static inline void step_access(bool writes, uint64_t location) {
@@ -98,17 +97,17 @@ static block_sites pending_sites[MOST_BLOCKS];
 static struct strand pending = {.lives = &spans_lives, .sites = pending_sites};
 
 static inline void begin_record(void) {
-    if (__builtin_expect(changes > 0, 0) && tracing)
+    if (__builtin_expect(changes > 0, 0) && doing.tracing)
         fail("a signal handler of the program interrupted the tracer, so the run ends here without a %s", made());
     begin_change();
 }
 
 static inline void put_access(bool writes, uint64_t location, uint16_t site) {
-    if (looking && ++place_now == next_place)
+    if (doing.looking && ++place_now == next_place)
         look_at_access(writes, location);
-    if (has_places)
+    if (doing.keeping_places)
         write_place(site);
-    if (!detecting && !looking)
+    if (!detects() && !doing.looking)
         write_access(writes, location);
 }
 
@@ -129,7 +128,7 @@ static void put_touched(struct touched *touched) {
 /* Where the run ends meanwhile, as a signal handler may end it, the rest goes out then. */
 static void put_strand(void) {
     static size_t at;
-    if (looking)
+    if (doing.looking)
         forget_pending();
     for (; at < pending.used; at++)
         put_touched(&pending.list[at]);
@@ -145,16 +144,16 @@ static void keep_access(bool writes, uint64_t location, uint16_t site) {
         touched = touched_with(&pending, location);
     }
     uint64_t *units = writes ? &touched->writes : &touched->reads, bit = bit_in_block(location);
-    if ((*units & bit) == 0 && has_places)
+    if ((*units & bit) == 0 && doing.keeping_places)
         pending_sites[touched - pending.list][writes][location / 2 % BLOCK_UNITS] = site;
     *units |= bit;
 }
 
 static inline void take_access(bool writes, uint64_t location, uint16_t site) {
-    if (detecting)
+    if (detects())
         step_access(writes, location);
     if (is_gathered(location)) {
-        if (!detecting || has_places)
+        if (!detects() || doing.keeping_places)
             keep_access(writes, location, site);
         return;
     }
@@ -177,7 +176,7 @@ static struct {
 } recent;
 
 static void step_record(uint64_t record) {
-    if (!detecting)
+    if (!detects())
         return;
     begin_step();
     step(record & 7, record >> 3);
@@ -226,11 +225,11 @@ static void leave_out_recent(uintptr_t before) {
 
 /* How many records went before, but for those that are left out. */
 static inline uintptr_t records_so_far(void) {
-    return __builtin_expect(only_detects, 1) ? steps_so_far() : recent.before + recent.used;
+    return __builtin_expect(only_detects(), 1) ? steps_so_far() : recent.before + recent.used;
 }
 
 __attribute__((noinline)) static void end_window(void) {
-    if (only_detects) {
+    if (only_detects()) {
         begin_steps();
         return;
     }
@@ -241,7 +240,7 @@ __attribute__((noinline)) static void end_window(void) {
 
 /* The accesses of the numbers that die are left out; before so many records there are none. */
 static void leave_out_dying(uintptr_t before) {
-    if (only_detects) {
+    if (only_detects()) {
         begin_step();
         leave_out_steps(before);
         end_step();
@@ -256,7 +255,7 @@ static void leave_out_dying(uintptr_t before) {
 /* A record of an end, for some numbers of the stack or some memory of the heap. */
 static void record_end(uint64_t location) {
     uint64_t record = location << 3 | numbers_end;
-    if (only_detects) {
+    if (only_detects()) {
         step_record(record);
     } else {
         begin_record();
@@ -279,7 +278,7 @@ static void leave_out_record(uintptr_t address, size_t size) {
 static void end_strand(void) {
     pass_window();
     step_record(spbags_record(strand_ends, 1));
-    if (only_detects)
+    if (only_detects())
         begin_steps();
     put_strand();
 }
@@ -302,7 +301,7 @@ static void end_life_record(struct life_end end) {
     pass_window();
     uint64_t what = (uint64_t)end.span << (DEAD_BITS + 1) | end.dead << 1 | end.is_dead_used;
     step_record(spbags_record(strand_ends, 2 * what));
-    if (only_detects)
+    if (only_detects())
         begin_steps();
     put_life(end);
     end_change();
@@ -318,14 +317,14 @@ OTHERWISE void other_structure_record(enum spbags_kind kind, uintptr_t code) {
     pass_window();
     put_strand();
     news++;
-    if (has_places || looking)
+    if (doing.keeping_places || doing.looking)
         follow_course(kind, code);
-    if (looking && ++place_now == next_place)
+    if (doing.looking && ++place_now == next_place)
         look_at_structure();
-    if (has_places)
+    if (doing.keeping_places)
         write_place(site_number(code));
     step_record(spbags_record(kind, 0));
-    if (!detecting && !looking)
+    if (!detects() && !doing.looking)
         write_structure(kind);
 }
 
@@ -341,21 +340,22 @@ static inline void follow_access(bool writes, uint64_t location, uintptr_t unit,
 }
 
 static inline void begin_access(bool writes, uint64_t location, uintptr_t address, uintptr_t code, uint64_t site) {
-    if (looking)
+    if (doing.looking)
         note_pending(writes, is_gathered(location) ? named_location(&spans_lives, location) : location, address, code);
-    keep_recent(spbags_record(writes ? SPBAGS_WRITE : SPBAGS_READ, location), has_places ? site_number(site) : NO_SITE);
+    keep_recent(spbags_record(writes ? SPBAGS_WRITE : SPBAGS_READ, location),
+                doing.keeping_places ? site_number(site) : NO_SITE);
 }
 
 OTHERWISE void other_access_record(bool writes, uint64_t location, uintptr_t address, uintptr_t code) {
     begin_record();
     news += location % 2 == 0;
     if (!__builtin_expect(divides, 0) || !divide_access(writes, location, address, code)) {
-        uint64_t site = has_places ? site_of_access(address, code) : 0;
-        if (has_places || looking)
+        uint64_t site = doing.keeping_places ? site_of_access(address, code) : 0;
+        if (doing.keeping_places || doing.looking)
             follow_access(writes, location, address, site);
         begin_access(writes, location, address, code, site);
     }
-    if (writes_repeats) {
+    if (doing.writing_repeats) {
         end_strand();
         begin_strand();
     }
@@ -364,7 +364,7 @@ OTHERWISE void other_access_record(bool writes, uint64_t location, uintptr_t add
 }
 
 static inline void access_record(bool writes, uint64_t location, uintptr_t address, uintptr_t code) {
-    if (__builtin_expect(only_detects, 1))
+    if (__builtin_expect(only_detects(), 1))
         step_access(writes, location);
     else
         other_access_record(writes, location, address, code);

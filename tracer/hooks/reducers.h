@@ -159,12 +159,12 @@ static struct view *known_view(uintptr_t first, size_t size, const char *note) {
 /* How many updates are going on whose accesses aren't recorded. They count among the initialisations too. */
 static unsigned hidden_updates;
 
-static bool records_views(void) { return tracing && initialising == hidden_updates; }
+static bool records_views(void) { return doing.tracing && initialising == hidden_updates; }
 
 /* Some begin, one behind another. */
 static void begin_views(uintptr_t first, size_t size, size_t count, const char *note, uintptr_t stack_pointer,
                         uintptr_t code) {
-    if (!tracing || size == 0)
+    if (!doing.tracing || size == 0)
         return;
     leave_jumped(stack_pointer, code);
     for (size_t at = 0; at < count; at++) {
@@ -233,7 +233,7 @@ static void end_view(struct view *view, uintptr_t code) {
 }
 
 void __spbags_reducer_end(const volatile void *at) {
-    struct view *view = tracing ? view_at((uintptr_t)at) : NULL;
+    struct view *view = doing.tracing ? view_at((uintptr_t)at) : NULL;
     if (!view)
         return;
     leave_jumped(STACK_POINTER, CODE);
@@ -246,14 +246,14 @@ void __spbags_reducer_end(const volatile void *at) {
 }
 
 void __spbags_not_seen(const char *note) {
-    if (tracing)
+    if (doing.tracing)
         tell_not_run(note);
 }
 
 static void hide_updates(unsigned count) {
     initialising += count - hidden_updates;
     hidden_updates = count;
-    if (tracing)
+    if (doing.tracing)
         find_short_way();
 }
 

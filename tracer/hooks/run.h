@@ -46,10 +46,10 @@ static void open_output(struct output *output, const char *variable, const char 
 /* A number of bytes for the trace; where none is said, a quarter of the space that is free where it goes to a file. */
 static void set_limit(bool is_file) {
     struct statvfs space;
-    if (is_file && fstatvfs(trace.file, &space) == 0)
-        trace.most = space.f_bavail * space.f_frsize / 4;
-    trace.at_limit = stop_at_limit;
-    trace.most = settings_number_or(SETTING_MAX_BYTES, trace.most);
+    if (is_file && fstatvfs(outcome.file, &space) == 0)
+        outcome.most = space.f_bavail * space.f_frsize / 4;
+    outcome.at_limit = stop_at_limit;
+    outcome.most = settings_number_or(SETTING_MAX_BYTES, outcome.most);
 }
 
 static void open_places(const char *name) {
@@ -62,8 +62,8 @@ static void open_outputs(const char *name) {
     static char beside[4096];
     const char *places_name = settings_given(SETTING_PLACES);
     struct stat about;
-    open_output(&trace, "SPBAGS_TRACE", name);
-    bool is_file = fstat(trace.file, &about) == 0 && S_ISREG(about.st_mode);
+    open_output(&outcome, "SPBAGS_TRACE", name);
+    bool is_file = fstat(outcome.file, &about) == 0 && S_ISREG(about.st_mode);
     set_limit(is_file);
     if (!places_name && is_file && strcmp(name, "-") != 0 && strncmp(name, "fd:", 3) != 0) {
         if ((size_t)snprintf(beside, sizeof beside, "%s.places", name) >= sizeof beside)
@@ -119,30 +119,30 @@ static void start_thread(void) {
 /* The report goes where SPBAGS_REPORT says, named as a trace is, or else to standard error. */
 static void start_detector(void) {
     const char *name = settings_text(SETTING_REPORT), *places_name = settings_text(SETTING_PLACES);
-    trace.name = "standard error";
+    outcome.name = "standard error";
     if (name)
-        open_output(&trace, "SPBAGS_REPORT", name);
+        open_output(&outcome, "SPBAGS_REPORT", name);
     else
-        trace.file = move_away("SPBAGS_REPORT", STDERR_FILENO);
+        outcome.file = move_away("SPBAGS_REPORT", STDERR_FILENO);
     if (places_name)
         open_places(places_name);
     find_heap();
     session = reserve(spbags_room());
     start_thread();
-    detecting = true;
+    doing.detecting = true;
 }
 #endif
 
 /* In the way of spbags-run: lines about the run go to it, a second run looks at the places of a report, and where the
    program forks there is no answer. */
 static void refuse_fork(void) {
-    if (tracing)
+    if (doing.tracing)
         fail("the program forks, and only one process can be traced");
 }
 
 static void tell_fork(void) {
     static bool told;
-    if (!tracing || !detecting || told)
+    if (!doing.tracing || !detects() || told)
         return;
     tell("the program forks, and the report is of its first process only");
     told = true;
@@ -242,15 +242,15 @@ static void find_stack(void) {
     size_t most_frames = size / 16 * 2;
     top = frames = reserve(most_frames * sizeof *frames);
     frames_end = frames + most_frames;
-    if (looking)
+    if (doing.looking)
         parts = reserve(most_frames * sizeof *parts);
     owners = reserve((MOST_DEPTH + 3) * sizeof *owners);
 }
 
 static void put_header(void) {
     const char *header = version == 2 ? "trace 2\n" : "trace 1\n";
-    memcpy(room(&trace), header, strlen(header));
-    trace.used += strlen(header);
+    memcpy(room(&outcome), header, strlen(header));
+    outcome.used += strlen(header);
 }
 
 __attribute__((constructor(101))) static void start(void) {
@@ -267,11 +267,11 @@ __attribute__((constructor(101))) static void start(void) {
     version = settings_digit(SETTING_VERSION);
     unit_shift = (unsigned)__builtin_ctz(settings_digit(SETTING_UNIT));
     unit_mask = ((uintptr_t)1 << unit_shift) - 1;
-    writes_repeats = settings_is(SETTING_REPEATS, "1");
+    doing.writing_repeats = settings_is(SETTING_REPEATS, "1");
     patience = least(settings_number(SETTING_PATIENCE), SECOND) * SECOND;
     judges_order = settings_is(SETTING_STREAMS, "1");
     reuses = settings_is(SETTING_REUSE, "1");
-    leaves_out = reuses && !writes_repeats;
+    leaves_out = reuses && !doing.writing_repeats;
     run_thread = __builtin_thread_pointer();
     fill_digits();
     give_streams_buffers();
@@ -295,13 +295,13 @@ __attribute__((constructor(101))) static void start(void) {
     pthread_atfork(tell_fork, NULL, stop_tracing);
     at_quick_exit(quick_end);
     on_exit(keep_status, NULL);
-    if (name && !looking)
+    if (name && !doing.looking)
         put_header();
 #ifdef SPBAGS_INSIDE
-    only_detects = detecting && !looking && !has_places && !divides && !writes_repeats;
+    doing.only_detecting = detects() && !doing.looking && !doing.keeping_places && !divides && !doing.writing_repeats;
     follow_views();
 #endif
-    tracing = true;
+    doing.tracing = true;
     find_short_way();
     catch_signals();
     start_watch();

@@ -15,7 +15,7 @@ static bool is_passed(uintptr_t at, size_t size) {
 }
 
 void __spbags_passed(const volatile void *at, unsigned long size, const void *code) {
-    if (!tracing)
+    if (!doing.tracing)
         return;
     if (passing != 0 || passed_count == MOST_PASSED)
         passing = passed_count = 0;
@@ -27,7 +27,7 @@ void __spbags_passed(const volatile void *at, unsigned long size, const void *co
 /* A statement that spawns is a function of its own in C++, and becomes a child once it has evaluated the arguments. It
    has no children itself. */
 void __spbags_detach(const void *code) {
-    if (!tracing)
+    if (!doing.tracing)
         return;
     leave_jumped(STACK_POINTER, (uintptr_t)code);
     uintptr_t end = top->end;
@@ -39,7 +39,7 @@ void __spbags_detach(const void *code) {
 }
 
 void __spbags_stored_by(const volatile void *at, unsigned long size, const void *code) {
-    if (tracing && initialising == 0)
+    if (doing.tracing && initialising == 0)
         touch(true, (uintptr_t)at, size, (uintptr_t)code);
 }
 
@@ -57,15 +57,15 @@ static bool end_child(const volatile void *function, unsigned long size, uintptr
 }
 
 void __spbags_end_child(const volatile void *function, unsigned long size, const void *code) {
-    if (tracing)
+    if (doing.tracing)
         end_child(function, size, STACK_POINTER, (uintptr_t)code);
 }
 
 int __spbags_left_child(const volatile void *function, unsigned long size, const void *code) {
-    return !tracing || end_child(function, size, STACK_POINTER, (uintptr_t)code);
+    return !doing.tracing || end_child(function, size, STACK_POINTER, (uintptr_t)code);
 }
 
 void __spbags_leave_child(const volatile void *function, unsigned long size, const char *place, const void *code) {
-    if (tracing && end_child(function, size, STACK_POINTER, (uintptr_t)code))
+    if (doing.tracing && end_child(function, size, STACK_POINTER, (uintptr_t)code))
         tell_incomplete("%s: an exception leaves a child here, and what comes until it is waited for isn't run", place);
 }

@@ -18,7 +18,7 @@ long __wrap_syscall(long number, long a, long b, long c, long d, long e, long f)
         return __real_syscall(number, a, b, c, d, e, f);
     const volatile uint32_t *word = (const volatile uint32_t *)a;
     const struct timespec *end = (const struct timespec *)d;
-    if (tracing) {
+    if (doing.tracing) {
         LIBRARY_READ(word, sizeof *word, __wrap_syscall);
         LIBRARY_READ(end, end ? sizeof *end : 0, __wrap_syscall);
     }

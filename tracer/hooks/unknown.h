@@ -22,9 +22,10 @@ extern struct unknown unknown_end[] __asm__("__spbags_unknown_end") __attribute_
 /* Where all else is done, or comes later, what the program does races with nothing. */
 #ifdef SPBAGS_OPENMP
 #define IS_BESIDE_OTHERS \
-    (tracing && (procedures > 1 || owners[1] != NULL || newest_scope > 0 || scopes[0].children + scopes[0].others > 0))
+    (doing.tracing && \
+     (procedures > 1 || owners[1] != NULL || newest_scope > 0 || scopes[0].children + scopes[0].others > 0))
 #else
-#define IS_BESIDE_OTHERS (tracing && (procedures > 1 || owners[1] != NULL))
+#define IS_BESIDE_OTHERS (doing.tracing && (procedures > 1 || owners[1] != NULL))
 #endif
 
 /* The function gets what its caller gave it, in whatever register, so this changes none and calls nothing. */

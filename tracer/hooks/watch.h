@@ -23,7 +23,7 @@ static bool has_new_record(void) {
     static uint64_t seen;
     uint64_t before = seen;
     seen = news;
-    return only_detects ? has_new_step() : news != before;
+    return only_detects() ? has_new_step() : news != before;
 }
 
 /* ---- Where the program is ---- */
@@ -84,7 +84,7 @@ static bool is_watch(int number, const siginfo_t *about) {
 /* In the signal's handler. */
 static void on_watch(void) {
     int error = errno;
-    if (tracing)
+    if (doing.tracing)
         look_for_progress();
     errno = error;
 }
@@ -113,7 +113,7 @@ static void leave_signal(int number) {
 static void end_sleep(uint64_t began) {
     int error = errno;
     slept += time_of(CLOCK_MONOTONIC) - began;
-    if (tracing)
+    if (doing.tracing)
         look_for_progress();
     errno = error;
 }
@@ -143,12 +143,12 @@ SLEEPS(int, pthread_cond_clockwait,
 #define SLEEPS_BY(NAME, PARAMETERS, ARGUMENTS) \
     __attribute__((weak)) int __real_##NAME PARAMETERS; \
     int __wrap_##NAME PARAMETERS { \
-        if (tracing) \
+        if (doing.tracing) \
             LIBRARY_READ(time, sizeof *time, __wrap_##NAME); \
         uint64_t began = time_of(CLOCK_MONOTONIC); \
         int answer = __real_##NAME ARGUMENTS; \
         end_sleep(began); \
-        if (tracing && answer != 0 && left) \
+        if (doing.tracing && answer != 0 && left) \
             LIBRARY_WRITE(left, sizeof *left, __wrap_##NAME); \
         return answer; \
     }
@@ -159,7 +159,7 @@ SLEEPS_BY(clock_nanosleep, (clockid_t clock, int flags, const struct timespec *t
 
 static void tell_endless_wait(void) {
     static bool told;
-    if (!tracing || told)
+    if (!doing.tracing || told)
         return;
     told = true;
     tell_where("the program waits for another task or thread, and so for ever, since the run is serial");

@@ -3,6 +3,7 @@
 #include "../hooks/common.h"
 
 #include "../hooks/changes.h"
+#include "../hooks/doing.h"
 #include "../hooks/formats.h"
 #include "../hooks/guards.h"
 #include "../hooks/memory.h"
@@ -27,8 +28,8 @@ volatile sig_atomic_t changes, waiting_signal;
 
 static unsigned unit_shift = 2;
 static uintptr_t unit_mask = 3;
-static const bool detecting = true, divides = false, only_detects = false;
-static bool tracing, looking;
+static const bool divides = false;
+struct doing doing = {.detecting = true};
 
 static void end_window(void);
 static void leave_out_dying(uintptr_t before);

@@ -7,7 +7,7 @@ sys.dont_write_bytecode = True
 import cases
 from cases import CC, TESTS, TRACER, TracerTest
 
-# The limits of a strand, of the number of strands, which come again and again then, and of memory that is kept free.
+# Limits of a strand, of the number of strands, which come again and again then, and of memory that is kept free.
 LIMITS = ("-DMOST_STRANDS=20", "-DMOST_BLOCKS=4", "-DMOST_ODD=3", "-DFREE_SPANS=1")
 UNDEFINED = ("-fsanitize=undefined", "-fsanitize-undefined-trap-on-error")
 BESIDE = [os.path.join(TRACER, "hooks", f"{name}.c") for name in ("formats", "guards", "memory", "settings", "spans", "tell")]
@@ -17,7 +17,7 @@ class PartsTest(TracerTest):
     def test_parts(self):
         # The library's functions are the real ones here.
         self.write("library_names.h", "")
-        self.succeeds(CC, "-w", "-O1", "-fno-builtin", *UNDEFINED, *LIMITS, "-I.", "-o", "parts",
+        self.succeeds(CC, "-w", "-O1", "-fno-builtin", *UNDEFINED, *LIMITS, "-DSPBAGS_INSIDE", "-I.", "-o", "parts",
                       os.path.join(TESTS, "parts.c"), *BESIDE)
         names = self.succeeds("./parts").out.split()
         self.assertTrue(names)

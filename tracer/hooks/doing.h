@@ -1,0 +1,28 @@
+/* What the run does. */
+#ifndef SPBAGS_DOING_H
+#define SPBAGS_DOING_H
+
+#include "common.h"
+
+extern struct doing {
+    /* From the beginning of the run to its end, in its own process. */
+    bool tracing;
+    /* Its records go to the detector; or it looks at the places of races. Else it writes a trace. */
+    bool detecting, looking;
+    /* A record goes to the detector, and that is all. In a program with the detector few runs do anything else. */
+    bool only_detecting;
+    /* Each record's place is kept, as long as there is room, and the course of the run is followed. */
+    bool keeping_places;
+    /* Each record of an access begins a strand, so that there are no repeats. */
+    bool writing_repeats;
+} doing;
+
+#ifdef SPBAGS_INSIDE
+enum { HAS_DETECTOR = true };
+#else
+enum { HAS_DETECTOR = false };
+#endif
+static inline bool detects(void) { return HAS_DETECTOR && doing.detecting; }
+static inline bool only_detects(void) { return HAS_DETECTOR && doing.only_detecting; }
+
+#endif
