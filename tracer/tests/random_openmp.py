@@ -72,6 +72,7 @@ class Procedure:
 
     def __init__(self, dag, now):
         self.dag, self.now, self.children, self.tasks, self.has_master, self.named = dag, now, [], 0, False, []
+        self.syncs = 0
 
     def access(self, variable, writes, guard=None):
         self.dag.access(self.now, variable, writes, guard)
@@ -88,12 +89,18 @@ class Procedure:
     def sync(self):
         self.now = self.dag.strand(self.now, *self.children)
         self.children, self.tasks, self.has_master, self.named = [], 0, False, []
+        self.syncs += 1
+
+    def end_group(self, older, tasks):
+        """Waits for all children but so many older ones, of which some are tasks."""
+        self.now = self.dag.strand(self.now, *self.children[older:])
+        self.children, self.tasks = self.children[:older], tasks
 
     def task(self, does, depend):
         """A task that names these variables. The way says what `depend` does, or is None for what it means."""
         older = [ended for name, writes, ended in self.named
                  if any(name == other and (writes or also) for other, also in depend)]
-        if older and self.dag.way == "order":
+        if older and self.dag.way == "order" and self.tasks > 0:
             self.sync()
         ended = self.spawn(does, after=older if self.dag.way is None else ())
         self.named += [(name, writes, ended) for name, writes in depend]
@@ -163,6 +170,14 @@ class Member:
         yield from ()
 
     taskwait = guarded = task
+
+    def group(self, item):
+        """Its end waits for tasks, and in the trace for all that its thread made in it."""
+        part, syncs, older, tasks = self.part, self.part.syncs, len(self.part.children), self.part.tasks
+        for inner in item.inner:
+            yield from getattr(self, inner.kind)(inner)
+        has_older = self.part is part and part.syncs == syncs
+        self.part.end_group(older if has_older else 0, tasks if has_older else 0)
 
     def numbered(self, item):
         """What only the thread of a number does."""
@@ -339,9 +354,17 @@ class Writer:
 
     def item(self, deep):
         kind = self.random.choice(("access", "access", "barrier", "single", "master", "loop", "loop", "sections", "task",
-                                   "taskwait", "numbered", "guarded"))
+                                   "taskwait", "numbered", "guarded", *["group"] * (deep < 2)))
         return {"access": self.access, "taskwait": self.taskwait, "task": lambda: self.task(deep),
+                "group": lambda: self.make_group(deep),
                 "guarded": lambda: self.guarded(deep)}.get(kind, getattr(self, "make_" + kind, None))()
+
+    def make_group(self, deep):
+        self.line("#pragma omp taskgroup")
+        self.line("{")
+        item = Item("group", inner=[self.item(deep + 1) for _ in range(self.random.randint(1, 3))])
+        self.line("}")
+        return item
 
     def make_barrier(self):
         self.line("#pragma omp barrier")
