@@ -9,10 +9,11 @@ import time
 
 sys.dont_write_bytecode = True
 import cases
-from cases import INSIDE, LEVEL, SPBAGS_CPLUSPLUS, SPBAGS_RUN, TRACER, TracerTest, by_call, line_of, lines_of, tagged_races
+from cases import (INSIDE, LEVEL, SPBAGS_CPLUSPLUS, SPBAGS_RUN, TRACER, TracerTest, by_call, line_of, lines_of,
+                   tagged_races)
 
-CLASSES, SHARED, LOOPS, SPAWNS, COPIES, CONTAINERS, REFUSED = (
-    f"tracer/tests/{name}.cpp" for name in ("openmp", "cplusplus", "loops", "spawns", "copies", "containers", "refused"))
+CLASSES, SHARED, LOOPS, SPAWNS, COPIES, CONTAINERS, REFUSED = (f"tracer/tests/{name}.cpp" for name in (
+    "openmp", "cplusplus", "loops", "spawns", "copies", "containers", "refused"))
 IS_CLANG = os.environ.get("SPBAGS_CXX") == "clang++"
 SERIAL = ("-D_Cilk_spawn=", "-D_Cilk_sync=", "-D_Cilk_scope=", f"-I{TRACER}/include")
 # libstdc++ counts a pointer's owners without atomic operations where a process has one thread.
@@ -152,8 +153,8 @@ class CilkTest(CPlusPlusTest):
         with self.subTest("the same without repeats"):
             self.is_same_without_repeats("setarch", "-R", "./spawns", "racy", **UNIT)
         with self.subTest("an exception"):
-            self.reports(3, f"{SPAWNS}:{line_of(SPAWNS, '[thrown]')}: an exception leaves a child here", "--", "./spawns",
-                         "thrown")
+            self.reports(3, f"{SPAWNS}:{line_of(SPAWNS, '[thrown]')}: an exception leaves a child here", "--",
+                         "./spawns", "thrown")
         with self.subTest("exceptions that a sync throws again"):
             self.prints(["22 221 221 15 7 1 8 6 10", "1"], 0, "./spawns", "kept")
         if INSIDE:
@@ -194,7 +195,8 @@ class ContainersTest(CPlusPlusTest):
 class RefusedTest(CPlusPlusTest):
     def test_spawns(self):
         with self.subTest("what can't be rewritten"):
-            self.assertEqual(lines_of(REFUSED, "// [refused]"), self.refused_lines("error: ", SPBAGS_CPLUSPLUS, REFUSED))
+            self.assertEqual(lines_of(REFUSED, "// [refused]"),
+                             self.refused_lines("error: ", SPBAGS_CPLUSPLUS, REFUSED))
         with self.subTest("operators that are built in"):
             self.assertEqual(lines_of(REFUSED, "// [built in]"), self.refused_lines(
                 " error: .*: a spawn has to be a call, ", SPBAGS_CPLUSPLUS, "-DBUILT_IN", REFUSED))
