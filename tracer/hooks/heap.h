@@ -1,6 +1,6 @@
 /* These stand in for the library's own, in the libraries too. A block's memory comes again when all blocks of its span
    are free, and so many spans behind it. */
-enum { HEAD = 16, CHUNK = 64 << 20, FREE_RUNS = 16 };
+enum { HEAD = 16, CHUNK = 64 << 20, FREE_WIDE = 16 };
 #ifndef FREE_SPANS
 #define FREE_SPANS 16
 #endif
@@ -36,8 +36,8 @@ static bool has_no_spans;
 /* The free ones, in the order in which they became so. */
 static uint32_t free_first, free_last, free_count;
 /* Free blocks of several spans, which come no more: the first span of each, and how many it has. */
-static struct run { size_t first, spans; } free_runs[FREE_RUNS];
-static size_t free_runs_at;
+static struct wide_block { size_t first, spans; } free_wide[FREE_WIDE];
+static size_t free_wide_at;
 
 /* Blocks of one size, each in its step, come one behind another in a span. */
 struct bump {
@@ -328,22 +328,22 @@ static void end_block(void *block, __spbags_function self, uintptr_t stack_point
 }
 
 /* The memory of a block that has several spans goes back to the system, and so do its marks. */
-static void end_run(struct run run) {
-    for (size_t span = run.first; span < run.first + run.spans; span++) {
+static void give_back_wide(struct wide_block block) {
+    for (size_t span = block.first; span < block.first + block.spans; span++) {
         uintptr_t first = span_first(span);
         end_span(span);
         if (regions[region_of(first)] != 0)
             madvise(mark_at(first, unit_shift), (span_size >> unit_shift) * sizeof(uint32_t), MADV_DONTNEED);
     }
-    madvise((void *)span_first(run.first), run.spans * span_size, MADV_DONTNEED);
+    madvise((void *)span_first(block.first), block.spans * span_size, MADV_DONTNEED);
 }
 
-static void free_run(struct run run) {
-    struct run before = free_runs[free_runs_at];
-    free_runs[free_runs_at] = run;
-    free_runs_at = (free_runs_at + 1) % FREE_RUNS;
+static void free_wide_block(struct wide_block block) {
+    struct wide_block before = free_wide[free_wide_at];
+    free_wide[free_wide_at] = block;
+    free_wide_at = (free_wide_at + 1) % FREE_WIDE;
     if (before.spans > 0)
-        end_run(before);
+        give_back_wide(before);
 }
 
 static void free_block(size_t span, uintptr_t end) {
@@ -352,7 +352,7 @@ static void free_block(size_t span, uintptr_t end) {
     if (spans[span].step > 0)
         leave_span(span);
     else if (reuses)
-        free_run((struct run){span, (end - 1 - span_first(span)) / span_size + 1});
+        free_wide_block((struct wide_block){span, (end - 1 - span_first(span)) / span_size + 1});
     unlock_heap();
 }
 
