@@ -1,6 +1,6 @@
 /* ---- Bodies. spbags-cc puts `for (__spbags_body(KIND); __spbags_goes_on();)` before each of these: of a parallel
-   region, of a single one, and of a master's, a loop with simd alone, and with clang a section, and sections with nowait
-   and lastprivate ---- */
+   region, of a single one, and of a master's, a loop with simd alone, and with clang a section, and sections with
+   nowait and lastprivate ---- */
 
 /* Where a master region waits for what the team has made before, as one thread does all of them. */
 static uintptr_t second_master;

@@ -218,9 +218,9 @@ static void wait_for_members(uintptr_t code) {
         push_scope(GROUP, false)->reductions = kept[group].reductions;
 }
 
-/* What the compiler puts beside the program's own code into a region each member does, as copies of variables. The first
-   member's is recorded; of the others' what functions of the program do, as a private variable's constructor. FRAME is
-   that of the function with such code, or NULL where the program's own begins. */
+/* What the compiler puts beside the program's own code into a region each member does, as copies of variables. The
+   first member's is recorded; of the others' what functions of the program do, as a private variable's constructor.
+   FRAME is that of the function with such code, or NULL where the program's own begins. */
 static void be_silent(struct frame *frame) {
     const struct scope *thread = thread_now();
     if (thread->kind != MEMBER || thread->thread == 0)

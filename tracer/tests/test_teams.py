@@ -88,8 +88,8 @@ class NoteTest(TracerTest):
     def test_team_of_one(self):
         """What the other threads do isn't run, and one thread that asks for its number may do less than they would."""
         with self.subTest("fewer than the program wants"):
-            self.reports(3, f"{SOURCE}:{line_of(SOURCE, '[wants]')}: this parallel region has 1 threads, and asks", "--",
-                         "./ways", "wants_more", SPBAGS_TEAM="1")
+            told = f"{SOURCE}:{line_of(SOURCE, '[wants]')}: this parallel region has 1 threads, and asks"
+            self.reports(3, told, "--", "./ways", "wants_more", SPBAGS_TEAM="1")
         with self.subTest("as many as the user wants"):
             self.reports(0, "races 0, pairs of lines 0", "--", "./ways", "by_number", SPBAGS_TEAM="1")
 
