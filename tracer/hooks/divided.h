@@ -51,7 +51,10 @@ __attribute__((noinline)) static bool divide_access(bool writes, uint64_t locati
     if (unit->location == 0)
         return false;
     uint32_t *mark = mark_of(address, unit_shift);
-    *mark = *mark == DEAD ? DEAD : TOUCHED;
+    if (*mark == DEAD)
+        unit->mark = UNTOUCHED;
+    else
+        *mark = TOUCHED;
     follow_unit(unit, writes, address, code);
     unsigned left_out = bytes_left_out(address);
     for (size_t byte = 0; byte <= unit_mask; byte++)

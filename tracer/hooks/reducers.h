@@ -89,7 +89,7 @@ __attribute__((noinline)) static bool note_view(uintptr_t unit, uint32_t *mark, 
 static void forget_updates(const struct view *view) {
     for (uintptr_t unit = (view->first + unit_mask) & ~unit_mask; unit + unit_mask < view->end; unit += unit_mask + 1) {
         uint32_t *mark = mark_of(unit, unit_shift);
-        *mark = *mark == UNTOUCHED ? UNTOUCHED : TOUCHED;
+        *mark = *mark < FIRST_READ ? *mark : TOUCHED;
     }
 }
 

@@ -10,8 +10,8 @@ static volatile int sink;
 
 static void give_and_end(void) {
     int *block = malloc(10 * sizeof *block); /* [given] */
-    given = block; /* [give] */
-    free(block);   /* [end] */
+    given = block;                           /* [give] */
+    free(block);                             /* [end] */
 }
 
 static void use_given(void) {
@@ -23,6 +23,40 @@ static void use_given(void) {
 static void use_in_parallel(void) {
     cilk_spawn give_and_end();
     use_given();
+    cilk_sync;
+}
+
+/* Bytes of it, which a run of their own tells apart. */
+static void use_bytes(void) {
+    const char *bytes = (const char *)given; /* [take bytes] */
+    sink = bytes[5] + bytes[9];              /* [bytes] */
+}
+
+static void use_bytes_in_parallel(void) {
+    cilk_spawn give_and_end();
+    use_bytes();
+    cilk_sync;
+}
+
+__attribute__((unused)) static void zero(void *view) { *(int *)view = 0; }
+__attribute__((unused)) static void add(void *left, void *right) { *(int *)left += *(int *)right; }
+
+static void sum_and_end(void) {
+    int *block = calloc(10, sizeof *block);
+    int cilk_reducer(zero, add) *sum = (void *)block;
+    given = block;            /* [give sum] */
+    free((*sum += 1, block)); /* [end of sum] */
+}
+
+static void set_sum(void) {
+    int cilk_reducer(zero, add) *sum = (void *)given; /* [take sum] */
+    *sum = 2;                                         /* [set] */
+}
+
+/* A reducer in such a block. */
+static void sum_in_parallel(void) {
+    cilk_spawn sum_and_end();
+    set_sum();
     cilk_sync;
 }
 
@@ -65,6 +99,12 @@ static void end_in_strands(void) {
     for (int child = 0; child < 8; child++)
         cilk_spawn end_many(5000);
     cilk_sync;
+}
+
+/* Behind a block for which there is no room. */
+static void ask_for_too_much(void) {
+    given = malloc((size_t)3 << 40);
+    end_in_strands();
 }
 
 static int *made(void) {
@@ -161,11 +201,12 @@ static void map_in_parallel(void) {
 }
 
 static int run(const char *word) {
-    static void (*const functions[])(void) = {use_in_parallel,      use_later,        end_in_parallel,
-                                              move_in_parallel,     end_in_strands,   outlive_strands,
-                                              race_in_a_later_life, grow_in_parallel, map_in_parallel};
-    static const char *const names[] = {"used",    "later",      "ended", "moved", "strands",
-                                        "outlive", "later life", "large", "mapped"};
+    static void (*const functions[])(void) = {
+        use_in_parallel, use_bytes_in_parallel, sum_in_parallel,  use_later,
+        end_in_parallel, move_in_parallel,      end_in_strands,   ask_for_too_much,
+        outlive_strands, race_in_a_later_life,  grow_in_parallel, map_in_parallel};
+    static const char *const names[] = {"used",    "bytes", "sum",     "later",      "ended", "moved",
+                                        "strands", "vast",  "outlive", "later life", "large", "mapped"};
     for (size_t at = 0; at < sizeof names / sizeof *names; at++)
         if (strcmp(word, names[at]) == 0)
             functions[at]();

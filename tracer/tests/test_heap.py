@@ -12,17 +12,20 @@ SOURCE = os.path.join(TESTS, "heap.c")
 # The pairs of tags whose lines race.
 RACES = {
     "used": [("[end]", "[use]"), ("[give]", "[take]")],
+    "bytes": [("[end]", "[bytes]"), ("[give]", "[take bytes]")],
+    "sum": [("[end of sum]", "[set]"), ("[give sum]", "[take sum]")],
     "later": [],
     "ended": [("[end of another's]", "[read]")],
     "moved": [("[move]", "[read of moved]")],
     "strands": [],
+    "vast": [],
     "outlive": [],
     "later life": [("[fill]", "[beside]")],
     "large": [],
     "mapped": [],
 }
 # What a run of these may take, in KB: with memory that doesn't come again each takes more.
-MOST = {"strands": 40000, "outlive": 20000, "large": 40000}
+MOST = {"strands": 40000, "vast": 40000, "outlive": 20000, "large": 40000}
 
 
 class HeapTest(TracerTest):
@@ -50,7 +53,8 @@ class HeapTest(TracerTest):
         return block["offset"], block["size"], block["stack"][0]["line"]
 
     def test_names(self):
-        for word, offset, size, tag in (("used", 12, 40, "[given]"), ("ended", 16, 40, "[parent's]"),
+        for word, offset, size, tag in (("used", 12, 40, "[given]"), ("bytes", 5, 40, "[given]"),
+                                        ("ended", 16, 40, "[parent's]"),
                                         ("later life", 20, 4000, "[later]")):
             with self.subTest(word):
                 self.assertEqual((offset, size, line_of(SOURCE, tag)), self.block_of(word))
