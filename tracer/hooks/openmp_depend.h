@@ -50,7 +50,7 @@ static void name_all(const struct named *names, size_t count, const struct scope
     }
 }
 
-static void follow_depend(const struct named *names, size_t count, bool is_named, uintptr_t code) {
+static void follow_depend(struct named *names, size_t count, bool is_named, uintptr_t code) {
     char line[400];
     if (!doing.tracing)
         return;
@@ -61,6 +61,8 @@ static void follow_depend(const struct named *names, size_t count, bool is_named
     first_depend = first_depend ? first_depend : code;
     if (depend_way == IGNORED)
         return;
+    for (size_t at = 0; at < count; at++)
+        names[at].address = name_in_life(&spans_lives, names[at].address);
     const struct scope *parent = &scopes[holder_at()];
     if (depends_on_older(names, count, parent) && wait_for_tasks(code))
         depend_wait = depend_wait ? depend_wait : code;

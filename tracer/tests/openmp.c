@@ -402,6 +402,16 @@ static void depends_on_none(void) {
         other = row[i]++; /* [apart] */
 }
 
+/* Nor where memory comes again. */
+static void depends_on_freed(void) {
+    for (int i = 0; i < 40; i++) {
+        int *block = malloc(40000);
+#pragma omp task depend(inout : block[0])
+        other = 1; /* [freed] */
+        free(block);
+    }
+}
+
 /* One by a wait for data, and one by an object that names it. */
 static void depends_on_one(void) {
 #pragma omp task depend(out : one)
@@ -460,6 +470,7 @@ int main(int count, char **words) {
                 {"lanes", lanes, true},
                 {"depends", depends, false},
                 {"depends_on_none", depends_on_none, false},
+                {"depends_on_freed", depends_on_freed, false},
                 {"depends_on_one", depends_on_one, false},
                 {"task_number", task_number, false}};
     const char *word = count > 1 ? words[1] : "";

@@ -158,6 +158,7 @@ ANSWERS = [
     ("depends", 1, "nothing waits for data", "reads first", "writes last", {"SPBAGS_DEPEND": "ignore"}),
     ("depends", 3, "this depends on a task, and waits for all before it", "", "", {"SPBAGS_DEPEND": "order"}),
     ("depends_on_none", 1, "", "apart", "apart", {"SPBAGS_DEPEND": "order"}),
+    ("depends_on_freed", 1, "", "freed", "freed", {"SPBAGS_DEPEND": "order"}),
     ("depends_on_one", 3, "this depends on a task", "", "", {"SPBAGS_DEPEND": "order"})]
 
 
