@@ -1,6 +1,6 @@
 /* These stand in for the library's own, in the libraries too. A block's memory comes again when all blocks of its span
    are free, and so many spans behind it. */
-enum { HEAD = 16, CHUNK = 64 << 20, FREE_WIDE = 16 };
+enum { HEAD = 16, CHUNK = 64 << 20, FREE_WIDE = 16, FREE_WIDE_SPANS = 512 };
 #ifndef FREE_SPANS
 #define FREE_SPANS 16
 #endif
@@ -35,9 +35,10 @@ static size_t spans_mapped, spans_taken;
 static bool has_no_spans;
 /* The free ones, in the order in which they became so. */
 static uint32_t free_first, free_last, free_count;
-/* Free blocks of several spans, which come no more: the first span of each, and how many it has. */
+/* Free blocks of several spans, which come no more, and which the system gets later: the first span of each, and how
+   many it has; which of them is the oldest, how many there are, and how many spans they have. */
 static struct wide_block { size_t first, spans; } free_wide[FREE_WIDE];
-static size_t free_wide_at;
+static size_t oldest_wide, free_wide_count, free_wide_spans;
 
 /* Blocks of one size, each in its step, come one behind another in a span. */
 struct bump {
@@ -338,12 +339,21 @@ static void give_back_wide(struct wide_block block) {
     madvise((void *)span_first(block.first), block.spans * span_size, MADV_DONTNEED);
 }
 
+static void give_back_oldest(void) {
+    struct wide_block oldest = free_wide[oldest_wide];
+    oldest_wide = (oldest_wide + 1) % FREE_WIDE;
+    free_wide_count--;
+    free_wide_spans -= oldest.spans;
+    give_back_wide(oldest);
+}
+
 static void free_wide_block(struct wide_block block) {
-    struct wide_block before = free_wide[free_wide_at];
-    free_wide[free_wide_at] = block;
-    free_wide_at = (free_wide_at + 1) % FREE_WIDE;
-    if (before.spans > 0)
-        give_back_wide(before);
+    if (free_wide_count == FREE_WIDE)
+        give_back_oldest();
+    free_wide[(oldest_wide + free_wide_count++) % FREE_WIDE] = block;
+    free_wide_spans += block.spans;
+    while (free_wide_spans > FREE_WIDE_SPANS)
+        give_back_oldest();
 }
 
 static void free_block(size_t span, uintptr_t end) {
