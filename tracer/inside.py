@@ -1,4 +1,4 @@
-"""The detector as a library, which `spbags-cc --inside` links: `./build` proves and builds it from the crate `inside`."""
+"""The detector as a library, which `spbags-cc` links: `./build` proves and builds it from the crate `inside`."""
 import os
 import subprocess
 
@@ -8,7 +8,10 @@ BUILD = os.path.join(CRATES, "..", "build")
 
 
 def archive(fail):
-    """The library's name."""
-    if not IS_INSTALLED and subprocess.run([BUILD, "inside"], stdin=subprocess.DEVNULL).returncode != 0:
-        fail("the detector isn't built, and can't be")
+    """The library's name, where it is built or can be."""
+    is_there = (os.path.exists(ARCHIVE) if IS_INSTALLED else
+                subprocess.run([BUILD, "inside"], stdin=subprocess.DEVNULL).returncode == 0)
+    if not is_there:
+        fail("the detector isn't built, and can't be here. With --trace this works without it: then the program only "
+             "writes traces, and spbags-run has spbags check them")
     return ARCHIVE

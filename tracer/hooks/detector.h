@@ -1,5 +1,5 @@
-/* The detector inside the program, which spbags-cc --inside links. It takes each record in place of a line of the
-   trace, and at the end gives the report. */
+/* The detector inside the program, which spbags-cc links. It takes each record in place of a line of the trace, and at
+   the end gives the report. */
 int __real_sem_wait(sem_t *semaphore);
 
 __attribute__((unused)) static void wait_for(sem_t *semaphore) {
@@ -321,6 +321,9 @@ static void take_bundle(struct bundle *bundle) {
     take_endings();
 }
 
+/* Whether a setting names a place for the report, and whether it is made. If none does, and nothing ran beside
+   anything, it isn't: a build runs such programs, and reads what they print. */
+static bool report_is_asked, report_is_made;
 /* Whether the report, once it is made, is more than the line `races 0`. */
 static bool has_races;
 
@@ -346,7 +349,8 @@ static void *detect(void *nothing) {
         is_last = bundles[number].is_last;
         sem_post(&free_bundles);
     }
-    put_report();
+    if (report_is_made)
+        put_report();
     spbags_free(session);
     return nothing;
 }
@@ -360,7 +364,8 @@ static void make_taken(void) {
 }
 
 /* Hands over what is left, and waits until the report is made. */
-static void end_detector(void) {
+static void end_detector(bool has_more_to_say) {
+    report_is_made = report_is_asked || has_more_to_say;
     filling->is_last = true;
     hand_over(next_record);
     pthread_join(detector, NULL);
@@ -376,7 +381,7 @@ static inline uintptr_t steps_so_far(void) { return 0; }
 static void leave_out_steps(uintptr_t before) { (void)before; }
 static inline void step(unsigned kind, uint64_t location) { (void)kind, (void)location; }
 static void make_taken(void) {}
-static void end_detector(void) {}
+static void end_detector(bool has_more_to_say) { (void)has_more_to_say; }
 #endif
 
 /* What the run makes, for a line about it. */

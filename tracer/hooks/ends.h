@@ -19,7 +19,7 @@ static void tell_narrow(unsigned unit) {
 }
 
 static void tell_notes(void) {
-    if (narrow_accesses > 0)
+    if (narrow_accesses > 0 && has_had_children())
         tell_narrow(1u << __builtin_ctzl(narrow_bits));
     if (most_procedures > DEFAULT_DEPTH + 1 && !detects())
         tell_record(tell_numbered("depth", most_procedures - 1).text,
@@ -47,7 +47,7 @@ static void end_trace(void) {
         put_notes();
     tell_notes();
     if (detects())
-        end_detector();
+        end_detector(has_had_children() || tell_has_told);
     output_close(&places);
     output_close(&outcome);
     sigprocmask(SIG_SETMASK, &before, NULL);

@@ -1,7 +1,7 @@
-# The test for a repeat at an access, in place of the call of its hook: `spbags-cc --inline-checks` puts it there. The
-# address is in %rdi, and what a call may change is free. An access goes the short way, as in accesses.h, if the stack
-# pointer is below the end of that way, the address is a multiple of the size, and the region has marks. Then a repeat
-# calls nothing. FIRST is called for the only unit of what isn't one, HOOK for all else.
+# The test for a repeat at an access, in place of the call of its hook: `spbags-cc` puts it there. The address is in
+# %rdi, and what a call may change is free. An access goes the short way, as in accesses.h, if the stack pointer is
+# below the end of that way, the address is a multiple of the size, and the region has marks. Then a repeat calls
+# nothing. FIRST is called for the only unit of what isn't one, HOOK for all else.
 .macro __spbags_inline_check HOOK, FIRST, SIZE, IS_REPEAT, IS_NONE
 	cmpq __spbags_short_way_end(%rip), %rsp
 	jae .Lspbags_hook\@

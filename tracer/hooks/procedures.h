@@ -68,6 +68,9 @@ static void find_short_way(void) {
 static struct frame **owners;
 static uint32_t procedures, most_procedures;
 
+/* Where nothing was a child no access has another one beside it. */
+static bool has_had_children(void) { return most_procedures > 1; }
+
 static inline void count_procedures(enum spbags_kind kind) {
     if (kind == SPBAGS_RETURN)
         procedures--;

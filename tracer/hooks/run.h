@@ -120,6 +120,7 @@ static void start_thread(void) {
 static void start_detector(void) {
     const char *name = settings_text(SETTING_REPORT), *places_name = settings_text(SETTING_PLACES);
     outcome.name = "standard error";
+    report_is_asked = name;
     if (name)
         open_output(&outcome, "SPBAGS_REPORT", name);
     else
@@ -260,7 +261,7 @@ __attribute__((constructor(101))) static void start(void) {
     racy_status = settings_status(SETTING_EXITCODE);
     if (!name && !HAS_DETECTOR) {
         if (racy_status != PROGRAMS_OWN)
-            fail("SPBAGS_EXITCODE asks for a report, and there is no detector inside: link the program with --inside");
+            fail("SPBAGS_EXITCODE asks for a report, and there is no detector inside: link without --trace");
         tell("SPBAGS_TRACE isn't set, so no trace is written");
         return;
     }

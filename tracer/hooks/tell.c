@@ -4,6 +4,7 @@
 __attribute__((used)) static const char mark[] = "SPBAGS_RECORDS";
 
 int tell_file = STDERR_FILENO;
+bool tell_has_told;
 char tell_kept[1 << 16];
 size_t tell_kept_length;
 uint64_t tell_incomplete_lines;
@@ -12,6 +13,7 @@ uint64_t tell_incomplete_lines;
    its blocks. Where no standard error is read no signal comes of it. */
 void tell_text(const char *record, const char *text) {
     char whole[1100], *left = whole;
+    tell_has_told = true;
     int length = snprintf(whole, sizeof whole - 1, "%s: %s", tells_records() ? record : "spbags", text);
     if (length > (int)sizeof whole - 2)
         length = (int)sizeof whole - 2;

@@ -6,8 +6,9 @@
 
 #include "common.h"
 
-/* Where the lines go; spbags-run has another file than standard error. */
+/* Where the lines go; spbags-run has another file than standard error. And whether there was one. */
 extern int tell_file;
+extern bool tell_has_told;
 static inline bool tells_records(void) { return tell_file != STDERR_FILENO; }
 
 /* A record's name and the number behind it. */

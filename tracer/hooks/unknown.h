@@ -28,10 +28,11 @@ extern struct unknown unknown_end[] __asm__("__spbags_unknown_end") __attribute_
 #define IS_BESIDE_OTHERS (doing.tracing && (procedures > 1 || owners[1] != NULL))
 #endif
 
-/* The function gets what its caller gave it, in whatever register, so this changes none and calls nothing. */
+/* The function gets what its caller gave it, in whatever register, so this changes none and calls nothing. Before the
+   program the hooks call some themselves. */
 __attribute__((no_caller_saved_registers, target("general-regs-only"))) void
 __spbags_count_call(struct unknown *function) {
-    function->calls += function->always || IS_BESIDE_OTHERS;
+    function->calls += doing.tracing && (function->always || IS_BESIDE_OTHERS);
 }
 
 static void tell_unknown_functions(void) {

@@ -1,7 +1,7 @@
 """What files of tests share: commands, the lines that tags name, the races of a program, and the count. Each test runs
 in a folder of its own with the examples in it. Each `subTest` counts; one that fails is named with its last command.
-SPBAGS names the checker, CC the compiler, LEVEL its level of optimization, and INSIDE is set if there is a detector
-inside."""
+SPBAGS names the checker, CC the compiler, LEVEL its level of optimization, and INSIDE is set if the library of the
+detector is there."""
 import collections
 import glob
 import json
@@ -21,6 +21,9 @@ TRACER = os.path.dirname(TESTS)
 # The modules of the tracer itself.
 sys.path.insert(0, TRACER)
 CC, LEVEL, INSIDE = os.environ.get("CC", "gcc"), os.environ.get("LEVEL", "-O1"), bool(os.environ.get("INSIDE"))
+# What makes spbags-cc leave out a detector that isn't there.
+DETECTOR = [] if INSIDE else ["--trace"]
+needs_detector = unittest.skipUnless(INSIDE, "the detector isn't there")
 SPBAGS_CC, SPBAGS_CPLUSPLUS, SPBAGS_RUN, SPBAGS_LINES = (
     os.path.join(TRACER, name) for name in ("spbags-cc", "spbags-c++", "spbags-run", "spbags-lines"))
 Done = collections.namedtuple("Done", "status out errors")
@@ -136,6 +139,8 @@ class TracerTest(unittest.TestCase):
 
     def run_command(self, *words, **settings):
         """Its status and what it says, with these environment variables."""
+        if words[0] in (SPBAGS_CC, SPBAGS_CPLUSPLUS):
+            words = (words[0], *DETECTOR, *words[1:])
         self.command = shlex.join([*(f"{name}={value}" for name, value in settings.items()), *words])
         done = subprocess.run(words, stdin=subprocess.DEVNULL, capture_output=True, text=True, errors="replace",
                               env={**os.environ, **settings}, timeout=3600)
@@ -195,13 +200,6 @@ class TracerTest(unittest.TestCase):
         self.assertEqual(checked.status, said.status, said.errors)
         notes = [line for line in said.out.splitlines() if line.startswith("note: ")]
         return [race_of(line) for line in said.out.splitlines() if line not in notes], notes
-
-    def is_same_inside(self, source, *flags, words=(), **settings):
-        """The report of the detector inside is that of the trace, with the checks in the program and without."""
-        for options in ([], ["--no-inline-checks"]):
-            with self.subTest("the report of the detector inside", options=options):
-                self.succeeds(compiler_of(source), "--inside", *options, *flags, "-o", "inside", source)
-                self.has_same_report("./inside", *words, **settings)
 
     def ended_from_outside(self, number, after, program, grows, **settings):
         """The status of a run that a signal ends so many seconds after the first records, which make a file grow."""

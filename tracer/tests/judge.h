@@ -1,6 +1,6 @@
 /* Says which variables of a run race, by definition: it keeps the dag of the strands with all its paths, and every
    access, and asks of each two accesses of one variable whether a path leads from the one to the other.
-   It knows nothing of traces, bags or stacks. tests/random.py writes programs that call it. */
+   It knows nothing of traces, bags or stacks. tests/random_cilk.py writes programs that call it. */
 #include <stdbool.h>
 #include <stdint.h>
 #include <stdio.h>

@@ -24,6 +24,7 @@ TRACER = os.path.dirname(HERE)
 sys.dont_write_bytecode = True
 sys.path.insert(0, TRACER)
 import answers
+from cases import DETECTOR
 
 IS_GCC = os.environ.get("CC", "gcc") == "gcc"
 
@@ -149,7 +150,8 @@ class Globals:
 def accesses(source, level):
     """The accesses of a run: their lines, kinds and variables."""
     openmp = ["-fopenmp"] if "openmp" in source else []
-    run(os.path.join(TRACER, "spbags-cc"), "-w", "-fwrapv", "-DRACY", *openmp, level, "-o", "program", source, "-lm")
+    run(os.path.join(TRACER, "spbags-cc"), *DETECTOR, "-w", "-fwrapv", "-DRACY", *openmp, level, "-o", "program",
+        source, "-lm")
     run("./program", SPBAGS_TRACE="run.trace", SPBAGS_REPEATS="1", SPBAGS_MAX_BYTES="100000000")
     names, found, codes, places = Globals(), set(), {}, answers.places_of("run.trace.places")
     with open("run.trace", encoding="ascii") as records:
@@ -185,7 +187,7 @@ def check_the_loop():
 def check_headers():
     """No line that its file doesn't have."""
     write("pointer.cpp", POINTER)
-    run(os.path.join(TRACER, "spbags-c++"), "-o", "program", "pointer.cpp")
+    run(os.path.join(TRACER, "spbags-c++"), *DETECTOR, "-o", "program", "pointer.cpp")
     codes = re.findall(r"^ +([0-9a-f]+):\tcall.*<__tsan_(?:read|write)", run("objdump", "-d", "--no-show-raw-insn",
                        "program"), re.MULTILINE)
     for found in run("addr2line", "-e", "program", *codes).splitlines():

@@ -8,8 +8,9 @@ twice, by SPBAGS_DEPEND=order and =ignore, and what the program itself has must 
 
     random_openmp.py [--count 200] [--seed 1] [--seconds 60]
 
-SPBAGS names the checker. It stops after so many seconds, and its last line says how many programs it tried and how many
-of them were wrong."""
+SPBAGS names the checker. INSIDE is set if the programs have the detector inside; then its report of each run has to be
+the checker's. It stops after so many seconds, and its last line says how many programs it tried and how many of them
+were wrong."""
 import argparse
 import json
 import os
@@ -22,6 +23,8 @@ from concurrent.futures import ThreadPoolExecutor
 
 HERE = os.path.dirname(os.path.realpath(__file__))
 TRACER = os.path.dirname(HERE)
+sys.dont_write_bytecode = True
+from cases import DETECTOR, INSIDE
 SPBAGS = os.path.realpath(os.environ.get("SPBAGS", os.path.join(TRACER, "..", "spbags")))
 BATCH, GLOBALS, SLOTS = 25, 4, 16
 
@@ -449,7 +452,8 @@ class Batch:
 
     def build(self):
         level = ("-O0", "-O1")[self.writers[0].number // BATCH % 2]
-        self.run(os.path.join(TRACER, "spbags-cc"), "-fopenmp", level, "-w", "-o", self.name, self.name + ".c")
+        self.run(os.path.join(TRACER, "spbags-cc"), *DETECTOR, "-fopenmp", level, "-w", "-o", self.name,
+                 self.name + ".c")
         symbols = map(str.split, self.run("nm", self.name).splitlines())
         self.addresses = {words[2]: int(words[0], 16) for words in symbols if len(words) == 3}
 
@@ -463,12 +467,21 @@ class Batch:
         return lambda location: writer.local if location % 2 else found.get(location, "?")
 
     def found(self, writer, way):
-        trace = f"{self.name}.{writer.number}"
-        self.run(self.name, str(writer.number), SPBAGS_TRACE=trace, SPBAGS_TEAM=str(writer.threads), SPBAGS_DEPEND=way)
-        lines = self.run(SPBAGS, "check", trace, statuses=(0, 1)).splitlines()[1:]
+        trace, settings = f"{self.name}.{writer.number}", {"SPBAGS_TEAM": str(writer.threads), "SPBAGS_DEPEND": way}
+        self.run(self.name, str(writer.number), SPBAGS_TRACE=trace, SPBAGS_REPORT="", **settings)
+        report = self.run(SPBAGS, "check", trace, statuses=(0, 1))
+        if INSIDE and report != self.own_report(writer, trace[:-1] + "~", settings):
+            self.differing.append(way)
         os.remove(trace)
         os.remove(trace + ".places")
-        return sorted(map(self.names(writer), (int(line.split()[1]) for line in lines)))
+        return sorted(map(self.names(writer), (int(line.split()[1]) for line in report.splitlines()[1:])))
+
+    def own_report(self, writer, name, settings):
+        """That of the detector inside. The environment is as long as in the traced run: the program's words lie before
+        it."""
+        self.run(self.name, str(writer.number), SPBAGS_TRACE="", SPBAGS_REPORT=name, **settings)
+        with open(name, encoding="ascii") as file:
+            return file.read()
 
     def falsely_guarded(self, writer):
         """The variables that have races under one guard only, and aren't told so, or no such races, and are."""
@@ -482,9 +495,11 @@ class Batch:
 
     def faults(self, writer):
         """What the runs say and the model doesn't."""
-        ways = ("order", "ignore") if writer.has_depend else ("ignore",)
+        ways, self.differing = ("order", "ignore") if writer.has_depend else ("ignore",), []
         wanted, found = [sorted(writer.racy(way)) for way in ways], [self.found(writer, way) for way in ways]
         own = set(writer.racy(None))
+        if self.differing:
+            yield f"by {self.differing} the report of the detector inside isn't the checker's"
         if wanted != found:
             yield f"wanted {wanted}, found {found}"
         if not own <= set(found[-1]) or (writer.has_depend and not set(found[0]) <= own):

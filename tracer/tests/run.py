@@ -1,7 +1,7 @@
 #!/usr/bin/env python3
 """Tries spbags-run on run.c, and on programs and files that go wrong. What has to come out is written here by hand,
 with the lines that tags in the source name. SPBAGS names the checker, and CC the compiler. The last line says how many
-passed and failed. With --inside the programs have the detector inside."""
+passed and failed. INSIDE is set if the programs have the detector inside."""
 import contextlib
 import json
 import os
@@ -19,13 +19,13 @@ sys.dont_write_bytecode = True
 sys.path.insert(0, TRACER)
 import answers
 import source
+from cases import DETECTOR, INSIDE
 try:
     import jsonschema
 except ImportError:
     jsonschema = None
 RUN = os.path.join(TRACER, "spbags-run")
 SOURCE = os.path.join(HERE, "run.c")
-INSIDE = [word for word in sys.argv[1:] if word == "--inside"]
 
 
 def schema():
@@ -174,7 +174,7 @@ def check_many_variables():
     with open("variables.c", "w") as file:
         file.write("#include <cilk/cilk.h>\nstatic void set(int *at) { *at = 1; }\n"
                    f"{functions}int main(void) {{\n{calls}}}\n")
-    subprocess.run([os.path.join(TRACER, "spbags-cc"), "-w", "--no-inline-checks", *INSIDE, "-o", "variables",
+    subprocess.run([os.path.join(TRACER, "spbags-cc"), "-w", "--no-inline-checks", *DETECTOR, "-o", "variables",
                     "variables.c"], check=True)
     report = found_with("./variables", options=("--most", "100"))[1]
     own = [pair for pair in report["pairs"] if not pair["borrowed"]]
@@ -763,7 +763,7 @@ def check_many_lines():
 
 
 def build():
-    compiler = [os.path.join(TRACER, "spbags-cc"), "-w", *INSIDE]
+    compiler = [os.path.join(TRACER, "spbags-cc"), "-w", *DETECTOR]
     for name in ("run", "ends", "ways_out", "many", "stores"):
         subprocess.run([*compiler, "-o", name, os.path.join(HERE, name + ".c")], check=True)
     subprocess.run([*compiler, "-DRACY", "-o", "traps", os.path.join(TRACER, "examples", "traps.c")], check=True)

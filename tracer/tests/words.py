@@ -1,8 +1,8 @@
 #!/usr/bin/env python3
 """Tries the words of spbags-run's report on words.c and, with gcc, on words_openmp.c and words.cpp: the names of
 variables and of their parts, which iterations race and what is missing there, and the text. What has to come out is
-written here by hand. SPBAGS names the checker, and CC the compiler; with --inside the programs have the detector
-inside. The last line says how many passed and failed."""
+written here by hand. SPBAGS names the checker, and CC the compiler; INSIDE is set if the programs have the
+detector inside. The last line says how many passed and failed."""
 import json
 import os
 import re
@@ -11,7 +11,8 @@ import sys
 
 sys.dont_write_bytecode = True
 sys.path.insert(0, os.path.dirname(os.path.realpath(__file__)))
-from run import HERE, INSIDE, RUN, TRACER, found_with, run, run_checks, same
+from cases import DETECTOR
+from run import HERE, RUN, TRACER, found_with, run, run_checks, same
 
 HAS_OPENMP = os.environ.get("CC", "gcc") == "gcc"
 
@@ -294,8 +295,8 @@ def check_variables_of_tasks():
 
 def build(program, source, *options):
     command = "spbags-c++" if source.endswith(".cpp") else "spbags-cc"
-    subprocess.run([os.path.join(TRACER, command), "-w", *INSIDE, *options, "-o", program, os.path.join(HERE, source)],
-                   check=True)
+    subprocess.run([os.path.join(TRACER, command), "-w", *DETECTOR, *options, "-o", program,
+                    os.path.join(HERE, source)], check=True)
 
 
 def build_all():

@@ -3,12 +3,12 @@
 tells judge.h what it does, which says by definition which variables race. Their names have to be those of the locations
 that `spbags check` reports of the trace, with repeats and without, and both reports have to name the same locations
 if memory doesn't come again; if it does, what dies in its strand isn't in the trace, and the names are the same.
-With --inside the programs have the detector inside, and its report of each run has to be the checker's. With --c++ they
-are of C++, and spawn members, lambdas, templates, what is handed over by reference and what throws.
+With --c++ they are of C++, and spawn members, lambdas, templates, what is handed over by reference and what throws.
 
-    random.py [--count 200] [--seed 1] [--seconds 60] [--inside] [--c++]
+    random_cilk.py [--count 200] [--seed 1] [--seconds 60] [--c++]
 
-CC names the compiler of C and SPBAGS the checker. It stops after so many seconds, and its last line says how many
+CC names the compiler of C and SPBAGS the checker. INSIDE is set if the programs have the detector inside; then its
+report of each run has to be the checker's. It stops after so many seconds, and its last line says how many
 programs it tried and how many of them were wrong."""
 import argparse
 import collections
@@ -25,6 +25,7 @@ TRACER = os.path.dirname(HERE)
 sys.dont_write_bytecode = True
 sys.path.insert(0, TRACER)
 import answers
+from cases import DETECTOR, INSIDE
 SPBAGS = os.path.realpath(os.environ.get("SPBAGS", os.path.join(TRACER, "..", "spbags")))
 BATCH, GLOBALS, MOST_STEPS = 25, 4, 400
 WAYS = {}, {"SPBAGS_REUSE": "0"}, {"SPBAGS_REUSE": "0", "SPBAGS_REPEATS": "1"}
@@ -415,8 +416,8 @@ class CplusplusFunction(Function):
 class Batch:
     """Some programs in one file, built both ways."""
 
-    def __init__(self, folder, first, count, seed, inside, is_cplusplus):
-        self.name, self.inside = os.path.join(folder, f"b{first}"), ["--inside"] if inside else []
+    def __init__(self, folder, first, count, seed, is_cplusplus):
+        self.name = os.path.join(folder, f"b{first}")
         self.numbers, self.tags, self.differ = range(first, first + count), {}, set()
         self.compiler, self.ending = ("spbags-c++", ".cpp") if is_cplusplus else ("spbags-cc", ".c")
         cilk = (CPLUSPLUS_HEAD if is_cplusplus else HEAD).splitlines()
@@ -440,13 +441,13 @@ class Batch:
     def run(self, *words, **settings):
         done = subprocess.run(words, capture_output=True, text=True, env={**os.environ, **settings})
         if done.returncode not in (0, 1) or (done.returncode and words[0] != SPBAGS):
-            sys.exit(f"random.py: {' '.join(words)}: {done.stderr}")
+            sys.exit(f"random_cilk.py: {' '.join(words)}: {done.stderr}")
         return done.stdout
 
     def build(self):
         batch = self.numbers[0] // BATCH
         ways = ("-O0", "-O1")[batch % 2], *[[], ["--no-inline-checks"]][batch // 2 % 2]
-        self.run(os.path.join(TRACER, self.compiler), *self.inside, *ways, "-w", "-o", self.name,
+        self.run(os.path.join(TRACER, self.compiler), *DETECTOR, *ways, "-w", "-o", self.name,
                  self.name + self.ending, CC=os.environ.get("CC", "gcc") + " -DFREE_SPANS=0")
         self.run("gcc" if not os.environ.get("CC") else os.environ["CC"], "-w", "-O1", "-I" + HERE, "-o",
                  self.name + "_judged", self.name + "_judged.c")
@@ -459,7 +460,7 @@ class Batch:
         settings = {**way, "SPBAGS_VERSION": str(1 + number % 2)}
         self.run(self.name, str(number), SPBAGS_TRACE=trace, SPBAGS_REPORT="", **settings)
         report = self.run(SPBAGS, "check", trace)
-        if self.inside and report != self.own_report(number, trace[:-1] + "~", settings):
+        if INSIDE and report != self.own_report(number, trace[:-1] + "~", settings):
             print(f"program {number}: the report of the detector inside isn't the checker's", file=sys.stderr)
             self.differ.add(number)
         racy = {line.split()[1] for line in report.splitlines()[1:]}
@@ -476,7 +477,8 @@ class Batch:
         return codes
 
     def own_report(self, number, name, settings):
-        """That of the detector inside. The environment is as long as in the traced run: the program's words lie before."""
+        """That of the detector inside. The environment is as long as in the traced run: the program's words lie before
+        it."""
         self.run(self.name, str(number), SPBAGS_TRACE="", SPBAGS_REPORT=name, **settings)
         with open(name, encoding="ascii") as file:
             return file.read()
@@ -508,12 +510,11 @@ def main():
     parser = argparse.ArgumentParser(description=__doc__, formatter_class=argparse.RawDescriptionHelpFormatter)
     for name, value in (("count", 200), ("seed", 1), ("seconds", 60)):
         parser.add_argument("--" + name, type=int, default=value)
-    parser.add_argument("--inside", action="store_true")
     parser.add_argument("--c++", action="store_true", dest="is_cplusplus")
     words = parser.parse_args()
     end, tried, wrong, racy = time.monotonic() + words.seconds, 0, 0, 0
     with tempfile.TemporaryDirectory(prefix="spbags-random-") as folder, ThreadPoolExecutor(2) as pool:
-        batches = [Batch(folder, first, min(BATCH, words.count - first), words.seed, words.inside, words.is_cplusplus)
+        batches = [Batch(folder, first, min(BATCH, words.count - first), words.seed, words.is_cplusplus)
                    for first in range(0, words.count, BATCH)]
         results = [(batch, pool.submit(lambda batch=batch: batch.wrong() if time.monotonic() < end else None))
                    for batch in batches]
