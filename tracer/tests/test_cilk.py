@@ -124,6 +124,7 @@ class CompileTest(TracerTest):
                          sorted(map(int, found)))
 
 
+@cases.needs_detector
 class FirstUseTest(TracerTest):
     """The first commands of a page print what it says."""
 
