@@ -366,14 +366,13 @@ static void free_block(size_t span, uintptr_t end) {
     unlock_heap();
 }
 
-/* Of who gave it back nothing is known. What is free already stays so. */
+/* Of who gave it back nothing is known, so what a library frees has died in no strand, and its accesses stay. What is
+   free already stays so. */
 static void give_back(void *block) {
     uintptr_t address = (uintptr_t)block;
     size_t span = span_of_block(address);
     if (!is_of_run() || span >= SPANS || *born_at(span, address) == FREED || *born_at(span, address) == DIED)
         return;
-    if (is_of_strand(address))
-        die(address, whole_size(block));
     bool has_died = *born_at(span, address) == DYING;
     *born_at(span, address) = has_died ? DIED : FREED;
     spans[span].has_ended |= !has_died;

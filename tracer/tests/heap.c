@@ -68,6 +68,24 @@ static void use_later(void) {
 
 static void end_block(int *block) { free(block); /* [end of another's] */ }
 
+/* The library frees what it gets a longer block for, and no one knows of that. */
+static void give_to_library(void) {
+    size_t room = 2;
+    char *line = malloc(room);
+    line[0] = 1;         /* [library's] */
+    given = (int *)line; /* [give to library] */
+    FILE *file = fopen("/proc/self/status", "r");
+    if (file && getline(&line, &room, file) > 0)
+        fclose(file);
+    free(line);
+}
+
+static void use_of_library(void) {
+    cilk_spawn give_to_library();
+    *(char *)given = 2; /* [use of library's] */
+    cilk_sync;
+}
+
 /* A child ends its parent's block, while the parent reads that. */
 static void end_in_parallel(void) {
     int *block = calloc(10, sizeof *block); /* [parent's] */
@@ -202,10 +220,10 @@ static void map_in_parallel(void) {
 
 static int run(const char *word) {
     static void (*const functions[])(void) = {
-        use_in_parallel, use_bytes_in_parallel, sum_in_parallel,  use_later,
-        end_in_parallel, move_in_parallel,      end_in_strands,   ask_for_too_much,
-        outlive_strands, race_in_a_later_life,  grow_in_parallel, map_in_parallel};
-    static const char *const names[] = {"used",    "bytes", "sum",     "later",      "ended", "moved",
+        use_in_parallel,      use_bytes_in_parallel, sum_in_parallel, use_later,        end_in_parallel,
+        move_in_parallel,     use_of_library,        end_in_strands,  ask_for_too_much, outlive_strands,
+        race_in_a_later_life, grow_in_parallel,      map_in_parallel};
+    static const char *const names[] = {"used",    "bytes", "sum",     "later",      "ended", "moved", "library",
                                         "strands", "vast",  "outlive", "later life", "large", "mapped"};
     for (size_t at = 0; at < sizeof names / sizeof *names; at++)
         if (strcmp(word, names[at]) == 0)

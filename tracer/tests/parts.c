@@ -361,7 +361,8 @@ static void heap_moves(void) {
 
 /* ---- Formats ---- */
 
-/* What a format touches, a letter and the size of each, as in `R3 W4`. Arguments that are touched are among these. */
+/* What a format touches: for each the letter of what it is, the size, and `!` where it is written or `?` where it is
+   read. What is touched is one of these. */
 static char touched_text[200];
 static char word[] = "abc", other[] = "xy";
 static wchar_t wide_word[] = L"abcd";

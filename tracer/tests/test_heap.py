@@ -17,6 +17,7 @@ RACES = {
     "later": [],
     "ended": [("[end of another's]", "[read]")],
     "moved": [("[move]", "[read of moved]")],
+    "library": [("[library's]", "[use of library's]"), ("[give to library]", "[use of library's]")],
     "strands": [],
     "vast": [],
     "outlive": [],
