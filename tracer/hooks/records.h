@@ -213,6 +213,7 @@ static inline uint64_t unit_of(uint64_t location);
 
 static void leave_out_recent(uintptr_t before) {
     size_t to = before > recent.before ? before - recent.before : 0;
+    to = to <= recent.used ? to : 0;
     for (size_t from = to; from < recent.used; from++) {
         uint64_t record = recent.list[from].record, location = unit_of(record >> 3);
         recent.list[to] = recent.list[from];
