@@ -39,6 +39,17 @@ int main() {
 }
 """
 THROWN = "int main() {\ntry {\ncilk_for (int i = 0; i < 2; i++) throw i;\n} catch (int) {}\n}\n"
+# The library's function calls one that spawns, and that waits when it returns.
+CALLED_BACK = """#include <cilk/cilk.h>
+#include <algorithm>
+#include <vector>
+int last;
+void set(int value) { last = value; }
+int main() {
+    std::vector<int> values(2);
+    std::for_each(values.begin(), values.end(), [](int value) { cilk_spawn set(value); });
+}
+"""
 UNIT = {"SPBAGS_UNIT": "1"}
 
 
@@ -139,6 +150,14 @@ class CilkTest(CPlusPlusTest):
         with self.subTest("without Cilk's header"):
             self.build("loops", "thrown.cpp", "-Dcilk_for=_Cilk_for")
             self.reports(3, "thrown.cpp:3: an exception leaves a child here", "--", "./loops")
+
+    def test_inlined(self):
+        """The library's functions are, into each other, and none of the program's."""
+        self.write("called_back.cpp", CALLED_BACK)
+        self.build("called_back", "called_back.cpp")
+        self.reports(0, "races 0", "--", "./called_back")
+        has_increment = "::operator++()" in self.succeeds("nm", "-C", "called_back").out
+        self.assertEqual(LEVEL == "-O0", has_increment)
 
     def test_spawns(self):
         """They do what the serial program does."""
