@@ -18,13 +18,18 @@ static inline bool is_old(bool writes, uintptr_t at, size_t size) {
    so by its name. */
 static inline bool is_on_the_way(__spbags_function self) { return top->kind == CHILD && top->callee != self; }
 
+/* An atomic access is made. */
+static bool is_atomic;
+
 __attribute__((noinline)) static void other_access(bool writes, uintptr_t at, size_t size, __spbags_function self,
                                                    uintptr_t stack_pointer, uintptr_t code) {
     if (!doing.tracing || initialising > 0)
         return;
     leave_jumped(stack_pointer, code);
-    if (top <= silent_frame)
+    if (is_atomic && top <= silent_frame) {
+        left_out_update = true;
         return;
+    }
     if (!is_on_the_way(self) && (watching || !is_old(writes, at, size)))
         touch(writes, at, size, code);
 }
@@ -141,7 +146,9 @@ void __tsan_init(void) {}
 #define ATOMICALLY(ACCESSES) \
     do { \
         enter_guard(ATOMIC, "atomic"); \
+        is_atomic = true; \
         ACCESSES; \
+        is_atomic = false; \
         leave_guard(ATOMIC); \
     } while (false)
 #define UPDATE(BITS, TYPE, NAME, NEW) \

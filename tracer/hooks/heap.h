@@ -317,7 +317,7 @@ static void end_block(void *block, __spbags_function self, uintptr_t stack_point
     if (!block || !doing.tracing || initialising > 0 || (is_on_the_way(self) && stack_pointer < top->end))
         return;
     leave_jumped(stack_pointer, code);
-    if (is_on_the_way(self) || top <= silent_frame)
+    if (is_on_the_way(self))
         return;
     uintptr_t address = (uintptr_t)block;
     if (!is_of_strand(address)) {

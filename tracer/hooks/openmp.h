@@ -58,14 +58,14 @@ struct scope {
     uintptr_t code;
     /* Of a thread, which is a member or all of a team: its number, and which member it is. The stack memory below is
        its own. Its loop, how many shares and iterations of that it has begun, and the loops and single regions that it has
-       met in this phase. Whether the master has done something that nothing has waited for. */
+       met in this phase. Where it has begun a master region in this phase, or 0. */
     int thread;
     struct member *member;
     uintptr_t stack_end;
     struct loop *loop;
     uint64_t shares, taken;
     uint32_t loops_met, singles_met;
-    bool has_master;
+    uintptr_t master;
     /* It is in the program's own code of its region; its next barrier is clang's alone. */
     bool in_body, skips_barrier;
     /* No other scope has this number. */
@@ -251,7 +251,6 @@ static void join_from(size_t first, uintptr_t code) {
         struct scope *scope = &scopes[at];
         left += unsynced(scope);
         scope->children = scope->others = scope->following = scope->shares_left = 0;
-        scope->has_master = false;
         scope->waits++;
         if (at > first && scope->owns) {
             write_return(code);

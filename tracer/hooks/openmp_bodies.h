@@ -2,8 +2,6 @@
    region, of a single one, and of a master's, a loop with simd alone, and with clang a section, and sections with
    nowait and lastprivate ---- */
 
-/* Where a master region waits for what the team has made before, as one thread does all of them. */
-static uintptr_t second_master;
 /* The first masked region for a thread that its team doesn't have; which thread, and how many there are. */
 static uintptr_t masked_out;
 static int masked_thread, masked_team;
@@ -52,24 +50,20 @@ int __spbags_filter(int number) {
     return number;
 }
 
-/* One thread of the team does this, beside what the others do. */
+/* One thread of the team does this, beside what the others do. A master region is a part of what its thread does. */
 static void begin_child_body(struct body *body, uintptr_t stack_pointer, uintptr_t code) {
-    size_t holder = holder_at();
-    struct scope *thread = &scopes[holder];
-    body->is_child = is_thread(thread) && !thread->alone && (body->kind != SECTION_BODY || !thread->loop->in_blocks);
+    struct scope *thread = &scopes[holder_at()];
+    bool is_of_team = is_thread(thread) && !thread->alone;
     be_silent(NULL);
+    if (body->kind == MASTER_BODY && is_of_team)
+        thread->master = code;
+    body->is_child = is_of_team && body->kind != MASTER_BODY && (body->kind == SINGLE_BODY || !thread->loop->in_blocks);
     if (!body->is_child)
         return;
-    if (body->kind == MASTER_BODY && thread->has_master) {
-        second_master = second_master ? second_master : code;
-        join_from(holder, code);
-    }
-    thread->has_master |= body->kind == MASTER_BODY;
     open_child(SHARE, code);
     open_part(LOOP_PART, stack_pointer, code);
-    const char *names[] = {[SINGLE_BODY] = "single", [MASTER_BODY] = "master", [SECTION_BODY] = "sections"};
     uint64_t number = body->kind == SECTION_BODY ? ++thread->shares : 0;
-    note_part((struct part){.of = names[body->kind], .first = number, .last = number});
+    note_part((struct part){.of = number > 0 ? "sections" : "single", .first = number, .last = number});
 }
 
 static void end_child_body(const struct body *body, uintptr_t code) {

@@ -190,7 +190,8 @@ void __kmpc_for_static_init_4(CLANG, int32_t schedule, int32_t *is_last, int32_t
     begin_loop(sections((unsigned)(*last + 1)));
     struct scope *thread = thread_now();
     struct loop *loop = thread->loop;
-    uint64_t left = loop->count - loop->begun, size = loop->in_blocks ? left_of_block(thread, left) : left;
+    uint64_t left = leaves_loop(thread) ? 0 : loop->count - loop->begun;
+    uint64_t size = loop->in_blocks ? left_of_block(thread, left) : left;
     loop->code = loop->code ? loop->code : CODE;
     loop->has_late_last = bodies[newest_body].kind == LAST_BODY;
     *first = (int32_t)loop->begun;

@@ -51,13 +51,19 @@ static uint64_t count_steps(uint64_t distance, uint64_t step) { return distance 
 
 static uint64_t shares_of(const struct loop *loop) { return count_steps(loop->count, loop->most); }
 
+/* Whether iterations are left, and the thread leaves them to others. */
+static bool leaves_loop(const struct scope *thread) {
+    const struct loop *loop = thread->loop;
+    return !loop->in_blocks && loop->begun < loop->count && leaves_to_others(thread);
+}
+
 /* An ordered region comes after those of all earlier iterations. So each share is nested in the next one, which waits
    for it where its ordered region begins. */
 static void begin_ordered(struct loop loop, uintptr_t code) {
     loop.ordered = true;
     begin_loop(loop);
     const struct scope *thread = thread_now();
-    if (thread->alone || thread->loop->begun > 0)
+    if (thread->alone || thread->loop->begun > 0 || leaves_loop(thread))
         return;
     for (uint64_t share = shares_of(thread->loop); share > 0; share--)
         open_child(SHARE, code);
@@ -73,7 +79,7 @@ static uint64_t left_of_block(const struct scope *thread, uint64_t left) {
 /* How many iterations the thread has next. gcc asks for each section. */
 static uint64_t next_size(const struct scope *thread) {
     const struct loop *loop = thread->loop;
-    uint64_t left = loop->count - loop->begun;
+    uint64_t left = leaves_loop(thread) ? 0 : loop->count - loop->begun;
     if (loop->in_blocks)
         left = left_of_block(thread, left);
     return loop->in_blocks && !loop->is_sections ? left : least(loop->most, left);
@@ -110,15 +116,22 @@ static void begin_share(struct scope *thread, uint64_t first, uintptr_t stack_po
     note_share(loop, first);
 }
 
-/* What the compiler puts between the last share and the loop's end, as a reduction's sums, is no code of the program's:
-   it is done beside that, as a share is. */
+/* What the compiler puts between the last share and the loop's end, as a reduction's sums and last values, is no code of
+   the program's: it is done beside that, as a share is. But a last value behind a block is one of that thread's. */
+static bool has_following(const struct scope *thread) {
+    const struct loop *loop = thread->loop;
+    if (!thread->in_body || thread->alone || !is_thread(&scopes[holder_at()]))
+        return false;
+    return loop->in_blocks ? is_last(thread) && !loop->has_late_last : is_last(thread) || thread->shares > 0;
+}
+
 static void begin_following(const struct scope *thread, uintptr_t stack_pointer, uintptr_t code) {
+    if (has_following(thread)) {
+        open_child(SHARE, code)->follows_loop = true;
+        open_part(LOOP_PART, stack_pointer, code);
+        note_part((struct part){.of = "reduction"});
+    }
     be_silent(top);
-    if (!thread->in_body || thread->thread != 0 || thread->alone || !is_thread(&scopes[holder_at()]))
-        return;
-    open_child(SHARE, code)->follows_loop = true;
-    open_part(LOOP_PART, stack_pointer, code);
-    note_part((struct part){.of = "reduction"});
 }
 
 static void end_following(uintptr_t code) {

@@ -21,14 +21,24 @@ static void tell_waits(void) {
                         "ended, so races with what follows aren't seen",
                         source_line(outlived_wait, wait, ROOM), (unsigned long long)outlived,
                         source_line(outlived_code, code, ROOM));
-    if (second_master != 0)
-        tell_incomplete("%s: there is no barrier between this master region and the one before, but the trace has one: "
-                        "races of what comes before with what comes after aren't seen",
-                        source_line(second_master, wait, ROOM));
+    if (master_does_more != 0)
+        tell_incomplete("%s: the thread of this master region also does a loop, sections or a single region before the "
+                        "next barrier, and any thread may do those: races between both aren't seen",
+                        source_line(master_does_more, wait, ROOM));
     if (after_ordered != 0)
         tell_incomplete("%s: this access to shared memory comes after its iteration's ordered region, and in the trace "
                         "before the next iteration's: races of such accesses aren't seen",
                         source_line(after_ordered, wait, ROOM));
+}
+
+/* Two of its threads may do this, and in the trace the last one does. */
+static void tell_last(void) {
+    char line[ROOM];
+    if (last_does != 0)
+        tell_incomplete(
+            "%s: this parallel region asks for a thread's number, and the last thread does its single regions "
+            "or sums: races of these with what only that thread does aren't seen",
+            source_line(last_does, line, ROOM));
 }
 
 static void tell_depend(void) {
@@ -86,6 +96,7 @@ static void tell_shares(void) {
 
 static void tell_openmp_notes(void) {
     tell_waits();
+    tell_last();
     tell_depend();
     tell_unfinished();
     tell_shares();

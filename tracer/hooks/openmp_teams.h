@@ -155,14 +155,22 @@ static void close_calls(const struct member *member, uintptr_t code) {
         }
 }
 
+/* A region that asks for a thread's number, where the last one does a single region, or its sums alone are recorded. */
+static uintptr_t last_does;
+
+static void note_last(const struct team *team) { last_does = last_does ? last_does : team->code; }
+
 static void end_part(uintptr_t code) {
     struct scope *scope = &scopes[newest_scope];
     struct member *member = scope->member;
+    if (left_out_update && scope->team->asks)
+        note_last(scope->team);
+    left_out_update = false;
     if (doing.tracing)
         close_calls(member, code);
     member->scope = *scope;
     member->scope.children = member->scope.others = member->scope.following = 0;
-    member->scope.has_master = false;
+    member->scope.master = 0;
     member->scope.waits++;
     close_child(code);
 }
@@ -218,15 +226,14 @@ static void wait_for_members(uintptr_t code) {
         push_scope(GROUP, false)->reductions = kept[group].reductions;
 }
 
-/* What the compiler puts beside the program's own code into a region each member does, as copies of variables. The
-   first member's is recorded; of the others' what functions of the program do, as a private variable's constructor.
-   FRAME is that of the function with such code, or NULL where the program's own begins. */
+static bool is_last(const struct scope *thread) { return thread->thread + 1 == (int)thread->size; }
+
+/* What the compiler puts beside the program's own code each member does, as the sums of reductions. Those of the last
+   member alone are recorded. FRAME is that of the function with such code, or NULL where the program's own begins. */
 static void be_silent(struct frame *frame) {
     const struct scope *thread = thread_now();
-    if (thread->kind != MEMBER || thread->thread == 0)
-        return;
-    silent_frame = frame;
-    find_short_way();
+    if (thread->kind == MEMBER && !is_last(thread))
+        silent_frame = frame;
 }
 
 /* clang makes two functions of a region. */
@@ -239,11 +246,11 @@ static void follow_body(void) {
     be_silent(is_silent ? thread->member->base + (thread->team->run == run_microtask ? 2 : 1) : NULL);
 }
 
-/* What combines a reduction's copies begins, by 1, or ends, by -1. Of the other members' not even functions are
-   recorded. */
+/* What combines a reduction's copies begins, by 1, or ends, by -1. Where it is silent not even functions are recorded. */
 static void hide_combining(int change) {
     if (top > silent_frame)
         return;
+    left_out_update = true;
     initialising += (unsigned)change;
     find_short_way();
 }
@@ -482,7 +489,7 @@ static void run_team(void (*run)(void *), void *data, const struct loop *whole, 
 
 /* The body of the region with this code begins here, which is a better place to name it by. */
 static void name_region(uintptr_t region, uintptr_t code) {
-    uintptr_t *named[] = {&small_team, &inner_team, &alone_by_variable};
+    uintptr_t *named[] = {&small_team, &inner_team, &alone_by_variable, &last_does};
     for (size_t at = 0; at < sizeof named / sizeof *named; at++)
         if (*named[at] == region)
             *named[at] = code;
@@ -509,6 +516,7 @@ static void join_team(uintptr_t code) {
     }
     join_from(thread_at(), code);
     thread_now()->loop->is_static = false;
+    thread_now()->master = 0;
 }
 
 /* Where a loop's variable is private first and shared at its end, gcc puts a barrier into the loop's first share. */
@@ -529,14 +537,30 @@ bool GOMP_barrier_cancel(void) {
     return false;
 }
 
-/* The first thread that comes does it. */
+/* A master region whose thread does what any may do beside it. */
+static uintptr_t master_does_more;
+
+/* What any thread may do may be beside a master region of this one, or beside what it does by its number. So it leaves
+   that to a later one, if there is one. */
+static bool leaves_to_others(const struct scope *thread) {
+    bool asks = thread->team && thread->team->asks;
+    if (!is_last(thread))
+        return thread->master != 0 || asks;
+    if (thread->master != 0 && master_does_more == 0)
+        master_does_more = thread->master;
+    if (asks)
+        note_last(thread->team);
+    return false;
+}
+
+/* The first thread that comes does it, and doesn't leave it to others. */
 bool GOMP_single_start(void) {
     struct scope *thread = thread_now();
     if (thread->kind != MEMBER)
-        return true;
-    bool is_first = thread->singles_met++ == thread->team->singles;
-    thread->team->singles += is_first;
-    return is_first;
+        return !leaves_to_others(thread);
+    bool is_left = thread->singles_met++ == thread->team->singles, does = is_left && !leaves_to_others(thread);
+    thread->team->singles += does;
+    return does;
 }
 
 void *GOMP_single_copy_start(void) {

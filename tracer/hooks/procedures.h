@@ -43,8 +43,9 @@ static inline void clear_below(uintptr_t address) {
 
 /* How many local statics of C++ are being initialised, while nothing is recorded. */
 static unsigned initialising;
-/* What the function of this frame does itself isn't recorded, nor what those around it do; what it calls is. Or NULL. */
+/* What the function of this frame and those around it update atomically isn't recorded, but what they call is. Or NULL. */
 static struct frame *silent_frame;
+static bool left_out_update;
 
 /* An access goes the short way where the stack pointer is below this: accesses are recorded by the usual unit and not
    watched, no child waits for what it calls, and the newest frame hasn't ended. A function's entry and its end go it
@@ -57,7 +58,7 @@ static uintptr_t short_way_bits;
 static inline void follow_top(void) { short_way_end = top->kind != CHILD ? top->end & short_way_bits : 0; }
 
 static void find_short_way(void) {
-    bool records = doing.tracing && initialising == 0 && !silent_frame;
+    bool records = doing.tracing && initialising == 0;
     short_way_stack = records ? stack_size : 0;
     short_way_bits = records && !watching && unit_shift == USUAL_SHIFT ? UINTPTR_MAX : 0;
     follow_top();

@@ -263,9 +263,65 @@ static void two_masters(void) {
     {
 #pragma omp master
         one = 1;
-#pragma omp master /* [second master] */
+        if (omp_get_thread_num() == 0)
+            one++;
+#pragma omp master
         one++;
     }
+}
+
+/* One of two threads does the loop. */
+static void both_masked(void) {
+#pragma omp parallel num_threads(2)
+    {
+#pragma omp masked filter(0)
+        one = 1;
+#pragma omp masked filter(1) /* [both masked] */
+        row[3] = 1;
+#pragma omp for
+        for (int i = 0; i < 4; i++)
+            row[i]++;
+    }
+}
+
+/* Each thread copies it, and none waits for that. */
+static void copied(void) {
+    struct {
+        int first[9];
+    } shared = {{0}}, *all = &shared;
+#pragma omp parallel firstprivate(shared) /* [copied] */
+    {
+#pragma omp master
+        all->first[3] = 1; /* [beside copied] */
+        if (shared.first[one] > 1)
+            printf("late\n");
+    }
+}
+
+static void last_of_blocks(void) {
+    int last = 0, *all = &last;
+#pragma omp parallel
+    {
+#pragma omp for schedule(static) lastprivate(last) nowait /* [last] */
+        for (int i = 0; i < 4; i++)
+            last = i;
+#pragma omp master
+        one = *all; /* [beside last] */
+    }
+}
+
+/* Thread 1 may do the single region, or add up before thread 0 has read. */
+static void beside_number(void) {
+    int sum = 0, *all = &sum;
+#pragma omp parallel num_threads(2) reduction(+ : sum) /* [asks] */
+    {
+        if (omp_get_thread_num() == 0)
+            one = 1; /* [by number] */
+#pragma omp single nowait
+        other = one; /* [beside number] */
+        sum++;
+    }
+    one = *all;
 }
 
 /* No thread waits for another one's single region, or its iterations, where its own group ends. */
@@ -459,6 +515,10 @@ int main(int count, char **words) {
                 {"wants_more", wants_more, true},
                 {"exits", exits, true},
                 {"two_masters", two_masters, true},
+                {"both_masked", both_masked, true},
+                {"copied", copied, true},
+                {"last_of_blocks", last_of_blocks, true},
+                {"beside_number", beside_number, true},
                 {"left_by_groups", left_by_groups, true},
                 {"groups_wait", groups_wait, true},
                 {"masked_out", masked_out, true},

@@ -49,6 +49,7 @@ static void look_at_block(uintptr_t block, size_t size, uintptr_t stack_pointer,
 static bool is_program(uintptr_t code) { return code == 0; }
 static unsigned initialising;
 static struct { uintptr_t end; } root, *top = &root, *silent_frame;
+static bool left_out_update;
 static bool is_on_the_way(__spbags_function self) { return !self; }
 static void leave_jumped(uintptr_t stack_pointer, uintptr_t code) { (void)stack_pointer, (void)code; }
 #define STACK_POINTER 0

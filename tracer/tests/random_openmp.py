@@ -74,8 +74,8 @@ class Procedure:
     `depend`, whether they write a variable, and their own last strand."""
 
     def __init__(self, dag, now):
-        self.dag, self.now, self.children, self.tasks, self.has_master, self.named = dag, now, [], 0, False, []
-        self.syncs = 0
+        self.dag, self.now, self.children, self.tasks, self.named = dag, now, [], 0, []
+        self.syncs, self.has_master = 0, False
 
     def access(self, variable, writes, guard=None):
         self.dag.access(self.now, variable, writes, guard)
@@ -91,7 +91,7 @@ class Procedure:
 
     def sync(self):
         self.now = self.dag.strand(self.now, *self.children)
-        self.children, self.tasks, self.has_master, self.named = [], 0, False, []
+        self.children, self.tasks, self.named = [], 0, []
         self.syncs += 1
 
     def end_group(self, older, tasks):
@@ -136,7 +136,8 @@ class Team:
 
 
 class Member:
-    """One thread of a team. The first one does single regions and all loops but those in blocks."""
+    """One thread of a team. Single regions, and loops but those in blocks, are done by the first one that doesn't leave
+    them to others: who is behind a master region does, and in a region that asks for numbers all but the last one."""
 
     def __init__(self, team, number, items):
         self.team, self.number, self.items, self.part, self.ended = team, number, items, None, False
@@ -192,38 +193,49 @@ class Member:
     def barrier(self, _):
         yield
 
-    def child_of_first(self, item):
+    def does(self, item):
+        """Whether this member does all of it, or the first block."""
         if self.number == 0:
-            self.part.spawn(lambda child: [self.do(child, inner) for inner in item.inner])
+            item.first = None
+        leaves = self.number + 1 < self.team.size and (self.part.has_master or self.team.asks)
+        if item.first is None and not leaves:
+            item.first = self.number
+        return item.first == self.number
 
     def single(self, item):
-        self.child_of_first(item)
+        if self.does(item):
+            self.part.spawn(lambda child: [self.do(child, inner) for inner in item.inner])
         if not item.nowait:
             yield
 
     def master(self, item):
-        if self.number == 0 and self.part.has_master:
-            self.part.sync()
-        self.child_of_first(item)
-        self.part.has_master = self.number == 0
+        if self.number == 0:
+            self.part.has_master = True
+            for inner in item.inner:
+                self.do(self.part, inner)
         yield from ()
 
     def sections(self, item):
+        does = self.does(item)
         if self.number == 0:
             item.in_blocks = self.team.asks
-        if not item.in_blocks:
-            for inner in item.inner if self.number == 0 else ():
-                self.part.spawn(lambda child, inner=inner: self.do(child, inner))
-        else:
-            for at in self.block(len(item.inner)):
+        if item.in_blocks:
+            item.first = 0
+        if item.in_blocks:
+            for at in self.block(item, len(item.inner)):
                 self.do(self.part, item.inner[at])
+        else:
+            for inner in item.inner if does else ():
+                self.part.spawn(lambda child, inner=inner: self.do(child, inner))
         if not item.nowait:
             yield
 
-    def block(self, count):
-        size, more = divmod(count, self.team.size)
-        first = self.number * size + min(self.number, more)
-        return range(first, first + size + (self.number < more))
+    def block(self, item, count):
+        """Members before the first have none, and the last one has the rest."""
+        sizes = [(count // self.team.size + (number < count % self.team.size)) * (number >= item.first)
+                 for number in range(self.team.size)]
+        first = sum(sizes[:self.number])
+        return range(first, count if self.number + 1 == self.team.size else first + sizes[self.number])
 
     def iteration(self, procedure, item, at):
         for inner in item.inner:
@@ -233,24 +245,26 @@ class Member:
                 self.do(procedure, inner)
 
     def loop(self, item):
-        asks = any("thread" in inner.variable for inner in item.inner if inner.kind == "access")
+        asks, does = any("thread" in inner.variable for inner in item.inner if inner.kind == "access"), self.does(item)
         if self.number == 0:
             before = self.team.before
             alike = before and before.in_blocks and before.static and item.static and before.count == item.count
             item.in_blocks = self.team.asks or (item.static and item.nowait) or bool(alike)
             item.is_made_so = asks and not item.in_blocks
-            item.in_blocks |= asks
             self.team.before = item
-        self.team.asks |= asks
+        if item.in_blocks and not item.is_made_so:
+            item.first = 0
+        item.in_blocks |= asks and does
+        self.team.asks |= asks and does
         if item.in_blocks:
-            for at in self.block(item.count):
+            for at in self.block(item, item.count):
                 self.iteration(self.part, item, at)
-            if item.is_made_so and self.number == 0:
+            if item.is_made_so and self.number == item.first:
                 self.part.sync()
-        elif self.number == 0:
+        elif does:
             for at in range(item.count):
                 self.part.spawn(self.iteration, item, at)
-        if item.sum and self.number == 0:
+        if item.sum and self.number + 1 == self.team.size:
             self.part.spawn(self.combine, item.sum)
         if not item.nowait:
             yield
