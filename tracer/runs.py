@@ -23,7 +23,7 @@ PERSONALITY, ADDR_NO_RANDOMIZE = ctypes.CDLL(None).personality, 0x0040000
 MOST_DEPTH = "1000000"
 # What the environment of each run has.
 OURS = [f"SPBAGS_{name}" for name in ("PLACES", "TRACE", "REPORT", "EXITCODE", "LOOK", "DIVIDE", "LAST",
-                                     "HELP", "ROOM")]
+                                     "WAITED", "HELP", "ROOM")]
 
 
 def checker():
@@ -180,8 +180,9 @@ class Run:
         self.faults = with_lines(program, texts_of(records, "fault"))
         # What the report has to say beside the races; what wasn't seen or modelled, in sentences and functions; and of
         # which races some may be none.
-        self.reported, self.incomplete, self.seeming = (with_lines(program, texts_of(records, name))
-                                                        for name in ("report", "incomplete", "seeming"))
+        self.reported, self.incomplete, self.waits, self.seeming = (with_lines(program, texts_of(records, name))
+                                                                    for name in ("report", "incomplete", "waits",
+                                                                                 "seeming"))
         self.unseen = [unseen_of(record) for record in records if record.name == "unseen"]
 
     def words(self, name):
@@ -236,10 +237,13 @@ class Runner:
         self.mask = signal.pthread_sigmask(signal.SIG_BLOCK, AWAITED)
         self.input = Input()
         self.program, self.has_run = None, False
+        # What each run gets beside its own files.
+        self.files = {}
 
     def execute(self, said, files, silent, **settings):
         """Starts the program, whose lines about the run go into a pipe. It gets descriptors of these files, by the
         variables that name them."""
+        files = {**self.files, **files}
         wanted = {"SPBAGS_MAX_BYTES": "", **os.environ, **dict.fromkeys(OURS, ""), **self.settings, **settings,
                   "SPBAGS_SAYS": f"fd:{said.into}", **{variable: f"fd:{file}" for variable, file in files.items()}}
         # All runs have as long an environment, of as many variables: the program's words lie before it, and setenv

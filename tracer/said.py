@@ -14,6 +14,7 @@ source that has this code.
     stuck CODE ..         the program may wait for ever, and the stack; it doesn't wait for the report
     unseen CALLS LIBRARY  a function of which nothing is known, whose name is the text
     incomplete            something wasn't seen or modelled
+    waits                 the same, but another run may model it, by the file that SPBAGS_WAITED names
     seeming               some of the races may be none
     report                what else the report says
     note                  what it doesn't say

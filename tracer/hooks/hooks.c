@@ -76,6 +76,7 @@ static uintptr_t unit_mask;
 #ifdef SPBAGS_OPENMP
 /* Libraries with OpenMP of their own have threads of their own. */
 #pragma GCC visibility push(hidden)
+#include "openmp_waits.h"
 #include "openmp.h"
 #include "openmp_depend.h"
 #include "openmp_teams.h"

@@ -44,8 +44,8 @@ struct scope {
     uint64_t shares_left;
     /* Where the first of the others came from. */
     uintptr_t others_code;
-    /* How often it has waited for what it made. */
-    uint64_t waits;
+    /* What it does between two waits; no other period has this number. */
+    uint64_t period;
     /* The reductions that its tasks take part in. */
     uintptr_t *reductions;
     /* Whether what is done here stands after an ordered region. */
@@ -80,8 +80,8 @@ static struct scope *scopes;
 static size_t newest_scope;
 static uint64_t scopes_begun;
 
-/* A task's children that outlive it are joined where it ends, as a trace has no way to say otherwise. Where a wait
-   doesn't wait for them, what follows may run beside them, and no race of those is seen. */
+/* A task's children that outlive it are joined where it ends. Where a wait doesn't wait for them, what follows may run
+   beside them, and no race of those is seen. */
 static uint64_t outlived;
 static uintptr_t outlived_wait, outlived_code;
 
@@ -92,6 +92,8 @@ static void note_outlived(uint64_t count, uintptr_t wait, uintptr_t code) {
     }
     outlived += count;
 }
+
+static void end_period(struct scope *task) { task->period = ++scopes_begun; }
 
 /* Accesses are looked at as the newest scope says. */
 static void follow_scope(void) {
@@ -106,9 +108,11 @@ static struct scope *push_scope(enum scope_kind kind, bool owns) {
     if (++newest_scope == MOST_SCOPES)
         fail("tasks nest deeper than %d", MOST_SCOPES);
     const struct scope *around = &scopes[newest_scope - 1];
+    uint64_t number = ++scopes_begun;
     scopes[newest_scope] = (struct scope){.kind = kind,
                                           .owns = owns,
-                                          .number = ++scopes_begun,
+                                          .number = number,
+                                          .period = number,
                                           .threads_wanted = around->threads_wanted,
                                           .is_watched = kind != SHARE && around->is_watched};
     follow_scope();
@@ -213,7 +217,8 @@ static void write_return(uintptr_t code) {
 
 static struct scope *open_child(enum scope_kind kind, uintptr_t code) {
     struct scope *parent = &scopes[newest_scope];
-    if (unsynced(parent) == 0 && has_older()) {
+    bool waits = parent->kind != TASK || !is_second;
+    if (waits && unsynced(parent) == 0 && has_older()) {
         if (version == 1)
             fail("tasks of one group may run at once with older ones, which only version 2 of the trace can show: "
                  "leave out SPBAGS_VERSION=1");
@@ -239,7 +244,7 @@ static void close_child(uintptr_t code) {
     write_return(code);
     scopes[newest_scope].children += is_task;
     scopes[newest_scope].following += child->follows_loop;
-    scopes[newest_scope].shares_left += is_other;
+    scopes[newest_scope].shares_left += child->shares_left + is_other;
     leave_others(unsynced(child) + is_other, code);
 }
 
@@ -251,7 +256,6 @@ static void join_from(size_t first, uintptr_t code) {
         struct scope *scope = &scopes[at];
         left += unsynced(scope);
         scope->children = scope->others = scope->following = scope->shares_left = 0;
-        scope->waits++;
         if (at > first && scope->owns) {
             write_return(code);
             scope->owns = false;
@@ -334,18 +338,19 @@ static void run_task(const struct task *task, const struct bounds *bounds, uintp
     if (bounds)
         memcpy(data, bounds, offsetof(struct bounds, last));
     bool deferred = task->deferred && !is_final;
+    bool is_child = deferred && !is_part(scopes[holder_at()].period);
     unsigned held = deferred ? guards_held : 0;
     struct guard kept[held + 1];
     memcpy(kept, guards, held * sizeof *kept);
     guards_held -= held;
-    struct scope *scope = deferred ? open_child(TASK, code) : push_scope(TASK, false);
+    struct scope *scope = is_child ? open_child(TASK, code) : push_scope(TASK, false);
     scope->final = is_final || task->final;
-    open_part(deferred ? TASK_PART : CALLED, stack_pointer, code);
+    open_part(is_child ? TASK_PART : CALLED, stack_pointer, code);
     note_part((struct part){(uintptr_t)data, bounds ? "taskloop" : "task", bounds ? bounds->first : 0,
                             bounds ? bounds->last : 0, false});
     task->run(data);
     close_part(code);
-    if (deferred)
+    if (is_child)
         close_child(code);
     else
         end_included(code);
@@ -366,11 +371,13 @@ static bool wait_for_tasks(uintptr_t code) {
         others += scope->others;
         others_code = scope->others > 0 ? scope->others_code : others_code;
     } while (scopes[at].kind == GROUP);
+    note_period(scopes[at].period);
+    end_period(&scopes[at]);
     if (children == 0)
         return false;
     join_from(at, code);
-    if (others > 0)
-        note_outlived(others, code, others_code);
+    if (others > 0 || is_second)
+        note_outlived(others + is_second, code, others_code);
     return true;
 }
 

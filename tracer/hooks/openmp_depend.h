@@ -7,11 +7,11 @@ static enum depend_way depend_way;
 /* The first task with `depend`, and the first that waited. */
 static uintptr_t first_depend, depend_wait;
 
-/* What tasks of one parent name: whether one of them writes it since the parent has waited so often. */
+/* What tasks of one parent name: whether one of them writes it in a period of the parent. */
 enum { DEPENDENCE_BITS = 22, MOST_DEPENDENCES = 1 << DEPENDENCE_BITS };
 struct dependence {
     uintptr_t address;
-    uint64_t parent, waits;
+    uint64_t parent, period;
     bool is_used, writes;
 };
 static struct dependence *dependences;
@@ -34,7 +34,7 @@ struct named {
 static bool depends_on_older(const struct named *names, size_t count, const struct scope *parent) {
     for (size_t at = 0; at < count; at++) {
         const struct dependence *older = dependence_of(names[at].address, parent->number);
-        if (older->is_used && older->waits == parent->waits && (names[at].writes || older->writes))
+        if (older->is_used && older->period == parent->period && (names[at].writes || older->writes))
             return true;
     }
     return false;
@@ -45,8 +45,8 @@ static void name_all(const struct named *names, size_t count, const struct scope
         struct dependence *older = dependence_of(names[at].address, parent->number);
         if (!older->is_used && ++dependences_used > MOST_DEPENDENCES / 2)
             fail("tasks depend on more than %d addresses", MOST_DEPENDENCES / 2);
-        bool writes = names[at].writes || (older->is_used && older->waits == parent->waits && older->writes);
-        *older = (struct dependence){names[at].address, parent->number, parent->waits, true, writes};
+        bool writes = names[at].writes || (older->is_used && older->period == parent->period && older->writes);
+        *older = (struct dependence){names[at].address, parent->number, parent->period, true, writes};
     }
 }
 

@@ -265,9 +265,15 @@ bool GOMP_loop_end_cancel(void) {
 }
 void GOMP_loop_end_nowait(void) { end_following(CODE); }
 
+/* It waits for earlier iterations, and not for tasks that they or this one made. */
 static void begin_ordered_region(uintptr_t code) {
-    if (scopes[newest_scope].kind == SHARE)
-        join_from(newest_scope, code);
+    const struct scope *share = &scopes[newest_scope];
+    if (share->kind != SHARE)
+        return;
+    uint64_t tasks = unsynced(share) - share->shares_left;
+    if (tasks > 0)
+        note_outlived(tasks, code, share->others_code);
+    join_from(newest_scope, code);
 }
 
 void GOMP_ordered_start(void) { begin_ordered_region(CODE); }

@@ -15,10 +15,11 @@ static void tell_unfinished(void) {
 
 static void tell_waits(void) {
     char wait[ROOM], code[ROOM];
-    if (outlived > 0)
-        tell_incomplete("%s: this wait doesn't wait for %llu tasks, iterations or other parts, the first from %s, "
-                        "since a task ended before its children did, or there is a nowait. In the trace they have "
-                        "ended, so races with what follows aren't seen",
+    bool is_astray = is_second && waited[0] != scopes_begun;
+    if (outlived > 0 || is_astray)
+        tell_unmodelled(is_second || write_waited(scopes_begun) ? "waits" : "incomplete",
+                        "%s: this wait doesn't wait for %llu tasks, iterations or other parts, the first from %s. In "
+                        "the trace they have ended, so races with what follows aren't seen",
                         source_line(outlived_wait, wait, ROOM), (unsigned long long)outlived,
                         source_line(outlived_code, code, ROOM));
     if (master_does_more != 0)

@@ -171,7 +171,7 @@ static void end_part(uintptr_t code) {
     member->scope = *scope;
     member->scope.children = member->scope.others = member->scope.following = 0;
     member->scope.master = 0;
-    member->scope.waits++;
+    end_period(&member->scope);
     close_child(code);
 }
 
@@ -453,6 +453,7 @@ static void run_members(struct team *team) {
                                        .stack_end = member->stack->end,
                                        .threads_wanted = scopes[scope].threads_wanted,
                                        .number = ++scopes_begun};
+        member->scope.period = member->scope.number;
     }
     team->members[0].scope.stack_end = scopes[scope].stack_end;
     run_member(team, team->members, top->end - 1);
@@ -515,8 +516,10 @@ static void join_team(uintptr_t code) {
         return;
     }
     join_from(thread_at(), code);
-    thread_now()->loop->is_static = false;
-    thread_now()->master = 0;
+    struct scope *thread = thread_now();
+    thread->loop->is_static = false;
+    thread->master = 0;
+    end_period(thread);
 }
 
 /* Where a loop's variable is private first and shared at its end, gcc puts a barrier into the loop's first share. */

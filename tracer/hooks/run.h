@@ -161,9 +161,13 @@ pid_t __wrap__Fork(void) {
     return child;
 }
 
+#ifndef SPBAGS_OPENMP
+static void open_waited(int file) { close(file); }
+#endif
+
 static void open_ways(void) {
     const char *said = settings_text(SETTING_SAYS), *report = settings_text(SETTING_LOOK);
-    const char *units = settings_text(SETTING_DIVIDE);
+    const char *units = settings_text(SETTING_DIVIDE), *waits = settings_text(SETTING_WAITED);
     if (said) {
         tell_file = named_file("SPBAGS_SAYS", said);
         pthread_atfork(refuse_fork, NULL, NULL);
@@ -173,9 +177,12 @@ static void open_ways(void) {
         divide_units(named_file("SPBAGS_DIVIDE", units));
     if (report)
         start_look(named_file("SPBAGS_LOOK", report));
+    if (waits)
+        open_waited(named_file("SPBAGS_WAITED", waits));
     settings_forget(SETTING_SAYS);
     settings_forget(SETTING_LOOK);
     settings_forget(SETTING_DIVIDE);
+    settings_forget(SETTING_WAITED);
     settings_forget(SETTING_LAST);
 }
 

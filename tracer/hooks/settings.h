@@ -36,6 +36,7 @@
     SETTING(SAYS, "fd:N", "", "") \
     SETTING(LOOK, "fd:N", "", "") \
     SETTING(DIVIDE, "fd:N", "", "") \
+    SETTING(WAITED, "fd:N", "", "") \
     SETTING(LAST, "a number of records", "", "")
 /* clang-format on */
 

@@ -76,9 +76,9 @@ void tell_seeming(const char *format, ...) {
     keep(text);
 }
 
-void tell_incomplete(const char *format, ...) {
+void tell_unmodelled(const char *record, const char *format, ...) {
     PUT_TEXT(text, 1000, format);
-    tell_text("incomplete", text);
+    tell_text(record, text);
     keep(text);
     tell_incomplete_lines++;
 }

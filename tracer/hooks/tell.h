@@ -38,7 +38,9 @@ __attribute__((format(__printf__, 1, 2))) void tell_report(const char *format, .
 /* Of use where there are races: some of them may be none. */
 __attribute__((format(__printf__, 1, 2))) void tell_seeming(const char *format, ...);
 /* One sentence for the user: something may have touched memory, or may run in parallel, and wasn't seen or modelled. */
-__attribute__((format(__printf__, 1, 2))) void tell_incomplete(const char *format, ...);
+#define tell_incomplete(...) tell_unmodelled("incomplete", __VA_ARGS__)
+/* The same by a record of this name: another run may model it. */
+__attribute__((format(__printf__, 2, 3))) void tell_unmodelled(const char *record, const char *format, ...);
 /* A function that nothing is known of was called so often; SHOWN is its name in the source. */
 void tell_unseen(const char *name, const char *shown, const char *library, uint64_t calls);
 

@@ -16,10 +16,32 @@ static void outlives(void) {
 #pragma omp task firstprivate(i) /* [makes] */
     {
 #pragma omp task firstprivate(i)
-        row[i] = i;
+        row[i] = i; /* [outlives] */
+        one = i; /* [waited for] */
     }
 #pragma omp taskwait /* [waits] */
-    after = row[0];
+    after = row[0] + one; /* [behind] */
+}
+
+/* What a task of a task leaves outlives two waits, and the group's end waits for it. */
+static void outlives_twice(void) {
+#pragma omp taskgroup
+    {
+#pragma omp task
+        {
+#pragma omp task
+            {
+#pragma omp task
+                row[0] = 1; /* [left] */
+                row[1] = 1;
+            }
+#pragma omp taskwait
+            row[1] = 2;
+        }
+#pragma omp taskwait
+        row[1] = row[0]; /* [behind both] */
+    }
+    row[0] = 2;
 }
 
 /* A group and a barrier wait for them; and the wait in the inner group waits for what is older. */
@@ -423,6 +445,17 @@ static void ordered_last(void) {
     }
 }
 
+/* The ordered region waits for no task. */
+static void ordered_tasks(void) {
+#pragma omp parallel for ordered
+    for (int i = 0; i < 4; i++) {
+#pragma omp task /* [beside ordered] */
+        row[i] = i;
+#pragma omp ordered
+        one += row[i];
+    }
+}
+
 static void alike(void) {
 #pragma omp parallel
     {
@@ -499,6 +532,7 @@ int main(int count, char **words) {
                 {"no_barrier", no_barrier, true},
                 {"nested", nested, true},
                 {"outlives", outlives, false},
+                {"outlives_twice", outlives_twice, false},
                 {"grouped", grouped, false},
                 {"lock", lock, false},
                 {"each_thread", each_thread, true},
@@ -526,6 +560,7 @@ int main(int count, char **words) {
                 {"task_of_critical", task_of_critical, true},
                 {"after_ordered", after_ordered, true},
                 {"ordered_last", ordered_last, true},
+                {"ordered_tasks", ordered_tasks, true},
                 {"alike", alike, true},
                 {"lanes", lanes, true},
                 {"depends", depends, false},

@@ -4,7 +4,8 @@ model of its own: that does what each thread does, keeps the dag of the strands 
 definition which variables race. The model knows nothing of traces, bags or stacks; their names have to be those of the
 locations that `spbags check` reports. If accesses are under critical regions, locks or atomic, and all races of a
 variable are of two under one of these, or none is, then `spbags-run` has to say so. With `depend` a program is judged
-twice, by SPBAGS_DEPEND=order and =ignore, and what the program itself has must be between both.
+twice, by SPBAGS_DEPEND=order and =ignore, and what the program itself has must be between both. Where tasks outlive a
+taskwait the run after the first must find the rest.
 
     random_openmp.py [--count 200] [--seed 1] [--seconds 60]
 
@@ -26,7 +27,7 @@ TRACER = os.path.dirname(HERE)
 sys.dont_write_bytecode = True
 from cases import DETECTOR, INSIDE
 SPBAGS = os.path.realpath(os.environ.get("SPBAGS", os.path.join(TRACER, "..", "spbags")))
-BATCH, GLOBALS, SLOTS = 25, 4, 16
+BATCH, GLOBALS, MANY, SLOTS = 25, 4, 16, 16
 
 HEAD = """\
 #include <omp.h>
@@ -46,10 +47,11 @@ class Dag:
     def __init__(self, way):
         self.before, self.accesses, self.way = [], {}, way
 
-    def strand(self, *after):
+    def strand(self, *after, but=()):
         bits = 1 << len(self.before)
         for one in after:
-            bits |= self.before[one]
+            if one not in but:
+                bits |= self.before[one]
         self.before.append(bits)
         return len(self.before) - 1
 
@@ -75,7 +77,9 @@ class Procedure:
 
     def __init__(self, dag, now):
         self.dag, self.now, self.children, self.tasks, self.named = dag, now, [], 0, []
-        self.syncs, self.has_master = 0, False
+        self.has_master = False
+        # Where tasks outlive their parents: the ends of those that do, and of the children that are tasks.
+        self.outliving, self.task_ends = [], []
 
     def access(self, variable, writes, guard=None):
         self.dag.access(self.now, variable, writes, guard)
@@ -85,19 +89,34 @@ class Procedure:
         self.now = self.dag.strand(self.now)
         does(child, *words)
         ended = child.now
-        child.sync()
+        if self.dag.way == "outliving":
+            self.outliving += child.children + child.outliving
+        else:
+            child.sync()
         self.children.append(child.now)
         return ended
 
     def sync(self):
-        self.now = self.dag.strand(self.now, *self.children)
-        self.children, self.tasks, self.named = [], 0, []
-        self.syncs += 1
+        self.now = self.dag.strand(self.now, *self.children, *self.outliving)
+        self.children, self.tasks, self.named, self.outliving, self.task_ends = [], 0, [], [], []
 
-    def end_group(self, older, tasks):
-        """Waits for all children but so many older ones, of which some are tasks."""
-        self.now = self.dag.strand(self.now, *self.children[older:])
-        self.children, self.tasks = self.children[:older], tasks
+    def wait_for_tasks(self):
+        if self.dag.way != "outliving":
+            self.sync()
+            return
+        self.now = self.dag.strand(self.now, *self.task_ends)
+        self.children = [end for end in self.children if end not in self.task_ends]
+        self.tasks, self.named, self.task_ends = 0, [], []
+
+    def ends(self):
+        return {*self.children, *self.outliving, *self.task_ends}
+
+    def end_group(self, older):
+        """Waits for all but these older ends."""
+        self.now = self.dag.strand(self.now, *self.children, *self.outliving, but=older)
+        self.children, self.outliving, self.task_ends = ([end for end in ends if end in older] for ends in
+                                                         (self.children, self.outliving, self.task_ends))
+        self.tasks = len(self.task_ends)
 
     def task(self, does, depend):
         """A task that names these variables. The way says what `depend` does, or is None for what it means."""
@@ -105,7 +124,8 @@ class Procedure:
                  if any(name == other and (writes or also) for other, also in depend)]
         if older and self.dag.way == "order" and self.tasks > 0:
             self.sync()
-        ended = self.spawn(does, after=older if self.dag.way is None else ())
+        ended = self.spawn(does, after=older if self.dag.way in (None, "outliving") else ())
+        self.task_ends.append(ended)
         self.named += [(name, writes, ended) for name, writes in depend]
         self.tasks += 1
 
@@ -151,7 +171,7 @@ class Member:
         if item.kind == "task":
             procedure.task(lambda child: [self.do(child, inner) for inner in item.inner], item.depend)
         elif item.kind == "taskwait" and procedure.tasks > 0:
-            procedure.sync()
+            procedure.wait_for_tasks()
         elif item.kind == "access":
             procedure.access(self.place(item.variable, 0), item.writes, item.guard)
         elif item.kind == "guarded":
@@ -177,11 +197,10 @@ class Member:
 
     def group(self, item):
         """Its end waits for tasks, and in the trace for all that its thread made in it."""
-        part, syncs, older, tasks = self.part, self.part.syncs, len(self.part.children), self.part.tasks
+        older = self.part.ends()
         for inner in item.inner:
             yield from getattr(self, inner.kind)(inner)
-        has_older = self.part is part and part.syncs == syncs
-        self.part.end_group(older if has_older else 0, tasks if has_older else 0)
+        self.part.end_group(older)
 
     def numbered(self, item):
         """What only the thread of a number does."""
@@ -289,7 +308,9 @@ class Writer:
     def __init__(self, number, source):
         self.random, self.number, self.lines = source, number, []
         self.has_guards = self.has_depend = False
-        self.globals = [f"p{number}_g{at}" for at in range(GLOBALS)]
+        # Of some programs the most is done by tasks, which rarely meet.
+        self.has_tasks = self.chance(0.4)
+        self.globals = [f"p{number}_g{at}" for at in range(MANY if self.has_tasks else GLOBALS)]
         self.slots, self.local = f"p{number}_s", "local"
 
     def chance(self, of):
@@ -298,7 +319,8 @@ class Writer:
     def write(self):
         self.threads = self.random.randint(2, 4)
         self.line(f"static number {', '.join(self.globals)}, {self.slots}[{SLOTS}];")
-        self.items = [self.item(deep=0) for _ in range(self.random.randint(1, 7))]
+        self.items = [self.make_single()] if self.has_tasks else \
+            [self.item(deep=0) for _ in range(self.random.randint(1, 7))]
         inner, self.lines = self.lines[1:], self.lines[:1]
         # gcc copies a variable without an address into a region and back.
         self.line(f"static void p{self.number}(void) {{ int value; number local; shown = &local;")
@@ -349,19 +371,20 @@ class Writer:
 
     def inner(self, count, deep, tasks=0.2):
         """What a child does: accesses and tasks."""
-        return [self.task(deep + 1) if deep < 2 and self.chance(tasks) else
-                self.taskwait() if self.chance(0.1) else
+        return [self.task(deep + 1) if deep < 2 + self.has_tasks and self.chance(tasks) else
+                self.taskwait() if self.chance(0.3 if self.has_tasks else 0.1) else
                 self.guarded(deep) if deep < 2 and self.chance(0.15) else
                 self.access(in_child=True) for _ in range(count)]
 
     def task(self, deep):
-        kinds = {name: self.random.choice(("in", "in", "out", "inout"))
-                 for name in self.random.sample(self.globals[:2], self.random.randint(1, 2) if self.chance(0.5) else 0)}
+        names = self.random.sample(self.globals[:2], self.random.randint(1, 2))
+        kinds = {name: self.random.choice(("in", "in", "out", "inout")) for name in names
+                 if self.chance(0.1 if self.has_tasks else 0.4)}
         self.has_depend |= bool(kinds)
         self.line("#pragma omp task shared(local)" + "".join(f" depend({kinds[name]} : {name})" for name in kinds))
         self.line("{ int value;")
         item = Item("task", depend=[(name, kind != "in") for name, kind in kinds.items()],
-                    inner=self.inner(self.random.randint(1, 2), deep))
+                    inner=self.inner(self.random.randint(1, 3), deep, 0.4))
         self.line("}")
         return item
 
@@ -391,7 +414,7 @@ class Writer:
         nowait = self.chance(0.5)
         self.line("#pragma omp single" + " nowait" * nowait)
         self.line("{")
-        item = Item("single", nowait=nowait, inner=self.inner(self.random.randint(2, 4), 0, 0.6))
+        item = Item("single", nowait=nowait, inner=self.inner(self.random.randint(2, 8 if self.has_tasks else 4), 0, 0.6))
         self.line("}")
         return item
 
@@ -458,8 +481,11 @@ class Batch:
         with open(self.name + ".c", "w", encoding="utf-8") as file:
             file.write("\n".join(lines) + "\n")
 
-    def run(self, *words, statuses=(0,), **settings):
-        done = subprocess.run(words, capture_output=True, text=True, env={**os.environ, **settings})
+    def run(self, *words, statuses=(0,), files=None, **settings):
+        numbers = {name: file.fileno() for name, file in (files or {}).items()}
+        settings |= {name: f"fd:{number}" for name, number in numbers.items()}
+        done = subprocess.run(words, capture_output=True, text=True, env={**os.environ, **settings},
+                              pass_fds=numbers.values())
         if done.returncode not in statuses:
             sys.exit(f"random_openmp.py: {' '.join(words)}: {done.stderr}")
         return done.stdout
@@ -481,19 +507,32 @@ class Batch:
         return lambda location: writer.local if location % 2 else found.get(location, "?")
 
     def found(self, writer, way):
-        trace, settings = f"{self.name}.{writer.number}", {"SPBAGS_TEAM": str(writer.threads), "SPBAGS_DEPEND": way}
-        self.run(self.name, str(writer.number), SPBAGS_TRACE=trace, SPBAGS_REPORT="", **settings)
+        """The variables that race in the first run; those that race there or in the run behind taskwaits; whether both see
+        all; and whether there was another run."""
+        settings = {"SPBAGS_TEAM": str(writer.threads), "SPBAGS_DEPEND": way}
+        with tempfile.TemporaryFile() as waited, tempfile.TemporaryFile() as said:
+            files = {"SPBAGS_WAITED": waited, "SPBAGS_SAYS": said}
+            first = both = self.races(writer, way, settings, files)
+            if again := os.fstat(waited.fileno()).st_size > 0:
+                both = {*first, *self.races(writer, way, settings, files)}
+            said.seek(0)
+            kinds = [line.partition(b":")[0] for line in said]
+        return first, set(both), kinds.count(b"waits") < 2 and b"incomplete" not in kinds, again
+
+    def races(self, writer, way, settings, files):
+        trace, is_second = f"{self.name}.{writer.number}", os.fstat(files["SPBAGS_WAITED"].fileno()).st_size > 0
+        self.run(self.name, str(writer.number), files=files, SPBAGS_TRACE=trace, SPBAGS_REPORT="", **settings)
         report = self.run(SPBAGS, "check", trace, statuses=(0, 1))
-        if INSIDE and report != self.own_report(writer, trace[:-1] + "~", settings):
+        if INSIDE and report != self.own_report(writer, trace[:-1] + "~", settings, files if is_second else {}):
             self.differing.append(way)
         os.remove(trace)
         os.remove(trace + ".places")
         return sorted(map(self.names(writer), (int(line.split()[1]) for line in report.splitlines()[1:])))
 
-    def own_report(self, writer, name, settings):
+    def own_report(self, writer, name, settings, files):
         """That of the detector inside. The environment is as long as in the traced run: the program's words lie before
         it."""
-        self.run(self.name, str(writer.number), SPBAGS_TRACE="", SPBAGS_REPORT=name, **settings)
+        self.run(self.name, str(writer.number), files=files, SPBAGS_TRACE="", SPBAGS_REPORT=name, **settings)
         with open(name, encoding="ascii") as file:
             return file.read()
 
@@ -510,8 +549,12 @@ class Batch:
     def faults(self, writer):
         """What the runs say and the model doesn't."""
         ways, self.differing = ("order", "ignore") if writer.has_depend else ("ignore",), []
-        wanted, found = [sorted(writer.racy(way)) for way in ways], [self.found(writer, way) for way in ways]
-        own = set(writer.racy(None))
+        wanted, runs = [sorted(writer.racy(way)) for way in ways], [self.found(writer, way) for way in ways]
+        found, (_, both, sees_all, again) = [first for first, *_ in runs], runs[0]
+        self.again += again
+        own, outliving = set(writer.racy(None)), set(writer.racy("outliving"))
+        if not both <= outliving or sees_all and not outliving <= both:
+            yield f"with tasks that outlive others it has {sorted(outliving)}, found {sorted(both)}, all: {sees_all}"
         if self.differing:
             yield f"by {self.differing} the report of the detector inside isn't the checker's"
         if wanted != found:
@@ -519,7 +562,7 @@ class Batch:
         if not own <= set(found[-1]) or (writer.has_depend and not set(found[0]) <= own):
             yield f"the program has {sorted(own)}, found {found}"
         # It runs such a program twice, and takes long.
-        is_asked = writer.has_guards and writer.number % 4 == 0 and wanted == found
+        is_asked = writer.has_guards and writer.number % 4 == 0 and wanted == found and not again
         if is_asked and (names := self.falsely_guarded(writer)):
             yield f"the guards of {names}"
 
@@ -527,7 +570,7 @@ class Batch:
         """The programs whose races aren't those that the model names."""
         self.build()
         wrong = []
-        self.racy = sum(bool(writer.racy(None)) for writer in self.writers)
+        self.racy, self.again = sum(bool(writer.racy(None)) for writer in self.writers), 0
         for writer in self.writers:
             if faults := list(self.faults(writer)):
                 print("\n".join(writer.lines), file=sys.stderr)
@@ -541,7 +584,7 @@ def main():
     for name, value in (("count", 200), ("seed", 1), ("seconds", 60)):
         parser.add_argument("--" + name, type=int, default=value)
     words = parser.parse_args()
-    end, tried, wrong, racy = time.monotonic() + words.seconds, 0, 0, 0
+    end, tried, wrong, racy, again = time.monotonic() + words.seconds, 0, 0, 0, 0
     with tempfile.TemporaryDirectory(prefix="spbags-random-") as folder, ThreadPoolExecutor(2) as pool:
         batches = [Batch(folder, first, min(BATCH, words.count - first), words.seed)
                    for first in range(0, words.count, BATCH)]
@@ -552,7 +595,8 @@ def main():
                 tried += len(batch.writers)
                 wrong += len(result.result())
                 racy += batch.racy
-    print(f"{tried} programs, {racy} with races, {wrong} wrong")
+                again += batch.again
+    print(f"{tried} programs, {racy} with races, {again} with a run behind taskwaits, {wrong} wrong")
     return 1 if wrong or not racy else 0
 
 

@@ -71,8 +71,8 @@ class TraceTest(OpenMPTest):
                 self.assertRegex("\n".join(notes), f"note: .*{line}")
 
     def test_waits(self):
-        self.says("outlives", 0, self.wait, [])
-        self.says("outlives", 3, "this wait doesn.t wait for 2 ", [], SPBAGS_EXITCODE="9")
+        self.says("outlives", 0, self.wait, self.pair("waited for", "waited for"))
+        self.says("left_by_groups", 3, "this wait doesn.t wait for 4 ", [], SPBAGS_EXITCODE="9")
         self.says("grouped", 0, "", [])
         self.says("no_barrier", 0, rf"{at('waits_on')}.* wait for 4 ", [])
 
@@ -86,7 +86,7 @@ class TraceTest(OpenMPTest):
     def test_notes(self):
         """A trace that is kept has them behind its places. By records they go out once."""
         with self.subTest("spbags-run --keep"):
-            self.reports(3, "", "--keep", "run.trace", "--", "./ways", "outlives")
+            self.reports(1, "", "--keep", "run.trace", "--", "./ways", "outlives")
             self.assertRegex("\n".join(self.traced_races("./ways")[1]), f"note: .*{self.wait}")
         with self.subTest("records"):
             self.succeeds("bash", "-c", "./ways outlives 3>said 4>run.places", SPBAGS_TRACE="run.trace",
@@ -95,18 +95,19 @@ class TraceTest(OpenMPTest):
             self.assertEqual([], answers.places_of("run.places").notes)
 
     def test_statuses(self):
-        for words, settings, status in ((["outlives"], {"SPBAGS_INCOMPLETE_OK": "1"}, 0), (["outlives", "5"], {}, 5)):
+        way = "left_by_groups"
+        for words, settings, status in (([way], {"SPBAGS_INCOMPLETE_OK": "1"}, 0), ([way, "5"], {}, 5)):
             with self.subTest(status):
                 self.ends_with(status, "", "./ways", *words, SPBAGS_TRACE="run.trace", SPBAGS_EXITCODE="9", **settings)
         for words, status in ((["--"], 3), (["--incomplete-ok", "--"], 0)):
             with self.subTest(words):
-                said = self.reports(status, "", *words, "./ways", "outlives")
-                self.assertRegex(" ".join(said.split()), self.wait)
+                said = self.reports(status, "", *words, "./ways", way)
+                self.assertRegex(" ".join(said.split()), "this wait doesn.t wait for 4 ")
         with self.subTest("races, and what isn't modelled"):
             self.reports(1, "SPBAGS_ITERATIONS=4 makes", "--", "./ways", "numbered", SPBAGS_TEAM="1",
                          SPBAGS_ITERATIONS="4")
         with self.subTest("no trace"):
-            self.succeeds("./ways", "outlives")
+            self.succeeds("./ways", way)
 
     def test_refused(self):
         for way, line, settings in (
@@ -149,6 +150,10 @@ ANSWERS = [
     ("cancels", 3, f"{at('cancels')}: OMP_CANC", "", "", {"OMP_CANCELLATION": "true"}),
     ("after_ordered", 3, f"{at('after ordered')}: this access", "", "", {}),
     ("ordered_last", 0, "", "", "", {}),
+    ("no_barrier", 0, "", "", "", {}),
+    ("outlives_twice", 1, "1 pair of lines came of one more run", "left", "behind both", {}),
+    ("ordered_tasks", 3, f"wait for 4 tasks, iterations or other parts, the first from tracer/tests/{at('beside ordered')}",
+     "", "", {}),
     ("alike", 3, f"each of 2 {BLOCKS}, since with schedule", "", "", {}),
     ("lanes", 0, f"{at('lanes')}: a loop with simd alone", "", "", {}),
     ("task_number", 0, "", "", "", {}),
