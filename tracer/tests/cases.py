@@ -3,6 +3,7 @@ in a folder of its own with the examples in it. Each `subTest` counts; one that 
 SPBAGS names the checker, CC the compiler, LEVEL its level of optimization, and INSIDE is set if the library of the
 detector is there."""
 import collections
+import functools
 import glob
 import json
 import os
@@ -31,6 +32,23 @@ Done = collections.namedtuple("Done", "status out errors")
 BLOCK = 64
 
 
+@functools.cache
+def schema():
+    """What each report in JSON is held against, if the library for it is here."""
+    try:
+        import jsonschema
+    except ImportError:
+        return None
+    with open(os.path.join(TRACER, "report.schema.json"), encoding="utf-8") as file:
+        return jsonschema.Draft202012Validator(json.load(file))
+
+
+@functools.cache
+def kept_programs():
+    """The folder of the programs that are compiled once for all tests of a file."""
+    return tempfile.TemporaryDirectory()
+
+
 def size_of(name):
     return os.path.getsize(name) if os.path.exists(name) else 0
 
@@ -44,6 +62,12 @@ def lines_of(source, text):
 def line_of(source, text):
     number, = lines_of(source, text)
     return number
+
+
+@functools.cache
+def lines_of_tags(source):
+    with open(source, encoding="utf-8") as file:
+        return {tag: number for number, text in enumerate(file, 1) for tag in re.findall(r"/\* (\[.*?\]) \*/", text)}
 
 
 def compiler_of(source):
@@ -137,13 +161,14 @@ class TracerTest(unittest.TestCase):
         with open(name, "w", encoding="utf-8") as file:
             file.write(text)
 
-    def run_command(self, *words, **settings):
-        """Its status and what it says, with these environment variables."""
+    def run_command(self, *words, given=None, stdin=subprocess.DEVNULL, **settings):
+        """Its status and what it says, with this input and these environment variables."""
         if words[0] in (SPBAGS_CC, SPBAGS_CPLUSPLUS):
             words = (words[0], *DETECTOR, *words[1:])
         self.command = shlex.join([*(f"{name}={value}" for name, value in settings.items()), *words])
-        done = subprocess.run(words, stdin=subprocess.DEVNULL, capture_output=True, text=True, errors="replace",
-                              env={**os.environ, **settings}, timeout=3600)
+        standard_input = {"stdin": stdin} if given is None else {"input": given}
+        done = subprocess.run(words, capture_output=True, text=True, errors="replace", timeout=3600,
+                              env={**os.environ, **settings}, **standard_input)
         return Done(done.returncode, done.stdout, done.stderr)
 
     def succeeds(self, *words, **settings):
@@ -173,6 +198,25 @@ class TracerTest(unittest.TestCase):
         self.assertEqual(status, done.status, said)
         self.assertIn(text, " ".join(said.split()))
         return said
+
+    def build_once(self, name, source, *words):
+        """A program that other tests of the file have too, under this name."""
+        kept = os.path.join(kept_programs().name, "".join([os.path.basename(source), *words]))
+        if not os.path.exists(kept):
+            self.succeeds(compiler_of(source), *words, "-o", kept, source)
+        os.link(kept, name)
+
+    def report_of(self, *words, options=(), **settings):
+        """The status and the report of spbags-run with the program of these words."""
+        done = self.run_command(SPBAGS_RUN, "--json", *options, "--", *words, **settings)
+        return done.status, self.as_report(done)
+
+    def as_report(self, done):
+        self.assertTrue(done.out, (done.status, done.errors))
+        report = json.loads(done.out)
+        if schema():
+            schema().validate(report)
+        return report
 
     def races_of(self, *words, options=(), **settings):
         """What spbags-run finds."""

@@ -1,4 +1,4 @@
-/* Races that run.py knows: the first word says which. The tags name lines. */
+/* Races that test_run.py knows: the first word says which. The tags name lines. */
 #include <cilk/cilk.h>
 #include <fcntl.h>
 #include <pthread.h>

@@ -11,7 +11,7 @@ from cases import INSIDE, LEVEL, SPBAGS_CC, TRACER, TracerTest, by_call, race_of
 
 LIBRARY, VECTORS = "tracer/tests/library.c", "tracer/tests/vectors.c"
 VECTOR_OPTIONS = ("avx512f", "avx512vl", "avx512bw", "avx512dq", "xsave")
-# Newer libraries have those of C23 and these two. streams.py tries those of C++.
+# Newer libraries have those of C23 and these two. test_streams.py tries those of C++.
 WITHOUT_A_CASE = re.compile("strlcpy|strlcat|_Z.*|.*isoc23.*")
 
 

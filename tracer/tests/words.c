@@ -1,4 +1,4 @@
-/* Races whose variables words.py knows by their names: the first word says which. The tags name lines. */
+/* Races whose variables test_words.py knows by their names: the first word says which. The tags name lines. */
 #include <cilk/cilk.h>
 #include <stdio.h>
 #include <stdlib.h>

@@ -1,4 +1,4 @@
-// Races whose words words.py knows: in a vector that a vector holds, and in a member of a base.
+// Races whose words test_words.py knows: in a vector that a vector holds, and in a member of a base.
 #include <cstdio>
 #include <map>
 #include <string>

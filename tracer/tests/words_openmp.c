@@ -1,4 +1,4 @@
-/* Races of OpenMP whose words words.py knows: the first word says which. The tags name lines. */
+/* Races of OpenMP whose words test_words.py knows: the first word says which. The tags name lines. */
 #include <stdio.h>
 #include <stdlib.h>
 #include <string.h>
