@@ -111,16 +111,16 @@ def note_of(kind, item, self_name):
     """The hooks' call for one item of a row."""
     words = item[0].split()
     if words[0] == "strings":
-        return f"LIBRARY_STRINGS({narrow(words)}, copy, {self_name});"
+        return f"NOTE_STRINGS({narrow(words)}, copy, {self_name});"
     if words[0] == "fields":
-        return f"LIBRARY_FIELDS({narrow(words)}, copy, result, {self_name});"
+        return f"NOTE_FIELDS({narrow(words)}, copy, result, {self_name});"
     if words[0] == "order":
         return f"NOTE_ORDER({words[2]}, {self_name});"
     if words[0] == "pieces":
-        return f"LIBRARY_PIECES({kind}, {words[1]}, {words[2]}, {item[1]}, {self_name});"
+        return f"NOTE_PIECES({kind}, {words[1]}, {words[2]}, {item[1]}, {self_name});"
     if len(item) == 4:
-        return f"LIBRARY_EVERY({kind}, {', '.join(item)}, {self_name});"
-    return f"LIBRARY_{kind}({item[0]}, {item[1]}, {self_name});"
+        return f"NOTE_EVERY({kind}, {', '.join(item)}, {self_name});"
+    return f"NOTE_{kind}({item[0]}, {item[1]}, {self_name});"
 
 
 def narrow(words):

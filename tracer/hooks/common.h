@@ -44,6 +44,16 @@
 #error "programs can be traced only on x86-64 Linux"
 #endif
 
+/* For what is on the way of each call: a compiler leaves it out of line where a unit is small. */
+#define ALWAYS_INLINE static inline __attribute__((always_inline))
+
+/* The real function and the hook for a name that a macro holds. */
+#define NAMED(PREFIX, NAME) PREFIX##NAME
+#define REAL(NAME) NAMED(__real_, NAME)
+#define WRAP(NAME) NAMED(__wrap_, NAME)
+
+long __real_syscall(long number, ...);
+int __real_pthread_create(pthread_t *, const pthread_attr_t *, void *(*)(void *), void *);
 void __real__exit(int status) __attribute__((noreturn));
 
 #endif

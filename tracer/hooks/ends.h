@@ -160,8 +160,8 @@ static void die_inside(int number) {
 static void on_signal(int number, siginfo_t *about, void *context) {
     enum { ENOUGH = 4 };
     static int came;
-    if (is_watch(number, about)) {
-        on_watch();
+    if (watch_is_signal(number, about)) {
+        watch_look();
         return;
     }
     bool fault = is_fault(number, about);
@@ -207,7 +207,7 @@ static void catch_signals(void) {
 int __wrap_sigaction(int number, const struct sigaction *wanted, struct sigaction *before) {
     bool ends = wanted && wanted->sa_handler == SIG_DFL && is_traced() && !is_harmless(number);
     if (wanted && !ends)
-        leave_signal(number);
+        watch_leave_signal(number);
     int answer = ends ? catch_signal(number, before) : __real_sigaction(number, wanted, before);
     if (answer == 0 && before && before->sa_sigaction == on_signal)
         *before = (struct sigaction){.sa_handler = SIG_DFL};
@@ -218,7 +218,7 @@ static sighandler_t set_handler(sighandler_t set(int, sighandler_t), int number,
     struct sigaction usual = {.sa_handler = SIG_DFL}, before;
     if (wanted == SIG_DFL)
         return __wrap_sigaction(number, &usual, &before) == 0 ? before.sa_handler : SIG_ERR;
-    leave_signal(number);
+    watch_leave_signal(number);
     sighandler_t replaced = set(number, wanted);
     return (void *)replaced == (void *)on_signal ? SIG_DFL : replaced;
 }

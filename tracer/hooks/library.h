@@ -1,98 +1,22 @@
-/* ---- The inner state of functions, which stands for what they read and write inside ---- */
+/* What functions of the library access, as library.table says it or as it is written by hand. */
+#ifndef SPBAGS_LIBRARY_H
+#define SPBAGS_LIBRARY_H
 
+#include "formats.h"
+#include "library_words.h"
+#include "noting.h"
+
+/* The inner state of functions, which stands for what they read and write inside. */
 #define state(NAME) (&state_of_##NAME)
-static int state_of_rand, state_of_drand48, state_of_mblen, state_of_mbtowc, state_of_wctomb, state_of_environment,
-    state_of_locale, state_of_textdomain, state_of_getpwent, state_of_getgrent, state_of_hsearch;
+extern int state_of_hsearch;
 
-/* ---- Accesses of several pieces ---- */
-
-/* A row of so many, each `stride` bytes behind the one before. A piece that lies nowhere isn't touched. */
-static void note_every(bool writes, uintptr_t at, size_t size, size_t count, size_t stride, __spbags_function self,
-                       uintptr_t stack_pointer, uintptr_t code) {
-    for (; count > 0; count--, at += stride)
-        any_access(writes, at, size, self, stack_pointer, code);
-}
-
-/* So many bytes, which these pieces hold one after the other. */
-static void note_pieces(bool writes, const struct iovec *piece, size_t count, ssize_t bytes, __spbags_function self,
-                        uintptr_t stack_pointer, uintptr_t code) {
-    for (; count > 0 && bytes > 0; piece++, count--) {
-        size_t size = least(piece->iov_len, (size_t)bytes);
-        any_access(writes, (uintptr_t)piece->iov_base, size, self, stack_pointer, code);
-        bytes -= (ssize_t)size;
-    }
-}
-
-enum { KIND_READ = false, KIND_WRITE = true };
-#define LIBRARY_EVERY(KIND, AT, SIZE, COUNT, STRIDE, SELF) \
-    note_every(KIND_##KIND, (uintptr_t)(AT), SIZE, COUNT, STRIDE, (__spbags_function)SELF, STACK_POINTER, CODE)
-#define LIBRARY_PIECES(KIND, AT, COUNT, BYTES, SELF) \
-    note_pieces(KIND_##KIND, AT, (size_t)(COUNT), BYTES, (__spbags_function)SELF, STACK_POINTER, CODE)
-
-/* ---- Formats of printf and scanf ---- */
-
-struct caller {
-    __spbags_function self;
-    uintptr_t stack_pointer, code;
-};
-
-static void touch_argument(bool writes, uintptr_t at, size_t size, const void *with) {
-    const struct caller *by = with;
-    if (writes)
-        any_access(true, at, size, by->self, by->stack_pointer, by->code);
-    else
-        library_read(at, size, by->self, by->stack_pointer, by->code);
-}
-
+/* What the formats of printf and scanf say of their arguments. */
+void note_argument(bool writes, uintptr_t at, size_t size, const void *by);
 #define NARROW(FORMAT) formats_narrowed(FORMAT, (char[1000]){0}, 1000)
-#define BY(SELF) ((struct caller){(__spbags_function)SELF, STACK_POINTER, CODE})
-#define LIBRARY_STRINGS(FORMAT, LIST, SELF) formats_printed(FORMAT, &LIST, touch_argument, &BY(SELF))
-#define LIBRARY_FIELDS(FORMAT, LIST, STORED, SELF) formats_scanned(FORMAT, &LIST, STORED, touch_argument, &BY(SELF))
+#define NOTE_STRINGS(FORMAT, LIST, SELF) formats_printed(FORMAT, &LIST, note_argument, &BY(SELF))
+#define NOTE_FIELDS(FORMAT, LIST, STORED, SELF) formats_scanned(FORMAT, &LIST, STORED, note_argument, &BY(SELF))
 
-#include "streams.h"
+/* Ends a run that starts a thread. */
+void refuse_thread(void);
 
-/* ---- The functions ---- */
-
-#ifndef __clang__
-#pragma GCC push_options
-#pragma GCC optimize("O1")
 #endif
-#include "library_wrappers.h"
-#ifndef __clang__
-#pragma GCC pop_options
-#endif
-
-#include "library_by_hand.h"
-
-/* What clang from 15 on calls where it copies or fills memory itself. */
-void *__tsan_memcpy(void *to, const void *from, size_t size) {
-    READ(from, size);
-    WRITE(to, size);
-    return memcpy(to, from, size);
-}
-
-void *__tsan_memmove(void *to, const void *from, size_t size) {
-    READ(from, size);
-    WRITE(to, size);
-    return memmove(to, from, size);
-}
-
-void *__tsan_memset(void *to, int byte, size_t size) {
-    WRITE(to, size);
-    return memset(to, byte, size);
-}
-
-static void refuse_thread(void) {
-    if (doing.tracing)
-        fail("the program starts a thread, and only a serial run can be traced");
-}
-
-int __wrap_pthread_create(pthread_t *thread, const pthread_attr_t *attributes, void *(*start)(void *), void *with) {
-    refuse_thread();
-    return __real_pthread_create(thread, attributes, start, with);
-}
-
-int __wrap_thrd_create(thrd_t *thread, thrd_start_t start, void *with) {
-    refuse_thread();
-    return __real_thrd_create(thread, start, with);
-}

@@ -87,17 +87,6 @@ enum { MOST_NODES = 1 << 26 };
 static struct node *nodes;
 static uint32_t last_node;
 
-/* The linker's names for the program's code, and for that of the hooks. */
-extern char __executable_start[], etext[], __start_spbags_hooks[], __stop_spbags_hooks[];
-
-static bool is_between(uintptr_t code, const char *first, const char *end) {
-    return code >= (uintptr_t)first && code < (uintptr_t)end;
-}
-
-static bool is_program(uintptr_t code) {
-    return is_between(code, __executable_start, etext) && !is_between(code, __start_spbags_hooks, __stop_spbags_hooks);
-}
-
 static size_t top_at(void) { return (size_t)(top - frames); }
 
 /* Of the part that the newest frame is. */

@@ -283,7 +283,7 @@ static void prepare_thread(void) {
     dl_iterate_phdr(find_thread_memory, &memory);
     if (doing.tracing)
         mark_own(memory.first, memory.end);
-    start_watch();
+    watch_begin();
 }
 
 static void *take_turns(void *with) {

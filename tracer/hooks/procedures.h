@@ -32,7 +32,7 @@ static struct frame *frames, *frames_end;
 static struct frame *top;
 
 /* The stack memory below this address has no variable any more. What had one began after the newest frame. */
-static inline void clear_below(uintptr_t address) {
+ALWAYS_INLINE void clear_below(uintptr_t address) {
     if (lowest >= address)
         return;
     clear_marks(stack_mark(lowest), stack_mark(address));
@@ -88,7 +88,7 @@ OTHERWISE void other_structure(enum spbags_kind kind, uintptr_t code) {
 }
 
 /* With each record of the structure a strand ends and another begins. */
-static inline void structure(enum spbags_kind kind, uintptr_t code) {
+ALWAYS_INLINE void structure(enum spbags_kind kind, uintptr_t code) {
     if (__builtin_expect(only_detects(), 1)) {
         begin_step();
         step(kind, 0);

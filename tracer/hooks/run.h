@@ -276,8 +276,8 @@ __attribute__((constructor(101))) static void start(void) {
     unit_shift = (unsigned)__builtin_ctz(settings_digit(SETTING_UNIT));
     unit_mask = ((uintptr_t)1 << unit_shift) - 1;
     doing.writing_repeats = settings_is(SETTING_REPEATS, "1");
-    patience = least(settings_number(SETTING_PATIENCE), SECOND) * SECOND;
-    judges_order = settings_is(SETTING_STREAMS, "1");
+    watch_set_patience();
+    streams_judged = settings_is(SETTING_STREAMS, "1");
     reuses = settings_is(SETTING_REUSE, "1");
     leaves_out = reuses && !doing.writing_repeats;
     run_thread = __builtin_thread_pointer();
@@ -312,7 +312,7 @@ __attribute__((constructor(101))) static void start(void) {
     doing.tracing = true;
     find_short_way();
     catch_signals();
-    start_watch();
+    watch_begin();
 }
 
 /* After the program's own handlers. */

@@ -57,6 +57,19 @@ void tell_record(const char *record, const char *format, ...) {
     tell_text(record, text);
 }
 
+bool tell_is_first(uintptr_t place) {
+    enum { MOST = 64 };
+    static uintptr_t told[MOST];
+    static size_t count;
+    for (size_t at = 0; at < count; at++)
+        if (told[at] == place)
+            return false;
+    if (count == MOST)
+        return false;
+    told[count++] = place;
+    return true;
+}
+
 /* _exit, since the program's own handlers could add to a trace that is broken. */
 void fail_by(const char *record, const char *format, ...) {
     PUT_TEXT(text, 400, format);

@@ -22,6 +22,9 @@ void tell_text(const char *record, const char *text);
 __attribute__((format(__printf__, 2, 3))) void tell_record(const char *record, const char *format, ...);
 #define tell(...) tell_record("note", __VA_ARGS__)
 
+/* Whether nothing was told of this place so far. Of very many places the first ones are told. */
+bool tell_is_first(uintptr_t place);
+
 /* The run ends here, without an answer. */
 __attribute__((noreturn, format(__printf__, 2, 3))) void fail_by(const char *record, const char *format, ...);
 #define fail(...) fail_by("fault", __VA_ARGS__)

@@ -1,4 +1,10 @@
 /* Functions whose accesses no row of library.table says. */
+#include "doing.h"
+#include "guards.h"
+#include "library.h"
+#include "streams.h"
+#include "tell.h"
+
 #define BY_HAND(RESULT, NAME, ...) \
     __attribute__((weak)) RESULT __real_##NAME(__VA_ARGS__); \
     RESULT __wrap_##NAME(__VA_ARGS__)
@@ -8,11 +14,11 @@ static char *state_of_strtok;
 char *__wrap_strtok(char *from, const char *set) {
     char *at = from ? from : state_of_strtok;
     if (doing.tracing) {
-        LIBRARY_READ(set, all(set), __wrap_strtok);
-        LIBRARY_READ(state(strtok), from ? 0 : sizeof(char *), __wrap_strtok);
-        LIBRARY_WRITE(state(strtok), sizeof(char *), __wrap_strtok);
-        LIBRARY_READ(at, token(at, set), __wrap_strtok);
-        LIBRARY_WRITE(cut(at, token(at, set)), 1, __wrap_strtok);
+        NOTE_READ(set, all(set), __wrap_strtok);
+        NOTE_READ(state(strtok), from ? 0 : sizeof(char *), __wrap_strtok);
+        NOTE_WRITE(state(strtok), sizeof(char *), __wrap_strtok);
+        NOTE_READ(at, token(at, set), __wrap_strtok);
+        NOTE_WRITE(cut(at, token(at, set)), 1, __wrap_strtok);
     }
     return strtok_r(from, set, state(strtok));
 }
@@ -21,21 +27,21 @@ char *__wrap_strtok(char *from, const char *set) {
 BY_HAND(void *, lsearch, const void *key, void *at, size_t *n, size_t size, int (*order)(const void *, const void *)) {
     size_t before = *n;
     if (doing.tracing)
-        LIBRARY_READ(n, sizeof *n, __wrap_lsearch);
+        NOTE_READ(n, sizeof *n, __wrap_lsearch);
     void *result = __real_lsearch(key, at, n, size, order);
     if (doing.tracing && *n != before) {
-        LIBRARY_READ(key, size, __wrap_lsearch);
-        LIBRARY_WRITE((char *)at + before * size, size, __wrap_lsearch);
-        LIBRARY_WRITE(n, sizeof *n, __wrap_lsearch);
+        NOTE_READ(key, size, __wrap_lsearch);
+        NOTE_WRITE((char *)at + before * size, size, __wrap_lsearch);
+        NOTE_WRITE(n, sizeof *n, __wrap_lsearch);
     }
     return result;
 }
 
 BY_HAND(ENTRY *, hsearch, ENTRY item, ACTION action) {
     if (doing.tracing) {
-        LIBRARY_READ(item.key, all(item.key), __wrap_hsearch);
-        LIBRARY_READ(state(hsearch), sizeof(int), __wrap_hsearch);
-        LIBRARY_WRITE(state(hsearch), action == ENTER ? sizeof(int) : 0, __wrap_hsearch);
+        NOTE_READ(item.key, all(item.key), __wrap_hsearch);
+        NOTE_READ(state(hsearch), sizeof(int), __wrap_hsearch);
+        NOTE_WRITE(state(hsearch), action == ENTER ? sizeof(int) : 0, __wrap_hsearch);
     }
     return __real_hsearch(item, action);
 }
@@ -44,9 +50,9 @@ BY_HAND(ENTRY *, hsearch, ENTRY item, ACTION action) {
 static void note_converted(bool writes, char *at, size_t before, char **now, size_t *left, struct caller by) {
     if (!now)
         return;
-    any_access(writes, (uintptr_t)at, before - *left, by.self, by.stack_pointer, by.code);
-    any_access(true, (uintptr_t)now, sizeof *now, by.self, by.stack_pointer, by.code);
-    any_access(true, (uintptr_t)left, sizeof *left, by.self, by.stack_pointer, by.code);
+    note_access_by(writes, (uintptr_t)at, before - *left, by);
+    note_access_by(true, (uintptr_t)now, sizeof *now, by);
+    note_access_by(true, (uintptr_t)left, sizeof *left, by);
 }
 
 BY_HAND(size_t, iconv, iconv_t with, char **from, size_t *n, char **to, size_t *m) {
@@ -72,7 +78,7 @@ BY_HAND(size_t, iconv, iconv_t with, char **from, size_t *n, char **to, size_t *
     BY_HAND(int, NAME, const char *path, int flags, ...) { \
         LAST(unsigned, flags); \
         if (doing.tracing) \
-            LIBRARY_READ(path, all(path), __wrap_##NAME); \
+            NOTE_READ(path, all(path), __wrap_##NAME); \
         return __real_##NAME(path, flags, last); \
     }
 OPENS(open)
@@ -82,7 +88,7 @@ OPENS(open64)
     BY_HAND(int, NAME, int folder, const char *path, int flags, ...) { \
         LAST(unsigned, flags); \
         if (doing.tracing) \
-            LIBRARY_READ(path, all(path), __wrap_##NAME); \
+            NOTE_READ(path, all(path), __wrap_##NAME); \
         return __real_##NAME(folder, path, flags, last); \
     }
 OPENS_AT(openat)
@@ -95,8 +101,8 @@ BY_HAND(mqd_t, mq_open, const char *path, int flags, ...) {
     const struct mq_attr *with = va_arg(list, const struct mq_attr *);
     va_end(list);
     if (doing.tracing) {
-        LIBRARY_READ(path, all(path), __wrap_mq_open);
-        LIBRARY_READ(with, (flags & O_CREAT) && with ? sizeof *with : 0, __wrap_mq_open);
+        NOTE_READ(path, all(path), __wrap_mq_open);
+        NOTE_READ(with, (flags & O_CREAT) && with ? sizeof *with : 0, __wrap_mq_open);
     }
     return __real_mq_open(path, flags, mode, with);
 }
@@ -107,7 +113,7 @@ BY_HAND(sem_t *, sem_open, const char *path, int flags, ...) {
     unsigned mode = va_arg(list, unsigned), number = va_arg(list, unsigned);
     va_end(list);
     if (doing.tracing)
-        LIBRARY_READ(path, all(path), __wrap_sem_open);
+        NOTE_READ(path, all(path), __wrap_sem_open);
     return __real_sem_open(path, flags, mode, number);
 }
 
@@ -126,10 +132,10 @@ static size_t control_writes(int command) {
     BY_HAND(int, NAME, int file, int command, ...) { \
         LAST(uintptr_t, command); \
         if (doing.tracing) \
-            LIBRARY_READ(last, control_reads(command), __wrap_##NAME); \
+            NOTE_READ(last, control_reads(command), __wrap_##NAME); \
         int result = __real_##NAME(file, command, last); \
         if (doing.tracing && result == 0) \
-            LIBRARY_WRITE(last, control_writes(command), __wrap_##NAME); \
+            NOTE_WRITE(last, control_writes(command), __wrap_##NAME); \
         return result; \
     }
 CONTROLS(fcntl)
@@ -141,7 +147,7 @@ CONTROLS(fcntl64)
 static void note_buffer(const char *name, void *buffer, size_t size, struct caller by) {
     if (!doing.tracing || !buffer)
         return;
-    any_access(true, (uintptr_t)buffer, size, by.self, by.stack_pointer, by.code);
+    note_access_by(true, (uintptr_t)buffer, size, by);
     tell_incomplete("%s gives a stream a buffer of the program's, and what the stream does there later isn't seen",
                     name);
 }
@@ -203,8 +209,8 @@ BY_HAND(int, dup3, int from, int to, int flags) {
 
 /* What another child still does with the stream comes before its end, or it fails. */
 BY_HAND(int, fclose, FILE *stream) {
-    if (doing.tracing && judges_order && stream)
-        LIBRARY_WRITE(stream, sizeof(uint64_t), __wrap_fclose);
+    if (doing.tracing && streams_judged && stream)
+        NOTE_WRITE(stream, sizeof(uint64_t), __wrap_fclose);
     if (stream)
         end_file(fileno(stream));
     return __real_fclose(stream);
@@ -229,7 +235,7 @@ BY_HAND(void, funlockfile, FILE *stream) {
 
 /* Of std::ios_base. */
 BY_HAND(bool, _ZNSt8ios_base15sync_with_stdioEb, bool shares) {
-    shares_streams = shares;
+    streams_shared = shares;
     return __real__ZNSt8ios_base15sync_with_stdioEb(shares);
 }
 
@@ -247,7 +253,7 @@ static uintptr_t end_of_pages(void *at, size_t size) { return ((uintptr_t)at + s
 
 BY_HAND(int, munmap, void *at, size_t size) {
     if (doing.tracing)
-        LIBRARY_WRITE(at, least(size, 1 << 20), __wrap_munmap);
+        NOTE_WRITE(at, least(size, 1 << 20), __wrap_munmap);
     int result = __real_munmap(at, size);
     if (result == 0)
         keep_addresses((uintptr_t)at, end_of_pages(at, size));
@@ -263,7 +269,7 @@ BY_HAND(void *, mremap, void *at, size_t before, size_t size, int flags, ...) {
     if (result == MAP_FAILED)
         return result;
     if (doing.tracing && result != at)
-        LIBRARY_WRITE(at, least(before, 1 << 20), __wrap_mremap);
+        NOTE_WRITE(at, least(before, 1 << 20), __wrap_mremap);
     keep_addresses(result == at ? end_of_pages(at, size) : (uintptr_t)at, end_of_pages(at, before));
     return result;
 }
@@ -275,8 +281,8 @@ void __wrap_error(int status, int number, const char *format, ...) {
     va_start(list, format);
     va_copy(copy, list);
     if (doing.tracing) {
-        LIBRARY_READ(format, all(format), __wrap_error);
-        LIBRARY_STRINGS(format, copy, __wrap_error);
+        NOTE_READ(format, all(format), __wrap_error);
+        NOTE_STRINGS(format, copy, __wrap_error);
     }
     char *text = NULL;
     if (vasprintf(&text, format, list) < 0)

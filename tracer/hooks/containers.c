@@ -1,17 +1,14 @@
 /* What the library itself has of C++'s containers: trees, lists and tables of hashes. Those of trees stand in for the
    library's, since what they touch depends on the whole tree. */
+#include "noting.h"
 
 /* Who called the library, and what for. */
-static struct {
-    __spbags_function self;
-    uintptr_t stack_pointer, code;
-} inside_of;
+static struct caller inside_of;
 
-#define ENTER(NAME) \
-    inside_of.self = (__spbags_function)__wrap_##NAME, inside_of.stack_pointer = STACK_POINTER, inside_of.code = CODE
+#define ENTER(NAME) inside_of = BY(__wrap_##NAME)
 
 static void note_field(bool writes, const void *at, size_t size) {
-    any_access(writes, (uintptr_t)at, size, inside_of.self, inside_of.stack_pointer, inside_of.code);
+    note_access_by(writes, (uintptr_t)at, size, inside_of);
 }
 
 #define GET(FIELD) (note_field(false, &(FIELD), sizeof(FIELD)), (FIELD))
@@ -316,6 +313,6 @@ struct answer WRAP(NEED_REHASH)(struct policy *policy, size_t size, size_t count
 
 __attribute__((weak)) size_t __real__ZSt11_Hash_bytesPKvmm(const void *from, size_t size, size_t seed);
 size_t __wrap__ZSt11_Hash_bytesPKvmm(const void *from, size_t size, size_t seed) {
-    LIBRARY_READ(from, size, __wrap__ZSt11_Hash_bytesPKvmm);
+    NOTE_READ(from, size, __wrap__ZSt11_Hash_bytesPKvmm);
     return __real__ZSt11_Hash_bytesPKvmm(from, size, seed);
 }

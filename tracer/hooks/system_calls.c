@@ -1,4 +1,8 @@
 /* System calls by their numbers. Nothing is known of most, so a report says that they were called. */
+#include "doing.h"
+#include "noting.h"
+#include "unknown.h"
+#include "watch.h"
 
 /* It waits until another thread changes a word, if the word is what the caller says. */
 static bool waits_for_word(long operation) {
@@ -13,20 +17,20 @@ static bool is_silent_call(long number, long operation) {
 }
 
 long __wrap_syscall(long number, long a, long b, long c, long d, long e, long f) {
-    system_calls.calls += !is_silent_call(number, b) && IS_BESIDE_OTHERS;
+    system_calls.calls += !is_silent_call(number, b) && is_beside_others();
     if (number != SYS_futex || !waits_for_word(b))
         return __real_syscall(number, a, b, c, d, e, f);
     const volatile uint32_t *word = (const volatile uint32_t *)a;
     const struct timespec *end = (const struct timespec *)d;
     if (doing.tracing) {
-        LIBRARY_READ(word, sizeof *word, __wrap_syscall);
-        LIBRARY_READ(end, end ? sizeof *end : 0, __wrap_syscall);
+        NOTE_READ(word, sizeof *word, __wrap_syscall);
+        NOTE_READ(end, end ? sizeof *end : 0, __wrap_syscall);
     }
     if (!end && *word == (uint32_t)c)
         tell_endless_wait();
-    uint64_t began = time_of(CLOCK_MONOTONIC);
+    uint64_t began = watch_time();
     long answer = __real_syscall(number, a, b, c, d, e, f);
     if (end)
-        end_sleep(began);
+        watch_end_sleep(began);
     return answer;
 }

@@ -1,4 +1,7 @@
 /* Locks. A serial run waits for none, and an access under one has it for a guard. */
+#include "guards.h"
+#include "watch.h"
+
 #define LOCKS(NAME, TYPE) \
     __attribute__((weak)) int __real_##NAME(TYPE *lock); \
     int __wrap_##NAME(TYPE *lock) { return enter_lock(__real_##NAME(lock), lock); }
