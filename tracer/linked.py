@@ -117,15 +117,10 @@ def is_in(file, folders):
     return os.path.dirname(os.path.realpath(file)) in folders or os.path.realpath(os.path.dirname(file)) in folders
 
 
-def names_of(object_name, which="--defined-only"):
+def names_of(object_name):
     """What an object defines."""
-    said = subprocess.run(["nm", "-P", "-g", which, object_name], capture_output=True, text=True).stdout
+    said = subprocess.run(["nm", "-P", "-g", "--defined-only", object_name], capture_output=True, text=True).stdout
     return {line.split()[0] for line in said.splitlines()}
-
-
-def names_wanted_by(object_name):
-    """What it takes from others."""
-    return names_of(object_name, "--undefined-only")
 
 
 def wrapped_by(hooks):

@@ -35,9 +35,9 @@ int main(void) {
     cilk_sync;
 }
 """
-# One name of the library's is also called by the hooks, and one is of their parts.
+# One name of the library's is also called by the hooks, and one is of a part that calls it for OpenMP alone.
 NAMED = """int index(int *at) { return *at = 1; }
-void tell(void) {}
+void tell_report(void) {}
 unsigned long strlen(const char *at) { unsigned long n = 0; while (at[n]) n++; return n; }
 """
 NONE = "int __isoc23_strtol(void);\nint strlcat(void);\nint main(void) { return strlcat() + __isoc23_strtol(); }\n"
