@@ -4,17 +4,17 @@
    in the serial order: a spawned child runs at once, as an ordinary call.
 
    What isn't on the way of each access is a file with a .c of its own, or will be. Each part here stands on those before
-   it: the order in a strand, and its newest records; the detector and its heap, where SPBAGS_INSIDE is defined; stacks;
-   what a strand has done; records; locations, and bytes; procedures; a look at the races' places; reducers; scopes and
-   loops of Cilk; the hooks of accesses, of C++'s spawns and of jumps; the heap; the hooks of C++, of its parallel
-   libraries and, where SPBAGS_OPENMP is defined, of OpenMP; copies of structs; the ends of the run, and its beginning;
-   and what the other files ask for. */
+   it: the order in a strand, and its newest records; the detector and its heap, where SPBAGS_INSIDE is defined; what a
+   strand has done; records; locations, and bytes; procedures; a look at the races' places; reducers; the hooks of
+   accesses; the heap; the hooks of C++ and, where SPBAGS_OPENMP is defined, of OpenMP; the ends of the run, and its
+   beginning; and what the other files ask for. */
 #include "common.h"
 
 #include "../include/spbags_inside.h"
 #include "caller.h"
 #include "changes.h"
 #include "doing.h"
+#include "frames.h"
 #include "guards.h"
 #include "library.h"
 #include "memory.h"
@@ -22,6 +22,8 @@
 #include "output.h"
 #include "places.h"
 #include "settings.h"
+#include "source_line.h"
+#include "stacks.h"
 #include "streams.h"
 #include "tell.h"
 #include "unknown.h"
@@ -29,8 +31,6 @@
 
 /* The usual unit of accesses is 1 << USUAL_SHIFT bytes. */
 enum { USUAL_SHIFT = 2 };
-/* No checker reads a trace that nests deeper, and that alone without being told. */
-enum { MOST_DEPTH = 1000000, DEFAULT_DEPTH = 65536 };
 
 /* The address right above the stack memory of the function that called the hook: it keeps its frame pointer, which the
    hook finds saved in its own frame. */
@@ -38,10 +38,8 @@ enum { MOST_DEPTH = 1000000, DEFAULT_DEPTH = 65536 };
 
 int __real_munmap(void *at, size_t size);
 void *__real_mremap(void *at, size_t before, size_t size, int flags, ...);
-int __real_execvp(const char *name, char *const words[]);
 
 struct doing doing;
-static unsigned version;
 /* The unit of accesses is 1 << unit_shift bytes. */
 static unsigned unit_shift;
 static uintptr_t unit_mask;
@@ -50,7 +48,6 @@ static uintptr_t unit_mask;
 #include "window.h"
 #include "detector.h"
 #include "detector_heap.h"
-#include "stacks.h"
 #include "marks.h"
 #include "records.h"
 #include "locations.h"
@@ -58,14 +55,9 @@ static uintptr_t unit_mask;
 #include "procedures.h"
 #include "look.h"
 #include "reducers.h"
-#include "cilk.h"
 #include "accesses.h"
-#include "spawns_cplusplus.h"
-#include "jumps.h"
 #include "heap.h"
 #include "cplusplus.h"
-#include "source_line.h"
-#include "parallel.h"
 #ifdef SPBAGS_OPENMP
 /* Libraries with OpenMP of their own have threads of their own. */
 #pragma GCC visibility push(hidden)
@@ -83,7 +75,6 @@ static uintptr_t unit_mask;
 #include "openmp_notes.h"
 #pragma GCC visibility pop
 #endif
-#include "copies.h"
 #include "ends.h"
 #include "run.h"
 #ifdef SPBAGS_OPENMP
@@ -104,6 +95,12 @@ void note_read(uintptr_t at, size_t size, __spbags_function self, uintptr_t stac
 void note_write(uintptr_t at, size_t size, __spbags_function self, uintptr_t stack_pointer, uintptr_t code) {
     library_write(at, size, self, stack_pointer, code);
 }
+
+void note_memory(bool writes, uintptr_t at, size_t size, uintptr_t code) { touch(writes, at, size, code); }
+
+void forget_below(uintptr_t address) { clear_below(address); }
+
+void forget_memory(uintptr_t address, size_t size) { clear(address, size); }
 
 bool has_new_record(void) {
     static uint64_t seen;

@@ -58,18 +58,6 @@ static char astray[80];
 
 static const char region_name[] = "region";
 
-/* What the function of a part of OpenMP has: the address of its data; whether it is a region, or of a child, what it is
-   one of, such as `loop`; and the counter's values in its first and its last iteration. By the number of the part's
-   frame. */
-struct part {
-    uintptr_t data;
-    const char *of;
-    uint64_t first, last;
-    /* Of a region and its members one has a row in a stack. */
-    bool is_hidden;
-};
-static struct part *parts;
-
 /* An active function or child, as of the frame with this node. Node 0 is the root's. */
 struct node {
     uint32_t parent;
@@ -88,12 +76,6 @@ static struct node *nodes;
 static uint32_t last_node;
 
 static size_t top_at(void) { return (size_t)(top - frames); }
-
-/* Of the part that the newest frame is. */
-static inline void note_part(struct part part) {
-    if (__builtin_expect(doing.looking, 0))
-        parts[top_at()] = part;
-}
 
 struct unwinding {
     uintptr_t end, code;
@@ -352,7 +334,7 @@ static void add_race(struct race *race) {
 }
 
 /* This function waits for its children, and maybe ends with that. */
-__attribute__((noinline, cold)) static void look_at_wait(const struct frame *frame, uintptr_t code, bool ends) {
+__attribute__((noinline, cold)) void look_at_wait(const struct frame *frame, uintptr_t code, bool ends) {
     struct race **race = &nodes[frame->node].race;
     for (; *race; *race = (*race)->next) {
         (*race)->waits = code;

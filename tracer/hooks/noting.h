@@ -20,6 +20,9 @@ static inline void note_access_by(bool writes, uintptr_t at, size_t size, struct
     note_access(writes, at, size, by.self, by.stack_pointer, by.code);
 }
 
+/* One of this code's own, whatever frame is the newest. */
+void note_memory(bool writes, uintptr_t at, size_t size, uintptr_t code);
+
 /* Whether there was a record since this was asked last, other than of the stack's memory. */
 bool has_new_record(void);
 

@@ -1,35 +1,6 @@
-/* A scope is a part of a function that waits for its own children. The last three are parts of OpenMP, whose procedures
-   are no matter of frames: a function that the hooks call, a task, and some iterations of a loop. */
-enum kind { FUNCTION, ROOT, CHILD, SCOPE, CALLED, TASK_PART, LOOP_PART };
-enum { NONE = 0 };
-
-/* An active function, or a child that was spawned: the child's frame stands below the frame of the function that it
-   calls, and is left by __spbags_return. */
-struct frame {
-    /* Right above its stack memory. A child has none of its own, and ends with its parent. */
-    uintptr_t end;
-    enum kind kind;
-    /* Whether a `call` stands open for this function. */
-    uint32_t called;
-    /* The procedure which holds the unsynced children of this function, or NONE. */
-    uint32_t children;
-    /* In a run that looks, what stands for it there, or NONE. */
-    uint32_t node;
-    /* How many records went before it. */
-    uintptr_t position;
-    /* Of a child: its parent's stack pointer at the spawn, and what it calls. */
-    uintptr_t stack_pointer;
-    __spbags_function callee;
-    /* Of a part: where the program is, which isn't in the part itself. Of a child that is an iteration of a loop: where
-       that is; of any other child, 0. */
-    uintptr_t code;
-};
-
-static void look_at_wait(const struct frame *frame, uintptr_t code, bool ends);
-
-static struct frame *frames, *frames_end;
-/* The newest frame. */
-static struct frame *top;
+/* What is done with frames, and the procedures of the trace. */
+#include "frames.h"
+#include "hidden.h"
 
 /* The stack memory below this address has no variable any more. What had one began after the newest frame. */
 ALWAYS_INLINE void clear_below(uintptr_t address) {
@@ -41,33 +12,18 @@ ALWAYS_INLINE void clear_below(uintptr_t address) {
         leave_out_dying(top->position);
 }
 
-/* How many local statics of C++ are being initialised, while nothing is recorded. */
-static unsigned initialising;
-/* What the function of this frame and those around it update atomically isn't recorded, but what they call is. Or NULL. */
-static struct frame *silent_frame;
 static bool left_out_update;
 
-/* An access goes the short way where the stack pointer is below this: accesses are recorded by the usual unit and not
-   watched, no child waits for what it calls, and the newest frame hasn't ended. A function's entry and its end go it
-   where its stack memory ends within so many bytes of the stack: none if nothing is recorded. */
-uintptr_t short_way_end __asm__("__spbags_short_way_end");
+/* A function's entry and its end go the short way where its stack memory ends within so many bytes of the stack: none if
+   nothing is recorded. */
 static uintptr_t short_way_stack;
-/* All bits, or none if no access goes the short way. */
-static uintptr_t short_way_bits;
 
-static inline void follow_top(void) { short_way_end = top->kind != CHILD ? top->end & short_way_bits : 0; }
-
-static void find_short_way(void) {
+void find_short_way(void) {
     bool records = doing.tracing && initialising == 0;
     short_way_stack = records ? stack_size : 0;
     short_way_bits = records && !watching && unit_shift == USUAL_SHIFT ? UINTPTR_MAX : 0;
     follow_top();
 }
-
-/* The procedures that stand open in the trace, from 1, the root's. Each has the frame whose unsynced children it holds,
-   or none: that of the root, which spawns nothing. */
-static struct frame **owners;
-static uint32_t procedures, most_procedures;
 
 /* Where nothing was a child no access has another one beside it. */
 static bool has_had_children(void) { return most_procedures > 1; }
@@ -106,14 +62,16 @@ __attribute__((noinline, cold)) static void nest_deeper(void) {
         fail("procedures nest deeper than %d", MOST_DEPTH);
 }
 
-static inline void open_procedure(enum spbags_kind kind, uintptr_t code) {
+ALWAYS_INLINE void open_here(enum spbags_kind kind, uintptr_t code) {
     structure(kind, code);
     owners[procedures] = NULL;
     if (procedures > most_procedures)
         nest_deeper();
 }
 
-static inline void close_procedure(uintptr_t code) { structure(SPBAGS_RETURN, code); }
+void open_procedure(enum spbags_kind kind, uintptr_t code) { open_here(kind, code); }
+
+void close_procedure(uintptr_t code) { structure(SPBAGS_RETURN, code); }
 
 /* In version 1 procedures may have been opened above the one that holds these children; they end here. */
 static void sync_children(struct frame *frame, uintptr_t code) {
@@ -128,36 +86,20 @@ static void sync_children(struct frame *frame, uintptr_t code) {
     frame->children = NONE;
 }
 
-/* What holds the newest group of tasks, or NULL. */
-static struct frame *grouped;
-__attribute__((noinline, cold)) static void leave_groups(uintptr_t code);
-
-static void leave_top(uintptr_t code) {
+void leave_top(uintptr_t code) {
     if (__builtin_expect(top <= grouped, 0))
         leave_groups(code);
     if (__builtin_expect(top->node != NONE, 0))
         look_at_wait(top, code, true);
     if (top->kind == CHILD || top->called)
-        close_procedure(code);
+        structure(SPBAGS_RETURN, code);
     else
         sync_children(top, code);
     top--;
     follow_top();
 }
 
-/* Leaves the frames that ended at or below this address. */
-static inline void leave_below(uintptr_t address, uintptr_t code) {
-    while (top->end <= address)
-        leave_top(code);
-}
-
-static inline void leave_children(uintptr_t code) {
-    while (top->kind == CHILD)
-        leave_top(code);
-}
-
-/* Leaves the frames that a longjmp left, and the children among them; a strand begins then. */
-__attribute__((noinline, cold)) static void leave_left(uintptr_t address, uintptr_t code) {
+__attribute__((noinline, cold)) void leave_left(uintptr_t address, uintptr_t code) {
     leave_below(address, code);
     leave_children(code);
     begin_record();
@@ -166,23 +108,7 @@ __attribute__((noinline, cold)) static void leave_left(uintptr_t address, uintpt
     begin_strand();
 }
 
-static inline void leave_jumped(uintptr_t address, uintptr_t code) {
-    if (__builtin_expect(top->end <= address, 0))
-        leave_left(address, code);
-}
-
-static inline void push_frame(enum kind kind, uintptr_t end) {
-    if (__builtin_expect(++top == frames_end, 0))
-        fail("functions nest too deep");
-    top->end = end;
-    top->kind = kind;
-    top->called = false;
-    top->children = top->node = NONE;
-    top->position = records_so_far();
-    follow_top();
-}
-
-static inline bool is_of_function(const struct frame *frame) { return frame->kind == FUNCTION || frame->kind == SCOPE; }
+void push_frame(enum kind kind, uintptr_t end) { push_frame_at(kind, end, records_so_far()); }
 
 /* A sync waits for the children of its own function or scope, and a procedure of the trace waits for all its own. So a
    function that was called, or a scope, has to be a procedure of its own where what is around it may have children.
@@ -201,19 +127,11 @@ static inline void become_procedure(uintptr_t code) {
         top->children = procedures;
 }
 
-static void tell_hidden_child(void);
-
-/* A spawn and a sync are in a function itself: a child that is still open above it was left by a longjmp. */
-static inline void back_to_function(uintptr_t stack_pointer, uintptr_t code) {
-    leave_jumped(stack_pointer, code);
-    leave_children(code);
-}
-
-static inline void begin_child(__spbags_function callee, uintptr_t stack_pointer, uintptr_t code) {
+void begin_child(__spbags_function callee, uintptr_t stack_pointer, uintptr_t code) {
     back_to_function(stack_pointer, code);
     become_procedure(code);
-    open_procedure(SPBAGS_SPAWN, code);
-    push_frame(CHILD, top->end - 1);
+    open_here(SPBAGS_SPAWN, code);
+    push_frame_at(CHILD, top->end - 1, records_so_far());
     top->stack_pointer = stack_pointer;
     top->callee = callee;
     top->code = 0;
@@ -276,7 +194,7 @@ void __tsan_func_entry(void *caller) {
         return;
     }
     clear_below(end);
-    push_frame(FUNCTION, end);
+    push_frame_at(FUNCTION, end, records_so_far());
 }
 
 /* Whether no record comes of a frame's end. A function is of kind 0. */

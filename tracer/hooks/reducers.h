@@ -2,6 +2,8 @@
    update, and counts as a read of the view, so that updates don't race with each other; a read of the value counts as a
    write of the whole view, and so do a set, the reducer's beginning and its end. So a view's units have locations as all
    memory has, and a mark of a write says there that the strand has updated it. */
+#include "hidden.h"
+
 struct view {
     uintptr_t first, end;
     /* Of a view on the stack the number of its first unit, and of any other the name of its memory: another variable
@@ -110,21 +112,6 @@ static void forget_views(void) {
         views[at].wrote = TOUCHED;
 }
 
-/* ---- What isn't run ---- */
-
-/* A line for what another schedule would do beside, once for each text. */
-static void tell_not_run(const char *text) {
-    enum { MOST_TEXTS = 1000 };
-    static const char *told[MOST_TEXTS];
-    static size_t count;
-    for (size_t at = 0; at < count; at++)
-        if (strcmp(told[at], text) == 0)
-            return;
-    if (count < MOST_TEXTS)
-        told[count++] = text;
-    tell_incomplete("%s", text);
-}
-
 /* ---- The hooks ---- */
 
 static struct view *add_view(uintptr_t first, size_t size, const char *note) {
@@ -155,9 +142,6 @@ static struct view *known_view(uintptr_t first, size_t size, const char *note) {
     struct view *view = view_at(first);
     return view && view->first == first && view->end == first + size ? view : add_view(first, size, note);
 }
-
-/* How many updates are going on whose accesses aren't recorded. They count among the initialisations too. */
-static unsigned hidden_updates;
 
 static bool records_views(void) { return doing.tracing && initialising == hidden_updates; }
 
@@ -243,29 +227,4 @@ void __spbags_reducer_end(const volatile void *at) {
         if (view)
             end_view(view, CODE);
     }
-}
-
-void __spbags_not_seen(const char *note) {
-    if (doing.tracing)
-        tell_not_run(note);
-}
-
-static void hide_updates(unsigned count) {
-    initialising += count - hidden_updates;
-    hidden_updates = count;
-    if (doing.tracing)
-        find_short_way();
-}
-
-/* An update of a view that has more memory elsewhere begins and ends. */
-void __spbags_hide(void) { hide_updates(hidden_updates + 1); }
-void __spbags_show(void) {
-    if (hidden_updates > 0)
-        hide_updates(hidden_updates - 1);
-}
-
-/* What is spawned in such an update isn't recorded either. */
-static void tell_hidden_child(void) {
-    if (hidden_updates > 0)
-        tell_not_run("an update of a reducer spawns, and what its children access isn't seen");
 }

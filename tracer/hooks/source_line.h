@@ -1,37 +1,11 @@
+/* Where a call is in the source. */
+#ifndef SPBAGS_SOURCE_LINE_H
+#define SPBAGS_SOURCE_LINE_H
+
+#include "common.h"
+
 /* The file and the line of a call that returns to this address, as addr2line has it: "file:line". Where a function was
    put into its caller it is the caller's. spbags-run looks it up itself. */
-static const char *source_line(uintptr_t code, char *line, size_t size) {
-    if (tells_records()) {
-        snprintf(line, size, "<code %#zx>", (size_t)code - 1);
-        return line;
-    }
-    char program[40], address[24];
-    int ends[2];
-    snprintf(program, sizeof program, "/proc/%d/exe", (int)getpid());
-    snprintf(address, sizeof address, "%#zx", (size_t)code - 1);
-    char *words[] = {"addr2line", "-i", "-e", program, address, NULL};
-    snprintf(line, size, "address %s", address);
-    if (pipe(ends) != 0)
-        return line;
-    pid_t child = vfork();
-    if (child == 0) {
-        dup2(ends[1], STDOUT_FILENO);
-        __real_execvp(words[0], words);
-        __real__exit(127);
-    }
-    close(ends[1]);
-    char answer[4 * size];
-    ssize_t got = child > 0 ? read(ends[0], answer, sizeof answer - 1) : 0;
-    close(ends[0]);
-    if (child > 0)
-        waitpid(child, NULL, 0);
-    while (got > 0 && answer[got - 1] == '\n')
-        got--;
-    if (got <= 0)
-        return line;
-    answer[got] = '\0';
-    const char *before = strrchr(answer, '\n'), *last = before ? before + 1 : answer;
-    if (*last != '?')
-        snprintf(line, size, "%.*s", (int)strcspn(last, " "), last);
-    return line;
-}
+const char *source_line(uintptr_t code, char *line, size_t size);
+
+#endif

@@ -1,5 +1,11 @@
 /* The stacks of the program's threads: its own, and below that those of a team's members, so that all lie in one range.
    One of them runs at a time. While it does, what is known of it stands in variables of the hooks. */
+#ifndef SPBAGS_STACKS_H
+#define SPBAGS_STACKS_H
+
+#include "common.h"
+#include "guards.h"
+
 enum { MOST_STACKS = 64 };
 /* Between two stacks is so much that belongs to none. */
 static const size_t stack_gap = (size_t)1 << 20;
@@ -23,21 +29,22 @@ struct stack {
     sem_t turn;
     struct member *member;
 };
-static struct stack stacks[MOST_STACKS];
-static unsigned stacks_count = 1;
-static struct stack *running = stacks;
-/* The thread that has it, by its pointer. */
-static void *run_thread;
+extern struct stack stacks[MOST_STACKS];
+extern unsigned stacks_count;
+/* The one that runs, its memory, and the thread that has it, by its pointer. */
+extern struct stack *running;
+extern uintptr_t running_first, running_size;
+extern void *run_thread;
 
-/* The signals have a stack of their own, since the program's may be used up. */
-static _Alignas(16) char signal_stack[1 << 18];
-
-/* The memory of the stack that runs. */
-static uintptr_t running_first, running_size;
-
-static struct stack *stack_of(uintptr_t address) {
+/* The one with this address, or null. */
+static inline struct stack *stack_of(uintptr_t address) {
     unsigned at = 0;
     while (at < stacks_count && address - stacks[at].first >= stacks[at].end - stacks[at].first)
         at++;
     return at < stacks_count ? &stacks[at] : NULL;
 }
+
+/* The signals have a stack of their own, since the program's may be used up. */
+extern char signal_stack[1 << 18];
+
+#endif

@@ -1,9 +1,12 @@
 /* The buffers of setjmp and longjmp. */
+#include "doing.h"
+#include "hidden.h"
+#include "noting.h"
 
 /* For the stubs below: with the address and the stack pointer of the call. */
 __attribute__((used)) static void write_jump_buffer(void *at, uintptr_t code, uintptr_t stack_pointer) {
     if (doing.tracing)
-        any_access(true, (uintptr_t)at, sizeof(jmp_buf), NULL, stack_pointer, code);
+        note_access(true, (uintptr_t)at, sizeof(jmp_buf), NULL, stack_pointer, code);
 }
 
 /* setjmp keeps where its caller is, so no function can call it for another one: a stub goes on to it. */
@@ -21,7 +24,7 @@ SETS("__sigsetjmp")
     __attribute__((noreturn)) void __real_##NAME(void *at, int value); \
     __attribute__((noreturn)) void __wrap_##NAME(void *at, int value) { \
         if (doing.tracing) \
-            LIBRARY_READ(at, sizeof(jmp_buf), __wrap_##NAME); \
+            NOTE_READ(at, sizeof(jmp_buf), __wrap_##NAME); \
         hide_updates(0); \
         __real_##NAME(at, value); \
     }

@@ -2,13 +2,17 @@
    program pushes %rdi and %rsi, and then has there the address and the size, or the place in the source of what isn't
    seen. In the wide form vectors of more than 16 bytes stay too: by XSAVE, whose form has 2688 bytes for them and a
    header behind the first 512. */
+#include "noting.h"
+#include "spawns_cplusplus.h"
+#include "tell.h"
+
 enum { COPY_READ, COPY_WRITTEN, COPY_UNSEEN };
 
 __attribute__((used)) void __spbags_copy(uintptr_t at, size_t size, uintptr_t stack_pointer, uintptr_t code, int kind) {
     if (kind == COPY_READ && is_passed(at, size))
         return;
     if (kind != COPY_UNSEEN)
-        any_access(kind == COPY_WRITTEN, at, size, NULL, stack_pointer, code);
+        note_access(kind == COPY_WRITTEN, at, size, NULL, stack_pointer, code);
     else if (is_beside_others() && tell_is_first(at))
         tell_incomplete("%s: a struct that a call takes or gives here isn't seen", (const char *)at);
 }

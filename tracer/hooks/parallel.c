@@ -1,5 +1,11 @@
 /* What the headers of include/tbb and include/execution call: the children of oneTBB's algorithms and of C++'s own
    parallel ones, and the tasks of oneTBB's groups. */
+#include "frames.h"
+#include "guards.h"
+#include "memory.h"
+#include "noting.h"
+#include "source_line.h"
+#include "watch.h"
 
 /* How many children of these have begun; a child's frame has its number in place of what a function has called. */
 static uint32_t parts_begun;
@@ -136,7 +142,7 @@ static bool is_in_own_task(const struct task_group *group) {
     return group->holder[-1].kind == CHILD && group->holder[-1].callee == (__spbags_function)group->id;
 }
 
-static void leave_groups(uintptr_t code) {
+void leave_groups(uintptr_t code) {
     while (newest_group > 0 && task_groups[newest_group].holder >= top) {
         if (!is_in_own_task(&task_groups[newest_group]) && task_groups[newest_group].holder[-1].kind == CHILD)
             tell_at(
@@ -221,7 +227,7 @@ void __spbags_pause(int change) {
 
 /* An access of what stands for a container's state. */
 void __spbags_touch(const volatile void *at, unsigned long size, int writes) {
-    any_access(writes != 0, (uintptr_t)at, size, (__spbags_function)__spbags_touch, STACK_POINTER, CODE);
+    note_access(writes != 0, (uintptr_t)at, size, (__spbags_function)__spbags_touch, STACK_POINTER, CODE);
 }
 
 void __spbags_hold(const volatile void *guard, const char *name) { enter_guard((uintptr_t)guard, name); }

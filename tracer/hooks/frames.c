@@ -1,0 +1,7 @@
+#include "frames.h"
+
+struct frame *frames, *frames_end, *top, *silent_frame, *grouped, **owners;
+uint32_t procedures, most_procedures;
+unsigned initialising, version;
+uintptr_t short_way_end, short_way_bits;
+struct part *parts;

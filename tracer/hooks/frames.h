@@ -1,0 +1,146 @@
+/* The frames of the functions that are active and of the children that were spawned, and the procedures that they are in
+   the trace. procedures.h has what is done with them. */
+#ifndef SPBAGS_FRAMES_H
+#define SPBAGS_FRAMES_H
+
+#include "common.h"
+
+#include "../include/spbags_inside.h"
+#include "caller.h"
+#include "doing.h"
+#include "tell.h"
+
+/* No checker reads a trace that nests deeper, and that alone without being told. */
+enum { MOST_DEPTH = 1000000, DEFAULT_DEPTH = 65536 };
+
+/* A scope is a part of a function that waits for its own children. The last three are parts of OpenMP, whose procedures
+   are no matter of frames: a function that the hooks call, a task, and some iterations of a loop. */
+enum kind { FUNCTION, ROOT, CHILD, SCOPE, CALLED, TASK_PART, LOOP_PART };
+enum { NONE = 0 };
+
+/* An active function, or a child that was spawned: the child's frame stands below the frame of the function that it
+   calls, and is left by __spbags_return. */
+struct frame {
+    /* Right above its stack memory. A child has none of its own, and ends with its parent. */
+    uintptr_t end;
+    enum kind kind;
+    /* Whether a `call` stands open for this function. */
+    uint32_t called;
+    /* The procedure which holds the unsynced children of this function, or NONE. */
+    uint32_t children;
+    /* In a run that looks, what stands for it there, or NONE. */
+    uint32_t node;
+    /* How many records went before it. */
+    uintptr_t position;
+    /* Of a child: its parent's stack pointer at the spawn, and what it calls. */
+    uintptr_t stack_pointer;
+    __spbags_function callee;
+    /* Of a part: where the program is, which isn't in the part itself. Of a child that is an iteration of a loop: where
+       that is; of any other child, 0. */
+    uintptr_t code;
+};
+
+/* All, and the newest one. */
+extern struct frame *frames, *frames_end, *top;
+/* What the function of this frame and those around it update atomically isn't recorded, but what they call is. Or NULL. */
+extern struct frame *silent_frame;
+/* What holds the newest group of tasks, or NULL. */
+extern struct frame *grouped;
+/* How many local statics of C++ are being initialised, while nothing is recorded. */
+extern unsigned initialising;
+
+static inline bool is_of_function(const struct frame *frame) { return frame->kind == FUNCTION || frame->kind == SCOPE; }
+
+/* An access goes the short way where the stack pointer is below this: accesses are recorded by the usual unit and not
+   watched, no child waits for what it calls, and the newest frame hasn't ended. */
+extern uintptr_t short_way_end __asm__("__spbags_short_way_end");
+/* All bits, or none if no access goes the short way. */
+extern uintptr_t short_way_bits;
+
+static inline void follow_top(void) { short_way_end = top->kind != CHILD ? top->end & short_way_bits : 0; }
+/* After a change of what is recorded. */
+void find_short_way(void);
+
+static inline void push_frame_at(enum kind kind, uintptr_t end, uintptr_t position) {
+    if (__builtin_expect(++top == frames_end, 0))
+        fail("functions nest too deep");
+    top->end = end;
+    top->kind = kind;
+    top->called = false;
+    top->children = top->node = NONE;
+    top->position = position;
+    follow_top();
+}
+
+/* Behind all records so far. */
+void push_frame(enum kind kind, uintptr_t end);
+void begin_child(__spbags_function callee, uintptr_t stack_pointer, uintptr_t code);
+void leave_top(uintptr_t code);
+
+/* Leaves the frames that ended at or below this address. */
+static inline void leave_below(uintptr_t address, uintptr_t code) {
+    while (top->end <= address)
+        leave_top(code);
+}
+
+static inline void leave_children(uintptr_t code) {
+    while (top->kind == CHILD)
+        leave_top(code);
+}
+
+/* Leaves the frames that a longjmp left, and the children among them; a strand begins then. */
+__attribute__((noinline, cold)) void leave_left(uintptr_t address, uintptr_t code);
+
+static inline void leave_jumped(uintptr_t address, uintptr_t code) {
+    if (__builtin_expect(top->end <= address, 0))
+        leave_left(address, code);
+}
+
+/* A spawn and a sync are in a function itself: a child that is still open above it was left by a longjmp. */
+static inline void back_to_function(uintptr_t stack_pointer, uintptr_t code) {
+    leave_jumped(stack_pointer, code);
+    leave_children(code);
+}
+
+/* Memory has no variable any more: that of the stack below this address, or so much here. */
+void forget_below(uintptr_t address);
+void forget_memory(uintptr_t address, size_t size);
+
+/* The frames whose groups of tasks end with the newest frame. */
+__attribute__((cold)) void leave_groups(uintptr_t code);
+/* In a run that looks this function waits for its children, and maybe ends with that. */
+void look_at_wait(const struct frame *frame, uintptr_t code, bool ends);
+
+/* ---- Procedures ---- */
+
+/* Those that stand open in the trace, from 1, the root's. Each has the frame whose unsynced children it holds, or none:
+   that of the root, which spawns nothing. */
+extern struct frame **owners;
+extern uint32_t procedures, most_procedures;
+/* The version of the trace's text. */
+extern unsigned version;
+
+void open_procedure(enum spbags_kind kind, uintptr_t code);
+void close_procedure(uintptr_t code);
+
+/* ---- Parts ---- */
+
+/* What the function of a part of OpenMP has: the address of its data; whether it is a region, or of a child, what it is
+   one of, such as `loop`; and the counter's values in its first and its last iteration. By the number of the part's
+   frame. */
+struct part {
+    uintptr_t data;
+    const char *of;
+    uint64_t first, last;
+    /* Of a region and its members one has a row in a stack. */
+    bool is_hidden;
+};
+extern struct part *parts;
+
+/* Of the part that the newest frame is. */
+static inline void note_part(struct part part) {
+    if (__builtin_expect(doing.looking, 0))
+        parts[top - frames] = part;
+}
+
+#endif
