@@ -1,18 +1,3 @@
-static inline bool are_repeats(bool writes, const uint32_t *mark, size_t units) {
-    const uint32_t least = new_mark(writes);
-#pragma GCC unroll 4
-    for (size_t unit = 0; unit < units; unit++)
-        if (mark[unit] < least)
-            return false;
-    return true;
-}
-
-/* Whether these are some whole units of one region, and all of them repeats. */
-static inline bool is_old(bool writes, uintptr_t at, size_t size) {
-    return ((at | size) & unit_mask) == 0 && size <= region_mask - (at & region_mask) && regions[region_of(at)] != 0 &&
-           are_repeats(writes, mark_at(at, unit_shift), size >> unit_shift);
-}
-
 /* Between a spawn and the entry of what it calls, and between its exit and the return, compilers copy arguments and the
    result through memory of the parent's frame, which no program sees. A library function that is the child itself says
    so by its name. */
@@ -30,7 +15,7 @@ __attribute__((noinline)) static void other_access(bool writes, uintptr_t at, si
         left_out_update = true;
         return;
     }
-    if (!is_on_the_way(self) && (watching || !is_old(writes, at, size)))
+    if (!is_on_the_way(self))
         touch(writes, at, size, code);
 }
 
@@ -41,39 +26,55 @@ static inline void any_access(bool writes, uintptr_t at, size_t size, __spbags_f
     other_access(writes, at, size, self, stack_pointer, code);
 }
 
-/* Of the short way: some of these units aren't repeats, or their region has no marks. */
-__attribute__((noinline)) static void note_several(bool writes, uintptr_t at, size_t size, uintptr_t code) {
-    uint32_t *mark = mark_of(at, USUAL_SHIFT);
+/* Of the short way: these units aren't all repeats. */
+__attribute__((noinline)) static void note_stack_units(bool writes, uintptr_t at, size_t size, uintptr_t code) {
+    uint32_t *mark = stack_mark(at);
     for (uintptr_t unit = at; unit < at + size; unit += 1 << USUAL_SHIFT, mark++)
         if (!is_repeat(writes, *mark))
-            note_unit(writes, unit, mark, USUAL_SHIFT, code);
+            note_stack_unit(writes, unit, mark, USUAL_SHIFT, code);
 }
 
 __attribute__((noinline)) static void note_one(bool writes, uintptr_t at, uint32_t *mark, uintptr_t code) {
-    note_unit(writes, at, mark, USUAL_SHIFT, code);
+    note_stack_unit(writes, at, mark, USUAL_SHIFT, code);
 }
 
-/* Of the short way: the only unit isn't a repeat. */
-__attribute__((noinline)) static void note_usual(bool writes, uintptr_t at, uint32_t *mark, uintptr_t code) {
-    if (!notes_quickly || *mark < FIRST_READ || at - stack_first < stack_size) {
+/* A region of the stack has other memory too. */
+static inline void note_usual_marks(bool writes, uintptr_t at, size_t size, uint32_t *mark, uintptr_t code) {
+    if (!is_of_stack(at))
+        touch_block(writes, at, at + size, code);
+    else if (size >> USUAL_SHIFT == 1)
         note_one(writes, at, mark, code);
-        return;
-    }
-    *mark = new_mark(writes);
-    step_access(writes, 2 * (at >> USUAL_SHIFT));
+    else
+        note_stack_units(writes, at, size, code);
 }
 
-/* Some units of the usual size in one region. */
+static inline bool are_repeats(bool writes, const uint32_t *mark, size_t units) {
+    const uint32_t least_mark = new_mark(writes);
+#pragma GCC unroll 4
+    for (size_t unit = 0; unit < units; unit++)
+        if (mark[unit] < least_mark)
+            return false;
+    return true;
+}
+
+static inline bool are_done(bool writes, const uint8_t *done, size_t units) {
+    const uint8_t bits = writes ? WROTE_IT : READ_IT | WROTE_IT;
+#pragma GCC unroll 4
+    for (size_t unit = 0; unit < units; unit++)
+        if ((done[unit] & bits) == 0)
+            return false;
+    return true;
+}
+
+/* Some units of the usual size in one block, or of the stack. */
 static inline void usual_units(bool writes, uintptr_t at, size_t size, uintptr_t code) {
-    uintptr_t behind = regions[region_of(at)];
-    uint32_t *mark = (uint32_t *)(at + behind);
-    if (__builtin_expect(behind == 0, 0))
-        note_several(writes, at, size, code);
-    else if (!__builtin_expect(are_repeats(writes, mark, size >> USUAL_SHIFT), 1)) {
-        if (size >> USUAL_SHIFT == 1)
-            note_usual(writes, at, mark, code);
-        else
-            note_several(writes, at, size, code);
+    intptr_t row = regions[region_of(at)];
+    if (row < 0) {
+        uint32_t *mark = (uint32_t *)((intptr_t)at + row);
+        if (__builtin_expect(!are_repeats(writes, mark, size >> USUAL_SHIFT), 0))
+            note_usual_marks(writes, at, size, mark, code);
+    } else if (row == 0 || !are_done(writes, (uint8_t *)row + (at >> USUAL_SHIFT), size >> USUAL_SHIFT)) {
+        touch_block(writes, at, at + size, code);
     }
 }
 
@@ -134,9 +135,51 @@ ACCESSES(4)
 ACCESSES(8)
 ACCESSES(16)
 
-/* What the text in inline_checks.s calls for the only unit of such an access: it has this mark, and is no repeat. */
-void __spbags_first_read(void *at, uint32_t *mark) { note_usual(false, (uintptr_t)at, mark, CODE); }
-void __spbags_first_write(void *at, uint32_t *mark) { note_usual(true, (uintptr_t)at, mark, CODE); }
+/* In one step, as a handler of a signal sees it. */
+static inline void set_bit(uint8_t *done, uint8_t bit) {
+    __asm__ volatile("orb %1, %0" : "+m"(*done) : "qi"(bit) : "cc");
+}
+
+/* The first of some units that aren't noted quickly. */
+static inline void first_units(bool writes, uintptr_t at, size_t size, uintptr_t code) {
+    struct touched in = block_at(at);
+    if (__builtin_expect(may_begin_quick(in.block), 1))
+        begin_quick(writes, in, unit_in_block(at), size >> USUAL_SHIFT);
+    else
+        touch_block(writes, at, at + size, code);
+}
+
+/* What the text in inline_checks.s calls for such an access that isn't noted quickly, with the byte of its first unit; and
+   of the stack, where it is no repeat, with the mark. There the byte of a single unit says already that this is done. */
+__attribute__((noinline)) static void note_first(bool writes, uintptr_t at, uint8_t *done, uintptr_t code) {
+    *done &= (uint8_t) ~(writes ? WROTE_IT : READ_IT);
+    first_units(writes, at, 1 << USUAL_SHIFT, code);
+}
+
+/* The same of two. */
+static inline void note_two(bool writes, uintptr_t at, uint8_t *done, uintptr_t code) {
+    const uint8_t bit = writes ? WROTE_IT : READ_IT, bits = writes ? WROTE_IT : READ_IT | WROTE_IT;
+    const bool first = (done[0] & bits) == 0, second = (done[1] & bits) == 0;
+    if (first)
+        set_bit(&done[0], bit);
+    if (second)
+        set_bit(&done[1], bit);
+    if (__builtin_expect((done[0] & done[1] & QUICK) != 0, 1))
+        return;
+    if (second)
+        done[1] &= (uint8_t)~bit;
+    if (first)
+        done[0] &= (uint8_t)~bit;
+    first_units(writes, at, 2 << USUAL_SHIFT, code);
+}
+
+#define FIRST(KIND, WRITES) \
+    void __spbags_first_##KIND##4(uintptr_t at, uint8_t * done) { note_first(WRITES, at, done, CODE); } \
+    void __spbags_first_##KIND##8(uintptr_t at, uint8_t * done) { note_two(WRITES, at, done, CODE); } \
+    void __spbags_stack_##KIND##4(uintptr_t at, uint32_t * mark) { note_usual_marks(WRITES, at, 4, mark, CODE); } \
+    void __spbags_stack_##KIND##8(uintptr_t at, uint32_t * mark) { note_usual_marks(WRITES, at, 8, mark, CODE); }
+FIRST(read, false)
+FIRST(write, true)
 
 void __tsan_read_range(void *at, size_t size) { READ(at, size); }
 void __tsan_write_range(void *at, size_t size) { WRITE(at, size); }

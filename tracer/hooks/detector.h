@@ -108,6 +108,17 @@ static inline void step(unsigned kind, uint64_t location) {
         end_steps();
 }
 
+/* The same of a record with words behind it. Nothing before it can be left out any more. */
+static void step_words(uint64_t record, const uint64_t *words, size_t count) {
+    pass_steps();
+    if ((size_t)(filling->records + BUNDLE_RECORDS - next_record) <= 1 + count)
+        next_bundle();
+    *next_record++ = record;
+    for (size_t at = 0; at < count; at++)
+        *next_record++ = words[at];
+    pass_steps();
+}
+
 /* How many records went before, but for those that are left out. */
 static inline uintptr_t steps_so_far(void) { return (uintptr_t)next_record - records_origin; }
 
@@ -150,48 +161,11 @@ __attribute__((noinline, cold, noreturn)) static void refuse_step(unsigned statu
 }
 
 static void take_records(const uint64_t *first, const uint64_t *end) {
+    if (first == end)
+        return;
     uint8_t status = spbags_steps(session, first, (size_t)(end - first));
     if (status != SPBAGS_TAKEN)
         refuse_step(status);
-}
-
-/* What the strand has touched that the detector hasn't taken. */
-static struct lives taken_lives;
-static struct strand gathered = {.lives = &taken_lives};
-
-/* Of each span's life what the detector has taken: a bit for each KB. */
-enum { TAKEN_BITS = 10, TAKEN_PARTS = 64 };
-static uint64_t *taken_parts;
-
-static void take_touched(struct touched *touched) {
-    if ((touched->reads | touched->writes) == 0)
-        return;
-    uint8_t status = spbags_block(session, first_location(&gathered, touched->block), touched->reads, touched->writes);
-    if (status != SPBAGS_TAKEN)
-        refuse_step(status);
-    touched->reads = touched->writes = 0;
-    uintptr_t address = address_of_block(touched->block);
-    if (span_at(address) < SPANS)
-        taken_parts[span_at(address)] |= (uint64_t)1 << (address >> TAKEN_BITS) % TAKEN_PARTS;
-}
-
-static void take_strand(void) {
-    size_t used = next_part(&gathered);
-    for (struct touched *touched = gathered.list; touched < gathered.list + used; touched++)
-        take_touched(touched);
-}
-
-/* Takes the bundle's records up to this end, and what is gathered. Others go to the bundle's beginning then. */
-static uint64_t *take_all(struct bundle *bundle, const uint64_t *end) {
-    take_records(bundle->records, end);
-    take_strand();
-    return bundle->records;
-}
-
-/* While nothing is gathered, such records stay where they are in the bundle. */
-static inline bool stays(uint64_t record) {
-    uint64_t kind = record & 7;
-    return kind < SPBAGS_READ || (kind <= SPBAGS_WRITE && !is_gathered(record >> 3));
 }
 
 /* The bundle's records of numbers that have ended. They come last, so that the others are taken together. */
@@ -230,92 +204,35 @@ static void take_endings(void) {
     endings_count = 0;
 }
 
-/* All blocks of locations from that address on, by its name. */
-static void forget_blocks(uintptr_t name, size_t blocks) {
-    for (size_t block = 0; block < blocks; block++)
-        forget(2 * ((name >> unit_shift) + block * BLOCK_UNITS), UINT64_MAX);
+/* A block's accesses; the next record. */
+static const uint64_t *take_block(const uint64_t *record) {
+    uint8_t status = spbags_block(session, *record >> 3, record[1], record[2]);
+    if (status != SPBAGS_TAKEN)
+        refuse_step(status);
+    return record + 3;
 }
 
-static void forget_span(size_t span) {
-    uintptr_t name = name_in_life(&taken_lives, span_first(span));
-    for (; taken_parts[span] != 0; taken_parts[span] &= taken_parts[span] - 1) {
-        uintptr_t part = (uintptr_t)__builtin_ctzll(taken_parts[span]) << TAKEN_BITS;
-        forget_blocks(name + part, ((size_t)1 << TAKEN_BITS >> unit_shift) / BLOCK_UNITS);
-    }
-}
-
-/* What is gathered of the span's life goes out, or all if locations of the dead may have races. No location of that
-   life has an access any more. */
-static uint64_t *end_life(struct bundle *bundle, uint64_t *records_end, struct life_end end) {
-    leave_out_dead(&gathered, end);
-    if (end.is_dead_used)
-        records_end = take_all(bundle, records_end);
-    for (uint64_t block = first_block(end.span); gathered.used > 0 && block < first_block(end.span + 1); block++) {
-        struct touched *touched = left_of(&gathered, block);
-        if (!touched)
-            continue;
-        take_records(bundle->records, records_end);
-        records_end = bundle->records;
-        take_touched(touched);
-    }
-    forget_span(end.span);
-    forget_blocks(name_of_dead(&taken_lives, end.span), end.dead);
-    begin_life(&taken_lives, end.span);
-    return records_end;
-}
-
-static struct life_end life_end_of(uint64_t record) {
-    uint64_t what = record >> 4;
-    return (struct life_end){
-        .span = what >> (DEAD_BITS + 1), .dead = (what >> 1) % (1u << DEAD_BITS), .is_dead_used = what % 2 == 1};
-}
-
-/* An access of an even location, where what was gathered before may have to go out: where others go then. */
-static inline uint64_t *gather(struct bundle *bundle, uint64_t *end, bool writes, uint64_t location) {
-    struct touched *touched = touched_with(&gathered, location);
-    if (__builtin_expect(!touched, 0)) {
-        end = take_all(bundle, end);
-        touched = touched_with(&gathered, location);
-    }
-    *(writes ? &touched->writes : &touched->reads) |= bit_in_block(location);
-    return end;
-}
-
-/* A record of what has ended but the strand; the same. */
-static uint64_t *take_ending(struct bundle *bundle, uint64_t *end, uint64_t record) {
-    if ((record & 7) == strand_ends)
-        return end_life(bundle, end, life_end_of(record));
-    if (is_of_heap(record))
-        leave_out_block(&gathered, record);
-    else
-        endings[endings_count++] = record;
-    return end;
+/* Blocks that have ended; the next record. */
+static const uint64_t *take_ended(const uint64_t *record) {
+    for (uint64_t bits = record[1]; bits != 0; bits &= bits - 1)
+        forget((*record >> 3) + 2 * BLOCK_UNITS * (uint64_t)__builtin_ctzll(bits), UINT64_MAX);
+    return record + 2;
 }
 
 static void take_bundle(struct bundle *bundle) {
     uint64_t *end = bundle->records;
-    const uint64_t *last = end + bundle->used;
-    while (gathered.used == 0 && end < last && stays(*end))
-        end++;
-    for (const uint64_t *at = end; at < last; at++) {
-        uint64_t kind = *at & 7, location = *at >> 3;
-        bool is_access = kind == SPBAGS_READ || kind == SPBAGS_WRITE;
-        if (is_access && is_gathered(location)) {
-            end = gather(bundle, end, kind == SPBAGS_WRITE, location);
-            continue;
+    const uint64_t *at = end, *last = end + bundle->used;
+    while (at < last) {
+        uint64_t kind = *at & 7;
+        if (kind <= SPBAGS_WRITE) {
+            *end++ = *at++;
+        } else if (kind == numbers_end && (*at >> 3) % 2 == 1) {
+            endings[endings_count++] = *at++;
+        } else {
+            take_records(bundle->records, end);
+            end = bundle->records;
+            at = kind == block_follows ? take_block(at) : take_ended(at);
         }
-        if (kind == numbers_end || (kind == strand_ends && is_of_heap(*at))) {
-            end = take_ending(bundle, end, *at);
-            continue;
-        }
-        if (!is_access && gathered.used > 0)
-            end = take_all(bundle, end);
-        if (kind != strand_ends)
-            *end++ = *at;
-        if (!is_access)
-            next_part(&gathered);
-        else if (ends_part(&gathered))
-            end = take_all(bundle, end);
     }
     take_records(bundle->records, end);
     take_endings();
@@ -355,14 +272,6 @@ static void *detect(void *nothing) {
     return nothing;
 }
 
-/* Room for what the detector's thread knows of the heap. */
-static void make_taken(void) {
-    if (!detects())
-        return;
-    spans_need(&taken_lives);
-    taken_parts = reserve(SPANS * sizeof *taken_parts);
-}
-
 /* Hands over what is left, and waits until the report is made. */
 static void end_detector(bool has_more_to_say) {
     report_is_made = report_is_asked || has_more_to_say;
@@ -380,7 +289,7 @@ static inline void begin_steps(void) {}
 static inline uintptr_t steps_so_far(void) { return 0; }
 static void leave_out_steps(uintptr_t before) { (void)before; }
 static inline void step(unsigned kind, uint64_t location) { (void)kind, (void)location; }
-static void make_taken(void) {}
+static void step_words(uint64_t record, const uint64_t *words, size_t count) { (void)record, (void)words, (void)count; }
 static void end_detector(bool has_more_to_say) { (void)has_more_to_say; }
 #endif
 

@@ -9,7 +9,8 @@ struct divided {
     /* The unit's location, or 0. */
     uint64_t location;
     /* Of the unit, as if it weren't divided, and of its bytes. */
-    uint32_t mark, marks[MOST_BYTES];
+    uint64_t mark;
+    uint32_t marks[MOST_BYTES];
     /* Of each byte: what stands for the unit's location, where another variable has the byte now; or 0. */
     uint64_t fresh[MOST_BYTES];
 };
@@ -34,27 +35,30 @@ static struct divided *slot_of_unit(uint64_t location) {
 
 static void put_byte(struct divided *unit, size_t byte, bool writes, uintptr_t address, uintptr_t code) {
     uint64_t around = unit->fresh[byte] != 0 ? unit->fresh[byte] : unit->location;
-    begin_access(writes, first_byte + MOST_BYTES * around + byte, address, code, site_word(true, code));
+    begin_access(writes, NULL, first_byte + MOST_BYTES * around + byte, address, code, site_word(true, code));
 }
 
-/* The run's course is that of the units. */
+/* The run's course is that of the units. Those of blocks have no repeats in one part of a strand. */
 static void follow_unit(struct divided *unit, bool writes, uintptr_t address, uintptr_t code) {
-    if (is_repeat(writes, unit->mark))
+    const uint64_t mark = is_gathered(unit->location) ? 2 * part_now() : has_read;
+    if (unit->mark >= mark + writes)
         return;
-    unit->mark = new_mark(writes);
+    unit->mark = mark + writes;
     if (doing.keeping_places || doing.looking)
         follow_access(writes, unit->location, address, site_of_access(address, code));
 }
 
-__attribute__((noinline)) static bool divide_access(bool writes, uint64_t location, uintptr_t address, uintptr_t code) {
-    struct divided *unit = slot_of_unit(is_gathered(location) ? named_location(&spans_lives, location) : location);
+__attribute__((noinline)) static bool divide_access(bool writes, const struct touched *in, uint64_t location,
+                                                    uintptr_t address, uintptr_t code) {
+    struct divided *unit = slot_of_unit(location);
     if (unit->location == 0)
         return false;
-    uint32_t *mark = mark_of(address, unit_shift);
-    if (*mark == DEAD)
-        unit->mark = UNTOUCHED;
-    else
-        *mark = TOUCHED;
+    if (in) {
+        list_block(*in);
+        in->block->is_divided = true;
+    } else {
+        *stack_mark(address) = TOUCHED;
+    }
     follow_unit(unit, writes, address, code);
     unsigned left_out = bytes_left_out(address);
     for (size_t byte = 0; byte <= unit_mask; byte++)
@@ -79,7 +83,7 @@ __attribute__((noinline, cold)) static void clear_bytes(uintptr_t address, uintp
 
 static void forget_divided(void) {
     for (size_t slot = 0; slot < divided_slots; slot++) {
-        divided_units[slot].mark = UNTOUCHED;
+        divided_units[slot].mark = 0;
         memset(divided_units[slot].marks, UNTOUCHED, sizeof divided_units[slot].marks);
     }
 }

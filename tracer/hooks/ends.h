@@ -38,7 +38,6 @@ static void end_trace(void) {
     sigprocmask(SIG_BLOCK, &all, &before);
     stop_tracing();
     tell_course();
-    pass_window();
     put_strand();
     outcome.most = next_place = last_record = UINT64_MAX;
     while (procedures > 0)
@@ -86,7 +85,7 @@ static void end_racy(void) {
 
 static void stop_at_limit(void) {
     uint64_t most = outcome.most;
-    next_part(&pending);
+    strand.used = 0;
     recent.used = recent.gone = 0;
     end_trace();
     fail_by(tell_numbered("end limit", most).text,

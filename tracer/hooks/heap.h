@@ -22,9 +22,8 @@ struct span {
     /* How many are in use, and whether more may come. */
     uint32_t blocks;
     bool is_open;
-    /* Whether a block died in the strand of its birth, whether such a one was used then, and whether another block has
-       ended. */
-    bool has_dead, is_dead_used, has_ended;
+    /* Whether a block died in the strand of its birth, and whether such a one was used then. */
+    bool has_dead, is_dead_used;
     /* The next of the free ones. */
     uint32_t next;
 };
@@ -109,13 +108,6 @@ static void end_span(size_t span) {
     spans[span] = (struct span){0};
 }
 
-/* The marks of the dead may stay, since a block that lives knows that it does. */
-static void clear_span(size_t span) {
-    uintptr_t first = span_first(span);
-    if (regions[region_of(first)] != 0)
-        memset(mark_at(first, unit_shift), 0, (span_size >> unit_shift) * sizeof(uint32_t));
-}
-
 /* One that comes again, or SPANS. */
 static size_t old_span(void) {
     if (free_count <= FREE_SPANS || !is_of_run() || spans_lives.newest == UINT32_MAX)
@@ -123,8 +115,6 @@ static size_t old_span(void) {
     size_t span = free_first;
     free_first = spans[span].next;
     free_count--;
-    if (spans[span].has_ended)
-        clear_span(span);
     end_span(span);
     return span;
 }
@@ -266,36 +256,33 @@ static uint64_t *born_at(size_t span, uintptr_t address) {
     return &((struct head *)(span_first(span) + block_in(span, address) * spans[span].step))->born;
 }
 
-static uint64_t location_of_dead(uintptr_t address) {
-    size_t span = span_of_block(address);
-    if (span >= SPANS)
-        return 0;
-    return 2 * ((name_of_dead(&spans_lives, span) >> unit_shift) + block_in(span, address));
+/* What stands for the block with this address, if it dies in the strand of its birth; or 0. */
+static uint64_t location_if_dead(uintptr_t address) {
+    size_t span = span_of_block(address), number = span < SPANS ? block_in(span, address) : 0;
+    return span < SPANS ? dead_block(span, number).location + 2 * (number % BLOCK_UNITS) : 0;
 }
 
-/* The mark may be of a former life. */
+/* An access of that location. */
+static void note_dead(bool writes, uintptr_t address, uintptr_t code) {
+    size_t span = span_of_block(address), number = block_in(span, address);
+    struct touched in = dead_block(span, number);
+    if (new_units(writes, in.done, units_from(number % BLOCK_UNITS, 1)) != 0)
+        block_record(writes, in, number % BLOCK_UNITS, address, code);
+}
+
+/* That it is dead may be said of a former life. */
 static bool use_dead(bool writes, uintptr_t address, uintptr_t code) {
     size_t span = span_of_block(address);
     uint64_t born = *born_at(span, address);
     if (born != DIED && born != DYING)
         return false;
     spans[span].is_dead_used = true;
-    access_record(writes, location_of_dead(address), address, code);
+    note_dead(writes, address, code);
     return true;
 }
 
 /* The bytes of a block, up to the end of a unit. */
 static size_t whole_size(const void *block) { return (head_of(block)->size + 7) & ~(size_t)7; }
-
-static void mark_dead(uintptr_t address, size_t size) {
-    for (uintptr_t end = address + size, next; address < end; address = next) {
-        next = (address | (span_size - 1)) + 1;
-        next = next < end ? next : end;
-        uint32_t *mark = mark_of(address, unit_shift), *last = mark + ((next - address) >> unit_shift);
-        while (mark < last)
-            *mark++ = DEAD;
-    }
-}
 
 /* Whether the block was born in the strand that runs. */
 static bool is_of_strand(uintptr_t block) {
@@ -307,9 +294,8 @@ static bool is_of_strand(uintptr_t block) {
 static void die(uintptr_t block, size_t size) {
     *born_at(span_of_block(block), block) = DYING;
     spans[span_of_block(block)].has_dead = true;
-    if (size > 0)
-        leave_out_record(block, size);
-    mark_dead(block, size);
+    leave_out(block, block + size);
+    set_dead(block, block + size);
 }
 
 /* Whoever may still use a block that the program gives back has a race, as if all of it were written. */
@@ -324,19 +310,26 @@ static void end_block(void *block, __spbags_function self, uintptr_t stack_point
         touch(true, address, whole_size(block), code);
     } else if (whole_size(block) > 0) {
         die(address, whole_size(block));
-        access_record(true, location_of_dead(address), address, code);
+        note_dead(true, address, code);
     }
 }
 
-/* The memory of a block that has several spans goes back to the system, and so do its marks. */
+static void give_back_pages(void *first, void *end) {
+    const uintptr_t page = 4096;
+    uintptr_t from = ((uintptr_t)first + page - 1) & ~(page - 1), to = (uintptr_t)end & ~(page - 1);
+    if (from < to)
+        madvise((void *)from, to - from, MADV_DONTNEED);
+}
+
+/* The memory of a block that has several spans goes back to the system, and so does what is known of it. */
 static void give_back_wide(struct wide_block block) {
     for (size_t span = block.first; span < block.first + block.spans; span++) {
-        uintptr_t first = span_first(span);
         end_span(span);
-        if (regions[region_of(first)] != 0)
-            madvise(mark_at(first, unit_shift), (span_size >> unit_shift) * sizeof(uint32_t), MADV_DONTNEED);
+        struct touched first = block_at(span_first(span));
+        give_back_pages(first.done, first.done + (span_size >> unit_shift));
+        give_back_pages(first.block, first.block + span_size / block_size());
     }
-    madvise((void *)span_first(block.first), block.spans * span_size, MADV_DONTNEED);
+    give_back_pages((void *)span_first(block.first), (void *)span_first(block.first + block.spans));
 }
 
 static void give_back_oldest(void) {
@@ -373,9 +366,7 @@ static void give_back(void *block) {
     size_t span = span_of_block(address);
     if (!is_of_run() || span >= SPANS || *born_at(span, address) == FREED || *born_at(span, address) == DIED)
         return;
-    bool has_died = *born_at(span, address) == DYING;
-    *born_at(span, address) = has_died ? DIED : FREED;
-    spans[span].has_ended |= !has_died;
+    *born_at(span, address) = *born_at(span, address) == DYING ? DIED : FREED;
     free_block(span, address + head_of(block)->size);
 }
 

@@ -4,10 +4,10 @@
    in the serial order: a spawned child runs at once, as an ordinary call.
 
    What isn't on the way of each access is a file with a .c of its own, or will be. Each part here stands on those before
-   it: the order in a strand, and its newest records; the detector and its heap, where SPBAGS_INSIDE is defined; what a
-   strand has done; records; locations, and bytes; procedures; a look at the races' places; reducers; the hooks of
-   accesses; the heap; the hooks of C++ and, where SPBAGS_OPENMP is defined, of OpenMP; the ends of the run, and its
-   beginning; and what the other files ask for. */
+   it: what a strand has done in blocks, their order, and its newest records; the detector and its heap, where
+   SPBAGS_INSIDE is defined; what a strand has done on the stack; records; locations, and bytes; procedures; a look at
+   the races' places; reducers; the hooks of accesses; the heap; the hooks of C++ and, where SPBAGS_OPENMP is defined,
+   of OpenMP; the ends of the run, and its beginning; and what the other files ask for. */
 #include "common.h"
 
 #include "../include/spbags_inside.h"
@@ -44,6 +44,9 @@ struct doing doing;
 static unsigned unit_shift;
 static uintptr_t unit_mask;
 
+#include "spans.h"
+
+#include "blocks.h"
 #include "strands.h"
 #include "window.h"
 #include "detector.h"
@@ -102,11 +105,23 @@ void forget_below(uintptr_t address) { clear_below(address); }
 
 void forget_memory(uintptr_t address, size_t size) { clear(address, size); }
 
+/* What the strand has accessed in blocks. */
+static uint64_t units_touched(void) {
+    uint64_t count = 0;
+    for (size_t at = 0; at < strand.used; at++) {
+        const uint8_t *done = strand.list[at].done;
+        count += (uint64_t)__builtin_popcountll(units_with(done, READ_IT));
+        count += (uint64_t)__builtin_popcountll(units_with(done, WROTE_IT));
+    }
+    return count;
+}
+
 bool has_new_record(void) {
-    static uint64_t seen;
-    uint64_t before = seen;
+    static uint64_t seen, touched;
+    const uint64_t seen_before = seen, touched_before = touched;
     seen = news;
-    return only_detects() ? has_new_step() : news != before;
+    touched = units_touched();
+    return touched != touched_before || (only_detects() ? has_new_step() : seen != seen_before);
 }
 
 bool is_beside_others(void) {

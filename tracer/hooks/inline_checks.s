@@ -1,36 +1,57 @@
 # The test for a repeat at an access, in place of the call of its hook: `spbags-cc` puts it there. The address is in
 # %rdi, and what a call may change is free. An access goes the short way, as in accesses.h, if the stack pointer is
-# below the end of that way, the address is a multiple of the size, and the region has marks. Then a repeat calls
-# nothing. FIRST is called for the only unit of what isn't one, HOOK for all else.
-.macro __spbags_inline_check HOOK, FIRST, SIZE, IS_REPEAT, IS_NONE
+# below the end of that way, and the address is a multiple of the size. A region of the stack has a row below 0, and marks
+# there: then a repeat calls nothing. Others have a byte for each unit: then a repeat calls nothing, nor does the first
+# access to a single unit whose byte says QUICK, which is the sign. It says there what is done before it knows that, so
+# that a handler of a signal between changes nothing; for all else FIRST takes that back, STACK is called where not all
+# marks are of repeats, and HOOK for the rest.
+.macro __spbags_inline_check HOOK, FIRST, STACK, SIZE, BIT, BITS, IS_REPEAT, IS_NONE
 	cmpq __spbags_short_way_end(%rip), %rsp
 	jae .Lspbags_hook\@
 	testb $\SIZE - 1, %dil
 	jne .Lspbags_hook\@
-	movq %rdi, %rsi
-	shrq $24, %rsi
-	movq __spbags_regions(,%rsi,8), %rsi
+	movq %rdi, %rax
+	shrq $24, %rax
+	movq __spbags_regions(,%rax,8), %rsi
+	movq %rdi, %rax
+	shrq $2, %rax
 	testq %rsi, %rsi
+	jle .Lspbags_stack\@
+	movzbl (%rsi,%rax), %ecx
+	testb $\BITS, %cl
+.if \SIZE == 4
+	jne .Lspbags_done\@
+	orb $\BIT, (%rsi,%rax)
+	js .Lspbags_done\@
+.else
+	je .Lspbags_first\@
+	testb $\BITS, 1(%rsi,%rax)
+	jne .Lspbags_done\@
+.endif
+.Lspbags_first\@:
+	addq %rax, %rsi
+	call \FIRST
+	jmp .Lspbags_done\@
+.Lspbags_stack\@:
 	je .Lspbags_hook\@
 	addq %rdi, %rsi
 	movl __spbags_has_read(%rip), %eax
 	cmpl %eax, (%rsi)
-.if \SIZE == 4
-	\IS_REPEAT .Lspbags_done\@
-	call \FIRST
-	jmp .Lspbags_done\@
-.else
-	\IS_NONE .Lspbags_hook\@
+.if \SIZE == 8
+	\IS_NONE .Lspbags_mark\@
 	cmpl %eax, 4(%rsi)
-	\IS_REPEAT .Lspbags_done\@
 .endif
+	\IS_REPEAT .Lspbags_done\@
+.Lspbags_mark\@:
+	call \STACK
+	jmp .Lspbags_done\@
 .Lspbags_hook\@:
 	call \HOOK
 .Lspbags_done\@:
 .endm
 .macro __spbags_read HOOK, SIZE
-	__spbags_inline_check \HOOK, __spbags_first_read, \SIZE, jae, jb
+	__spbags_inline_check \HOOK, __spbags_first_read\SIZE, __spbags_stack_read\SIZE, \SIZE, 1, 3, jae, jb
 .endm
 .macro __spbags_write HOOK, SIZE
-	__spbags_inline_check \HOOK, __spbags_first_write, \SIZE, ja, jbe
+	__spbags_inline_check \HOOK, __spbags_first_write\SIZE, __spbags_stack_write\SIZE, \SIZE, 2, 2, ja, jbe
 .endm

@@ -1,7 +1,7 @@
 /* Accesses are told in units. Stack memory comes again for other variables, so a unit of it gets a fresh number at its
    first touch, and loses it when its frame ends: an odd location. Other memory has an even one: twice the address in
    units, by which that of the heap is named as it goes out. */
-static uintptr_t stack_first, stack_size;
+
 /* By unit of the stack, from its first address on: a unit that is marked has its number. */
 static uint64_t *numbers;
 
@@ -23,11 +23,9 @@ static inline void lower(uintptr_t address) {
         lowest = address;
 }
 
-/* Of the unit that begins at this address, which has this mark. */
-static inline uint64_t location_of(uintptr_t address, uint32_t mark, unsigned shift) {
+/* Of the unit of the stack that begins at this address, and has this mark. */
+static inline uint64_t stack_location(uintptr_t address, uint32_t mark, unsigned shift) {
     uintptr_t at = address - stack_first;
-    if (at >= stack_size)
-        return 2 * (address >> shift);
     if (mark == UNTOUCHED) {
         if (__builtin_expect(is_window_full(), 0))
             end_window();
@@ -109,25 +107,54 @@ static void clear(uintptr_t address, size_t size) {
 }
 
 /* Whether there are views of reducers; their units are noted otherwise. Without them, if the run detects and that is all,
-   a unit that isn't of the stack and was accessed before is noted quickly. */
+   a unit is noted quickly. */
 static bool has_views, notes_quickly;
 
-static inline void follow_views(void) { notes_quickly = only_detects() && !has_views; }
+static void follow_views(void) {
+    notes_quickly = only_detects() && !has_views;
+    for (size_t at = 0; at < strand.used && !notes_quickly; at++)
+        if (strand.list[at].block)
+            leave_quick(strand.list[at].done);
+}
 
-static bool note_view(uintptr_t unit, uint32_t *mark, unsigned shift, uintptr_t code);
+/* Whether an access of this unit is an update of a view, which has a part of the unit or all of it; and whether it is a
+   repeat of a read. */
+enum update { NO_UPDATE, UPDATES_PART, UPDATES_UNIT };
+static enum update update_of_view(uintptr_t unit, unsigned shift, bool repeats);
 
-/* Whether a block is used that died in the strand of its birth; and then the record has gone out. */
+/* A unit of the stack that is accessed, by its first address and its mark: it is no repeat. An update of a view counts
+   as a read; where another variable has a part of the unit, the mark is that of a read too. */
+static inline void note_stack_unit(bool writes, uintptr_t address, uint32_t *mark, unsigned shift, uintptr_t code) {
+    bool marks_write = writes;
+    if (__builtin_expect(has_views, 0)) {
+        enum update update = update_of_view(address, shift, is_repeat(false, *mark));
+        if (update != NO_UPDATE && is_repeat(false, *mark))
+            return;
+        writes = writes && update == NO_UPDATE;
+        marks_write = update == NO_UPDATE ? writes : update == UPDATES_UNIT;
+    }
+    uint64_t location = stack_location(address, *mark, shift);
+    *mark = new_mark(marks_write);
+    access_record(writes, location, address, code);
+}
+
+/* Whether a block of the heap is used that died in the strand of its birth; and then the record has gone out. */
 static bool use_dead(bool writes, uintptr_t address, uintptr_t code);
 
-/* A unit that is accessed, by its first address and its mark: it is no repeat. */
-static inline void note_unit(bool writes, uintptr_t address, uint32_t *mark, unsigned shift, uintptr_t code) {
-    if (__builtin_expect(*mark == DEAD, 0) && use_dead(writes, address, code))
+/* The same of a unit of a block. */
+static void note_block_unit(bool writes, struct touched in, unsigned unit, uintptr_t address, uintptr_t code) {
+    const uint64_t bit = (uint64_t)1 << unit;
+    if ((in.block->dead & bit) != 0 && use_dead(writes, address, code))
         return;
-    if (__builtin_expect(has_views, 0) && note_view(address, mark, shift, code))
-        return;
-    uint64_t location = location_of(address, *mark, shift);
-    *mark = new_mark(writes);
-    access_record(writes, location, address, code);
+    in.block->dead &= ~bit;
+    if (has_views) {
+        bool repeats = new_units(false, in.done, bit) == 0;
+        enum update update = update_of_view(address, unit_shift, repeats);
+        if (update != NO_UPDATE && repeats)
+            return;
+        writes = writes && update == NO_UPDATE;
+    }
+    block_record(writes, in, unit, address, code);
 }
 
 #ifdef SPBAGS_OPENMP
@@ -141,11 +168,67 @@ static inline void watch_access(bool writes, uintptr_t address, size_t size, uin
 }
 #endif
 
+/* Nothing of the block has been accessed, and it is the program's alone; what is there isn't read. From now on the first
+   accesses to its units are noted quickly, and these are noted. */
+static inline void begin_quick(bool writes, struct touched in, unsigned first, size_t count) {
+    const __m128i quick = _mm_set1_epi8((char)QUICK);
+    begin_step();
+    list_block(in);
+    for (unsigned part = 0; part < BLOCK_UNITS; part += 16)
+        _mm_store_si128((void *)(in.done + part), quick);
+    for (size_t at = 0; at < count; at++)
+        in.done[first + at] = QUICK | (writes ? WROTE_IT : READ_IT);
+    end_step();
+}
+
+static inline bool may_begin_quick(const struct block *block) {
+    return notes_quickly && block->place == 0 && block->dead == 0 && !block->has_own;
+}
+
+/* The same of a block in which something may have been accessed. */
+static void note_quickly(struct touched in) {
+    const __m128i quick = _mm_set1_epi8((char)QUICK);
+    for (unsigned part = 0; part < BLOCK_UNITS; part += 16) {
+        __m128i *bytes = (void *)(in.done + part);
+        _mm_store_si128(bytes, _mm_or_si128(_mm_load_si128(bytes), quick));
+    }
+    clear_done(in.done, in.block->dead, QUICK);
+}
+
+/* Units of a block, of which the first one begins at this address. */
+__attribute__((noinline)) static void note_units(bool writes, uintptr_t address, struct part_of_block part,
+                                                 uintptr_t code) {
+    uint64_t units = new_units(writes, part.in.done, part.units);
+    if (units != 0 && notes_quickly && (units & part.in.block->dead) == 0) {
+        step_units(writes, part.in, units);
+        note_quickly(part.in);
+        return;
+    }
+    for (; units != 0; units &= units - 1) {
+        unsigned unit = (unsigned)__builtin_ctzll(units);
+        note_block_unit(writes, part.in, unit, (address & ~(block_size() - 1)) + ((uintptr_t)unit << unit_shift), code);
+    }
+}
+
+/* Those that this memory of the stack touches; what isn't of the stack any more. */
+static uintptr_t touch_stack(bool writes, uintptr_t unit, uintptr_t end, uintptr_t code) {
+    for (uint32_t *mark = stack_mark(unit); unit < end && is_of_stack(unit); unit += unit_mask + 1, mark++)
+        if (!is_repeat(writes, *mark))
+            note_stack_unit(writes, unit, mark, unit_shift, code);
+    return unit;
+}
+
+static uintptr_t touch_block(bool writes, uintptr_t unit, uintptr_t end, uintptr_t code) {
+    struct part_of_block part = part_from(unit, end);
+    note_units(writes, unit, part, code);
+    return part.end;
+}
+
 /* One record for each unit that the access touches, but for repeats. No memory of the program reaches further than its
    addresses do. */
 __attribute__((noinline)) static void touch(bool writes, uintptr_t address, size_t size, uintptr_t code) {
-    const uintptr_t end = (uintptr_t)1 << 47;
-    if (size == 0 || address >= end || size > end - address)
+    const uintptr_t most = (uintptr_t)1 << 47;
+    if (size == 0 || address >= most || size > most - address)
         return;
     if (((address | size) & unit_mask) != 0) {
         narrow_accesses++;
@@ -156,12 +239,7 @@ __attribute__((noinline)) static void touch(bool writes, uintptr_t address, size
     if (__builtin_expect(watching, 0))
         watch_access(writes, address, size, code);
     uintptr_t unit = address & ~unit_mask;
-    uint32_t *mark = mark_of(unit, unit_shift);
-    for (; unit < address + size; unit += unit_mask + 1, mark++) {
-        if ((unit & region_mask) == 0)
-            mark = mark_of(unit, unit_shift);
-        if (!is_repeat(writes, *mark))
-            note_unit(writes, unit, mark, unit_shift, code);
-    }
+    while (unit < address + size)
+        unit = (is_of_stack(unit) ? touch_stack : touch_block)(writes, unit, address + size, code);
     narrow.end = 0;
 }

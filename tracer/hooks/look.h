@@ -8,8 +8,8 @@
 /* An access of a race: its place and kind as the report says them, and what was noted there. */
 struct look {
     uint64_t place;
-    /* The strand of the last access that may be this one; of that strand it is the first. */
-    uint64_t strand;
+    /* The part of a strand that has the last access that may be this one; of that part it is the first. */
+    uint64_t part;
     uintptr_t code;
     uint32_t node, guards;
     bool writes, is_narrow;
@@ -43,6 +43,16 @@ static bool is_view(uintptr_t address);
 
 static struct race *races, *newest_pending;
 static size_t races_count;
+
+/* Most locations without a race have no bit here, and need no search. */
+enum { FILTER_BITS = 20 };
+static uint64_t race_filter[(1 << FILTER_BITS) / 64];
+
+static inline uint64_t filter_at(uint64_t location) { return location * 0x9e3779b97f4a7c15u >> (64 - FILTER_BITS); }
+
+static inline bool may_race(uint64_t location) {
+    return (race_filter[filter_at(location) / 64] >> filter_at(location) % 64 & 1) != 0;
+}
 
 /* The races' accesses by place, and how many of them were met as the report says. */
 struct stop {
@@ -183,7 +193,7 @@ static struct owner data_owner(uintptr_t address, const struct look *look) {
 
 /* ---- Blocks of the heap ---- */
 
-struct block {
+struct allocation {
     uintptr_t address;
     size_t size;
     uintptr_t code;
@@ -192,8 +202,8 @@ struct block {
     uint64_t site;
 };
 /* By their addresses. */
-static struct block *blocks;
-static size_t blocks_count;
+static struct allocation *allocations;
+static size_t allocations_count;
 
 /* The first of these races, which are in order, with no lesser location. */
 static size_t race_from(uint64_t location) {
@@ -230,34 +240,36 @@ static uint64_t site_of(uintptr_t code, uint32_t node) {
     return site | 1;
 }
 
-static uint64_t location_of_dead(uintptr_t address);
+static uint64_t location_if_dead(uintptr_t address);
 
 /* A block with a race is noted, and who allocates it. A function that longjmp left is no caller. */
 static void look_at_block(uintptr_t address, size_t size, uintptr_t stack_pointer, uintptr_t code) {
-    uint64_t dead = location_of_dead(address), first = location_in_life(&spans_lives, address);
+    uint64_t dead = location_if_dead(address), first = location_in_life(address);
     address = name_in_life(&spans_lives, address);
     if (size == 0 || !(has_race(first, 2 * ((address + size - 1) >> unit_shift)) || has_race(dead, dead)))
         return;
-    size_t frame = top_at(), at = blocks_count++;
+    size_t frame = top_at(), at = allocations_count++;
     while (frames[frame].end <= stack_pointer)
         frame--;
-    for (; at > 0 && blocks[at - 1].address > address; at--)
-        blocks[at] = blocks[at - 1];
-    struct block block = {.address = address, .size = size, .code = code_in(frame, code), .node = node_of(frame)};
-    block.site = site_of(block.code, block.node);
-    blocks[at] = block;
+    for (; at > 0 && allocations[at - 1].address > address; at--)
+        allocations[at] = allocations[at - 1];
+    struct allocation allocation = {
+        .address = address, .size = size, .code = code_in(frame, code), .node = node_of(frame)};
+    allocation.site = site_of(allocation.code, allocation.node);
+    allocations[at] = allocation;
 }
 
-static const struct block *block_of(uintptr_t address) {
-    size_t first = 0, end = blocks_count;
+static const struct allocation *allocation_of(uintptr_t address) {
+    size_t first = 0, end = allocations_count;
     while (first < end) {
         size_t middle = first + (end - first) / 2;
-        if (blocks[middle].address <= address)
+        if (allocations[middle].address <= address)
             first = middle + 1;
         else
             end = middle;
     }
-    return first > 0 && address - blocks[first - 1].address < blocks[first - 1].size ? &blocks[first - 1] : NULL;
+    return first > 0 && address - allocations[first - 1].address < allocations[first - 1].size ? &allocations[first - 1]
+                                                                                               : NULL;
 }
 
 /* ---- Pairs ---- */
@@ -315,8 +327,8 @@ static void wait_in_meeting(struct race *race) {
 /* Both accesses of a race have gone out. */
 static void add_race(struct race *race) {
     const struct guard *guard = common_guard(race->first.guards, race->second.guards);
-    const struct block *block = block_of(race->address);
-    uint64_t site = block ? block->site : 0;
+    const struct allocation *allocation = allocation_of(race->address);
+    uint64_t site = allocation ? allocation->site : 0;
     uint32_t *slot = slot_of(race, guard, site);
     if (*slot == 0 && last_pair + 1 == MOST_PAIRS) {
         left_out++;
@@ -361,15 +373,13 @@ static void take_look(struct race *race, struct look *look, uintptr_t address, u
 
 /* It may be one of the report, if that has its location and its kind at one of the places that what is pending gets. */
 static void note_pending(bool writes, uint64_t location, uintptr_t address, uintptr_t code) {
-    const uint64_t most_pending = 2 * BLOCK_UNITS * MOST_BLOCKS + MOST_ODD + WINDOW;
-    struct race *race = next_place - place_now <= most_pending ? &races[race_from(location)] : NULL;
+    struct race *race = may_race(location) ? &races[race_from(location)] : NULL;
     if (!race || race == races + races_count || race->location != location)
         return;
     struct look *look = race->first.place > place_now ? &race->first : &race->second;
-    if (look->writes != writes || look->place <= place_now || look->place - place_now > most_pending ||
-        look->strand == strand_now())
+    if (look->writes != writes || look->place <= place_now || look->part == part_now())
         return;
-    look->strand = strand_now();
+    look->part = part_now();
     take_look(race, look, address, code);
     if (look == &race->second) {
         race->next_pending = newest_pending;
@@ -521,7 +531,7 @@ static bool goes_on(const struct race *before, const struct race *race) {
 
 /* A pair with the stacks of one of its races. */
 static void put_pair(const struct pair *pair, const struct race *race) {
-    const struct block *block = block_of(race->address);
+    const struct allocation *allocation = allocation_of(race->address);
     uint32_t meets = meeting(race->first.node, race->second.node);
     put("pair %" PRIu64, pair->count);
     put(" %" PRIu64, unit_of(race->location));
@@ -539,10 +549,10 @@ static void put_pair(const struct pair *pair, const struct race *race) {
         put_text(pair->guard->name);
         put("\n");
     }
-    if (block) {
-        put("block %lx", block->address);
-        put(" %zu", block->size);
-        put_stack("", block->code, block->node);
+    if (allocation) {
+        put("block %lx", allocation->address);
+        put(" %zu", allocation->size);
+        put_stack("", allocation->code, allocation->node);
     }
 }
 
@@ -635,9 +645,11 @@ static void read_races(int file) {
         fail("SPBAGS_LOOK: these are no races");
     races = reserve((races_count + 1) * sizeof *races);
     stops = reserve(stops_count * sizeof *stops);
-    blocks = reserve((races_count + 1) * sizeof *blocks);
-    for (struct race *race = races; race < races + races_count; race++, at += OF_RACE)
+    allocations = reserve((races_count + 1) * sizeof *allocations);
+    for (struct race *race = races; race < races + races_count; race++, at += OF_RACE) {
         *race = (struct race){.location = at[0], .first = look_at(at[1]), .second = look_at(at[2])};
+        race_filter[filter_at(at[0]) / 64] |= (uint64_t)1 << filter_at(at[0]) % 64;
+    }
     for (struct stop *stop = stops; stop < stops + stops_count; stop++, at += OF_STOP)
         *stop = (struct stop){at[0], &races[at[1]]};
     next_place = stops[0].place;

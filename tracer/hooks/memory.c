@@ -3,7 +3,7 @@
 #include "tell.h"
 
 void *reserve_or_none(size_t size) {
-    static uintptr_t wish = (uintptr_t)1 << 44;
+    static uintptr_t wish = (uintptr_t)1 << 46;
     int flags = MAP_PRIVATE | MAP_ANONYMOUS | MAP_NORESERVE;
     void *memory = mmap((void *)wish, size, PROT_READ | PROT_WRITE, flags, -1, 0);
     if (memory == MAP_FAILED)

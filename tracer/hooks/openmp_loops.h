@@ -290,8 +290,8 @@ static uintptr_t after_ordered;
 
 static void watch_access(bool writes, uintptr_t address, size_t size, uintptr_t code) {
     (void)writes, (void)size;
-    bool is_own = address >= running_first && address < thread_now()->stack_end;
-    if (!is_own && after_ordered == 0 && *mark_of(address & ~unit_mask, unit_shift) != own_mark)
+    bool is_on_own_stack = address >= running_first && address < thread_now()->stack_end;
+    if (!is_on_own_stack && after_ordered == 0 && !is_own(address & ~unit_mask))
         after_ordered = code;
 }
 

@@ -47,6 +47,8 @@ OTHERWISE void other_structure(enum spbags_kind kind, uintptr_t code) {
 ALWAYS_INLINE void structure(enum spbags_kind kind, uintptr_t code) {
     if (__builtin_expect(only_detects(), 1)) {
         begin_step();
+        if (strand.used > 0)
+            put_strand();
         step(kind, 0);
         count_procedures(kind);
         begin_steps();

@@ -29,7 +29,7 @@ static inline unsigned bytes_left_out(uintptr_t unit) {
 
 /* Some units may be divided into their bytes: whether this location's is, and then its record has gone out. */
 static bool divides;
-static bool divide_access(bool writes, uint64_t location, uintptr_t address, uintptr_t code);
+static bool divide_access(bool writes, const struct touched *in, uint64_t location, uintptr_t address, uintptr_t code);
 
 /* A line of the structure has at most eight bytes. So many are copied, since a copy of a fixed size is quick, and the
    next line goes over those that aren't of this one. */
@@ -90,11 +90,7 @@ static inline void step_access(bool writes, uint64_t location) {
     end_step();
 }
 
-/* ---- What goes out when the strand has ended, in a run that does more than detect ---- */
-
-/* What the strand has touched that hasn't gone out. */
-static block_sites pending_sites[MOST_BLOCKS];
-static struct strand pending = {.lives = &spans_lives, .sites = pending_sites};
+/* ---- What goes out when the strand has ended ---- */
 
 static inline void begin_record(void) {
     if (__builtin_expect(changes > 0, 0) && doing.tracing)
@@ -111,58 +107,50 @@ static inline void put_access(bool writes, uint64_t location, uint16_t site) {
         write_access(writes, location);
 }
 
-static void put_accesses(struct touched *touched, bool writes) {
-    uint64_t *units = writes ? &touched->writes : &touched->reads, first = first_location(&pending, touched->block);
-    const uint16_t *own_sites = pending_sites[touched - pending.list][writes];
-    for (; *units != 0; *units &= *units - 1) {
-        unsigned unit = (unsigned)__builtin_ctzll(*units);
-        put_access(writes, first + 2 * unit, own_sites[unit]);
+static void put_accesses(const struct touched *touched, uint64_t units, bool writes) {
+    const uint16_t *sites = strand.sites[touched - strand.list][writes];
+    for (; units != 0; units &= units - 1) {
+        unsigned unit = (unsigned)__builtin_ctzll(units);
+        put_access(writes, touched->location + 2 * unit, sites[unit]);
     }
 }
 
-static void put_touched(struct touched *touched) {
-    put_accesses(touched, false);
-    put_accesses(touched, true);
+static void put_block(const struct touched *touched) {
+    uint64_t masks[2];
+    if (!touched->block)
+        return;
+    take_units(touched, masks);
+    if (detects() && (masks[false] | masks[true]) != 0)
+        step_words(spbags_record(block_follows, touched->location), masks, 2);
+    if (only_detects())
+        return;
+    put_accesses(touched, masks[false], false);
+    put_accesses(touched, masks[true], true);
 }
+
+static void end_records(void);
 
 /* Where the run ends meanwhile, as a signal handler may end it, the rest goes out then. */
 static void put_strand(void) {
     static size_t at;
+    end_records();
     if (doing.looking)
         forget_pending();
-    for (; at < pending.used; at++)
-        put_touched(&pending.list[at]);
-    at = 0;
-    next_part(&pending);
+    while (at < strand.used)
+        put_block(&strand.list[at++]);
+    at = strand.used = 0;
+    strand.before++;
 }
 
-/* The access goes out when its strand has ended. */
-static void keep_access(bool writes, uint64_t location, uint16_t site) {
-    struct touched *touched = touched_with(&pending, location);
-    if (__builtin_expect(!touched, 0)) {
-        put_strand();
-        touched = touched_with(&pending, location);
-    }
-    uint64_t *units = writes ? &touched->writes : &touched->reads, bit = bit_in_block(location);
-    if ((*units & bit) == 0 && doing.keeping_places)
-        pending_sites[touched - pending.list][writes][location / 2 % BLOCK_UNITS] = site;
-    *units |= bit;
+/* The access is new in its block. */
+static void keep_access(bool writes, struct touched in, unsigned unit, uint16_t site) {
+    list_block(in);
+    if (doing.keeping_places)
+        strand.sites[in.block->place - 1][writes][unit] = site;
+    in.done[unit] |= writes ? WROTE_IT : READ_IT;
 }
 
-static inline void take_access(bool writes, uint64_t location, uint16_t site) {
-    if (detects())
-        step_access(writes, location);
-    if (is_gathered(location)) {
-        if (!detects() || doing.keeping_places)
-            keep_access(writes, location, site);
-        return;
-    }
-    put_access(writes, location, site);
-    if (ends_part(&pending))
-        put_strand();
-}
-
-/* ---- The window, in such a run ---- */
+/* ---- The window, in a run that does more than detect ---- */
 
 /* Its records, as the detector has them in its bundle, with the numbers of their sites; how many have gone out, and how
    many went before. */
@@ -183,15 +171,10 @@ static void step_record(uint64_t record) {
     end_step();
 }
 
-static void pass_record(struct recent *passed) {
-    unsigned kind = passed->record & 7;
-    if (kind != numbers_end) {
-        take_access(kind == SPBAGS_WRITE, passed->record >> 3, passed->site);
-        return;
-    }
+static void pass_record(const struct recent *passed) {
     step_record(passed->record);
-    if (is_of_heap(passed->record))
-        leave_out_block(&pending, passed->record);
+    if ((passed->record & 7) != numbers_end)
+        put_access((passed->record & 7) == SPBAGS_WRITE, passed->record >> 3, passed->site);
 }
 
 /* What is in the window goes on, and another one begins. */
@@ -229,83 +212,104 @@ static inline uintptr_t records_so_far(void) {
     return __builtin_expect(only_detects(), 1) ? steps_so_far() : recent.before + recent.used;
 }
 
-__attribute__((noinline)) static void end_window(void) {
-    if (only_detects()) {
+/* What is in the window can't be left out any more. */
+static void end_records(void) {
+    if (only_detects())
         begin_steps();
-        return;
-    }
-    begin_record();
-    pass_window();
-    end_change();
+    else
+        pass_window();
+}
+
+/* Between these two records are put, or blocks. */
+static inline void begin_records(void) {
+    if (__builtin_expect(only_detects(), 1))
+        begin_step();
+    else
+        begin_record();
+}
+
+static inline void finish_records(void) {
+    if (__builtin_expect(only_detects(), 1))
+        end_step();
+    else
+        end_change();
+}
+
+__attribute__((noinline)) static void end_window(void) {
+    begin_records();
+    end_records();
+    finish_records();
 }
 
 /* The accesses of the numbers that die are left out; before so many records there are none. */
 static void leave_out_dying(uintptr_t before) {
-    if (only_detects()) {
-        begin_step();
+    begin_records();
+    if (only_detects())
         leave_out_steps(before);
-        end_step();
-    } else {
-        begin_record();
+    else
         leave_out_recent(before);
-        end_change();
-    }
+    finish_records();
     end_dying();
 }
 
-/* A record of an end, for some numbers of the stack or some memory of the heap. */
+/* Some numbers of the stack have ended. */
 static void record_end(uint64_t location) {
-    uint64_t record = location << 3 | numbers_end;
-    if (only_detects()) {
-        step_record(record);
-    } else {
-        begin_record();
-        keep_recent(record, NO_SITE);
-        end_change();
-    }
-}
-
-/* The accesses of this memory of the heap, some whole units and GRAINs, are left out as far as they are of this strand
-   and haven't gone out. */
-static void leave_out_record(uintptr_t address, size_t size) {
-    const size_t most = (((size_t)1 << LENGTH_BITS) - 1) * GRAIN;
-    for (size_t part; size > 0; address += part, size -= part) {
-        part = size < most ? size : most;
-        record_end(2 * ((address - heap_first) / GRAIN << LENGTH_BITS | part / GRAIN));
-    }
+    begin_records();
+    if (only_detects())
+        step(numbers_end, location);
+    else
+        keep_recent(location << 3 | numbers_end, NO_SITE);
+    finish_records();
 }
 
 /* A strand ends without a record of the structure. */
-static void end_strand(void) {
-    pass_window();
-    step_record(spbags_record(strand_ends, 1));
-    if (only_detects())
-        begin_steps();
-    put_strand();
+static void end_strand(void) { put_strand(); }
+
+/* ---- The end of a span's life ---- */
+
+/* A block that goes out before the others. */
+static void put_alone(struct block *block) {
+    if (block->place == 0)
+        return;
+    struct touched *touched = &strand.list[block->place - 1];
+    put_block(touched);
+    touched->block = NULL;
 }
 
-/* As the detector's thread does it, of what is pending. */
-static void put_life(struct life_end end) {
-    leave_out_dead(&pending, end);
-    if (end.is_dead_used)
-        put_strand();
-    for (uint64_t block = first_block(end.span); block < first_block(end.span + 1); block++) {
-        struct touched *touched = left_of(&pending, block);
-        if (touched)
-            put_touched(touched);
+/* Some blocks in a row go out, at most 64, and the detector is told which of them it has. */
+static void end_blocks(struct touched first, size_t count) {
+    uint64_t ended_bits = 0;
+    for (size_t at = 0; at < count; at++) {
+        struct block *block = &first.block[at];
+        put_alone(block);
+        ended_bits |= (uint64_t)block->has_gone_out << at;
+        block->has_gone_out = false;
     }
+    if (detects() && ended_bits != 0)
+        step_words(spbags_record(numbers_end, first.location), &ended_bits, 1);
+}
+
+static void end_span_blocks(size_t span) {
+    size_t count = span_size / block_size();
+    for (size_t at = 0; at < count; at += BLOCK_UNITS)
+        end_blocks(block_at(span_first(span) + at * block_size()), least(count, BLOCK_UNITS));
+}
+
+/* If nothing was used after its death, nobody else has accessed these. */
+static void end_dead_blocks(struct life_end end) {
+    struct touched first = dead_block(end.span, 0);
+    if (!end.is_dead_used)
+        memset(first.done, 0, (size_t)end.dead * BLOCK_UNITS);
+    end_blocks(first, end.dead);
 }
 
 /* A span begins another life. */
 static void end_life_record(struct life_end end) {
-    begin_record();
-    pass_window();
-    uint64_t what = (uint64_t)end.span << (DEAD_BITS + 1) | end.dead << 1 | end.is_dead_used;
-    step_record(spbags_record(strand_ends, 2 * what));
-    if (only_detects())
-        begin_steps();
-    put_life(end);
-    end_change();
+    begin_records();
+    end_records();
+    end_span_blocks(end.span);
+    end_dead_blocks(end);
+    finish_records();
     begin_life(&spans_lives, end.span);
 }
 
@@ -315,7 +319,6 @@ static void end_life_record(struct life_end end) {
 static uint64_t news;
 
 OTHERWISE void other_structure_record(enum spbags_kind kind, uintptr_t code) {
-    pass_window();
     put_strand();
     news++;
     if (doing.keeping_places || doing.looking)
@@ -340,21 +343,27 @@ static inline void follow_access(bool writes, uint64_t location, uintptr_t unit,
                   site);
 }
 
-static inline void begin_access(bool writes, uint64_t location, uintptr_t address, uintptr_t code, uint64_t site) {
+/* The access of a unit, or of a byte; its block, or null for one that goes out at once. */
+static inline void begin_access(bool writes, const struct touched *in, uint64_t location, uintptr_t address,
+                                uintptr_t code, uint64_t site) {
+    const uint16_t number = doing.keeping_places ? site_number(site) : NO_SITE;
     if (doing.looking)
-        note_pending(writes, is_gathered(location) ? named_location(&spans_lives, location) : location, address, code);
-    keep_recent(spbags_record(writes ? SPBAGS_WRITE : SPBAGS_READ, location),
-                doing.keeping_places ? site_number(site) : NO_SITE);
+        note_pending(writes, location, address, code);
+    if (in)
+        keep_access(writes, *in, (location - in->location) / 2, number);
+    else
+        keep_recent(spbags_record(writes ? SPBAGS_WRITE : SPBAGS_READ, location), number);
 }
 
-OTHERWISE void other_access_record(bool writes, uint64_t location, uintptr_t address, uintptr_t code) {
+OTHERWISE void other_access_record(bool writes, const struct touched *in, uint64_t location, uintptr_t address,
+                                   uintptr_t code) {
     begin_record();
-    news += location % 2 == 0;
-    if (!__builtin_expect(divides, 0) || !divide_access(writes, location, address, code)) {
+    news += in != NULL;
+    if (!__builtin_expect(divides, 0) || !divide_access(writes, in, location, address, code)) {
         uint64_t site = doing.keeping_places ? site_of_access(address, code) : 0;
         if (doing.keeping_places || doing.looking)
             follow_access(writes, location, address, site);
-        begin_access(writes, location, address, code, site);
+        begin_access(writes, in, location, address, code, site);
     }
     if (doing.writing_repeats) {
         end_strand();
@@ -364,9 +373,25 @@ OTHERWISE void other_access_record(bool writes, uint64_t location, uintptr_t add
     end_at_last();
 }
 
+/* These units of a block have been accessed, in a run that detects, and that is all. */
+static void step_units(bool writes, struct touched in, uint64_t units) {
+    begin_step();
+    list_block(in);
+    set_done(in.done, units, writes ? WROTE_IT : READ_IT);
+    end_step();
+}
+
 static inline void access_record(bool writes, uint64_t location, uintptr_t address, uintptr_t code) {
     if (__builtin_expect(only_detects(), 1))
         step_access(writes, location);
     else
-        other_access_record(writes, location, address, code);
+        other_access_record(writes, NULL, location, address, code);
+}
+
+/* Of the unit in its block. */
+static inline void block_record(bool writes, struct touched in, unsigned unit, uintptr_t address, uintptr_t code) {
+    if (__builtin_expect(only_detects(), 1))
+        step_units(writes, in, (uint64_t)1 << unit);
+    else
+        other_access_record(writes, &in, in.location + 2 * unit, address, code);
 }

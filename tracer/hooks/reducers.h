@@ -1,7 +1,7 @@
 /* Reducers of Cilk. The serial run has one view of each, in the program's memory. Whatever touches it there is an
    update, and counts as a read of the view, so that updates don't race with each other; a read of the value counts as a
    write of the whole view, and so do a set, the reducer's beginning and its end. So a view's units have locations as all
-   memory has, and a mark of a write says there that the strand has updated it. */
+   memory has; on the stack a mark of a write says there that the strand has updated it. */
 #include "hidden.h"
 
 struct view {
@@ -20,8 +20,6 @@ static struct view *views;
 static size_t views_count;
 /* Whether a view is being written. */
 static bool writes_view;
-
-static inline bool is_of_stack(uintptr_t address) { return address - stack_first < stack_size; }
 
 /* The first view that ends above this address. */
 static size_t view_above(uintptr_t address) {
@@ -45,7 +43,7 @@ static void remove_view(size_t at) {
 /* The number of the stack's unit with this address, which has none if nothing has touched it. */
 static uint64_t stack_number(uintptr_t address) {
     uintptr_t unit = address & ~unit_mask;
-    return *mark_of(unit, unit_shift) == UNTOUCHED ? 0 : numbers[(unit - stack_first) >> unit_shift];
+    return *stack_mark(unit) == UNTOUCHED ? 0 : numbers[(unit - stack_first) >> unit_shift];
 }
 
 static uint64_t number_at(uintptr_t address) {
@@ -66,8 +64,7 @@ static struct view *view_at(uintptr_t address) {
 
 static bool is_view(uintptr_t address) { return view_at(address) != NULL; }
 
-/* An access of this unit that is no repeat: whether it is an update of a view, and then its record has gone out. */
-__attribute__((noinline)) static bool note_view(uintptr_t unit, uint32_t *mark, unsigned shift, uintptr_t code) {
+__attribute__((noinline)) static enum update update_of_view(uintptr_t unit, unsigned shift, bool repeats) {
     uintptr_t first = unit, end = unit + ((uintptr_t)1 << shift);
     if (narrow.end != 0) {
         first = narrow.first > first ? narrow.first : first;
@@ -75,24 +72,18 @@ __attribute__((noinline)) static bool note_view(uintptr_t unit, uint32_t *mark, 
     }
     struct view *view = writes_view ? NULL : view_at(first);
     if (!view || end > view->end)
-        return false;
-    if (is_repeat(false, *mark))
-        return true;
-    uint64_t location = location_of(unit, *mark, shift);
-    /* Where another variable has a part of the unit, the mark is that of a read. */
-    *mark = new_mark(view->first <= unit && unit + ((uintptr_t)1 << shift) <= view->end);
-    if (view->wrote == BEGINS)
+        return NO_UPDATE;
+    if (!repeats && view->wrote == BEGINS)
         view->wrote = TOUCHED;
-    access_record(false, location, unit, code);
-    return true;
+    return view->first <= unit && unit + ((uintptr_t)1 << shift) <= view->end ? UPDATES_UNIT : UPDATES_PART;
 }
 
-/* No unit of the view that is all its own has been written, whatever its mark says. */
+/* No unit of the stack's memory that is all the view's has been written, whatever its mark says. */
 static void forget_updates(const struct view *view) {
-    for (uintptr_t unit = (view->first + unit_mask) & ~unit_mask; unit + unit_mask < view->end; unit += unit_mask + 1) {
-        uint32_t *mark = mark_of(unit, unit_shift);
-        *mark = *mark < FIRST_READ ? *mark : TOUCHED;
-    }
+    uintptr_t unit = (view->first + unit_mask) & ~unit_mask;
+    for (; is_of_stack(unit) && unit + unit_mask < view->end; unit += unit_mask + 1)
+        if (*stack_mark(unit) >= FIRST_READ)
+            *stack_mark(unit) = TOUCHED;
 }
 
 static void write_view(struct view *view, uintptr_t code) {
@@ -127,9 +118,9 @@ static struct view *add_view(uintptr_t first, size_t size, const char *note) {
     views_count++;
     has_views = true;
     follow_views();
-    uint32_t *mark = mark_of(first & ~unit_mask, unit_shift);
     if (is_of_stack(first)) {
-        location_of(first & ~unit_mask, *mark, unit_shift);
+        uint32_t *mark = stack_mark(first);
+        stack_location(first & ~unit_mask, *mark, unit_shift);
         *mark = *mark == UNTOUCHED ? TOUCHED : *mark;
     }
     views[at].number = number_at(first);

@@ -294,7 +294,6 @@ __attribute__((constructor(101))) static void start(void) {
     settings_forget(SETTING_REPORT);
     settings_forget(SETTING_PLACES);
     spans_need(&spans_lives);
-    make_taken();
     find_stack();
     *top = (struct frame){.kind = ROOT, .end = UINTPTR_MAX};
     procedures = most_procedures = 1;

@@ -286,16 +286,14 @@ class TracerTest(unittest.TestCase):
             self.assertTrue(wanted)
             self.assertEqual(wanted, self.read("run.races"))
 
-    def is_same_without_repeats(self, *words, jumps=False, most_blocks=4096, most_odd=65536, **settings):
+    def is_same_without_repeats(self, *words, jumps=False, most_blocks=4096, **settings):
         """The trace without repeats has the same races, and the other's records in its own order. If the program jumps
-        a strand may begin without a record. A strand goes out in parts of so many blocks, or odd accesses."""
+        a strand may begin without a record. A strand goes out in parts of so many blocks."""
         for name, repeats in (("run.trace", "0"), ("all.trace", "1")):
             self.run_command(*words, SPBAGS_TRACE=name, SPBAGS_REPEATS=repeats, SPBAGS_REUSE="0", **settings)
 
-        def in_one_order(records):
-            return ordered(without_repeats(records), most_blocks, most_odd)
-        found = records_of("run.trace")
-        self.assertEqual(in_one_order(records_of("all.trace")), in_one_order(found) if jumps else found)
+        found, wanted = records_of("run.trace"), ordered(records_of("all.trace"), most_blocks)
+        self.assertEqual(wanted, ordered(found, most_blocks) if jumps else found)
         self.assertEqual(racy_locations("all.trace"), racy_locations("run.trace"))
 
 
@@ -315,46 +313,48 @@ def access_of(record):
     return (kind, int(location)) if kind in ("read", "write") else None
 
 
-def without_repeats(records):
-    """Those before which no record of the same strand and location stands that writes, nor any if they read."""
-    kept, touched, wrote = [], set(), set()
-    for record in records:
-        access = access_of(record)
-        if not access:
-            touched, wrote = set(), set()
-        elif access[1] in (wrote if access[0] == "write" else touched):
-            continue
-        elif access[0] == "write":
-            wrote.add(access[1])
-        if access:
-            touched.add(access[1])
-        kept.append(record)
-    return kept
+class Part:
+    """What a strand has accessed, but for even locations of parts that have gone out."""
+
+    def __init__(self):
+        self.touched, self.wrote, self.blocks = set(), set(), {}
+
+    def is_repeat(self, kind, location):
+        """Whether the strand has written there before, or read where it reads; and it's no longer news then."""
+        repeats = location in (self.wrote if kind == "write" else self.touched)
+        self.touched.add(location)
+        if kind == "write":
+            self.wrote.add(location)
+        return repeats
+
+    def put(self):
+        """Its blocks' records as they go out."""
+        records = [record for block in self.blocks.values() for _, record in sorted(block)]
+        self.blocks.clear()
+        for done in (self.touched, self.wrote):
+            done.difference_update([location for location in done if location % 2 == 0])
+        return records
 
 
-def ordered(records, most_blocks, most_odd):
-    """Each strand's in the order in which they go out: those of odd locations at once; all others at its end by blocks
-    in the order of their first touch, and of each the reads, by location, and then the writes."""
-    made, blocks, odd = [], {}, 0
-
-    def put_part():
-        for block in blocks.values():
-            made.extend(record for _, record in sorted(block))
-        blocks.clear()
+def ordered(records, most_blocks):
+    """Each strand's without repeats in the order in which they go out: those of odd locations at once; all others at its
+    end by blocks in the order of their first touch, and of each the reads, by location, and then the writes."""
+    made, part = [], Part()
     for record in records:
         access = access_of(record)
         block = access and access[1] // (2 * BLOCK)
-        if not access or (access[1] % 2 == 0 and block not in blocks and len(blocks) == most_blocks):
-            put_part()
-            odd = 0
-        if not access or access[1] % 2 == 1:
+        is_full = access and access[1] % 2 == 0 and block not in part.blocks and len(part.blocks) == most_blocks
+        if not access or is_full:
+            made += part.put()
+        if not access:
+            part = Part()
             made.append(record)
-            odd += bool(access and blocks)
+        elif part.is_repeat(*access):
+            continue
+        elif access[1] % 2 == 1:
+            made.append(record)
         else:
-            blocks.setdefault(block, []).append((access, record))
-        if odd == most_odd:
-            put_part()
-            odd = 0
+            part.blocks.setdefault(block, []).append((access, record))
     return made
 
 

@@ -37,12 +37,12 @@ static void record_end(uint64_t location);
 static void forget_divided(void) {}
 static void forget_views(void) {}
 static void clear_bytes(uintptr_t address, uintptr_t end) { (void)address, (void)end; }
-static bool note_view(uintptr_t unit, uint32_t *mark, unsigned shift, uintptr_t code) {
-    (void)unit, (void)mark, (void)shift, (void)code;
-    return false;
-}
 static struct range { uintptr_t first, end; } narrow;
 static void access_record(bool writes, uint64_t location, uintptr_t address, uintptr_t code);
+static inline bool is_of_byte(uint64_t location) { return location >= (uint64_t)1 << 60; }
+static void begin_step(void) {}
+static void end_step(void) {}
+enum { USUAL_SHIFT = 2 };
 static void look_at_block(uintptr_t block, size_t size, uintptr_t stack_pointer, uintptr_t code) {
     (void)block, (void)size, (void)stack_pointer, (void)code;
 }
@@ -56,6 +56,8 @@ static void leave_jumped(uintptr_t stack_pointer, uintptr_t code) { (void)stack_
 #define CODE 0
 #define LIBRARY_WRITE(AT, SIZE, SELF) (void)(SELF)
 
+#include "../hooks/blocks.h"
+
 #include "../hooks/strands.h"
 
 #include "../hooks/window.h"
@@ -64,10 +66,19 @@ static void leave_jumped(uintptr_t stack_pointer, uintptr_t code) { (void)stack_
 
 #include "../hooks/marks.h"
 
+static void step_units(bool writes, struct touched in, uint64_t units) {
+    list_block(in);
+    set_done(in.done, units, writes ? WROTE_IT : READ_IT);
+}
+static void block_record(bool writes, struct touched in, unsigned unit, uintptr_t address, uintptr_t code);
+
 #include "../hooks/locations.h"
 
+static enum update update_of_view(uintptr_t unit, unsigned shift, bool repeats) {
+    (void)unit, (void)shift, (void)repeats;
+    return NO_UPDATE;
+}
 static void end_life_record(struct life_end end) { begin_life(&spans_lives, end.span); }
-static void leave_out_record(uintptr_t address, size_t size) { (void)address, (void)size; }
 int __real_munmap(void *at, size_t size) { return munmap(at, size); }
 
 #include "../hooks/heap.h"
@@ -81,89 +92,15 @@ static unsigned drawn(unsigned below) {
 
 /* ---- The blocks of a strand ---- */
 
-/* They are in the order of their first touch, and those beyond the limit have no room. */
-static void strand_blocks(void) {
-    static struct strand strand;
-    for (int round = 0; round < 1000; round++) {
-        uint64_t order[MOST_BLOCKS] = {0};
-        size_t used = 0;
-        for (int access = 0; access < 20; access++) {
-            uint64_t block = drawn(8) * (drawn(2) ? 1 : (uint64_t)1 << 40), location = 128 * block + 2 * drawn(64);
-            struct touched *touched = touched_with(&strand, location);
-            size_t at = 0;
-            while (at < used && order[at] != block)
-                at++;
-            if (at == MOST_BLOCKS) {
-                DEMAND(touched == NULL);
-                continue;
-            }
-            DEMAND(touched == &strand.list[at] && touched->block == block);
-            touched->reads |= bit_in_block(location);
-            if (at == used)
-                order[used++] = block;
-        }
-        DEMAND(next_part(&strand) == used && strand.used == 0);
-    }
-}
-
-static void strand_locations(void) {
-    static struct strand strand = {.lives = &spans_lives};
-    DEMAND(first_location(&strand, 5) == 128 * 5);
-    for (unsigned unit = 0; unit < 64; unit++) {
-        uint64_t location = 128 * 5 + 2 * unit;
-        DEMAND(block_with(location) == 5 && bit_in_block(location) == (uint64_t)1 << unit);
-        DEMAND(is_gathered(location) && !is_gathered(location + 1));
-    }
-}
-
-/* What is left out has no access any more, and a block of which nothing is left makes room. */
-static void strand_left_out(void) {
-    enum { MOST = 3 * BLOCK_UNITS };
-    static struct strand strand;
-    bool reads[MOST] = {false}, writes[MOST] = {false};
-    for (int round = 0; round < 20000; round++) {
-        unsigned unit = drawn(MOST), first = drawn(MOST), last = first + drawn(MOST - first);
-        struct touched *touched = touched_with(&strand, 2 * unit);
-        DEMAND(touched && touched->block == unit / BLOCK_UNITS);
-        bool is_write = drawn(2);
-        *(is_write ? &touched->writes : &touched->reads) |= bit_in_block(2 * unit);
-        (is_write ? writes : reads)[unit] = true;
-        if (drawn(20) != 0)
-            continue;
-        leave_out(&strand, (uintptr_t)first << unit_shift, (size_t)(last - first + 1) << unit_shift);
-        for (unsigned gone = first; gone <= last; gone++)
-            reads[gone] = writes[gone] = false;
-        for (unsigned at = 0; at < MOST; at++) {
-            const struct touched *left = left_of(&strand, at / BLOCK_UNITS);
-            DEMAND((left && (left->reads & bit_in_block(2 * at)) != 0) == reads[at]);
-            DEMAND((left && (left->writes & bit_in_block(2 * at)) != 0) == writes[at]);
-        }
-    }
-    for (uint64_t block = 10; block < 100; block++) {
-        DEMAND(touched_with(&strand, 128 * block));
-        leave_out_units(&strand, 0, 100 * BLOCK_UNITS);
-    }
-}
-
-/* Odd accesses count behind the first block alone. */
-static void strand_parts(void) {
-    static struct strand strand;
-    for (int access = 0; access < 2 * MOST_ODD; access++)
-        DEMAND(!ends_part(&strand));
-    touched_with(&strand, 0);
-    for (int access = 1; access < MOST_ODD; access++)
-        DEMAND(!ends_part(&strand));
-    DEMAND(ends_part(&strand));
-}
-
-/* ---- Marks, and the numbers of the stack ---- */
-
 enum { UNITS = 200, STACK_BYTES = 1 << 20 };
 static char *stack_memory;
-static uint32_t memory[UNITS];
+static _Alignas(256) uint32_t memory[10 * BLOCK_UNITS];
+static uintptr_t memory_unit(unsigned number) { return (uintptr_t)&memory[number]; }
 
+/* Above what the hooks reserve. */
 static void make_stack(void) {
-    stack_memory = reserve(STACK_BYTES);
+    stack_memory = mmap(NULL, STACK_BYTES, PROT_READ | PROT_WRITE, MAP_PRIVATE | MAP_ANONYMOUS, -1, 0);
+    DEMAND(stack_memory != MAP_FAILED);
     running_first = stack_first = stacks[0].first = (uintptr_t)stack_memory;
     running_size = stack_size = STACK_BYTES;
     stacks[0].end = stack_first + STACK_BYTES;
@@ -171,8 +108,99 @@ static void make_stack(void) {
     numbers = reserve((stack_size >> unit_shift) * sizeof *numbers);
 }
 
+/* How many parts have gone out, and of the last one the blocks in their order with what was read there, and written. */
+static struct {
+    size_t parts, count;
+    uint64_t locations[MOST_BLOCKS], masks[MOST_BLOCKS][2];
+} out;
+
+static void put_strand(void) {
+    out.count = 0;
+    for (size_t at = 0; at < strand.used; at++) {
+        out.locations[out.count] = strand.list[at].location;
+        take_units(&strand.list[at], out.masks[out.count]);
+        out.count += (out.masks[out.count][false] | out.masks[out.count][true]) != 0;
+    }
+    strand.used = 0;
+    strand.before++;
+    out.parts++;
+}
+
+static uint64_t location_of_block(unsigned block) { return 2 * (memory_unit(block * BLOCK_UNITS) >> unit_shift); }
+
+/* They go out in the order of their first touch, with what was read before it was written and what was written, whether
+   that is noted quickly or not; and those beyond the limit are in another part. */
+static void strand_blocks(void) {
+    make_stack();
+    for (int round = 0; round < 2000; round++) {
+        uint64_t wanted[10][2] = {{0}}, touched[10] = {0};
+        unsigned order[MOST_BLOCKS + 1], used = 0;
+        size_t parts = out.parts;
+        notes_quickly = drawn(2) != 0;
+        for (int access = 0; access < 40; access++) {
+            unsigned block = drawn(8), first = drawn(BLOCK_UNITS), count = 1 + drawn(BLOCK_UNITS - first),
+                     writes = drawn(2);
+            if (touched[block] == 0 && used == MOST_BLOCKS)
+                continue;
+            order[used] = block;
+            used += touched[block] == 0;
+            touch(writes, memory_unit(block * BLOCK_UNITS + first), 4 * (size_t)count, 0);
+            wanted[block][writes] |= units_from(first, count) & ~(writes ? 0 : wanted[block][true]);
+            touched[block] |= units_from(first, count);
+        }
+        put_strand();
+        DEMAND(out.parts == parts + 1 && out.count == used);
+        for (unsigned at = 0; at < used; at++) {
+            DEMAND(out.locations[at] == location_of_block(order[at]));
+            DEMAND(memcmp(out.masks[at], wanted[order[at]], sizeof out.masks[at]) == 0);
+        }
+    }
+    for (unsigned block = 0; block < MOST_BLOCKS; block++)
+        touch(true, memory_unit(block * BLOCK_UNITS), 4, 0);
+    size_t parts = out.parts;
+    touch(true, memory_unit(0), 4, 0);
+    DEMAND(out.parts == parts);
+    touch(true, memory_unit(MOST_BLOCKS * BLOCK_UNITS), 4, 0);
+    DEMAND(out.parts == parts + 1 && out.count == MOST_BLOCKS && strand.used == 1);
+}
+
+static void strand_locations(void) {
+    for (unsigned unit = 0; unit < BLOCK_UNITS; unit++) {
+        DEMAND(block_at(memory_unit(unit)).location == location_of_block(0));
+        DEMAND(location_in_life(memory_unit(unit)) == location_of_block(0) + 2 * unit);
+        DEMAND(is_gathered(2 * unit) && !is_gathered(2 * unit + 1));
+    }
+}
+
+/* What is left out has no access any more, and a block of which nothing is left makes room. */
+static void strand_left_out(void) {
+    enum { MOST = 3 * BLOCK_UNITS };
+    uint64_t left[3] = {0};
+    make_stack();
+    for (int round = 0; round < 20000; round++) {
+        unsigned unit = drawn(MOST), first = drawn(MOST), end = first + drawn(MOST - first) + 1;
+        notes_quickly = drawn(2) != 0;
+        touch(true, memory_unit(unit), 4, 0);
+        left[unit / BLOCK_UNITS] |= units_from(unit % BLOCK_UNITS, 1);
+        if (drawn(20) == 0) {
+            leave_out(memory_unit(first), memory_unit(end));
+            for (unsigned gone = first; gone < end; gone++)
+                left[gone / BLOCK_UNITS] &= ~units_from(gone % BLOCK_UNITS, 1);
+        }
+        for (unsigned block = 0; block < 3; block++)
+            DEMAND(units_with(block_at(memory_unit(block * BLOCK_UNITS)).done, WROTE_IT) == left[block]);
+    }
+    size_t parts = out.parts;
+    for (unsigned block = 0; block < 100; block++) {
+        touch(true, memory_unit(block % 10 * BLOCK_UNITS), 4, 0);
+        leave_out(memory_unit(0), memory_unit(10 * BLOCK_UNITS));
+    }
+    DEMAND(out.parts == parts);
+}
+
+/* ---- Marks, and the numbers of the stack ---- */
+
 static uintptr_t stack_unit(unsigned number) { return stack_first + STACK_BYTES - 4 * (uintptr_t)(number + 1); }
-static uintptr_t memory_unit(unsigned number) { return (uintptr_t)&memory[number]; }
 
 static unsigned records;
 static uint64_t recorded;
@@ -182,9 +210,18 @@ static void access_record(bool writes, uint64_t location, uintptr_t address, uin
     recorded = location;
 }
 
+static void block_record(bool writes, struct touched in, unsigned unit, uintptr_t address, uintptr_t code) {
+    access_record(writes, in.location + 2 * unit, address, code);
+    step_units(writes, in, units_from(unit, 1));
+}
+
+static void next_strand(void) {
+    put_strand();
+    begin_strand();
+}
+
 /* In a strand an access is a repeat behind a write, and a read behind any. */
 static void marks_repeats(void) {
-    enum { READ_IT = 1, WROTE_IT = 2 };
     unsigned done[2 * UNITS] = {0};
     make_stack();
     for (int access = 0; access < 100000; access++) {
@@ -195,7 +232,7 @@ static void marks_repeats(void) {
         DEMAND(records == !repeats);
         done[unit] |= writes ? WROTE_IT : READ_IT;
         if (drawn(500) == 0) {
-            begin_strand();
+            next_strand();
             memset(done, 0, sizeof done);
         }
     }
@@ -210,7 +247,7 @@ static void marks_own(void) {
         records = 0;
         touch(true, memory_unit(2), 16, 0);
         DEMAND(records == 2);
-        begin_strand();
+        next_strand();
     }
 }
 
@@ -222,7 +259,7 @@ static void marks_units(void) {
             records = 0;
             touch(true, memory_unit(10) + first, size, 0);
             DEMAND(records == (size == 0 ? 0 : (first + size - 1) / 4 - first / 4 + 1));
-            begin_strand();
+            next_strand();
         }
 }
 
@@ -434,14 +471,14 @@ int main(int count, char **words) {
     static const struct {
         const char *name;
         void (*run)(void);
-    } parts[] = {{"strand_blocks", strand_blocks}, {"strand_locations", strand_locations},
-                 {"strand_parts", strand_parts},   {"marks_repeats", marks_repeats},
-                 {"marks_own", marks_own},         {"marks_units", marks_units},
-                 {"stack_numbers", stack_numbers}, {"heap_blocks", heap_blocks},
-                 {"heap_zero", heap_zero},         {"strand_left_out", strand_left_out},
-                 {"stack_window", stack_window},   {"heap_sizes", heap_sizes},
-                 {"heap_moves", heap_moves},       {"formats_print", formats_print},
-                 {"formats_scan", formats_scan},   {"formats_narrow", formats_narrow}};
+    } parts[] = {{"strand_blocks", strand_blocks},     {"strand_locations", strand_locations},
+                 {"marks_repeats", marks_repeats},     {"marks_own", marks_own},
+                 {"marks_units", marks_units},         {"stack_numbers", stack_numbers},
+                 {"heap_blocks", heap_blocks},         {"heap_zero", heap_zero},
+                 {"strand_left_out", strand_left_out}, {"stack_window", stack_window},
+                 {"heap_sizes", heap_sizes},           {"heap_moves", heap_moves},
+                 {"formats_print", formats_print},     {"formats_scan", formats_scan},
+                 {"formats_narrow", formats_narrow}};
     for (size_t at = 0; at < sizeof parts / sizeof *parts; at++)
         if (count == 1)
             puts(parts[at].name);

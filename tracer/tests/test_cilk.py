@@ -65,11 +65,11 @@ class TraceTest(TracerTest):
                 self.is_same_without_repeats("./strands", jumps=jumps, SPBAGS_UNIT=unit)
 
     def test_parts(self):
-        """With so few blocks and odd accesses strands go out in parts."""
-        few = {"CC": f"{CC} -DMOST_BLOCKS=2 -DMOST_ODD=3"}
+        """With so few blocks strands go out in parts."""
+        few = {"CC": f"{CC} -DMOST_BLOCKS=2"}
         self.succeeds(SPBAGS_CC, "-DRACY", "-o", "strands", "matmul.c", **few)
         with self.subTest("the same without repeats"):
-            self.is_same_without_repeats("./strands", most_blocks=2, most_odd=3)
+            self.is_same_without_repeats("./strands", most_blocks=2)
         with self.subTest("spbags-run"):
             self.assertEqual(cases.Example("matmul.c").races(), self.races_in("matmul.c", "./strands"))
         if INSIDE:

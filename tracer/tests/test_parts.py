@@ -8,7 +8,7 @@ import cases
 from cases import CC, TESTS, TRACER, TracerTest
 
 # Limits of a strand, of the number of strands, which come again and again then, and of memory that stays free.
-LIMITS = ("-DMOST_STRANDS=20", "-DMOST_BLOCKS=4", "-DMOST_ODD=3", "-DFREE_SPANS=1")
+LIMITS = ("-DMOST_STRANDS=20", "-DMOST_BLOCKS=4", "-DFREE_SPANS=1")
 UNDEFINED = ("-fsanitize=undefined", "-fsanitize-undefined-trap-on-error")
 BESIDE = [os.path.join(TRACER, "hooks", f"{name}.c")
           for name in ("formats", "guards", "memory", "settings", "spans", "stacks", "tell")]

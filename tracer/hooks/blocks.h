@@ -1,0 +1,156 @@
+/* Memory that isn't the stack's lies in blocks of 64 units. A byte for each unit says what the current strand has done
+   with it that hasn't gone out: in one strand an access of a unit that was written before, or a read where it was read
+   before, is a repeat, which makes no race of any location and unmakes none. A read behind a write isn't noted. Where the
+   block has its place in the strand's list, QUICK says that nothing else is to be done at an access. A thread's own units
+   count as written in each strand. */
+enum { BLOCK_BITS = 6, BLOCK_UNITS = 1 << BLOCK_BITS };
+enum { READ_IT = 1, WROTE_IT = 2, QUICK = 0x80 };
+
+struct block {
+    /* The units of heap blocks that died in the strands of their births; maybe in a former life. */
+    uint64_t dead;
+    /* From 1 on the place in the list of the strand; or 0. */
+    uint32_t place;
+    /* Whether units are a thread's own, which never go out; whether the block has gone out in the life that its memory
+       has; and whether accesses of it were divided, and it has its place for these. */
+    bool has_own, has_gone_out, is_divided;
+};
+
+/* What is known of a region of memory comes with its first access: a byte for each unit, and for each heap block that may
+   die in the strand of its birth, so many blocks of them for each span; and then these blocks. */
+enum { REGION_BITS = 24, REGIONS = 1 << 23, REGION_SPANS = 1 << (REGION_BITS - SPAN_BITS), DEAD_BLOCKS = 64 };
+static const uintptr_t region_mask = ((uintptr_t)1 << REGION_BITS) - 1;
+
+/* Where the byte of the unit 0 would stand, if a region's bytes went on; or 0 where it has none. Of a region of the stack,
+   which has marks, how many bytes behind the memory these begin: they are below it. */
+intptr_t regions[REGIONS] __asm__("__spbags_regions");
+/* The regions of the stack, whose other memory has bytes too. */
+static size_t stack_region, stack_regions_count;
+static intptr_t *rows_beside_stack;
+
+static inline size_t region_of(uintptr_t address) { return (address >> REGION_BITS) & (REGIONS - 1); }
+
+static size_t region_units(void) { return ((size_t)1 << REGION_BITS) >> unit_shift; }
+
+static inline size_t region_bytes(void) { return region_units() + (size_t)REGION_SPANS * DEAD_BLOCKS * BLOCK_UNITS; }
+
+static intptr_t make_row(size_t region) {
+    size_t size = region_bytes(), blocks = size / BLOCK_UNITS;
+    intptr_t row = (intptr_t)reserve(size + blocks * sizeof(struct block));
+    row -= (intptr_t)(region << REGION_BITS >> unit_shift);
+    if (row <= 0 && unit_shift == USUAL_SHIFT)
+        fail("the system has no memory for the hooks at high addresses");
+    return row;
+}
+
+__attribute__((noinline, cold)) static intptr_t other_row(size_t region) {
+    bool is_of_stack = region - stack_region < stack_regions_count;
+    intptr_t *row = is_of_stack ? &rows_beside_stack[region - stack_region] : &regions[region];
+    if (*row == 0)
+        *row = make_row(region);
+    return *row;
+}
+
+static inline intptr_t row_of(uintptr_t address) {
+    intptr_t row = regions[region_of(address)];
+    return __builtin_expect(row > 0, 1) ? row : other_row(region_of(address));
+}
+
+/* A block with its bytes, and the location of its first unit. */
+struct touched {
+    struct block *block;
+    uint8_t *done;
+    uint64_t location;
+};
+
+/* The block of these bytes, in the row of this region's address. */
+static inline struct block *block_of(intptr_t row, uintptr_t address, const uint8_t *done) {
+    uintptr_t first = (uintptr_t)row + ((address & ~region_mask) >> unit_shift);
+    return (struct block *)(first + region_bytes()) + ((uintptr_t)done - first) / BLOCK_UNITS;
+}
+
+/* The location of the unit with this address, in the life that its memory has. */
+static inline uint64_t location_in_life(uintptr_t address) {
+    return 2 * (name_in_life(&spans_lives, address) >> unit_shift);
+}
+
+static inline uintptr_t block_size(void) { return (uintptr_t)BLOCK_UNITS << unit_shift; }
+
+static inline struct touched block_at(uintptr_t address) {
+    intptr_t row = row_of(address);
+    uint8_t *done = (uint8_t *)((uintptr_t)(row + (intptr_t)(address >> unit_shift)) & ~(uintptr_t)(BLOCK_UNITS - 1));
+    return (struct touched){block_of(row, address, done), done, location_in_life(address & ~(block_size() - 1))};
+}
+
+/* The block of this heap block of a span, where that has died in the strand of its birth. */
+static struct touched dead_block(size_t span, size_t number) {
+    uintptr_t region = span_first(span) & ~region_mask;
+    struct touched first = block_at(region);
+    size_t at = span % REGION_SPANS * DEAD_BLOCKS + number / BLOCK_UNITS + region_units() / BLOCK_UNITS;
+    uint64_t location = 2 * ((name_of_dead(&spans_lives, span) >> unit_shift) + (number & ~(size_t)(BLOCK_UNITS - 1)));
+    return (struct touched){first.block + at, first.done + at * BLOCK_UNITS, location};
+}
+
+/* A bit for each of a block's units whose byte has this one. */
+static inline uint64_t units_with(const uint8_t *done, int bit) {
+    uint64_t units = 0;
+    for (unsigned part = 0; part < BLOCK_UNITS; part += 16) {
+        __m128i bytes = _mm_load_si128((const void *)(done + part));
+        units |= (uint64_t)(unsigned)_mm_movemask_epi8(_mm_slli_epi16(bytes, 7 - __builtin_ctz(bit))) << part;
+    }
+    return units;
+}
+
+/* What isn't a repeat of these. */
+static inline uint64_t new_units(bool writes, const uint8_t *done, uint64_t units) {
+    return units & ~(units_with(done, WROTE_IT) | (writes ? 0 : units_with(done, READ_IT)));
+}
+
+static inline void set_done(uint8_t *done, uint64_t units, uint8_t bit) {
+    for (; units != 0; units &= units - 1)
+        done[__builtin_ctzll(units)] |= bit;
+}
+
+static inline void clear_done(uint8_t *done, uint64_t units, uint8_t bits) {
+    for (; units != 0; units &= units - 1)
+        done[__builtin_ctzll(units)] &= (uint8_t)~bits;
+}
+
+/* ---- The blocks of some memory ---- */
+
+/* From 1 to 64 units, from this one on. */
+static inline uint64_t units_from(unsigned first, size_t count) { return UINT64_MAX >> (BLOCK_UNITS - count) << first; }
+
+static inline unsigned unit_in_block(uintptr_t address) { return address >> unit_shift & (BLOCK_UNITS - 1); }
+
+/* The units of a block that some memory has, which begins with one of them: as many as begin before its end. The part
+   ends where the block does, or before. */
+struct part_of_block {
+    struct touched in;
+    uint64_t units;
+    uintptr_t end;
+};
+
+static inline struct part_of_block part_from(uintptr_t address, uintptr_t end) {
+    uintptr_t block_end = (address | (block_size() - 1)) + 1, last = end < block_end ? end : block_end;
+    size_t count = (last - address + unit_mask) >> unit_shift;
+    return (struct part_of_block){block_at(address), units_from(unit_in_block(address), count), last};
+}
+
+/* The accesses of these units are left out, as far as they haven't gone out. */
+static void leave_out(uintptr_t address, uintptr_t end) {
+    while (address < end) {
+        struct part_of_block part = part_from(address, end);
+        clear_done(part.in.done, part.units, READ_IT | WROTE_IT);
+        address = part.end;
+    }
+}
+
+static void set_dead(uintptr_t address, uintptr_t end) {
+    while (address < end) {
+        struct part_of_block part = part_from(address, end);
+        part.in.block->dead |= part.units;
+        clear_done(part.in.done, part.units, QUICK);
+        address = part.end;
+    }
+}
