@@ -24,5 +24,7 @@ enum { HAS_DETECTOR = false };
 #endif
 static inline bool detects(void) { return HAS_DETECTOR && doing.detecting; }
 static inline bool only_detects(void) { return HAS_DETECTOR && doing.only_detecting; }
+/* What it makes. */
+static inline const char *outcome_name(void) { return detects() ? "report" : "trace"; }
 
 #endif

@@ -78,7 +78,7 @@ static uintptr_t unit_mask;
 #include "openmp_notes.h"
 #pragma GCC visibility pop
 #endif
-#include "ends.h"
+#include "closing.h"
 #include "run.h"
 #ifdef SPBAGS_OPENMP
 #include "openmp_run.h"
@@ -130,4 +130,13 @@ bool is_beside_others(void) {
     is_beside = is_beside || (doing.tracing && (newest_scope > 0 || scopes[0].children + scopes[0].others > 0));
 #endif
     return is_beside;
+}
+
+bool has_racy_report(void) { return has_races; }
+
+bool is_stepping(void) { return stepping; }
+
+bool is_on_stack(const void *address) {
+    const uintptr_t below = (uintptr_t)1 << 20;
+    return (uintptr_t)address - (stack_first - below) < stack_size + below;
 }

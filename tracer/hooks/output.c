@@ -55,3 +55,46 @@ void output_make_room(struct output *output) {
     uint64_t left = output->most - output->written;
     output->room = left < sizeof output->bytes ? left : sizeof output->bytes;
 }
+
+/* ---- Where it goes ---- */
+
+int output_move_away(const char *variable, int file) {
+    int moved = fcntl(file, F_DUPFD_CLOEXEC, 64);
+    if (moved < 0)
+        fail("%s: descriptor %d: %s", variable, file, strerror(errno));
+    return moved;
+}
+
+/* As far as the system lets us; what isn't a pipe stays as it is. */
+static void enlarge_pipe(int file) {
+    for (int size = PIPE; size > PIECE && fcntl(file, F_SETPIPE_SZ, size) < 0; size /= 2)
+        continue;
+}
+
+int output_named_file(const char *variable, const char *name) {
+    if (strncmp(name, "fd:", 3) != 0)
+        return -1;
+    char *rest;
+    long file = strtol(name + 3, &rest, 10);
+    if (name[3] < '0' || name[3] > '9' || *rest != '\0' || file <= STDERR_FILENO || file > 65535)
+        fail("%s=%s: expected fd:N, with the number N of an open descriptor above 2", variable, name);
+    int moved = output_move_away(variable, (int)file);
+    close((int)file);
+    return moved;
+}
+
+void output_open(struct output *output, const char *variable, const char *name) {
+    output->name = name;
+    output->file = output_named_file(variable, name);
+    if (strcmp(name, "-") == 0) {
+        output->file = output_move_away(variable, STDOUT_FILENO);
+        dup2(STDERR_FILENO, STDOUT_FILENO);
+    } else if (output->file < 0) {
+        int file = open(name, O_WRONLY | O_CREAT | O_TRUNC | O_CLOEXEC, 0666);
+        if (file < 0)
+            fail("cannot open %s: %s", name, strerror(errno));
+        output->file = output_move_away(variable, file);
+        close(file);
+    }
+    enlarge_pipe(output->file);
+}

@@ -24,6 +24,14 @@ struct output {
 /* What the run makes; and where each record of it comes from. */
 extern struct output outcome, places;
 
+/* NAME is a file, fd:N an open descriptor, and - the standard output: what the program prints there goes to its standard
+   error instead. VARIABLE is the setting that says so. */
+void output_open(struct output *output, const char *variable, const char *name);
+/* Where NAME is fd:N with a descriptor that isn't the program's, this is that descriptor, out of the way; else -1. */
+int output_named_file(const char *variable, const char *name);
+/* Out of the program's way: its own files keep their numbers, and what it starts doesn't get ours. */
+int output_move_away(const char *variable, int file);
+
 void output_write(struct output *output);
 void output_close(struct output *output);
 void output_make_room(struct output *output);

@@ -1,48 +1,3 @@
-/* Out of the program's way: its own files keep their numbers, and what it starts doesn't get ours. */
-static int move_away(const char *variable, int file) {
-    int moved = fcntl(file, F_DUPFD_CLOEXEC, 64);
-    if (moved < 0)
-        fail("%s: descriptor %d: %s", variable, file, strerror(errno));
-    return moved;
-}
-
-/* As far as the system lets us; what isn't a pipe stays as it is. */
-static void enlarge_pipe(int file) {
-    for (int size = PIPE; size > PIECE && fcntl(file, F_SETPIPE_SZ, size) < 0; size /= 2)
-        continue;
-}
-
-/* Where NAME is fd:N with a descriptor that isn't the program's, this is that descriptor, out of the way; else -1. */
-static int named_file(const char *variable, const char *name) {
-    if (strncmp(name, "fd:", 3) != 0)
-        return -1;
-    char *rest;
-    long file = strtol(name + 3, &rest, 10);
-    if (name[3] < '0' || name[3] > '9' || *rest != '\0' || file <= STDERR_FILENO || file > 65535)
-        fail("%s=%s: expected fd:N, with the number N of an open descriptor above 2", variable, name);
-    int moved = move_away(variable, (int)file);
-    close((int)file);
-    return moved;
-}
-
-/* NAME is a file, fd:N an open descriptor, and - the standard output: what the program prints there goes to its
-   standard error instead. */
-static void open_output(struct output *output, const char *variable, const char *name) {
-    output->name = name;
-    output->file = named_file(variable, name);
-    if (strcmp(name, "-") == 0) {
-        output->file = move_away(variable, STDOUT_FILENO);
-        dup2(STDERR_FILENO, STDOUT_FILENO);
-    } else if (output->file < 0) {
-        int file = open(name, O_WRONLY | O_CREAT | O_TRUNC | O_CLOEXEC, 0666);
-        if (file < 0)
-            fail("cannot open %s: %s", name, strerror(errno));
-        output->file = move_away(variable, file);
-        close(file);
-    }
-    enlarge_pipe(output->file);
-}
-
 /* A number of bytes for the trace; where none is said, a quarter of the space that is free where it goes to a file. */
 static void set_limit(bool is_file) {
     struct statvfs space;
@@ -53,7 +8,7 @@ static void set_limit(bool is_file) {
 }
 
 static void open_places(const char *name) {
-    open_output(&places, "SPBAGS_PLACES", name);
+    output_open(&places, "SPBAGS_PLACES", name);
     keep_places(name);
 }
 
@@ -62,7 +17,7 @@ static void open_outputs(const char *name) {
     static char beside[4096];
     const char *places_name = settings_given(SETTING_PLACES);
     struct stat about;
-    open_output(&outcome, "SPBAGS_TRACE", name);
+    output_open(&outcome, "SPBAGS_TRACE", name);
     bool is_file = fstat(outcome.file, &about) == 0 && S_ISREG(about.st_mode);
     set_limit(is_file);
     if (!places_name && is_file && strcmp(name, "-") != 0 && strncmp(name, "fd:", 3) != 0) {
@@ -72,23 +27,6 @@ static void open_outputs(const char *name) {
     }
     if (places_name && *places_name)
         open_places(places_name);
-}
-
-/* The program's thread may end before the process, by pthread_exit. Without the threads of the detector and of a team's
-   members the process would end with it. So it ends behind the program's own destructors. */
-static pthread_key_t thread_end;
-
-static void end_with_thread(void *key) {
-    static int rounds;
-    if (is_traced() && ++rounds < PTHREAD_DESTRUCTOR_ITERATIONS)
-        pthread_setspecific(thread_end, key);
-    else if (is_traced())
-        exit(0);
-}
-
-static void watch_thread_end(void) {
-    pthread_key_create(&thread_end, end_with_thread);
-    pthread_setspecific(thread_end, &thread_end);
 }
 
 #ifdef SPBAGS_INSIDE
@@ -122,9 +60,9 @@ static void start_detector(void) {
     outcome.name = "standard error";
     report_is_asked = name;
     if (name)
-        open_output(&outcome, "SPBAGS_REPORT", name);
+        output_open(&outcome, "SPBAGS_REPORT", name);
     else
-        outcome.file = move_away("SPBAGS_REPORT", STDERR_FILENO);
+        outcome.file = output_move_away("SPBAGS_REPORT", STDERR_FILENO);
     if (places_name)
         open_places(places_name);
     find_heap();
@@ -134,51 +72,25 @@ static void start_detector(void) {
 }
 #endif
 
-/* In the way of spbags-run: lines about the run go to it, a second run looks at the places of a report, and where the
-   program forks there is no answer. */
-static void refuse_fork(void) {
-    if (doing.tracing)
-        fail("the program forks, and only one process can be traced");
-}
-
-static void tell_fork(void) {
-    static bool told;
-    if (!doing.tracing || !detects() || told)
-        return;
-    tell("the program forks, and the report is of its first process only");
-    told = true;
-}
-
-/* This fork calls no handlers. */
-pid_t __real__Fork(void);
-pid_t __wrap__Fork(void) {
-    if (tells_records())
-        refuse_fork();
-    tell_fork();
-    pid_t child = __real__Fork();
-    if (child == 0)
-        stop_tracing();
-    return child;
-}
-
 #ifndef SPBAGS_OPENMP
 static void open_waited(int file) { close(file); }
 #endif
 
+/* What spbags-run asks for. */
 static void open_ways(void) {
     const char *said = settings_text(SETTING_SAYS), *report = settings_text(SETTING_LOOK);
     const char *units = settings_text(SETTING_DIVIDE), *waits = settings_text(SETTING_WAITED);
     if (said) {
-        tell_file = named_file("SPBAGS_SAYS", said);
+        tell_file = output_named_file("SPBAGS_SAYS", said);
         pthread_atfork(refuse_fork, NULL, NULL);
     }
     last_record = settings_number_or(SETTING_LAST, UINT64_MAX);
     if (units)
-        divide_units(named_file("SPBAGS_DIVIDE", units));
+        divide_units(output_named_file("SPBAGS_DIVIDE", units));
     if (report)
-        start_look(named_file("SPBAGS_LOOK", report));
+        start_look(output_named_file("SPBAGS_LOOK", report));
     if (waits)
-        open_waited(named_file("SPBAGS_WAITED", waits));
+        open_waited(output_named_file("SPBAGS_WAITED", waits));
     settings_forget(SETTING_SAYS);
     settings_forget(SETTING_LOOK);
     settings_forget(SETTING_DIVIDE);
@@ -264,8 +176,7 @@ static void put_header(void) {
 __attribute__((constructor(101))) static void start(void) {
     const char *name = settings_text(SETTING_TRACE);
     settings_help();
-    is_incomplete_ok = settings_is(SETTING_INCOMPLETE_OK, "1");
-    racy_status = settings_status(SETTING_EXITCODE);
+    ends_read_settings();
     if (!name && !HAS_DETECTOR) {
         if (racy_status != PROGRAMS_OWN)
             fail("SPBAGS_EXITCODE asks for a report, and there is no detector inside: link without --trace");
@@ -297,11 +208,7 @@ __attribute__((constructor(101))) static void start(void) {
     find_stack();
     *top = (struct frame){.kind = ROOT, .end = UINTPTR_MAX};
     procedures = most_procedures = 1;
-    traced_process = getpid();
-    watch_thread_end();
-    pthread_atfork(tell_fork, NULL, stop_tracing);
-    at_quick_exit(quick_end);
-    on_exit(keep_status, NULL);
+    ends_begin();
     if (name && !doing.looking)
         put_header();
 #ifdef SPBAGS_INSIDE
@@ -312,13 +219,4 @@ __attribute__((constructor(101))) static void start(void) {
     find_short_way();
     catch_signals();
     watch_begin();
-}
-
-/* After the program's own handlers. */
-__attribute__((destructor(101))) static void finish(void) {
-    int status = end_trace_of_own();
-    if (status != own_status) {
-        fflush(NULL);
-        __real__exit(status);
-    }
 }

@@ -1,0 +1,136 @@
+/* Signals that end the program. */
+#include "changes.h"
+#include "doing.h"
+#include "ends.h"
+#include "stacks.h"
+#include "tell.h"
+#include "watch.h"
+
+enum { LAST_SIGNAL = 64 };
+
+/* What the program itself causes: it can't go on, and no hook is about to change anything then. */
+static bool is_fault(int number, const siginfo_t *about) {
+    bool may_be = number == SIGSEGV || number == SIGBUS || number == SIGFPE || number == SIGILL || number == SIGTRAP ||
+                  number == SIGSYS;
+    return may_be && about->si_code > 0;
+}
+
+sighandler_t __real_signal(int number, sighandler_t wanted);
+int __real_sigaction(int number, const struct sigaction *wanted, struct sigaction *before);
+
+static void die_by(int number) {
+    sigset_t one;
+    sigemptyset(&one);
+    sigaddset(&one, number);
+    __real_signal(number, SIG_DFL);
+    raise(number);
+    sigprocmask(SIG_UNBLOCK, &one, NULL);
+}
+
+/* strsignal may take memory. */
+static const char *name_of(int number) {
+    const char *name = sigdescr_np(number);
+    return name ? name : "a real-time signal";
+}
+
+void end_by_signal(int number) {
+    waiting_signal = 0;
+    tell_record(tell_numbered("end signal", (uint64_t)number).text,
+                "the program ends by signal %d (%s), and the %s has what came before", number, name_of(number),
+                outcome_name());
+    end_racy();
+    die_by(number);
+}
+
+/* The handler returns, and the run goes on at its end, there and with all signals blocked: no handler calls the
+   detector. */
+static void end_after_handler(int number, ucontext_t *context) {
+    enum { DIRECTION = 1 << 10 };
+    greg_t *registers = context->uc_mcontext.gregs;
+    registers[REG_RIP] = (greg_t)end_by_signal;
+    registers[REG_RDI] = number;
+    registers[REG_RSP] = (greg_t)(signal_stack + sizeof signal_stack - 8);
+    registers[REG_EFL] &= ~DIRECTION;
+    sigfillset(&context->uc_sigmask);
+}
+
+/* The detector was at work, and can't go on. */
+static void die_inside(int number) {
+    tell("the program ends by signal %d (%s) inside the detector, so there is no report", number, name_of(number));
+    die_by(number);
+}
+
+/* Where the trace can't be closed at once, since its reader doesn't read, signals that come again are of use. */
+static void on_signal(int number, siginfo_t *about, void *context) {
+    enum { ENOUGH = 4 };
+    static int came;
+    if (watch_is_signal(number, about)) {
+        watch_look();
+        return;
+    }
+    bool fault = is_fault(number, about);
+    came++;
+    if (!is_traced() || came == ENOUGH)
+        die_by(number);
+    else if ((changes > 0 || is_stepping()) && !fault)
+        waiting_signal = number;
+    else {
+        if (fault && number == SIGSEGV && is_on_stack(about->si_addr))
+            tell("the program needs more stack than its limit, which ulimit -s sets");
+        if (is_stepping())
+            die_inside(number);
+        else
+            end_after_handler(number, context);
+    }
+}
+
+/* Signals that end no program by themselves. */
+static bool is_harmless(int number) {
+    static const int harmless[] = {SIGCHLD, SIGCONT, SIGSTOP, SIGTSTP, SIGTTIN, SIGTTOU, SIGURG, SIGWINCH};
+    for (size_t at = 0; at < sizeof harmless / sizeof *harmless; at++)
+        if (harmless[at] == number)
+            return true;
+    return false;
+}
+
+static int catch_signal(int number, struct sigaction *before) {
+    struct sigaction caught = {.sa_sigaction = on_signal, .sa_flags = SA_SIGINFO | SA_ONSTACK | SA_RESTART};
+    sigfillset(&caught.sa_mask);
+    return __real_sigaction(number, &caught, before);
+}
+
+void catch_signals(void) {
+    struct sigaction before;
+    sigaltstack(&(stack_t){.ss_sp = signal_stack, .ss_size = sizeof signal_stack}, NULL);
+    for (int number = 1; number <= LAST_SIGNAL; number++)
+        if (!is_harmless(number) && __real_sigaction(number, NULL, &before) == 0 && before.sa_handler == SIG_DFL)
+            catch_signal(number, NULL);
+}
+
+/* For the program the handler above is the system's own end by a signal, and where it wants that, it gets the handler. */
+int __wrap_sigaction(int number, const struct sigaction *wanted, struct sigaction *before) {
+    bool ends = wanted && wanted->sa_handler == SIG_DFL && is_traced() && !is_harmless(number);
+    if (wanted && !ends)
+        watch_leave_signal(number);
+    int answer = ends ? catch_signal(number, before) : __real_sigaction(number, wanted, before);
+    if (answer == 0 && before && before->sa_sigaction == on_signal)
+        *before = (struct sigaction){.sa_handler = SIG_DFL};
+    return answer;
+}
+
+static sighandler_t set_handler(sighandler_t set(int, sighandler_t), int number, sighandler_t wanted) {
+    struct sigaction usual = {.sa_handler = SIG_DFL}, before;
+    if (wanted == SIG_DFL)
+        return __wrap_sigaction(number, &usual, &before) == 0 ? before.sa_handler : SIG_ERR;
+    watch_leave_signal(number);
+    sighandler_t replaced = set(number, wanted);
+    return (void *)replaced == (void *)on_signal ? SIG_DFL : replaced;
+}
+
+sighandler_t __wrap_signal(int number, sighandler_t wanted) { return set_handler(__real_signal, number, wanted); }
+
+/* That of a program compiled as strict ISO C. */
+sighandler_t __real___sysv_signal(int number, sighandler_t wanted);
+sighandler_t __wrap___sysv_signal(int number, sighandler_t wanted) {
+    return set_handler(__real___sysv_signal, number, wanted);
+}
