@@ -483,7 +483,7 @@ class Batch:
 
     def run(self, *words, statuses=(0,), files=None, **settings):
         numbers = {name: file.fileno() for name, file in (files or {}).items()}
-        settings |= {name: f"fd:{number}" for name, number in numbers.items()}
+        settings |= {name: f"fd:{number:05}" for name, number in numbers.items()}
         done = subprocess.run(words, capture_output=True, text=True, env={**os.environ, **settings},
                               pass_fds=numbers.values())
         if done.returncode not in statuses:
@@ -523,8 +523,11 @@ class Batch:
         trace, is_second = f"{self.name}.{writer.number}", os.fstat(files["SPBAGS_WAITED"].fileno()).st_size > 0
         self.run(self.name, str(writer.number), files=files, SPBAGS_TRACE=trace, SPBAGS_REPORT="", **settings)
         report = self.run(SPBAGS, "check", trace, statuses=(0, 1))
-        if INSIDE and report != self.own_report(writer, trace[:-1] + "~", settings, files if is_second else {}):
-            self.differing.append(way)
+        if INSIDE:
+            with tempfile.TemporaryFile() as waited, tempfile.TemporaryFile() as said:
+                again = {"SPBAGS_WAITED": files["SPBAGS_WAITED"] if is_second else waited, "SPBAGS_SAYS": said}
+                if report != self.own_report(writer, trace[:-1] + "~", settings, again):
+                    self.differing.append(way)
         os.remove(trace)
         os.remove(trace + ".places")
         return sorted(map(self.names(writer), (int(line.split()[1]) for line in report.splitlines()[1:])))
