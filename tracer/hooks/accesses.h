@@ -58,10 +58,9 @@ static inline bool are_repeats(bool writes, const uint32_t *mark, size_t units) 
 }
 
 static inline bool are_done(bool writes, const uint8_t *done, size_t units) {
-    const uint8_t bits = writes ? WROTE_IT : READ_IT | WROTE_IT;
 #pragma GCC unroll 4
     for (size_t unit = 0; unit < units; unit++)
-        if ((done[unit] & bits) == 0)
+        if (!was_done(writes, done[unit]))
             return false;
     return true;
 }
@@ -158,8 +157,8 @@ __attribute__((noinline)) static void note_first(bool writes, uintptr_t at, uint
 
 /* The same of two. */
 static inline void note_two(bool writes, uintptr_t at, uint8_t *done, uintptr_t code) {
-    const uint8_t bit = writes ? WROTE_IT : READ_IT, bits = writes ? WROTE_IT : READ_IT | WROTE_IT;
-    const bool first = (done[0] & bits) == 0, second = (done[1] & bits) == 0;
+    const uint8_t bit = writes ? WROTE_IT : READ_IT;
+    const bool first = !was_done(writes, done[0]), second = !was_done(writes, done[1]);
     if (first)
         set_bit(&done[0], bit);
     if (second)

@@ -84,11 +84,11 @@ static inline struct touched block_at(uintptr_t address) {
 
 /* The block of this heap block of a span, where that has died in the strand of its birth. */
 static struct touched dead_block(size_t span, size_t number) {
-    uintptr_t region = span_first(span) & ~region_mask;
-    struct touched first = block_at(region);
-    size_t at = span % REGION_SPANS * DEAD_BLOCKS + number / BLOCK_UNITS + region_units() / BLOCK_UNITS;
+    intptr_t row = row_of(span_first(span));
+    size_t at = (span % REGION_SPANS * DEAD_BLOCKS + number / BLOCK_UNITS) * BLOCK_UNITS;
+    uint8_t *done = (uint8_t *)row + ((span_first(span) & ~region_mask) >> unit_shift) + region_units() + at;
     uint64_t location = 2 * ((name_of_dead(&spans_lives, span) >> unit_shift) + (number & ~(size_t)(BLOCK_UNITS - 1)));
-    return (struct touched){first.block + at, first.done + at * BLOCK_UNITS, location};
+    return (struct touched){block_of(row, span_first(span), done), done, location};
 }
 
 /* A bit for each of a block's units whose byte has this one. */
@@ -101,19 +101,35 @@ static inline uint64_t units_with(const uint8_t *done, int bit) {
     return units;
 }
 
+static inline bool was_done(bool writes, uint8_t done) {
+    return (done & (writes ? WROTE_IT : READ_IT | WROTE_IT)) != 0;
+}
+
 /* What isn't a repeat of these. */
 static inline uint64_t new_units(bool writes, const uint8_t *done, uint64_t units) {
     return units & ~(units_with(done, WROTE_IT) | (writes ? 0 : units_with(done, READ_IT)));
 }
 
+static inline void set_in_all(uint8_t *done, uint8_t bit) {
+    const __m128i bits = _mm_set1_epi8((char)bit);
+    for (unsigned part = 0; part < BLOCK_UNITS; part += 16) {
+        __m128i *bytes = (void *)(done + part);
+        _mm_store_si128(bytes, _mm_or_si128(_mm_load_si128(bytes), bits));
+    }
+}
+
 static inline void set_done(uint8_t *done, uint64_t units, uint8_t bit) {
+    if (units == UINT64_MAX) {
+        set_in_all(done, bit);
+        return;
+    }
     for (; units != 0; units &= units - 1)
         done[__builtin_ctzll(units)] |= bit;
 }
 
-static inline void clear_done(uint8_t *done, uint64_t units, uint8_t bits) {
+static inline void clear_done(uint8_t *done, uint64_t units, uint8_t bit) {
     for (; units != 0; units &= units - 1)
-        done[__builtin_ctzll(units)] &= (uint8_t)~bits;
+        done[__builtin_ctzll(units)] &= (uint8_t)~bit;
 }
 
 /* ---- The blocks of some memory ---- */
@@ -135,22 +151,4 @@ static inline struct part_of_block part_from(uintptr_t address, uintptr_t end) {
     uintptr_t block_end = (address | (block_size() - 1)) + 1, last = end < block_end ? end : block_end;
     size_t count = (last - address + unit_mask) >> unit_shift;
     return (struct part_of_block){block_at(address), units_from(unit_in_block(address), count), last};
-}
-
-/* The accesses of these units are left out, as far as they haven't gone out. */
-static void leave_out(uintptr_t address, uintptr_t end) {
-    while (address < end) {
-        struct part_of_block part = part_from(address, end);
-        clear_done(part.in.done, part.units, READ_IT | WROTE_IT);
-        address = part.end;
-    }
-}
-
-static void set_dead(uintptr_t address, uintptr_t end) {
-    while (address < end) {
-        struct part_of_block part = part_from(address, end);
-        part.in.block->dead |= part.units;
-        clear_done(part.in.done, part.units, QUICK);
-        address = part.end;
-    }
 }

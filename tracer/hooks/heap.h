@@ -266,7 +266,7 @@ static uint64_t location_if_dead(uintptr_t address) {
 static void note_dead(bool writes, uintptr_t address, uintptr_t code) {
     size_t span = span_of_block(address), number = block_in(span, address);
     struct touched in = dead_block(span, number);
-    if (new_units(writes, in.done, units_from(number % BLOCK_UNITS, 1)) != 0)
+    if (!was_done(writes, in.done[number % BLOCK_UNITS]))
         block_record(writes, in, number % BLOCK_UNITS, address, code);
 }
 
@@ -294,7 +294,6 @@ static bool is_of_strand(uintptr_t block) {
 static void die(uintptr_t block, size_t size) {
     *born_at(span_of_block(block), block) = DYING;
     spans[span_of_block(block)].has_dead = true;
-    leave_out(block, block + size);
     set_dead(block, block + size);
 }
 

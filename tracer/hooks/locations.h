@@ -112,9 +112,11 @@ static bool has_views, notes_quickly;
 
 static void follow_views(void) {
     notes_quickly = only_detects() && !has_views;
+    const uintptr_t bits = leave_short_way();
     for (size_t at = 0; at < strand.used && !notes_quickly; at++)
         if (strand.list[at].block)
-            leave_quick(strand.list[at].done);
+            clear_done(strand.list[at].done, UINT64_MAX, QUICK);
+    take_short_way(bits);
 }
 
 /* Whether an access of this unit is an update of a view, which has a part of the unit or all of it; and whether it is a
@@ -148,7 +150,7 @@ static void note_block_unit(bool writes, struct touched in, unsigned unit, uintp
         return;
     in.block->dead &= ~bit;
     if (has_views) {
-        bool repeats = new_units(false, in.done, bit) == 0;
+        bool repeats = was_done(false, in.done[unit]);
         enum update update = update_of_view(address, unit_shift, repeats);
         if (update != NO_UPDATE && repeats)
             return;
@@ -187,11 +189,7 @@ static inline bool may_begin_quick(const struct block *block) {
 
 /* The same of a block in which something may have been accessed. */
 static void note_quickly(struct touched in) {
-    const __m128i quick = _mm_set1_epi8((char)QUICK);
-    for (unsigned part = 0; part < BLOCK_UNITS; part += 16) {
-        __m128i *bytes = (void *)(in.done + part);
-        _mm_store_si128(bytes, _mm_or_si128(_mm_load_si128(bytes), quick));
-    }
+    set_in_all(in.done, QUICK);
     clear_done(in.done, in.block->dead, QUICK);
 }
 

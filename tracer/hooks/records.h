@@ -133,13 +133,19 @@ static void end_records(void);
 /* Where the run ends meanwhile, as a signal handler may end it, the rest goes out then. */
 static void put_strand(void) {
     static size_t at;
+    const uintptr_t bits = leave_short_way();
     end_records();
     if (doing.looking)
         forget_pending();
-    while (at < strand.used)
+    while (at < strand.used) {
+        __builtin_prefetch(strand.list[at + AHEAD].done);
+        __builtin_prefetch(strand.list[at + AHEAD].block);
         put_block(&strand.list[at++]);
+    }
     at = strand.used = 0;
+    strand.has_gaps = false;
     strand.before++;
+    take_short_way(bits);
 }
 
 /* The access is new in its block. */
@@ -274,6 +280,7 @@ static void put_alone(struct block *block) {
     struct touched *touched = &strand.list[block->place - 1];
     put_block(touched);
     touched->block = NULL;
+    strand.has_gaps = true;
 }
 
 /* Some blocks in a row go out, at most 64, and the detector is told which of them it has. */
@@ -307,8 +314,10 @@ static void end_dead_blocks(struct life_end end) {
 static void end_life_record(struct life_end end) {
     begin_records();
     end_records();
+    const uintptr_t bits = leave_short_way();
     end_span_blocks(end.span);
     end_dead_blocks(end);
+    take_short_way(bits);
     finish_records();
     begin_life(&spans_lives, end.span);
 }

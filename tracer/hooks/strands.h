@@ -18,12 +18,17 @@ static inline bool is_of_byte(uint64_t location);
 
 static inline bool is_gathered(uint64_t location) { return location % 2 == 0 && !is_of_byte(location); }
 
+/* So many blocks before one goes out, it is looked for. */
+enum { AHEAD = 8 };
+
 /* The part at hand: how many went before, its blocks, without one where that has gone out alone, and the number of the
    site of each of their accesses where that is kept: the reads', and then the writes'. */
 static struct part_of_strand {
     uint64_t before;
     size_t used;
-    struct touched list[MOST_BLOCKS];
+    /* Whether something was left out. */
+    bool has_gaps;
+    struct touched list[MOST_BLOCKS + AHEAD];
     uint16_t sites[MOST_BLOCKS][2][BLOCK_UNITS];
 } strand;
 
@@ -36,21 +41,24 @@ static inline void place_block(struct touched touched) {
     touched.block->place = (uint32_t)++strand.used;
 }
 
-/* Where the bytes don't say QUICK, a handler of a signal comes to list_block, whatever it accesses. */
-static inline void leave_quick(uint8_t *done) {
-    const __m128i others = _mm_set1_epi8(QUICK - 1);
-    for (unsigned part = 0; part < BLOCK_UNITS; part += 16) {
-        __m128i *bytes = (void *)(done + part);
-        _mm_store_si128(bytes, _mm_and_si128(_mm_load_si128(bytes), others));
-    }
+/* While blocks go out no access goes the short way: where a handler of a signal makes a new one, the run ends. */
+static inline uintptr_t leave_short_way(void) {
+    const uintptr_t bits = short_way_bits;
+    short_way_bits = short_way_end = 0;
     in_order();
+    return bits;
+}
+
+static inline void take_short_way(uintptr_t bits) {
+    in_order();
+    short_way_bits = bits;
+    follow_top();
 }
 
 static bool is_left(struct touched touched) {
     if (!touched.block)
         return false;
     touched.block->place = 0;
-    leave_quick(touched.done);
     return (units_with(touched.done, READ_IT) | units_with(touched.done, WROTE_IT)) != 0 || touched.block->is_divided;
 }
 
@@ -58,9 +66,12 @@ static bool is_left(struct touched touched) {
 static void drop_empty(void) {
     size_t used = strand.used;
     strand.used = 0;
+    strand.has_gaps = false;
     for (size_t at = 0; at < used; at++) {
-        if (!is_left(strand.list[at]))
+        if (!is_left(strand.list[at])) {
+            memset(strand.list[at].done, 0, strand.list[at].block ? BLOCK_UNITS : 0);
             continue;
+        }
         if (strand.used < at)
             memcpy(strand.sites[strand.used], strand.sites[at], sizeof *strand.sites);
         place_block(strand.list[at]);
@@ -68,7 +79,10 @@ static void drop_empty(void) {
 }
 
 __attribute__((noinline, cold)) static void make_room(void) {
-    drop_empty();
+    const uintptr_t bits = leave_short_way();
+    if (strand.has_gaps)
+        drop_empty();
+    take_short_way(bits);
     if (strand.used > MOST_BLOCKS / 4 * 3)
         put_strand();
 }
@@ -82,6 +96,18 @@ static inline void list_block(struct touched touched) {
     place_block(touched);
 }
 
+/* This memory of a heap block dies in the strand of its birth: its accesses are left out, as far as they haven't gone
+   out. */
+static void set_dead(uintptr_t address, uintptr_t end) {
+    strand.has_gaps = true;
+    while (address < end) {
+        struct part_of_block part = part_from(address, end);
+        memset(part.in.done + unit_in_block(address), 0, (part.end - address + unit_mask) >> unit_shift);
+        part.in.block->dead |= part.units;
+        address = part.end;
+    }
+}
+
 static uint64_t own_units(uintptr_t address);
 
 /* The units of a block, which is empty then: those that were read, and those that were written. */
@@ -89,7 +115,6 @@ static inline void take_units(const struct touched *touched, uint64_t masks[2]) 
     struct block *block = touched->block;
     const uint64_t own_mask = block->has_own ? own_units(touched->location / 2 << unit_shift) : 0;
     block->place = 0;
-    leave_quick(touched->done);
     masks[false] = units_with(touched->done, READ_IT);
     masks[true] = units_with(touched->done, WROTE_IT) & ~own_mask;
     memset(touched->done, 0, BLOCK_UNITS);

@@ -40,6 +40,8 @@ static void clear_bytes(uintptr_t address, uintptr_t end) { (void)address, (void
 static struct range { uintptr_t first, end; } narrow;
 static void access_record(bool writes, uint64_t location, uintptr_t address, uintptr_t code);
 static inline bool is_of_byte(uint64_t location) { return location >= (uint64_t)1 << 60; }
+static uintptr_t short_way_bits, short_way_end;
+static void follow_top(void) {}
 static void begin_step(void) {}
 static void end_step(void) {}
 enum { USUAL_SHIFT = 2 };
@@ -172,6 +174,16 @@ static void strand_locations(void) {
     }
 }
 
+/* They are no heap's, and don't stay dead. */
+static void die_alone(unsigned first, unsigned end) {
+    set_dead(memory_unit(first), memory_unit(end));
+    for (unsigned unit = first; unit < end; unit++) {
+        struct block *block = block_at(memory_unit(unit)).block;
+        DEMAND((block->dead & units_from(unit % BLOCK_UNITS, 1)) != 0);
+        block->dead = unit % BLOCK_UNITS == BLOCK_UNITS - 1 || unit + 1 == end ? 0 : block->dead;
+    }
+}
+
 /* What is left out has no access any more, and a block of which nothing is left makes room. */
 static void strand_left_out(void) {
     enum { MOST = 3 * BLOCK_UNITS };
@@ -183,7 +195,7 @@ static void strand_left_out(void) {
         touch(true, memory_unit(unit), 4, 0);
         left[unit / BLOCK_UNITS] |= units_from(unit % BLOCK_UNITS, 1);
         if (drawn(20) == 0) {
-            leave_out(memory_unit(first), memory_unit(end));
+            die_alone(first, end);
             for (unsigned gone = first; gone < end; gone++)
                 left[gone / BLOCK_UNITS] &= ~units_from(gone % BLOCK_UNITS, 1);
         }
@@ -193,7 +205,7 @@ static void strand_left_out(void) {
     size_t parts = out.parts;
     for (unsigned block = 0; block < 100; block++) {
         touch(true, memory_unit(block % 10 * BLOCK_UNITS), 4, 0);
-        leave_out(memory_unit(0), memory_unit(10 * BLOCK_UNITS));
+        die_alone(0, 10 * BLOCK_UNITS);
     }
     DEMAND(out.parts == parts);
 }
