@@ -31,6 +31,9 @@ TOUCHED = re.compile("_Cilk_|_Hyperobject|always_inline|no_sanitize|disable_sani
 IGNORED = re.compile(r"^[ \t]*#[ \t]*pragma[ \t]+(?:omp|cilk)\b.*", re.MULTILINE)
 
 SHAPES = "write `cilk_spawn f(..);', `x = cilk_spawn f(..);' or `x += cilk_spawn f(..);' as a statement of its own"
+# The result's memory, but for what a call gives in a register: no number and no pointer has any on the way.
+HELD = "__builtin_choose_expr(sizeof __spbags_result <= 8 && __builtin_classify_type(__spbags_result) < 12, " \
+       "(const volatile void *)0, (const volatile void *)&__spbags_result)"
 REFUSED = {
     **{word: f"{word} is no keyword here: write `#include <cilk/cilk.h>' above"
        for word in ("cilk_spawn", "cilk_sync", "cilk_for", "cilk_scope")},
@@ -114,7 +117,7 @@ class Spawn:
             # Never done, as only the hooks know; but where it could be, arguments pass below the stack pointer.
             "if (!__spbags_g) __spbags_stored(__builtin_alloca(16), 0);",
             f"__auto_type __spbags_result = {result};", *stored,
-            "__spbags_return(&__spbags_result, sizeof __spbags_result); }"]
+            f"__spbags_return({HELD}, sizeof __spbags_result); }}"]
         return self.here + declared + " ".join(made) + self.tokens[self.last].marker()
 
 

@@ -156,7 +156,8 @@ void __spbags_return(const volatile void *result, unsigned long size) {
     if (top->kind != CHILD)
         return;
     clear_below(top->stack_pointer);
-    clear((uintptr_t)result, size);
+    if (result)
+        clear((uintptr_t)result, size);
     leave_top(code);
 }
 
