@@ -25,11 +25,11 @@ static sem_t full_bundles, free_bundles;
 static pthread_t detector;
 /* The bundle that is filled, and where the next record goes. */
 static struct bundle *filling;
-static uint64_t *next_record;
+uint64_t *next_record __asm__("__spbags_next_record");
 /* Where the window begins, and where it or the bundle ends. What is behind that beginning goes into the next bundle. */
 static uint64_t *window, *window_end;
 /* So far is a record in memory from its place among all that went before. */
-static uintptr_t records_origin;
+uintptr_t records_origin __asm__("__spbags_records_origin");
 
 static inline void limit_window(void) {
     uint64_t *bundle_end = filling->records + BUNDLE_RECORDS;
@@ -280,6 +280,8 @@ static void end_detector(bool has_more_to_say) {
     pthread_join(detector, NULL);
 }
 #else
+uint64_t *next_record __asm__("__spbags_next_record");
+uintptr_t records_origin __asm__("__spbags_records_origin");
 enum { stepping = false, has_races = false };
 static void start_detector(void) {}
 static inline void begin_step(void) {}

@@ -41,7 +41,7 @@ struct frame {
 };
 
 /* All, and the newest one. */
-extern struct frame *frames, *frames_end, *top;
+extern struct frame *frames, *frames_end __asm__("__spbags_frames_end"), *top __asm__("__spbags_top");
 /* What the function of this frame and those around it update atomically isn't recorded, but what they call is. Or NULL. */
 extern struct frame *silent_frame;
 /* What holds the newest group of tasks, or NULL. */

@@ -55,3 +55,52 @@
 .macro __spbags_write HOOK, SIZE
 	__spbags_inline_check \HOOK, __spbags_first_write\SIZE, __spbags_stack_write\SIZE, \SIZE, 2, 2, ja, jbe
 .endm
+# The usual entry of a function, in place of the call of its hook: accesses go the short way, the newest frame hasn't
+# ended, and nothing has a mark below this one's end. A frame has 56 bytes: its end; its kind, which is 2 for a child, and
+# three numbers, all of them 0 here; how many records went before it; and what only others have.
+.macro __spbags_entry
+	leaq 16(%rbp), %rcx
+	movq __spbags_top(%rip), %rax
+	cmpq __spbags_short_way_first(%rip), %rcx
+	jb .Lspbags_hook\@
+	cmpq __spbags_lowest(%rip), %rcx
+	ja .Lspbags_hook\@
+	cmpq (%rax), %rcx
+	jae .Lspbags_hook\@
+	addq $56, %rax
+	cmpq __spbags_frames_end(%rip), %rax
+	je .Lspbags_hook\@
+	movq __spbags_next_record(%rip), %rdx
+	subq __spbags_records_origin(%rip), %rdx
+	movq %rcx, (%rax)
+	movq $0, 8(%rax)
+	movq $0, 16(%rax)
+	movq %rdx, 24(%rax)
+	movq %rax, __spbags_top(%rip)
+	movq %rcx, __spbags_short_way_end(%rip)
+	jmp .Lspbags_done\@
+.Lspbags_hook\@:
+	call __tsan_func_entry
+.Lspbags_done\@:
+.endm
+# And its usual exit: the newest frame is the function's, with nothing that stands open.
+.macro __spbags_exit
+	leaq 16(%rbp), %rcx
+	cmpq __spbags_short_way_end(%rip), %rcx
+	jne .Lspbags_hook\@
+	cmpq __spbags_lowest(%rip), %rcx
+	ja .Lspbags_hook\@
+	movq __spbags_top(%rip), %rax
+	movq 8(%rax), %rdx
+	orq 16(%rax), %rdx
+	jne .Lspbags_hook\@
+	cmpl $2, -48(%rax)
+	cmovneq -56(%rax), %rdx
+	subq $56, %rax
+	movq %rax, __spbags_top(%rip)
+	movq %rdx, __spbags_short_way_end(%rip)
+	jmp .Lspbags_done\@
+.Lspbags_hook\@:
+	call __tsan_func_exit
+.Lspbags_done\@:
+.endm

@@ -28,7 +28,7 @@ static inline uint64_t strand_now(void) { return (uint64_t)strands_again << 32 |
 /* Where the mark of the unit 0 would stand, if those of the stack went on. */
 static uintptr_t stack_marks;
 /* No mark of the stack that runs stands below this address, which begins a unit. */
-static uintptr_t lowest;
+uintptr_t lowest __asm__("__spbags_lowest");
 
 static uintptr_t stack_first, stack_size;
 

@@ -2,26 +2,36 @@
 #include "frames.h"
 #include "hidden.h"
 
-/* The stack memory below this address has no variable any more. What had one began after the newest frame. */
-ALWAYS_INLINE void clear_below(uintptr_t address) {
-    if (lowest >= address)
-        return;
+/* By these numbers the text in inline_checks.s knows a frame. */
+_Static_assert(offsetof(struct frame, end) == 0 && offsetof(struct frame, kind) == 8 &&
+                   offsetof(struct frame, called) == 12 && offsetof(struct frame, children) == 16 &&
+                   offsetof(struct frame, node) == 20 && offsetof(struct frame, position) == 24 &&
+                   sizeof(struct frame) == 56 && FUNCTION == 0 && CHILD == 2 && NONE == 0,
+               "inline_checks.s takes a frame for another one");
+
+__attribute__((noinline)) static void clear_from_lowest(uintptr_t address) {
     clear_marks(stack_mark(lowest), stack_mark(address));
     lowest = address & ~unit_mask;
     if (__builtin_expect(any_dies(), 0))
         leave_out_dying(top->position);
 }
 
+/* The stack memory below this address has no variable any more. What had one began after the newest frame. */
+ALWAYS_INLINE void clear_below(uintptr_t address) {
+    if (lowest < address)
+        clear_from_lowest(address);
+}
+
 static bool left_out_update;
 
-/* A function's entry and its end go the short way where its stack memory ends within so many bytes of the stack: none if
-   nothing is recorded. */
-static uintptr_t short_way_stack;
+/* A function's entry and its end go the short way, in inline_checks.s, where its stack memory ends here or above: none
+   where no access does, or where records don't only go to the detector. */
+uintptr_t short_way_first __asm__("__spbags_short_way_first");
 
 void find_short_way(void) {
     bool records = doing.tracing && initialising == 0;
-    short_way_stack = records ? stack_size : 0;
     short_way_bits = records && !watching && unit_shift == USUAL_SHIFT ? UINTPTR_MAX : 0;
+    short_way_first = only_detects() && short_way_bits != 0 ? stack_first : UINTPTR_MAX;
     follow_top();
 }
 
@@ -170,32 +180,14 @@ void __spbags_sync(void) {
     sync_children(top, CODE);
 }
 
-__attribute__((noinline)) static void enter_function(uintptr_t end, uintptr_t code) {
-    if (!doing.tracing)
-        return;
-    if (end - stack_first > stack_size)
-        fail("the program runs on a stack of its own, or on more than %zu bytes of stack", (size_t)stack_size);
-    leave_jumped(end, code);
-    clear_below(end);
-    push_frame(FUNCTION, end);
-}
-
-__attribute__((noinline)) static void leave_function(uintptr_t end, uintptr_t code) {
-    if (!doing.tracing)
-        return;
-    leave_below(end, code);
-    clear_below(end);
-}
-
-static inline bool goes_short_way(uintptr_t end) { return end - stack_first < short_way_stack; }
-
 void __tsan_func_entry(void *caller) {
     (void)caller;
-    uintptr_t end = FRAME_END;
-    if (!goes_short_way(end) || end >= top->end) {
-        enter_function(end, CODE);
+    if (!doing.tracing)
         return;
-    }
+    uintptr_t end = FRAME_END;
+    if (end - stack_first > stack_size)
+        fail("the program runs on a stack of its own, or on more than %zu bytes of stack", (size_t)stack_size);
+    leave_jumped(end, CODE);
     clear_below(end);
     push_frame_at(FUNCTION, end, records_so_far());
 }
@@ -205,9 +197,16 @@ static inline bool ends_quietly(const struct frame *frame) {
     return (frame->kind | frame->called | frame->children | frame->node) == 0;
 }
 
+__attribute__((noinline)) static void leave_function(uintptr_t end, uintptr_t code) {
+    leave_below(end, code);
+    clear_below(end);
+}
+
 void __tsan_func_exit(void) {
+    if (!doing.tracing)
+        return;
     uintptr_t end = FRAME_END;
-    if (!goes_short_way(end) || end != top->end || !ends_quietly(top)) {
+    if (end != top->end || !ends_quietly(top)) {
         leave_function(end, CODE);
         return;
     }
