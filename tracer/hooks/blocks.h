@@ -70,9 +70,7 @@ static inline struct block *block_of(intptr_t row, uintptr_t address, const uint
 }
 
 /* The location of the unit with this address, in the life that its memory has. */
-static inline uint64_t location_in_life(uintptr_t address) {
-    return 2 * (name_in_life(&spans_lives, address) >> unit_shift);
-}
+static inline uint64_t location_in_life(uintptr_t address) { return 2 * (name_in_life(address) >> unit_shift); }
 
 static inline uintptr_t block_size(void) { return (uintptr_t)BLOCK_UNITS << unit_shift; }
 
@@ -87,7 +85,7 @@ static struct touched dead_block(size_t span, size_t number) {
     intptr_t row = row_of(span_first(span));
     size_t at = (span % REGION_SPANS * DEAD_BLOCKS + number / BLOCK_UNITS) * BLOCK_UNITS;
     uint8_t *done = (uint8_t *)row + ((span_first(span) & ~region_mask) >> unit_shift) + region_units() + at;
-    uint64_t location = 2 * ((name_of_dead(&spans_lives, span) >> unit_shift) + (number & ~(size_t)(BLOCK_UNITS - 1)));
+    uint64_t location = 2 * ((name_of_dead(span) >> unit_shift) + (number & ~(size_t)(BLOCK_UNITS - 1)));
     return (struct touched){block_of(row, span_first(span), done), done, location};
 }
 

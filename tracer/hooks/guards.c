@@ -24,7 +24,7 @@ void enter_first_guard(uintptr_t id, const char *name) {
     if (!notes_guards || guards_held == MOST_GUARDS)
         return;
     memmove(guards + 1, guards, guards_held++ * sizeof *guards);
-    guards[0] = (struct guard){name_in_life(&spans_lives, id), name};
+    guards[0] = (struct guard){name_in_life(id), name};
 }
 
 static uint32_t add_list(void) {

@@ -30,7 +30,7 @@ void note_guards(void);
    are held at once no more are noted. */
 static inline void enter_guard(uintptr_t id, const char *name) {
     if (notes_guards && guards_held < MOST_GUARDS)
-        guards[guards_held++] = (struct guard){name_in_life(&spans_lives, id), name};
+        guards[guards_held++] = (struct guard){name_in_life(id), name};
 }
 
 /* Before all others, so that it is the one that is told where two accesses hold several. */
@@ -40,7 +40,7 @@ void enter_first_guard(uintptr_t id, const char *name);
 static inline void leave_guard(uintptr_t id) {
     unsigned at = guards_held;
     if (at > 0)
-        id = name_in_life(&spans_lives, id);
+        id = name_in_life(id);
     while (at > 0 && guards[at - 1].id != id)
         at--;
     if (at == 0)

@@ -68,7 +68,7 @@ static bool map_spans(size_t count) {
     size_t size = (count * span_size + CHUNK - 1) & ~(size_t)(CHUNK - 1);
     if (has_no_spans || spans_mapped + size / span_size > SPANS)
         return false;
-    if (!spans && !(spans_begin(&spans_lives) && (spans = reserve_or_none(SPANS * sizeof *spans))))
+    if (!spans && !(spans_begin() && (spans = reserve_or_none(SPANS * sizeof *spans))))
         return false;
     void *chunk = map_chunk(wish, size);
     if (chunk == MAP_FAILED)
@@ -104,7 +104,7 @@ static void end_span(size_t span) {
     if (doing.tracing)
         end_life_record(end_of_life(span));
     else
-        begin_life(&spans_lives, span);
+        begin_life(span);
     spans[span] = (struct span){0};
 }
 

@@ -245,7 +245,7 @@ static uint64_t location_if_dead(uintptr_t address);
 /* A block with a race is noted, and who allocates it. A function that longjmp left is no caller. */
 static void look_at_block(uintptr_t address, size_t size, uintptr_t stack_pointer, uintptr_t code) {
     uint64_t dead = location_if_dead(address), first = location_in_life(address);
-    address = name_in_life(&spans_lives, address);
+    address = name_in_life(address);
     if (size == 0 || !(has_race(first, 2 * ((address + size - 1) >> unit_shift)) || has_race(dead, dead)))
         return;
     size_t frame = top_at(), at = allocations_count++;
@@ -363,7 +363,7 @@ static void take_look(struct race *race, struct look *look, uintptr_t address, u
     look->is_narrow = bytes_left_out(address) != 0;
     if (look == &race->first)
         return;
-    race->address = name_in_life(&spans_lives, address);
+    race->address = name_in_life(address);
     race->frame = frame_owner(address, look);
     race->data = data_owner(address, look);
     race->is_view = is_view(address);

@@ -62,7 +62,7 @@ static void follow_depend(struct named *names, size_t count, bool is_named, uint
     if (depend_way == IGNORED)
         return;
     for (size_t at = 0; at < count; at++)
-        names[at].address = name_in_life(&spans_lives, names[at].address);
+        names[at].address = name_in_life(names[at].address);
     const struct scope *parent = &scopes[holder_at()];
     if (depends_on_older(names, count, parent) && wait_for_tasks(code))
         depend_wait = depend_wait ? depend_wait : code;

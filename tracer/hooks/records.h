@@ -319,7 +319,7 @@ static void end_life_record(struct life_end end) {
     end_dead_blocks(end);
     take_short_way(bits);
     finish_records();
-    begin_life(&spans_lives, end.span);
+    begin_life(end.span);
 }
 
 /* ---- Records as they come ---- */

@@ -47,7 +47,7 @@ static uint64_t stack_number(uintptr_t address) {
 }
 
 static uint64_t number_at(uintptr_t address) {
-    return is_of_stack(address) ? stack_number(address) : name_in_life(&spans_lives, address);
+    return is_of_stack(address) ? stack_number(address) : name_in_life(address);
 }
 
 /* The view with this byte. One whose memory has ended is none any more. */

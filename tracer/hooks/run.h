@@ -204,7 +204,7 @@ __attribute__((constructor(101))) static void start(void) {
     settings_forget(SETTING_TRACE);
     settings_forget(SETTING_REPORT);
     settings_forget(SETTING_PLACES);
-    spans_need(&spans_lives);
+    spans_need();
     find_stack();
     *top = (struct frame){.kind = ROOT, .end = UINTPTR_MAX};
     procedures = most_procedures = 1;

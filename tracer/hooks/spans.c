@@ -5,13 +5,13 @@
 
 struct lives spans_lives;
 
-bool spans_begin(struct lives *lives) {
-    if (!lives->of)
-        lives->of = reserve_or_none(SPANS * sizeof *lives->of);
-    return lives->of != NULL;
+bool spans_begin(void) {
+    if (!spans_lives.of)
+        spans_lives.of = reserve_or_none(SPANS * sizeof *spans_lives.of);
+    return spans_lives.of != NULL;
 }
 
-void spans_need(struct lives *lives) {
-    if (!spans_begin(lives))
+void spans_need(void) {
+    if (!spans_begin())
         fail("out of memory: %s", strerror(errno));
 }

@@ -13,36 +13,34 @@ struct lives {
     uint32_t *of, newest;
 };
 
-/* Those that the program's memory has now. What goes through older records, as the detector's thread, keeps count of the
-   lives for itself. */
 extern struct lives spans_lives;
 
 /* Makes room for them where there is none: whether there is some then; or the run ends. */
-bool spans_begin(struct lives *lives);
-void spans_need(struct lives *lives);
+bool spans_begin(void);
+void spans_need(void);
 
 /* The number of the span that has this address, or SPANS or more where none has. */
 static inline size_t span_at(uintptr_t address) { return (address - heap_first) >> SPAN_BITS; }
 
 static inline uintptr_t span_first(size_t span) { return heap_first + ((uintptr_t)span << SPAN_BITS); }
 
-static inline void begin_life(struct lives *lives, size_t span) { lives->of[span] = ++lives->newest; }
+static inline void begin_life(size_t span) { spans_lives.of[span] = ++spans_lives.newest; }
 
 /* By this address the memory is named in its life: in the first by its own, and later by one that no memory has. */
-static inline uintptr_t name_in_life(const struct lives *lives, uintptr_t address) {
+static inline uintptr_t name_in_life(uintptr_t address) {
     const uintptr_t first_life = (uintptr_t)1 << 47;
     size_t span = span_at(address);
-    if (span >= SPANS || lives->of[span] == 0)
+    if (span >= SPANS || spans_lives.of[span] == 0)
         return address;
-    return first_life + ((uintptr_t)lives->of[span] << SPAN_BITS) + address % span_size;
+    return first_life + ((uintptr_t)spans_lives.of[span] << SPAN_BITS) + address % span_size;
 }
 
 /* The accesses of a block that died in the strand in which it was born are left out. Where it is used nevertheless, that
    and its end are accesses of one location, which stands for the whole block: of those of a span the first has this
    address. */
-static inline uintptr_t name_of_dead(const struct lives *lives, size_t span) {
+static inline uintptr_t name_of_dead(size_t span) {
     const uintptr_t dead = (uintptr_t)1 << 49;
-    return dead + name_in_life(lives, span_first(span));
+    return dead + name_in_life(span_first(span));
 }
 
 #endif

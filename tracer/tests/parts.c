@@ -80,7 +80,7 @@ static enum update update_of_view(uintptr_t unit, unsigned shift, bool repeats) 
     (void)unit, (void)shift, (void)repeats;
     return NO_UPDATE;
 }
-static void end_life_record(struct life_end end) { begin_life(&spans_lives, end.span); }
+static void end_life_record(struct life_end end) { begin_life(end.span); }
 int __real_munmap(void *at, size_t size) { return munmap(at, size); }
 
 #include "../hooks/heap.h"
