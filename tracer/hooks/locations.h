@@ -112,11 +112,11 @@ static bool has_views, notes_quickly;
 
 static void follow_views(void) {
     notes_quickly = only_detects() && !has_views;
-    const uintptr_t bits = leave_short_way();
+    leave_short_way();
     for (size_t at = 0; at < strand.used && !notes_quickly; at++)
         if (strand.list[at].block)
             clear_done(strand.list[at].done, UINT64_MAX, QUICK);
-    take_short_way(bits);
+    find_short_way();
 }
 
 /* Whether an access of this unit is an update of a view, which has a part of the unit or all of it; and whether it is a

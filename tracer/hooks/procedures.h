@@ -24,10 +24,6 @@ ALWAYS_INLINE void clear_below(uintptr_t address) {
 
 static bool left_out_update;
 
-/* A function's entry and its end go the short way, in inline_checks.s, where its stack memory ends here or above: none
-   where no access does, or where records don't only go to the detector. */
-uintptr_t short_way_first __asm__("__spbags_short_way_first");
-
 void find_short_way(void) {
     bool records = doing.tracing && initialising == 0;
     short_way_bits = records && !watching && unit_shift == USUAL_SHIFT ? UINTPTR_MAX : 0;

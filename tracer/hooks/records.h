@@ -133,7 +133,7 @@ static void end_records(void);
 /* Where the run ends meanwhile, as a signal handler may end it, the rest goes out then. */
 static void put_strand(void) {
     static size_t at;
-    const uintptr_t bits = leave_short_way();
+    leave_short_way();
     end_records();
     if (doing.looking)
         forget_pending();
@@ -145,7 +145,7 @@ static void put_strand(void) {
     at = strand.used = 0;
     strand.has_gaps = false;
     strand.before++;
-    take_short_way(bits);
+    find_short_way();
 }
 
 /* The access is new in its block. */
@@ -314,10 +314,10 @@ static void end_dead_blocks(struct life_end end) {
 static void end_life_record(struct life_end end) {
     begin_records();
     end_records();
-    const uintptr_t bits = leave_short_way();
+    leave_short_way();
     end_span_blocks(end.span);
     end_dead_blocks(end);
-    take_short_way(bits);
+    find_short_way();
     finish_records();
     begin_life(end.span);
 }

@@ -41,18 +41,12 @@ static inline void place_block(struct touched touched) {
     touched.block->place = (uint32_t)++strand.used;
 }
 
-/* While blocks go out no access goes the short way: where a handler of a signal makes a new one, the run ends. */
-static inline uintptr_t leave_short_way(void) {
-    const uintptr_t bits = short_way_bits;
+/* While blocks go out nothing goes the short way, up to find_short_way: where a handler of a signal makes a new access,
+   the run ends. */
+static inline void leave_short_way(void) {
     short_way_bits = short_way_end = 0;
+    short_way_first = UINTPTR_MAX;
     in_order();
-    return bits;
-}
-
-static inline void take_short_way(uintptr_t bits) {
-    in_order();
-    short_way_bits = bits;
-    follow_top();
 }
 
 static bool is_left(struct touched touched) {
@@ -79,10 +73,10 @@ static void drop_empty(void) {
 }
 
 __attribute__((noinline, cold)) static void make_room(void) {
-    const uintptr_t bits = leave_short_way();
+    leave_short_way();
     if (strand.has_gaps)
         drop_empty();
-    take_short_way(bits);
+    find_short_way();
     if (strand.used > MOST_BLOCKS / 4 * 3)
         put_strand();
 }

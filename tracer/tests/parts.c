@@ -40,8 +40,8 @@ static void clear_bytes(uintptr_t address, uintptr_t end) { (void)address, (void
 static struct range { uintptr_t first, end; } narrow;
 static void access_record(bool writes, uint64_t location, uintptr_t address, uintptr_t code);
 static inline bool is_of_byte(uint64_t location) { return location >= (uint64_t)1 << 60; }
-static uintptr_t short_way_bits, short_way_end;
-static void follow_top(void) {}
+static uintptr_t short_way_bits, short_way_end, short_way_first;
+static void find_short_way(void) {}
 static void begin_step(void) {}
 static void end_step(void) {}
 enum { USUAL_SHIFT = 2 };
