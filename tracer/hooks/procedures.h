@@ -22,6 +22,7 @@ ALWAYS_INLINE void clear_below(uintptr_t address) {
         clear_from_lowest(address);
 }
 
+/* A silent frame has updated something. */
 static bool left_out_update;
 
 void find_short_way(void) {
