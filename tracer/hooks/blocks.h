@@ -7,7 +7,7 @@ enum { BLOCK_BITS = 6, BLOCK_UNITS = 1 << BLOCK_BITS };
 enum { READ_IT = 1, WROTE_IT = 2, QUICK = 0x80 };
 
 struct block {
-    /* The units of heap blocks that died in the strands of their births; maybe in a former life. */
+    /* The units of heap blocks that died in the strands of their births. */
     uint64_t dead;
     /* From 1 on the place in the list of the strand; or 0. */
     uint32_t place;

@@ -6,12 +6,12 @@ enum { HEAD = 16, CHUNK = 64 << 20, FREE_WIDE = 16, FREE_WIDE_SPANS = 512 };
 #endif
 
 /* Before each block stands its size; and where its step in the span begins, which may be before that, the strand of its
-   birth: or that this is none, or that the block is free, or that it has died in that strand, and is free or will be. */
+   birth: or that this is none, or that the block is free, or that it dies in that strand and will be free. */
 struct head {
     size_t size;
     uint64_t born;
 };
-enum { NOT_IN_STRAND = 0, FREED = 1, DIED = 2, DYING = 3 };
+enum { NOT_IN_STRAND = 0, FREED = 1, DYING = 2 };
 
 static struct head *head_of(const void *block) { return (struct head *)block - 1; }
 
@@ -270,15 +270,9 @@ static void note_dead(bool writes, uintptr_t address, uintptr_t code) {
         block_record(writes, in, number % BLOCK_UNITS, address, code);
 }
 
-/* That it is dead may be said of a former life. */
-static bool use_dead(bool writes, uintptr_t address, uintptr_t code) {
-    size_t span = span_of_block(address);
-    uint64_t born = *born_at(span, address);
-    if (born != DIED && born != DYING)
-        return false;
-    spans[span].is_dead_used = true;
+static void use_dead(bool writes, uintptr_t address, uintptr_t code) {
+    spans[span_of_block(address)].is_dead_used = true;
     note_dead(writes, address, code);
-    return true;
 }
 
 /* The bytes of a block, up to the end of a unit. */
@@ -363,9 +357,9 @@ static void free_block(size_t span, uintptr_t end) {
 static void give_back(void *block) {
     uintptr_t address = (uintptr_t)block;
     size_t span = span_of_block(address);
-    if (!is_of_run() || span >= SPANS || *born_at(span, address) == FREED || *born_at(span, address) == DIED)
+    if (!is_of_run() || span >= SPANS || *born_at(span, address) == FREED)
         return;
-    *born_at(span, address) = *born_at(span, address) == DYING ? DIED : FREED;
+    *born_at(span, address) = FREED;
     free_block(span, address + head_of(block)->size);
 }
 

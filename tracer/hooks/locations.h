@@ -140,15 +140,16 @@ static inline void note_stack_unit(bool writes, uintptr_t address, uint32_t *mar
     access_record(writes, location, address, code);
 }
 
-/* Whether a block of the heap is used that died in the strand of its birth; and then the record has gone out. */
-static bool use_dead(bool writes, uintptr_t address, uintptr_t code);
+/* An access of a heap block that died in the strand of its birth. */
+static void use_dead(bool writes, uintptr_t address, uintptr_t code);
 
 /* The same of a unit of a block. */
 static void note_block_unit(bool writes, struct touched in, unsigned unit, uintptr_t address, uintptr_t code) {
     const uint64_t bit = (uint64_t)1 << unit;
-    if ((in.block->dead & bit) != 0 && use_dead(writes, address, code))
+    if ((in.block->dead & bit) != 0) {
+        use_dead(writes, address, code);
         return;
-    in.block->dead &= ~bit;
+    }
     if (has_views) {
         bool repeats = was_done(false, in.done[unit]);
         enum update update = update_of_view(address, unit_shift, repeats);

@@ -291,6 +291,7 @@ static void end_blocks(struct touched first, size_t count) {
         put_alone(block);
         ended_bits |= (uint64_t)block->has_gone_out << at;
         block->has_gone_out = false;
+        block->dead = 0;
     }
     if (detects() && ended_bits != 0)
         step_words(spbags_record(numbers_end, first.location), &ended_bits, 1);
