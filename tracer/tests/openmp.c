@@ -44,6 +44,22 @@ static void outlives_twice(void) {
     row[0] = 2;
 }
 
+/* A later run makes one task more. */
+static void goes_astray(void) {
+    FILE *seen = fopen("seen", "r");
+#pragma omp task
+    {
+#pragma omp task
+        one = 1;
+    }
+    if (seen != NULL) {
+#pragma omp task
+        row[0] = 1;
+    }
+#pragma omp taskwait
+    fclose(seen != NULL ? seen : fopen("seen", "w"));
+}
+
 /* A group and a barrier wait for them; and the wait in the inner group waits for what is older. */
 static void grouped(void) {
 #pragma omp taskgroup
@@ -533,6 +549,7 @@ int main(int count, char **words) {
                 {"nested", nested, true},
                 {"outlives", outlives, false},
                 {"outlives_twice", outlives_twice, false},
+                {"goes_astray", goes_astray, false},
                 {"grouped", grouped, false},
                 {"lock", lock, false},
                 {"each_thread", each_thread, true},

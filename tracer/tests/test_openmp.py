@@ -152,6 +152,7 @@ ANSWERS = [
     ("ordered_last", 0, "", "", "", {}),
     ("no_barrier", 0, "", "", "", {}),
     ("outlives_twice", 1, "1 pair of lines came of one more run", "left", "behind both", {}),
+    ("goes_astray", 3, "this wait doesn't wait for 1 tasks", "", "", {}),
     ("ordered_tasks", 3, f"wait for 4 tasks, iterations or other parts, the first from tracer/tests/{at('beside ordered')}",
      "", "", {}),
     ("alike", 3, f"each of 2 {BLOCKS}, since with schedule", "", "", {}),
