@@ -47,7 +47,7 @@ void end_trace(void) {
     sigprocmask(SIG_SETMASK, &before, NULL);
 }
 
-__attribute__((noinline, cold)) static void end_here(void) {
+void end_here(void) {
     end_trace();
     __real__exit(0);
 }

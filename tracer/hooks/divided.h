@@ -2,9 +2,6 @@
    those units, 8 bytes each. Each byte of such a unit has a location of its own, above all others, and a mark. The unit
    itself is never marked as a repeat, but still takes its number on the stack, so that all others have the numbers that
    they had. */
-enum { MOST_BYTES = 8 };
-static const uint64_t first_byte = (uint64_t)1 << 60;
-
 struct divided {
     /* The unit's location, or 0. */
     uint64_t location;
@@ -17,13 +14,6 @@ struct divided {
 static struct divided *divided_units;
 static size_t divided_slots;
 static uint64_t last_fresh = ((uint64_t)1 << 56) - 1;
-
-static inline bool is_of_byte(uint64_t location) { return location >= first_byte; }
-
-/* The location of the unit. */
-static inline uint64_t unit_of(uint64_t location) {
-    return is_of_byte(location) ? (location - first_byte) / MOST_BYTES : location;
-}
 
 /* The unit with this location, or the free slot where it belongs. */
 static struct divided *slot_of_unit(uint64_t location) {

@@ -257,7 +257,7 @@ static uint64_t *born_at(size_t span, uintptr_t address) {
 }
 
 /* What stands for the block with this address, if it dies in the strand of its birth; or 0. */
-static uint64_t location_if_dead(uintptr_t address) {
+uint64_t location_if_dead(uintptr_t address) {
     size_t span = span_of_block(address), number = span < SPANS ? block_in(span, address) : 0;
     return span < SPANS ? dead_block(span, number).location + 2 * (number % BLOCK_UNITS) : 0;
 }

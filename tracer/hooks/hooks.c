@@ -17,6 +17,7 @@
 #include "frames.h"
 #include "guards.h"
 #include "library.h"
+#include "look.h"
 #include "memory.h"
 #include "noting.h"
 #include "output.h"
@@ -26,11 +27,9 @@
 #include "stacks.h"
 #include "streams.h"
 #include "tell.h"
+#include "units.h"
 #include "unknown.h"
 #include "watch.h"
-
-/* The usual unit of accesses is 1 << USUAL_SHIFT bytes. */
-enum { USUAL_SHIFT = 2 };
 
 /* The address right above the stack memory of the function that called the hook: it keeps its frame pointer, which the
    hook finds saved in its own frame. */
@@ -40,9 +39,9 @@ int __real_munmap(void *at, size_t size);
 void *__real_mremap(void *at, size_t before, size_t size, int flags, ...);
 
 struct doing doing;
-/* The unit of accesses is 1 << unit_shift bytes. */
-static unsigned unit_shift;
-static uintptr_t unit_mask;
+unsigned unit_shift;
+uintptr_t unit_mask;
+struct range narrow;
 
 #include "spans.h"
 
@@ -56,7 +55,6 @@ static uintptr_t unit_mask;
 #include "locations.h"
 #include "divided.h"
 #include "procedures.h"
-#include "look.h"
 #include "reducers.h"
 #include "accesses.h"
 #include "heap.h"
@@ -139,4 +137,12 @@ bool is_stepping(void) { return stepping; }
 bool is_on_stack(const void *address) {
     const uintptr_t below = (uintptr_t)1 << 20;
     return (uintptr_t)address - (stack_first - below) < stack_size + below;
+}
+
+uint64_t part_of_run(void) { return part_now(); }
+
+uintptr_t first_of_thread(void) {
+    struct own_memory found = {0};
+    dl_iterate_phdr(find_thread_memory, &found);
+    return found.first;
 }

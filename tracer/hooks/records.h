@@ -6,25 +6,9 @@
 #define OTHERWISE static inline
 #endif
 
-static void end_here(void);
 static inline void end_at_last(void) {
     if (__builtin_expect(course.records >= last_record, 0))
         end_here();
-}
-
-/* The bytes of the access at hand, where it doesn't fill all its units; an end of 0 where it does. */
-static struct range { uintptr_t first, end; } narrow;
-
-/* A bit for each byte of this unit that the access at hand leaves out. */
-static inline unsigned bytes_left_out(uintptr_t unit) {
-    if (__builtin_expect(narrow.end == 0, 1))
-        return 0;
-    unsigned size = (unsigned)unit_mask + 1, bytes = 0;
-    if (narrow.first > unit)
-        bytes |= (1u << (narrow.first - unit)) - 1;
-    if (narrow.end < unit + size)
-        bytes |= (1u << size) - (1u << (narrow.end - unit));
-    return bytes;
 }
 
 /* Some units may be divided into their bytes: whether this location's is, and then its record has gone out. */
@@ -43,13 +27,6 @@ static const struct line lines[] = {[SPBAGS_SPAWN] = LINE("spawn"),
                                     [SPBAGS_CALL] = LINE("call"),
                                     [SPBAGS_RETURN] = LINE("return"),
                                     [SPBAGS_SYNC] = LINE("sync")};
-
-/* Of a run that looks: how many records it would have written so far, and the place of the next that is looked at. */
-static uint64_t place_now, next_place = UINT64_MAX;
-__attribute__((noinline, cold)) static void look_at_structure(void);
-__attribute__((noinline, cold)) static void look_at_access(bool writes, uint64_t location);
-static void note_pending(bool writes, uint64_t location, uintptr_t address, uintptr_t code);
-static void forget_pending(void);
 
 static inline void write_structure(enum spbags_kind kind) {
     __builtin_memcpy(room(&outcome), lines[kind].bytes, sizeof lines[kind].bytes);
@@ -197,8 +174,6 @@ static void keep_recent(uint64_t record, uint16_t site) {
     if (recent.used == WINDOW)
         pass_window();
 }
-
-static inline uint64_t unit_of(uint64_t location);
 
 static void leave_out_recent(uintptr_t before) {
     size_t to = before > recent.before ? before - recent.before : 0;

@@ -62,7 +62,7 @@ static struct view *view_at(uintptr_t address) {
     }
 }
 
-static bool is_view(uintptr_t address) { return view_at(address) != NULL; }
+bool is_view(uintptr_t address) { return view_at(address) != NULL; }
 
 __attribute__((noinline)) static enum update update_of_view(uintptr_t unit, unsigned shift, bool repeats) {
     uintptr_t first = unit, end = unit + ((uintptr_t)1 << shift);

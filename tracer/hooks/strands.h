@@ -14,8 +14,6 @@ static const unsigned block_follows = SPBAGS_WRITE + 1;
 static const unsigned numbers_end = SPBAGS_WRITE + 2;
 enum { GROUP_NUMBERS = 16 };
 
-static inline bool is_of_byte(uint64_t location);
-
 static inline bool is_gathered(uint64_t location) { return location % 2 == 0 && !is_of_byte(location); }
 
 /* So many blocks before one goes out, it is looked for. */
