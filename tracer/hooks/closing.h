@@ -20,9 +20,7 @@ static void tell_notes(void) {
         tell_record(tell_numbered("depth", most_procedures - 1).text,
                     "procedures nest %u deep, so spbags needs --depth %u or more", most_procedures - 1,
                     most_procedures - 1);
-#ifdef SPBAGS_OPENMP
     tell_openmp_notes();
-#endif
     tell_unknown_functions();
     end_places();
 }

@@ -52,8 +52,14 @@
 #define REAL(NAME) NAMED(__real_, NAME)
 #define WRAP(NAME) NAMED(__wrap_, NAME)
 
+int __real_sem_wait(sem_t *semaphore);
 long __real_syscall(long number, ...);
 int __real_pthread_create(pthread_t *, const pthread_attr_t *, void *(*)(void *), void *);
 void __real__exit(int status) __attribute__((noreturn));
+
+static inline void wait_for(sem_t *semaphore) {
+    while (__real_sem_wait(semaphore) != 0)
+        continue;
+}
 
 #endif

@@ -1,11 +1,5 @@
 /* The detector inside the program, which spbags-cc links. It takes each record in place of a line of the trace, and at
    the end gives the report. */
-int __real_sem_wait(sem_t *semaphore);
-
-__attribute__((unused)) static void wait_for(sem_t *semaphore) {
-    while (__real_sem_wait(semaphore) != 0)
-        continue;
-}
 
 #ifdef SPBAGS_INSIDE
 /* By this spbags-run knows that a program has it. */

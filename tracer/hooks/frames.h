@@ -44,6 +44,8 @@ struct frame {
 extern struct frame *frames, *frames_end __asm__("__spbags_frames_end"), *top __asm__("__spbags_top");
 /* What the function of this frame and those around it update atomically isn't recorded, but what they call is. Or NULL. */
 extern struct frame *silent_frame;
+/* Whether such an update was left out. */
+extern bool left_out_update;
 /* What holds the newest group of tasks, or NULL. */
 extern struct frame *grouped;
 /* How many local statics of C++ are being initialised, while nothing is recorded. */
@@ -124,6 +126,7 @@ extern uint32_t procedures, most_procedures;
 extern unsigned version;
 
 void open_procedure(enum spbags_kind kind, uintptr_t code);
+void sync_procedure(uintptr_t code);
 void close_procedure(uintptr_t code);
 
 /* ---- Parts ---- */

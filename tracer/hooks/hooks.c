@@ -5,9 +5,9 @@
 
    What isn't on the way of each access is a file with a .c of its own, or will be. Each part here stands on those before
    it: what a strand has done in blocks, their order, and its newest records; the detector and its heap, where
-   SPBAGS_INSIDE is defined; what a strand has done on the stack; records; locations, and bytes; procedures; a look at
-   the races' places; reducers; the hooks of accesses; the heap; the hooks of C++ and, where SPBAGS_OPENMP is defined,
-   of OpenMP; the ends of the run, and its beginning; and what the other files ask for. */
+   SPBAGS_INSIDE is defined; what a strand has done on the stack; records; locations, and bytes; procedures; reducers;
+   the hooks of accesses; the heap; the hooks of C++; the end of the trace, and the beginning of the run; and what the
+   other files ask for. */
 #include "common.h"
 
 #include "../include/spbags_inside.h"
@@ -20,7 +20,9 @@
 #include "look.h"
 #include "memory.h"
 #include "noting.h"
+#include "openmp_asked.h"
 #include "output.h"
+#include "own.h"
 #include "places.h"
 #include "settings.h"
 #include "source_line.h"
@@ -59,28 +61,8 @@ struct range narrow;
 #include "accesses.h"
 #include "heap.h"
 #include "cplusplus.h"
-#ifdef SPBAGS_OPENMP
-/* Libraries with OpenMP of their own have threads of their own. */
-#pragma GCC visibility push(hidden)
-#include "openmp_waits.h"
-#include "openmp.h"
-#include "openmp_depend.h"
-#include "openmp_teams.h"
-#include "openmp_bodies.h"
-#include "openmp_calls.h"
-#include "openmp_loops.h"
-#include "openmp_reductions.h"
-#include "openmp_taskloops.h"
-#include "openmp_clang.h"
-#include "openmp_clang_reductions.h"
-#include "openmp_notes.h"
-#pragma GCC visibility pop
-#endif
 #include "closing.h"
 #include "run.h"
-#ifdef SPBAGS_OPENMP
-#include "openmp_run.h"
-#endif
 
 /* ---- What the other files ask for ---- */
 
@@ -122,13 +104,7 @@ bool has_new_record(void) {
     return touched != touched_before || (only_detects() ? has_new_step() : seen != seen_before);
 }
 
-bool is_beside_others(void) {
-    bool is_beside = doing.tracing && (procedures > 1 || owners[1] != NULL);
-#ifdef SPBAGS_OPENMP
-    is_beside = is_beside || (doing.tracing && (newest_scope > 0 || scopes[0].children + scopes[0].others > 0));
-#endif
-    return is_beside;
-}
+bool is_beside_others(void) { return doing.tracing && (procedures > 1 || owners[1] != NULL || has_openmp_beside()); }
 
 bool has_racy_report(void) { return has_races; }
 

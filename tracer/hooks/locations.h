@@ -160,17 +160,6 @@ static void note_block_unit(bool writes, struct touched in, unsigned unit, uintp
     block_record(writes, in, unit, address, code);
 }
 
-#ifdef SPBAGS_OPENMP
-/* Whether accesses are looked at beside, as those after an ordered region. They come here all. */
-static bool watching;
-static void watch_access(bool writes, uintptr_t address, size_t size, uintptr_t code);
-#else
-enum { watching = false };
-static inline void watch_access(bool writes, uintptr_t address, size_t size, uintptr_t code) {
-    (void)writes, (void)address, (void)size, (void)code;
-}
-#endif
-
 /* Nothing of the block has been accessed, and it is the program's alone; what is there isn't read. From now on the first
    accesses to its units are noted quickly, and these are noted. */
 static inline void begin_quick(bool writes, struct touched in, unsigned first, size_t count) {

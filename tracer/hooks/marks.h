@@ -27,8 +27,6 @@ static inline uint64_t strand_now(void) { return (uint64_t)strands_again << 32 |
 
 /* Where the mark of the unit 0 would stand, if those of the stack went on. */
 static uintptr_t stack_marks;
-/* No mark of the stack that runs stands below this address, which begins a unit. */
-uintptr_t lowest __asm__("__spbags_lowest");
 
 static uintptr_t stack_first, stack_size;
 
@@ -58,21 +56,7 @@ static void make_marks(uintptr_t first, uintptr_t end) {
     lowest = end & ~unit_mask;
 }
 
-/* What each thread has of its own: the program's variables that are local to a thread, and copies for reductions. */
-enum { THREAD, COPIES };
-static struct own_memory { uintptr_t first, end; } own[2];
-
-/* Whatever is thread_local, or threadprivate, in the program itself. */
-static int find_thread_memory(struct dl_phdr_info *about, size_t size, void *found) {
-    (void)size;
-    for (int at = 0; at < about->dlpi_phnum; at++)
-        if (about->dlpi_phdr[at].p_type == PT_TLS)
-            *(struct own_memory *)found = (struct own_memory){
-                (uintptr_t)about->dlpi_tls_data, (uintptr_t)about->dlpi_tls_data + about->dlpi_phdr[at].p_memsz};
-    return 1; /* The program comes first, and its libraries aren't asked. */
-}
-
-static bool is_own(uintptr_t address) {
+bool is_own(uintptr_t address) {
     if (is_of_stack(address))
         return *stack_mark(address) == own_mark;
     for (size_t at = THREAD; at <= COPIES; at++)
@@ -81,7 +65,7 @@ static bool is_own(uintptr_t address) {
     return false;
 }
 
-__attribute__((unused)) static void mark_own(uintptr_t first, uintptr_t end) {
+void mark_own(uintptr_t first, uintptr_t end) {
     uintptr_t unit = first & ~unit_mask;
     for (; unit < end && is_of_stack(unit); unit += unit_mask + 1)
         *stack_mark(unit) = own_mark;

@@ -95,6 +95,8 @@ static void note_outlived(uint64_t count, uintptr_t wait, uintptr_t code) {
 
 static void end_period(struct scope *task) { task->period = ++scopes_begun; }
 
+bool watching;
+
 /* Accesses are looked at as the newest scope says. */
 static void follow_scope(void) {
     bool wanted = doing.tracing && scopes[newest_scope].is_watched;
@@ -197,7 +199,7 @@ static void close_part(uintptr_t code) {
 /* The function that calls the hooks here waits. */
 static void write_sync(uintptr_t code) {
     if (doing.tracing)
-        structure(SPBAGS_SYNC, code);
+        sync_procedure(code);
 }
 
 static void note_wait(uintptr_t code) {
@@ -330,7 +332,7 @@ struct bounds {
    task that may run later holds none of the caller's locks. With BOUNDS the first two words of the data are those. */
 static void run_task(const struct task *task, const struct bounds *bounds, uintptr_t stack_pointer, uintptr_t code) {
     if (doing.tracing)
-        clear_below(stack_pointer);
+        forget_below(stack_pointer);
     bool is_final = current_task()->final;
     char room[task->size + task->alignment];
     char *data = room + task->alignment - (uintptr_t)room % task->alignment;
@@ -357,7 +359,7 @@ static void run_task(const struct task *task, const struct bounds *bounds, uintp
     memcpy(guards, kept, held * sizeof *kept);
     guards_held = deferred ? held : guards_held;
     if (doing.tracing)
-        clear_below(stack_pointer);
+        forget_below(stack_pointer);
 }
 
 /* Whether there was a task to wait for. */

@@ -72,7 +72,7 @@ static void end_child_body(const struct body *body, uintptr_t code) {
         close_child(code);
     }
     if (body->is_child && doing.tracing)
-        clear_below(thread_now()->stack_end);
+        forget_below(thread_now()->stack_end);
     follow_body();
 }
 
@@ -114,11 +114,11 @@ void GOMP_atomic_end(void) {
 }
 
 /* What gcc calls in an atomic update, in place of an instruction that its sanitizer leaves out. */
-#define COMPARE_AND_STORE(BYTES, BITS, TYPE) \
-    int compare_and_store_##BYTES(volatile TYPE *, TYPE *, TYPE, int, int) __asm__( \
-        "__atomic_compare_exchange_" #BYTES) __attribute__((alias("__tsan_atomic" #BITS "_compare_exchange_strong")));
-COMPARE_AND_STORE(1, 8, uint8_t)
-COMPARE_AND_STORE(2, 16, uint16_t)
-COMPARE_AND_STORE(4, 32, uint32_t)
-COMPARE_AND_STORE(8, 64, uint64_t)
-COMPARE_AND_STORE(16, 128, unsigned __int128)
+#define COMPARE_AND_STORE(NAME, BITS) \
+    __asm__(".text\n .globl " NAME "\n .hidden " NAME "\n .type " NAME ", @function\n" NAME ":\n .cfi_startproc\n" \
+            "jmp __tsan_atomic" #BITS "_compare_exchange_strong\n .cfi_endproc\n .size " NAME ", .-" NAME);
+COMPARE_AND_STORE("__atomic_compare_exchange_1", 8)
+COMPARE_AND_STORE("__atomic_compare_exchange_2", 16)
+COMPARE_AND_STORE("__atomic_compare_exchange_4", 32)
+COMPARE_AND_STORE("__atomic_compare_exchange_8", 64)
+COMPARE_AND_STORE("__atomic_compare_exchange_16", 128)

@@ -316,7 +316,7 @@ void __kmpc_omp_task_begin_if0(CLANG, struct clang_task *task) {
     IGNORE;
     bool is_final = current_task()->final || (header_of(task)->flags & CLANG_FINAL) != 0;
     if (doing.tracing)
-        clear_below(STACK_POINTER);
+        forget_below(STACK_POINTER);
     push_scope(TASK, false)->final = is_final;
     open_part(CALLED, STACK_POINTER, CODE);
     stay_in_function();
@@ -328,7 +328,7 @@ void __kmpc_omp_task_complete_if0(CLANG, struct clang_task *task) {
     close_part(CODE);
     end_included(CODE);
     if (doing.tracing)
-        clear_below(STACK_POINTER);
+        forget_below(STACK_POINTER);
 }
 
 int32_t __kmpc_omp_taskwait(CLANG) {

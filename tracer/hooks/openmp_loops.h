@@ -92,7 +92,7 @@ static void end_share(struct scope *thread, uintptr_t code) {
     if (thread->loop->in_blocks)
         join_from(newest_scope, code);
     if (doing.tracing)
-        clear_below(thread->stack_end);
+        forget_below(thread->stack_end);
 }
 
 /* The iterations of the share that has begun now go from this one to the newest. */
@@ -139,7 +139,7 @@ static void end_following(uintptr_t code) {
         close_part(code);
         close_child(code);
         if (doing.tracing)
-            clear_below(thread_now()->stack_end);
+            forget_below(thread_now()->stack_end);
     }
     follow_body();
 }
@@ -288,7 +288,7 @@ void GOMP_ordered_end(void) {
 /* The first access to shared memory after an ordered region. */
 static uintptr_t after_ordered;
 
-static void watch_access(bool writes, uintptr_t address, size_t size, uintptr_t code) {
+void watch_access(bool writes, uintptr_t address, size_t size, uintptr_t code) {
     (void)writes, (void)size;
     bool is_on_own_stack = address >= running_first && address < thread_now()->stack_end;
     if (!is_on_own_stack && after_ordered == 0 && !is_own(address & ~unit_mask))

@@ -95,7 +95,9 @@ static void tell_shares(void) {
                      source_line(task_asks, before, ROOM));
 }
 
-static void tell_openmp_notes(void) {
+bool has_openmp_beside(void) { return newest_scope > 0 || scopes[0].children + scopes[0].others > 0; }
+
+void tell_openmp_notes(void) {
     tell_waits();
     tell_last();
     tell_depend();

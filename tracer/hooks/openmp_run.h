@@ -1,5 +1,24 @@
 /* The beginning of a run with OpenMP. */
 
+static uint64_t threads_of_team(void) {
+    uint64_t threads = settings_number(SETTING_TEAM);
+    if (threads > MOST_STACKS)
+        fail("SPBAGS_TEAM=%llu: a team has at most %d threads", (unsigned long long)threads, MOST_STACKS);
+    return threads;
+}
+
+size_t room_for_members(size_t *own_size) {
+    const size_t room = (size_t)120 << 20, whole = *own_size > room ? *own_size : room;
+    uint64_t others = threads_of_team() - 1;
+    if (others == 0)
+        return 0;
+    if (settings_is(SETTING_NESTED, "1"))
+        others = MOST_STACKS - 1;
+    *own_size = least(*own_size, whole / 2);
+    member_stack_size = least(*own_size, ((whole - *own_size) / others - stack_gap) & ~(size_t)0xffff);
+    return others * (member_stack_size + stack_gap);
+}
+
 static bool is_true(const char *variable) {
     const char *value = getenv(variable);
     return value && strcasecmp(value, "true") == 0;

@@ -273,7 +273,7 @@ static void run_member(struct team *team, struct member *member, uintptr_t end) 
     close_part(team->code);
     end_part(team->code);
     member->has_ended = true;
-    clear_below(end);
+    forget_below(end);
 }
 
 /* The first turn of a member's thread. */
@@ -404,7 +404,7 @@ static void begin_team(unsigned threads, void *data, uintptr_t stack_pointer, ui
     uint64_t wanted = threads > 0 ? threads : (uint64_t)current_task()->threads_wanted;
     bool alone = is_alone(wanted, code);
     if (doing.tracing)
-        clear_below(stack_pointer);
+        forget_below(stack_pointer);
     struct scope *team = push_scope(TEAM, false);
     int inner = threads_by_variable(level(false));
     team->threads_wanted = inner > 0 ? inner : team->threads_wanted;
@@ -427,7 +427,7 @@ static void end_team(uintptr_t stack_pointer, uintptr_t code) {
     close_part(code);
     close_waiting(code);
     if (doing.tracing)
-        clear_below(stack_pointer);
+        forget_below(stack_pointer);
 }
 
 /* Where the loop is all of the region the other members have nothing to do once the first one has done it, but for what

@@ -12,7 +12,7 @@ static uint64_t *waited, waited_words;
 static int waited_file = -1;
 static bool is_second;
 
-static void open_waited(int file) {
+void open_waited(int file) {
     size_t count;
     const uint64_t *words = read_numbers(SETTING_WAITED, file, &count);
     is_second = count > 0;

@@ -22,9 +22,6 @@ ALWAYS_INLINE void clear_below(uintptr_t address) {
         clear_from_lowest(address);
 }
 
-/* A silent frame has updated something. */
-static bool left_out_update;
-
 void find_short_way(void) {
     bool records = doing.tracing && initialising == 0;
     short_way_bits = records && !watching && unit_shift == USUAL_SHIFT ? UINTPTR_MAX : 0;
@@ -79,6 +76,8 @@ ALWAYS_INLINE void open_here(enum spbags_kind kind, uintptr_t code) {
 }
 
 void open_procedure(enum spbags_kind kind, uintptr_t code) { open_here(kind, code); }
+
+void sync_procedure(uintptr_t code) { structure(SPBAGS_SYNC, code); }
 
 void close_procedure(uintptr_t code) { structure(SPBAGS_RETURN, code); }
 

@@ -72,10 +72,6 @@ static void start_detector(void) {
 }
 #endif
 
-#ifndef SPBAGS_OPENMP
-static void open_waited(int file) { close(file); }
-#endif
-
 /* What spbags-run asks for. */
 static void open_ways(void) {
     const char *said = settings_text(SETTING_SAYS), *report = settings_text(SETTING_LOOK);
@@ -113,33 +109,6 @@ static void claim_threads(void) {
     if (&__libc_single_threaded)
         __libc_single_threaded = 0;
 }
-
-#ifdef SPBAGS_OPENMP
-static uint64_t threads_of_team(void) {
-    uint64_t threads = settings_number(SETTING_TEAM);
-    if (threads > MOST_STACKS)
-        fail("SPBAGS_TEAM=%llu: a team has at most %d threads", (unsigned long long)threads, MOST_STACKS);
-    return threads;
-}
-
-/* The stacks of a team's members lie below the program's own, where the system leaves room for that to grow. */
-static size_t room_for_members(size_t *own_size) {
-    const size_t room = (size_t)120 << 20, whole = *own_size > room ? *own_size : room;
-    uint64_t others = threads_of_team() - 1;
-    if (others == 0)
-        return 0;
-    if (settings_is(SETTING_NESTED, "1"))
-        others = MOST_STACKS - 1;
-    *own_size = least(*own_size, whole / 2);
-    member_stack_size = least(*own_size, ((whole - *own_size) / others - stack_gap) & ~(size_t)0xffff);
-    return others * (member_stack_size + stack_gap);
-}
-#else
-static size_t room_for_members(const size_t *own_size) {
-    (void)own_size;
-    return 0;
-}
-#endif
 
 /* The stack as it may grow, up to where the environment stands above all frames. */
 static void find_stack(void) {

@@ -34,6 +34,8 @@ extern unsigned stacks_count;
 /* The one that runs, its memory, and the thread that has it, by its pointer. */
 extern struct stack *running;
 extern uintptr_t running_first, running_size;
+/* No mark of it stands below this address, which begins a unit. */
+extern uintptr_t lowest __asm__("__spbags_lowest");
 extern void *run_thread;
 
 /* The one with this address, or null. */

@@ -196,7 +196,6 @@ bool WRAP(WAIT_FOR_FUTURE)(void *future, unsigned *word, unsigned value, bool ha
     return REAL(WAIT_FOR_FUTURE)(future, word, value, has_end, seconds, rest);
 }
 
-int __real_sem_wait(sem_t *semaphore);
 int __wrap_sem_wait(sem_t *semaphore) {
     int free = 0;
     if (sem_getvalue(semaphore, &free) == 0 && free == 0)

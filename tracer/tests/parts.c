@@ -7,6 +7,8 @@
 #include "../hooks/formats.h"
 #include "../hooks/guards.h"
 #include "../hooks/memory.h"
+#include "../hooks/openmp_asked.h"
+#include "../hooks/own.h"
 #include "../hooks/tell.h"
 #include "../hooks/spans.h"
 #include "../include/spbags_inside.h"

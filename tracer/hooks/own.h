@@ -1,0 +1,17 @@
+/* What each thread has of its own: the program's variables that are local to a thread, and copies for reductions. */
+#ifndef SPBAGS_OWN_H
+#define SPBAGS_OWN_H
+
+#include "common.h"
+
+enum { THREAD, COPIES };
+extern struct own_memory { uintptr_t first, end; } own[2];
+
+/* For dl_iterate_phdr: whatever is thread_local, or threadprivate, in the program itself. */
+int find_thread_memory(struct dl_phdr_info *about, size_t size, void *found);
+
+/* Nothing in this memory is recorded. */
+void mark_own(uintptr_t first, uintptr_t end);
+bool is_own(uintptr_t address);
+
+#endif
