@@ -180,6 +180,13 @@ static inline void note_two(bool writes, uintptr_t at, uint8_t *done, uintptr_t 
 FIRST(read, false)
 FIRST(write, true)
 
+/* An object's table of virtual functions is named as it begins and as it ends. */
+void __tsan_vptr_update(void *at, void *table) {
+    (void)table;
+    OFTEN(true, at, sizeof table);
+}
+void __tsan_vptr_read(void *at) { OFTEN(false, at, sizeof at); }
+
 void __tsan_read_range(void *at, size_t size) { READ(at, size); }
 void __tsan_write_range(void *at, size_t size) { WRITE(at, size); }
 void __tsan_init(void) {}

@@ -291,8 +291,7 @@ static void die(uintptr_t block, size_t size) {
     set_dead(block, block + size);
 }
 
-/* Whoever may still use a block that the program gives back has a race, as if all of it were written. */
-static void end_block(void *block, __spbags_function self, uintptr_t stack_pointer, uintptr_t code) {
+void end_block(void *block, __spbags_function self, uintptr_t stack_pointer, uintptr_t code) {
     if (!block || !doing.tracing || initialising > 0 || (is_on_the_way(self) && stack_pointer < top->end))
         return;
     leave_jumped(stack_pointer, code);

@@ -6,8 +6,8 @@
    What isn't on the way of each access is a file with a .c of its own, or will be. Each part here stands on those before
    it: what a strand has done in blocks, their order, and its newest records; the detector and its heap, where
    SPBAGS_INSIDE is defined; what a strand has done on the stack; records; locations, and bytes; procedures; reducers;
-   the hooks of accesses; the heap; the hooks of C++; the end of the trace, and the beginning of the run; and what the
-   other files ask for. */
+   the hooks of accesses; the heap; the end of the trace, and the beginning of the run; and what the other files ask
+   for. */
 #include "common.h"
 
 #include "../include/spbags_inside.h"
@@ -60,7 +60,6 @@ struct range narrow;
 #include "reducers.h"
 #include "accesses.h"
 #include "heap.h"
-#include "cplusplus.h"
 #include "closing.h"
 #include "run.h"
 

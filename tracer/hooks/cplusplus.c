@@ -1,18 +1,14 @@
 /* What programs in C++ call beside the rest. */
-
-/* An object's table of virtual functions is named as it begins and as it ends. */
-void __tsan_vptr_update(void *at, void *table) {
-    (void)table;
-    OFTEN(true, at, sizeof table);
-}
-void __tsan_vptr_read(void *at) { OFTEN(false, at, sizeof at); }
+#include "frames.h"
+#include "library.h"
+#include "noting.h"
 
 /* The library's operator new calls malloc. Whoever may still use what is deleted has a race, as with free. All that
    follow the block are of no matter: its size, its alignment, and that nothing is thrown. */
 #define DELETE(NAME) \
     void NAME(void *block) { \
         if (is_program(CODE)) \
-            END_BLOCK(block, NAME); \
+            end_block(block, (__spbags_function)NAME, STACK_POINTER, CODE); \
         free(block); \
     }
 DELETE(_ZdlPv)
