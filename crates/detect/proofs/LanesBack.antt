@@ -11,7 +11,6 @@ use Rattle.lane.specs.declared.item.Item.{Item}
 use Rattle.lane.specs.declared.item.Item.TheVariants.{One, Finish}
 use Rattle.lane.specs.declared.taker.Taker.{Taker}
 use Rattle.lane.specs.Items.{has_mark}
-use Rattle.lane.specs.Lanes.{taker_lane, taken_of}
 use Rattle.collect.specs.Collected.{Collection, KeepsBest}
 use Rattle.detect.specs.declared.gathering.Gathering.{Gathering}
 use Rattle.detect.specs.Gathered.{given_by, with_items, Gathers}
@@ -37,29 +36,29 @@ marks_stay (xs ∷ lists) (suc k) zero ys h = h
 marks_stay (xs ∷ lists) (suc k) (suc j) ys h = marks_stay lists k j ys h
 
 -- items were taken, and perhaps given to the collector
-further_some : (old : Gathering) (k : ℕ) (s t : Taker Back) (xs : List (Item Back)) (collector : Collection) → k < length old.backs.items → s ≡ get_or old.backs.items k s → taker_lane t ≡ taker_lane s → taken_of t ≡ taken_of s ++ xs
+further_some : (old : Gathering) (k : ℕ) (s t : Taker Back) (xs : List (Item Back)) (collector : Collection) → k < length old.backs.items → s ≡ get_or old.backs.items k s → t.lane ≡ s.lane → t.taken ≡ s.taken ++ xs
     → (IsGathered old → Gathers (with_items (given_by old.backs.items) k xs) collector)
     → IsFurther old (record { backs = with_item old.backs k t; collector = collector })
 further_some old k s t xs collector lt at lane more gathers =
     let lists : List (List (Item Back)) = given_by old.backs.items in
     let given : given_by (set old.backs.items k t) ≡ with_items lists k xs =
-    map-set taken_of old.backs.items k t ∙ ap (set lists k) (more ∙ ap (λ (l : List (Item Back)). l ++ xs) (ap taken_of at ∙ sym (get_or-map taken_of old.backs.items k s [] lt))) in
+    map-set (λ t. t.taken) old.backs.items k t ∙ ap (set lists k) (more ∙ ap (λ (l : List (Item Back)). l ++ xs) (ap (λ t. t.taken) at ∙ sym (get_or-map (λ t. t.taken) old.backs.items k s [] lt))) in
     let P : List (List (Item Back)) → Type 0 = λ ls. Gathers ls collector in
     record {
       count = refl;
-      lanes = map-set_same taker_lane old.backs.items k t s (lane ∙ ap taker_lane at);
+      lanes = map-set_same (λ t. t.lane) old.backs.items k t s (lane ∙ ap (λ t. t.lane) at);
       gathers = λ h. subst P (sym given) (gathers h);
       marks = λ j h. let Q : List (List (Item Back)) → Type 0 = λ ls. has_mark (get_or ls j []) ≡ true in subst Q (sym given) (marks_stay lists k j xs h);
     }
 
 -- nothing was taken of a lane
-pub further_none : (old : Gathering) (k : ℕ) (s t : Taker Back) → k < length old.backs.items → s ≡ get_or old.backs.items k s → taker_lane t ≡ taker_lane s → taken_of t ≡ taken_of s
+pub further_none : (old : Gathering) (k : ℕ) (s t : Taker Back) → k < length old.backs.items → s ≡ get_or old.backs.items k s → t.lane ≡ s.lane → t.taken ≡ s.taken
     → IsFurther old (record { backs = with_item old.backs k t; collector = old.collector })
 further_none old k s t lt at lane same =
     let lists : List (List (Item Back)) = given_by old.backs.items in
     let still : with_items lists k [] ≡ lists = ap (set lists k) (append-nil (get_or lists k [])) ∙ set-get_or lists k [] in
     let P : List (List (Item Back)) → Type 0 = λ ls. Gathers ls old.collector in
-    further_some old k s t [] old.collector lt at lane (same ∙ sym (append-nil (taken_of s))) (subst P (sym still))
+    further_some old k s t [] old.collector lt at lane (same ∙ sym (append-nil s.taken)) (subst P (sym still))
 
 -- a race or the news of a refused growth came
 pub gathers_one : (lists : List (List (Item Back))) (k : ℕ) (back : Back) (c c' : Collection) → k < length lists
@@ -85,7 +84,7 @@ gathers_mark lists k x c is h =
     subst P (sym is) (gathers-finish lists k c h)
 
 -- items were taken of a lane, and the rest followed
-pub further_kept : (old new : Gathering) (k : ℕ) (s t : Taker Back) (xs : List (Item Back)) → new.backs ≡ with_item old.backs k t → k < length old.backs.items → s ≡ get_or old.backs.items k s → taker_lane t ≡ taker_lane s → taken_of t ≡ taken_of s ++ xs
+pub further_kept : (old new : Gathering) (k : ℕ) (s t : Taker Back) (xs : List (Item Back)) → new.backs ≡ with_item old.backs k t → k < length old.backs.items → s ≡ get_or old.backs.items k s → t.lane ≡ s.lane → t.taken ≡ s.taken ++ xs
     → (IsGathered old → Gathers (with_items (given_by old.backs.items) k xs) new.collector) → IsFurther old new
 further_kept old new k s t xs is lt at lane more gathers =
     let P : Vec (Taker Back) _ → Type 0 = λ b. IsFurther old (record { backs = b; collector = new.collector }) in
@@ -121,4 +120,4 @@ pub ended_to : (P : ℕ → Type 0) (n : ℕ) → P n → ((j : ℕ) → j < n �
 ended_to P n at before k h = ⊎_elim (λ e. subst P (sym e) at) (λ ne. before k (omega (arith, h, ne))) (cases_eq k n)
 
 pub within_given : (backs : List (Taker Back)) (k : ℕ) → k < length backs → k < length (given_by backs)
-within_given backs k h = let e : length (given_by backs) ≡ length backs = length-map backs taken_of in omega (arith, h, e)
+within_given backs k h = let e : length (given_by backs) ≡ length backs = length-map backs (λ t. t.taken) in omega (arith, h, e)

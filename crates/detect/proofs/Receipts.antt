@@ -6,7 +6,7 @@ use Rattle.dag.specs.declared.records.Placed.{Placed}
 use Rattle.lane.specs.declared.item.Item.{Item}
 use Rattle.lane.specs.declared.taker.Taker.{Taker}
 use Rattle.lane.specs.Items.{has_mark, IsBeginning}
-use Rattle.lane.specs.Lanes.{taker_lane, taken_of, waiting_of, end_lane, all_put}
+use Rattle.lane.specs.Lanes.{put_of}
 use Rattle.shard.specs.declared.worker_loop.Worked.{Worked}
 use Rattle.detect.specs.Closing.{takers_of, IsSameWork, IsSettled, IsEmptied}
 use Rattle.detect.proofs.LanesBack.{ended_to}
@@ -48,15 +48,15 @@ emptied_by taken waiting put all whole marked = append_cancel_left taken waiting
 
 module _ {S H : Type 0} where
   -- one worker's ends were compared
-  pub same_set : (all now : List (Worked S H)) (k : ℕ) (w v : Worked S H) → w ≡ get_or now k w → taken_of v.taker ≡ taken_of w.taker → taker_lane v.taker ≡ taker_lane w.taker → all_put v.back ≡ all_put w.back → end_lane v.back ≡ end_lane w.back → v.shard ≡ w.shard
+  pub same_set : (all now : List (Worked S H)) (k : ℕ) (w v : Worked S H) → w ≡ get_or now k w → v.taker.taken ≡ w.taker.taken → v.taker.lane ≡ w.taker.lane → put_of v.back ≡ put_of w.back → v.back.lane ≡ w.back.lane → v.shard ≡ w.shard
       → IsSameWork all now → IsSameWork all (set now k v)
   same_set all now k w v at taken taker_lane_is backs end_lane_is shard h = record {
     count = length-set now k v ∙ h.count;
-    taken = map-set_same (λ (x : Worked S H). taken_of x.taker) now k v w (taken ∙ ap (λ (x : Worked S H). taken_of x.taker) at) ∙ h.taken;
-    backs = map-set_same (λ (x : Worked S H). all_put x.back) now k v w (backs ∙ ap (λ (x : Worked S H). all_put x.back) at) ∙ h.backs;
+    taken = map-set_same (λ (x : Worked S H). x.taker.taken) now k v w (taken ∙ ap (λ (x : Worked S H). x.taker.taken) at) ∙ h.taken;
+    backs = map-set_same (λ (x : Worked S H). put_of x.back) now k v w (backs ∙ ap (λ (x : Worked S H). put_of x.back) at) ∙ h.backs;
     counts = map-set_same (λ (x : Worked S H). x.shard.taken) now k v w (ap (λ s. s.taken) shard ∙ ap (λ (x : Worked S H). x.shard.taken) at) ∙ h.counts;
-    to_shards = map-set_same (λ (x : Worked S H). taker_lane x.taker) now k v w (taker_lane_is ∙ ap (λ (x : Worked S H). taker_lane x.taker) at) ∙ h.to_shards;
-    from_shards = map-set_same (λ (x : Worked S H). end_lane x.back) now k v w (end_lane_is ∙ ap (λ (x : Worked S H). end_lane x.back) at) ∙ h.from_shards;
+    to_shards = map-set_same (λ (x : Worked S H). x.taker.lane) now k v w (taker_lane_is ∙ ap (λ (x : Worked S H). x.taker.lane) at) ∙ h.to_shards;
+    from_shards = map-set_same (λ (x : Worked S H). x.back.lane) now k v w (end_lane_is ∙ ap (λ (x : Worked S H). x.back.lane) at) ∙ h.from_shards;
   }
 
   -- the same work twice over
@@ -71,7 +71,7 @@ module _ {S H : Type 0} where
   }
 
   -- and its taker knows what waits for it
-  pub emptied_more : (now : List (Worked S H)) (k : ℕ) (w v : Worked S H) → k < length now → (has_mark (taken_of v.taker) ≡ true → waiting_of v.taker ≡ [])
+  pub emptied_more : (now : List (Worked S H)) (k : ℕ) (w v : Worked S H) → k < length now → (has_mark v.taker.taken ≡ true → v.taker.waiting ≡ [])
       → ((j : ℕ) → j < k → IsEmptied (takers_of now) j) → (j : ℕ) → j < k + 1 → IsEmptied (takers_of (set now k v)) j
   emptied_more now k w v within this before j lt = ended_to (IsEmptied (takers_of (set now k v))) k at_this at_other j lt
     where
@@ -85,7 +85,7 @@ module _ {S H : Type 0} where
       there f i l = ap (λ m. get_or m i []) (of_set f) ∙ get_or-set_other (map f (takers_of now)) k i (f v.taker) [] (λ e. absurd (omega (arith, l, e)))
 
       at_this : IsEmptied (takers_of (set now k v)) k
-      at_this marked = here waiting_of ∙ this (ap has_mark (sym (here taken_of)) ∙ marked)
+      at_this marked = here (λ t. t.waiting) ∙ this (ap has_mark (sym (here (λ t. t.taken))) ∙ marked)
 
       at_other : (i : ℕ) → i < k → IsEmptied (takers_of (set now k v)) i
-      at_other i l marked = there waiting_of i l ∙ before i l (ap has_mark (sym (there taken_of i l)) ∙ marked)
+      at_other i l marked = there (λ t. t.waiting) i l ∙ before i l (ap has_mark (sym (there (λ t. t.taken) i l)) ∙ marked)

@@ -13,7 +13,7 @@ use Rattle.trace.specs.Devices.{Device, Change, ◌⇝◌}
 use Rattle.trace.specs.Endings.{EndsReading, IsWantOfMemory, IsWantOfMemoryOrThread}
 use Rattle.trace.proofs.Endings.{refused_for_want}
 use Rattle.lane.specs.Items.{IsBeginning}
-use Rattle.lane.specs.Lanes.{LaneId, taker_lane, taken_of}
+use Rattle.lane.specs.Lanes.{LaneId}
 use Rattle.route.specs.Routers.{RouterState}
 use Rattle.route.specs.Routers.{lane_count, HasSent, IsOnLanes}
 use Rattle.shard.specs.declared.worker_loop.Worked.{Worked}
@@ -55,7 +55,7 @@ module _ {S H : Type 0} where
         did = all;
         workers = did_count (map job_lanes made.jobs.items) done.workers.items all ∙ length-map made.jobs.items job_lanes ∙ ready.jobs;
         ended = λ k lt. ended k (omega (arith, lt, handles));
-        backs = length-map done.reading.gathering.backs.items taken_of ∙ sym (length-map done.reading.gathering.backs.items taker_lane) ∙ ap length further.lanes ∙ length-map made.reading.gathering.backs.items taker_lane ∙ ready.backs;
+        backs = length-map done.reading.gathering.backs.items (λ t. t.taken) ∙ sym (length-map done.reading.gathering.backs.items (λ t. t.lane)) ∙ ap length further.lanes ∙ length-map made.reading.gathering.backs.items (λ t. t.lane) ∙ ready.backs;
         gathered = further.gathers ready.gathered;
       }
 

@@ -9,7 +9,6 @@ use Rattle.lane.specs.declared.item.Item.{Item}
 use Rattle.lane.specs.declared.item.Item.TheVariants.{One, Finish}
 use Rattle.lane.specs.declared.taker.Taker.{Taker}
 use Rattle.lane.specs.Items.{has_mark, IsBeginning}
-use Rattle.lane.specs.Lanes.{taken_of, waiting_of}
 use Rattle.route.specs.Routers.{RouterState}
 use Rattle.route.specs.Sending.{put_on}
 use Rattle.route.specs.Routed.{IsRising, in_hand}
@@ -81,7 +80,7 @@ module _ {S H : Type 0} where
     pub compared : IsCompared n done
     pub takers : List (Taker Placed)
     pub lanes : run.lanes.items ≡ takers
-    pub same : map taken_of takers ≡ taken_by done.workers.items
+    pub same : map (λ t. t.taken) takers ≡ taken_by done.workers.items
     pub emptied : (k : ℕ) → k < n → IsEmptied takers k
     pub counts : run.taken.items ≡ counts_of done.workers.items
     pub lane_count_is : length run.lanes.items ≡ n
@@ -98,17 +97,17 @@ module _ {S H : Type 0} where
   took : (n : ℕ) (done : Done S H) (u : List Placed) (run : Run) → IsFinished n done u → OrderlyShares n u → IsClosing n done u run → TookSharesOf n u run
   took n done u run f orders h =
       let e = ends n done u run f h in
-      let taken_is : map taken_of run.lanes.items ≡ taken_by done.workers.items = ap (map taken_of) h.lanes ∙ h.same in
+      let taken_is : map (λ t. t.taken) run.lanes.items ≡ taken_by done.workers.items = ap (map (λ t. t.taken)) h.lanes ∙ h.same in
       let P : List (List (Item Placed)) → Type 0 = λ ts. (k : ℕ) → k < n → get_or ts k [] ≡ map One (share k n u) ++ Finish ∷ [] in
       let Q : List ℕ → Type 0 = λ cs. (k : ℕ) → k < n → get_or cs k 0 ≡ length (share k n u) in
-      let marked : (k : ℕ) → k < n → has_mark (get_or (map taken_of h.takers) k []) ≡ true = λ k lt.
+      let marked : (k : ℕ) → k < n → has_mark (get_or (map (λ t. t.taken) h.takers) k []) ≡ true = λ k lt.
       ap (λ l. has_mark (get_or l k [])) h.same ∙ marked_work _ _ _ (e.works k lt) in
       record {
         lanes = h.lane_count_is;
         counts = ap length h.counts ∙ length-map done.workers.items (λ w. w.shard.taken) ∙ f.workers;
         shares = subst P (sym taken_is) h.share_taken;
         taken = subst Q (sym h.counts) (λ k lt. counted_share n u _ _ _ _ orders e k lt);
-        settled = λ k lt. ap (λ l. get_or (map waiting_of l) k []) h.lanes ∙ h.emptied k lt (marked k lt);
+        settled = λ k lt. ap (λ l. get_or (map (λ t. t.waiting) l) k []) h.lanes ∙ h.emptied k lt (marked k lt);
       }
 
   -- what the run has found

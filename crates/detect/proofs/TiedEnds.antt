@@ -7,7 +7,7 @@ use Rattle.dag.specs.declared.records.Placed.{Placed}
 use Rattle.dag.proofs.Lists.{all-push}
 use Rattle.lane.specs.declared.sender.Sender.{Sender}
 use Rattle.lane.specs.declared.taker.Taker.{Taker}
-use Rattle.lane.specs.Lanes.{lane_of, put_of, taker_lane, taken_of}
+use Rattle.lane.specs.Lanes.{put_of}
 use Rattle.lane.specs.declared.item.Item.{Item}
 use Rattle.lane.specs.Items.{records}
 use Rattle.dag.specs.declared.back.Back.{Back}
@@ -28,11 +28,11 @@ same_more f g xs xs' x ys ys' y is is' one all =
 one_more : {X : Type 0} (xs xs' : List X) (x : X) (n : ℕ) → xs' ≡ xs ++ x ∷ [] → length xs ≡ n → length xs' ≡ n + 1
 one_more xs xs' x n is h = let e = ap length is in omega (arith, e, h, length-append xs (x ∷ []))
 
-none_given : (backs : List (Taker Back)) → AllByRecursion (λ t. taken_of t ≡ []) backs → all_given (given_by backs) ≡ []
+none_given : (backs : List (Taker Back)) → AllByRecursion (λ t. t.taken ≡ []) backs → all_given (given_by backs) ≡ []
 none_given [] h = refl
 none_given (t ∷ backs) h = ap₂ (λ (l : List (Item Back)) (g : List Back). records l ++ g) h.0 (none_given backs h.1)
 
-pub nothing_gathered : (backs : List (Taker Back)) (c : Collection) → AllByRecursion (λ t. taken_of t ≡ []) backs → KeepsBest [] c → Gathers (given_by backs) c
+pub nothing_gathered : (backs : List (Taker Back)) (c : Collection) → AllByRecursion (λ t. t.taken ≡ []) backs → KeepsBest [] c → Gathers (given_by backs) c
 nothing_gathered backs c none holds = record {
   none_failed = λ e. ap fails (none_given backs none);
   holds = λ e home. let P : List Back → Type 0 = λ g. KeepsBest g c in subst P (sym (none_given backs none)) holds;
@@ -43,13 +43,13 @@ module _ {S H : Type 0} where
   tied_none ends senders jobs backs =
       let P : List (Job S H) → Type 0 = AllFresh in
       let Q : List (Sender Placed) → Type 0 = All (λ s. put_of s ≡ []) in
-      let R : List (Taker Back) → Type 0 = AllByRecursion (λ t. taken_of t ≡ []) in
+      let R : List (Taker Back) → Type 0 = AllByRecursion (λ t. t.taken ≡ []) in
       record {
         senders = ap length senders;
         jobs = ap length jobs;
         backs = ap length backs;
-        to_shards_are = ap to_shards jobs ∙ sym (ap (map lane_of) senders);
-        from_shards_are = ap from_shards jobs ∙ sym (ap (map taker_lane) backs);
+        to_shards_are = ap to_shards jobs ∙ sym (ap (map (λ s. s.lane)) senders);
+        from_shards_are = ap from_shards jobs ∙ sym (ap (map (λ t. t.lane)) backs);
         new = subst P (sym jobs) tt;
         none_put = subst Q (sym senders) (All-nil (λ (s : Sender Placed). put_of s ≡ []));
         none_taken = subst R (sym backs) tt;
@@ -61,14 +61,14 @@ module _ {S H : Type 0} where
   tied_more n old new sender job back senders jobs backs between h =
       let P : List (Job S H) → Type 0 = AllFresh in
       let Q : List (Sender Placed) → Type 0 = All (λ s. put_of s ≡ []) in
-      let R : List (Taker Back) → Type 0 = AllByRecursion (λ t. taken_of t ≡ []) in
+      let R : List (Taker Back) → Type 0 = AllByRecursion (λ t. t.taken ≡ []) in
       record {
         senders = one_more old.senders.items new.senders.items sender n senders h.senders;
         jobs = one_more old.jobs.items new.jobs.items job n jobs h.jobs;
         backs = one_more old.backs.items new.backs.items back n backs h.backs;
-        to_shards_are = same_more (λ (j : Job S H). taker_lane j.taker) lane_of old.jobs.items new.jobs.items job old.senders.items new.senders.items sender jobs senders between.to_shard h.to_shards_are;
-        from_shards_are = same_more (λ (j : Job S H). lane_of j.back) taker_lane old.jobs.items new.jobs.items job old.backs.items new.backs.items back jobs backs between.from_shard h.from_shards_are;
+        to_shards_are = same_more (λ (j : Job S H). j.taker.lane) (λ s. s.lane) old.jobs.items new.jobs.items job old.senders.items new.senders.items sender jobs senders between.to_shard h.to_shards_are;
+        from_shards_are = same_more (λ (j : Job S H). j.back.lane) (λ t. t.lane) old.jobs.items new.jobs.items job old.backs.items new.backs.items back jobs backs between.from_shard h.from_shards_are;
         new = subst P (sym jobs) (all-push IsFreshJob old.jobs.items job h.new between.new);
         none_put = subst Q (sym senders) (All-push (λ (s : Sender Placed). put_of s ≡ []) old.senders.items sender h.none_put between.none_put);
-        none_taken = subst R (sym backs) (all-push (λ (t : Taker Back). taken_of t ≡ []) old.backs.items back h.none_taken between.none_taken);
+        none_taken = subst R (sym backs) (all-push (λ (t : Taker Back). t.taken ≡ []) old.backs.items back h.none_taken between.none_taken);
       }

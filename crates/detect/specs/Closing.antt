@@ -4,18 +4,18 @@ use Rattle.dag.specs.declared.records.Placed.{Placed}
 use Rattle.lane.specs.declared.item.Item.{Item}
 use Rattle.lane.specs.declared.taker.Taker.{Taker}
 use Rattle.lane.specs.Items.{has_mark, IsBeginning}
-use Rattle.lane.specs.Lanes.{LaneId, taker_lane, taken_of, waiting_of, end_lane, all_put}
+use Rattle.lane.specs.Lanes.{LaneId, put_of}
 use Rattle.dag.specs.declared.back.Back.{Back}
 use Rattle.shard.specs.declared.worker_loop.Worked.{Worked}
 
 module _ {S H : Type 0} where
   -- what the workers took
   abbrev pub taken_by : List (Worked S H) → List (List (Item Placed))
-  taken_by workers = map (λ w. taken_of w.taker) workers
+  taken_by workers = map (λ w. w.taker.taken) workers
 
   -- what they put on the lanes back
   abbrev pub given_back : List (Worked S H) → List (List (Item Back))
-  given_back workers = map (λ w. all_put w.back) workers
+  given_back workers = map (λ w. put_of w.back) workers
 
   -- how many records each shard took
   abbrev pub counts_of : List (Worked S H) → List ℕ
@@ -25,10 +25,10 @@ module _ {S H : Type 0} where
   takers_of workers = map (λ w. w.taker) workers
 
   abbrev pub taker_lanes : List (Worked S H) → List LaneId
-  taker_lanes workers = map (λ w. taker_lane w.taker) workers
+  taker_lanes workers = map (λ w. w.taker.lane) workers
 
   abbrev pub given_lanes : List (Worked S H) → List LaneId
-  given_lanes workers = map (λ w. end_lane w.back) workers
+  given_lanes workers = map (λ w. w.back.lane) workers
 
   -- the same was taken, given back and counted, on the same lanes
   pub record IsSameWork (old new : List (Worked S H)) : Type 0 where
@@ -46,5 +46,5 @@ pub record IsSettled {T : Type 0} (taken put : List (List (Item T))) (k : ℕ) :
 
 -- a taker that took the mark of lane k knows that nothing waits there
 abbrev pub IsEmptied : List (Taker Placed) → ℕ → Type 0
-IsEmptied takers k = has_mark (slice_index_or (map taken_of takers) k []) ≡ true
-    → slice_index_or (map waiting_of takers) k [] ≡ []
+IsEmptied takers k = has_mark (slice_index_or (map (λ t. t.taken) takers) k []) ≡ true
+    → slice_index_or (map (λ t. t.waiting) takers) k [] ≡ []

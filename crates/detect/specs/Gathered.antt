@@ -5,13 +5,12 @@ use Rattle.dag.specs.declared.back.Back.{Back}
 use Rattle.lane.specs.declared.item.Item.{Item}
 use Rattle.lane.specs.declared.taker.Taker.{Taker}
 use Rattle.lane.specs.Items.{records}
-use Rattle.lane.specs.Lanes.{taken_of}
 use Rattle.dag.specs.Backs.{races_of, fails}
 use Rattle.collect.specs.Collected.{Collection, KeepsBest}
 
 -- the items that each lane gave, lane after lane
 abbrev pub given_by : List (Taker Back) → List (List (Item Back))
-given_by backs = map taken_of backs
+given_by backs = map (λ t. t.taken) backs
 
 abbrev pub all_given : List (List (Item Back)) → List Back
 all_given [] = []

@@ -1,12 +1,12 @@
 -- Private: how what came over the lanes back may go on.
 use Rattle.std.specs.Prelude.{◌≡◌, ℕ, true, List, [], map, slice_index_or, vec_len}
 use Rattle.lane.specs.Items.{has_mark}
-use Rattle.lane.specs.Lanes.{LaneId, taker_lane}
+use Rattle.lane.specs.Lanes.{LaneId}
 use Rattle.detect.specs.declared.gathering.Gathering.{Gathering}
 use Rattle.detect.specs.Gathered.{given_by, Gathers}
 
 abbrev pub back_lanes : Gathering → List LaneId
-back_lanes g = map taker_lane g.backs.items
+back_lanes g = map (λ t. t.lane) g.backs.items
 
 -- the mark of lane k came
 abbrev pub HasBackMark : Gathering → ℕ → Type 0

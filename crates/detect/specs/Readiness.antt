@@ -4,7 +4,7 @@ use Rattle.std.specs.List.{All, AllByRecursion}
 use Rattle.dag.specs.declared.records.Placed.{Placed}
 use Rattle.lane.specs.declared.sender.Sender.{Sender}
 use Rattle.lane.specs.declared.taker.Taker.{Taker}
-use Rattle.lane.specs.Lanes.{lane_of, put_of, taken_of, taker_lane}
+use Rattle.lane.specs.Lanes.{put_of}
 use Rattle.dag.specs.declared.back.Back.{Back}
 use Rattle.route.specs.Steps.{IsIdle}
 use Rattle.route.specs.Routers.{lane_count, HasSent}
@@ -17,22 +17,22 @@ use Rattle.detect.specs.Workers.{IsFreshJob, AllFresh, to_shards, from_shards}
 module _ {S H : Type 0} where
   -- a new job stands between the sender of the lane to it and the taker of the lane back, on which nothing was put
   pub record IsBetween (sender : Sender Placed) (gatherer : Taker Back) (job : Job S H) : Type 0 where
-    pub to_shard : taker_lane job.taker ≡ lane_of sender
-    pub from_shard : lane_of job.back ≡ taker_lane gatherer
+    pub to_shard : job.taker.lane ≡ sender.lane
+    pub from_shard : job.back.lane ≡ gatherer.lane
     pub new : IsFreshJob job
     pub none_put : put_of sender ≡ []
-    pub none_taken : taken_of gatherer ≡ []
+    pub none_taken : gatherer.taken ≡ []
 
   -- the ends of the lanes of n shards, on which nothing was put
   pub record IsTied (n : ℕ) (ends : LaneEnds S H) : Type 0 where
     pub senders : length ends.senders.items ≡ n
     pub jobs : length ends.jobs.items ≡ n
     pub backs : length ends.backs.items ≡ n
-    pub to_shards_are : to_shards ends.jobs.items ≡ map lane_of ends.senders.items
-    pub from_shards_are : from_shards ends.jobs.items ≡ map taker_lane ends.backs.items
+    pub to_shards_are : to_shards ends.jobs.items ≡ map (λ s. s.lane) ends.senders.items
+    pub from_shards_are : from_shards ends.jobs.items ≡ map (λ t. t.lane) ends.backs.items
     pub new : AllFresh ends.jobs.items
     pub none_put : All (λ s. put_of s ≡ []) ends.senders.items
-    pub none_taken : AllByRecursion (λ t. taken_of t ≡ []) ends.backs.items
+    pub none_taken : AllByRecursion (λ t. t.taken ≡ []) ends.backs.items
 
   -- a router and n workers on its lanes, before the first record, and room for what comes of the workers
   pub record IsReady (n : ℕ) (made : Made S H) : Type 0 where

@@ -7,7 +7,6 @@ use Rattle.dag.specs.Traces.{placed}
 use Rattle.dag.specs.Shares.{share}
 use Rattle.dag.specs.Parts.{records_of}
 use Rattle.lane.specs.declared.item.Item.TheVariants.{One, Finish}
-use Rattle.lane.specs.Lanes.{taken_of, waiting_of}
 use Rattle.detect.specs.declared.sharded.Run.{Run}
 use Rattle.serial.specs.Reported.{IsReportOf, IsPartReportOf}
 
@@ -17,9 +16,9 @@ pub record TookSharesOf (n : ℕ) (u : List Placed) (run : Run) : Type 0 where
   pub lanes : length run.lanes.items ≡ n
   pub counts : length run.taken.items ≡ n
   pub shares : (k : ℕ) → k < n
-      → slice_index_or (map taken_of run.lanes.items) k [] ≡ map One (share k n u) ++ Finish ∷ []
+      → slice_index_or (map (λ t. t.taken) run.lanes.items) k [] ≡ map One (share k n u) ++ Finish ∷ []
   pub taken : (k : ℕ) → k < n → slice_index run.taken.items k ≡ length (share k n u)
-  pub settled : (k : ℕ) → k < n → slice_index_or (map waiting_of run.lanes.items) k [] ≡ []
+  pub settled : (k : ℕ) → k < n → slice_index_or (map (λ t. t.waiting) run.lanes.items) k [] ≡ []
 
 -- of n shards each took its share of the trace, each record once and in trace order, and then the mark
 abbrev pub TookShares : ℕ → List Record → Run → Type 0

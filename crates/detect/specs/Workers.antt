@@ -4,7 +4,7 @@ use Rattle.std.specs.List.{AllByRecursion}
 use Rattle.dag.specs.declared.records.Placed.{Placed}
 use Rattle.lane.specs.declared.sender.Sender.{Sender}
 use Rattle.lane.specs.declared.taker.Taker.{Taker}
-use Rattle.lane.specs.Lanes.{LaneId, taker_lane, taken_of, lane_of, put_of}
+use Rattle.lane.specs.Lanes.{LaneId, put_of}
 use Rattle.std.specs.declared.thread.PromisedHandle.{PromisedHandle}
 use Rattle.dag.specs.declared.back.Back.{Back}
 use Rattle.shard.specs.declared.worker_loop.Worked.{Worked}
@@ -17,7 +17,7 @@ module _ {S H : Type 0} where
   -- the shard is new, and nothing was taken or put
   pub record IsFreshJob (job : Job S H) : Type 0 where
     pub shard : IsFresh job.shard
-    pub none_taken : taken_of job.taker ≡ []
+    pub none_taken : job.taker.taken ≡ []
     pub none_put : put_of job.back ≡ []
 
   abbrev pub AllFresh : List (Job S H) → Type 0
@@ -25,23 +25,23 @@ module _ {S H : Type 0} where
 
   -- the lanes to the shards, and the lanes back
   abbrev pub to_shards : List (Job S H) → List LaneId
-  to_shards jobs = map (λ j. taker_lane j.taker) jobs
+  to_shards jobs = map (λ j. j.taker.lane) jobs
 
   abbrev pub from_shards : List (Job S H) → List LaneId
-  from_shards jobs = map (λ j. lane_of j.back) jobs
+  from_shards jobs = map (λ j. j.back.lane) jobs
 
   -- both lanes of a shard
   abbrev pub job_lanes : Job S H → LaneId × LaneId
-  job_lanes job = (taker_lane job.taker, lane_of job.back)
+  job_lanes job = (job.taker.lane, job.back.lane)
 
   abbrev pub handle_lanes : PromisedHandle (Worked S H) WorkOf → LaneId × LaneId
-  handle_lanes handle = (taker_lane handle.promise.taker.value, lane_of handle.promise.back.value)
+  handle_lanes handle = (handle.promise.taker.value.lane, handle.promise.back.value.lane)
 
   -- a worker that was given these lanes has done its work
   pub record DidOn (lanes : LaneId × LaneId) (worked : Worked S H) : Type 0 where
     pub taker : Taker Placed
     pub back : Sender Back
-    pub lanes_are : lanes ≡ (taker_lane taker, lane_of back)
+    pub lanes_are : lanes ≡ (taker.lane, back.lane)
     pub did : DidWork taker back worked
 
   abbrev pub AllDid : List (LaneId × LaneId) → List (Worked S H) → Type 0

@@ -5,7 +5,7 @@ ghost use Rattle.dag.specs.declared.part.Part.{Part};
 ghost use Rattle.trace.specs.Devices.{Change};
 ghost use Rattle.trace.specs.Endings.{EndsReading, IsWantOfMemoryOrThread};
 ghost use Rattle.lane.specs.Items.{IsBeginning};
-ghost use Rattle.lane.specs.Lanes.{end_lane, taker_lane, all_put};
+ghost use Rattle.lane.specs.Lanes.{put_of};
 ghost use Rattle.detect.specs.Gathered.{given_by};
 ghost use Rattle.detect.specs.Closing.{taken_by, given_back, counts_of, takers_of, taker_lanes};
 ghost use Rattle.detect.specs.Closing.{given_lanes, IsSameWork, IsSettled, IsEmptied};
@@ -97,10 +97,10 @@ fn settle<S: BuildHasher + Drop>(done: Done<S>) -> Settled<S>
 // Compares the items that each worker took with the router's receipt of its lane. Each of the first lanes has a
 // worker.
 fn settle_shards<S: BuildHasher + Drop>(workers: &mut Vec<Worked<S>>, ends: &mut Vec<End<Placed>>)
-    requires { IsBeginning (taker_lanes workers.old.items) (map end_lane ends.old.items) }
+    requires { IsBeginning (taker_lanes workers.old.items) (map (λ e. e.lane) ends.old.items) }
     ensures same { IsSameWork workers.old.items workers.new.items }
     ensures settled { (k : ℕ) → k < vec_len workers.old
-        → IsSettled (taken_by workers.old.items) (map all_put ends.old.items) k }
+        → IsSettled (taken_by workers.old.items) (map put_of ends.old.items) k }
     ensures emptied { (k : ℕ) → k < vec_len workers.old → IsEmptied (takers_of workers.new.items) k }
 {
     for shard in 0..workers.len() {
@@ -110,7 +110,7 @@ fn settle_shards<S: BuildHasher + Drop>(workers: &mut Vec<Worked<S>>, ends: &mut
 
 // Compares the items taken from each lane back with the worker's receipt of it.
 fn settle_backs<S: BuildHasher + Drop>(workers: &mut Vec<Worked<S>>, backs: &mut Vec<Taker<Back>>)
-    requires { IsBeginning (given_lanes workers.old.items) (map taker_lane backs.old.items) }
+    requires { IsBeginning (given_lanes workers.old.items) (map (λ t. t.lane) backs.old.items) }
     ensures same { IsSameWork workers.old.items workers.new.items }
     ensures takers { takers_of workers.new.items ≡ takers_of workers.old.items }
     ensures settled { (k : ℕ) → k < vec_len workers.old

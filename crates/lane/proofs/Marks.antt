@@ -124,3 +124,10 @@ module _ {T : Type 0} where
 
   pub none_staged : (xs ys : List (Item T)) → ys ≡ [] → xs ++ ys ≡ xs
   none_staged xs ys none = ap (λ l. xs ++ l) none ∙ append-nil xs
+
+-- for an item that is put or taken, for a block that is put, and for one that is taken
+pub ruleset of_an_item = (has_mark_more, mark_last_more, has_mark_staged, mark_last_staged, none_staged)
+
+pub ruleset of_values = (has_mark_block, mark_last_values, no_mark_in, none_staged)
+
+pub ruleset of_a_block = (ended_by, mark_last_block)

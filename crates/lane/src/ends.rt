@@ -1,7 +1,7 @@
 //! Both ends of a new lane.
 ghost use Rattle.std.specs.Prelude.{◌≡◌, ◌≤◌, [], IfOk};
 ghost use Rattle.dag.specs.Bounds.{IsCapacity};
-ghost use Rattle.lane.specs.Lanes.{lane_of, taker_lane, put_of, taken_of, capacity_of, taker_capacity};
+ghost use Rattle.lane.specs.Lanes.{put_of};
 
 use crate::item::MarkLast;
 use crate::sender::{BLOCK, Sender, most_staged};
@@ -29,9 +29,9 @@ pub fn lane<T: Copy + Send>(
     capacity: usize,
 ) -> Result<(Sender<T>, Taker<T>), NoMemory>
     requires { IsCapacity capacity }
-    ensures lane { IfOk result (λ r. lane_of r.0 ≡ taker_lane r.1) }
-    ensures empty { IfOk result (λ r. (put_of r.0 ≡ []) × (taken_of r.1 ≡ [])) }
-    ensures capacity { IfOk result (λ r. (capacity_of r.0 ≡ capacity) × (taker_capacity r.1 ≡ capacity)) }
+    ensures lane { IfOk result (λ r. r.0.lane ≡ r.1.lane) }
+    ensures empty { IfOk result (λ r. (put_of r.0 ≡ []) × (r.1.taken ≡ [])) }
+    ensures capacity { IfOk result (λ r. (r.0.capacity ≡ capacity) × (r.1.capacity ≡ capacity)) }
 {
     let staged = Vec::with_capacity(alloc, BLOCK)?;
     let Ok((sending, taking)) = RingBuffer::with_protocol::<Global, MarkLast>(alloc, capacity)

@@ -11,6 +11,7 @@ ghost use Rattle.lane.specs.Staging.{most_staged};
 use crate::item::{Item, MarkLast};
 use rtrb::Producer;
 use std::alloc::Global;
+use std::marker::Model;
 
 /// The greatest number of values in a block.
 pub const BLOCK: usize = 64;
@@ -38,32 +39,56 @@ pub struct Sender<T> {
     ghost last: { mark_last (sent ring ++ staged.items) ≡ true },
 }
 
+impl<T> Model for Sender<T> {
+    ghost use Rattle.std.specs.Prelude.{◌-◌, length};
+    ghost use Rattle.rtrb.specs.Ring.{sent, known_free, producer_capacity};
+    ghost use Rattle.lane.specs.Lanes.{SenderState, lane_of_ring};
+
+    ghost Value = { SenderState T };
+
+    ghost view = { λ s. record {
+      lane = lane_of_ring s.ring.end;
+      capacity = producer_capacity s.ring;
+      shown = sent s.ring;
+      staged = s.staged.items;
+      room = known_free s.ring - length s.staged.items;
+      refusals = s.refusals;
+    } };
+}
+
 /// The receipt of a sender that puts nothing more: all that it put.
 #[derive(Drop)]
 pub struct End<T> {
     pub(crate) sender: Sender<T>,
 }
 
+impl<T> Model for End<T> {
+    ghost use Rattle.lane.specs.Lanes.{SenderState};
+
+    ghost Value = { SenderState T };
+
+    ghost view = { λ e. e.sender };
+}
+
 impl<T: Copy + Send> Sender<T> {
-    ghost use Rattle.lane.specs.Lanes.{lane_of, end_lane, put_of, shown_of, staged_of, all_put};
-    ghost use Rattle.lane.specs.Lanes.{all_shown, capacity_of, room_of, refusals_of, one_more, SameSender};
+    ghost use Rattle.lane.specs.Lanes.{put_of, one_more, SameSender};
 
     /// Puts the value behind those put before, or hands it back if the lane is full, when the taker is shown all items
     /// put. It shows values to the taker together: at the latest when `most_staged` of them are staged, or in `flush`.
     #[inline(always)]
-    #[tactic(auto, using(crate::proofs::Marks::has_mark_staged, crate::proofs::Marks::mark_last_staged, crate::proofs::Marks::none_staged))]
+    #[tactic(auto, using(crate::proofs::Marks::of_an_item))]
     pub fn put(&mut self, value: T) -> Result<(), T>
         requires { has_mark (put_of self.old) ≡ false }
         ensures lane { SameSender self.old self.new }
         ensures ok { OnOk result (put_of self.new ≡ put_of self.old ++ One value ∷ []) }
         ensures full { IfErr result (λ x. (x ≡ value) × (put_of self.new ≡ put_of self.old)
-            × (capacity_of self.old ≤ length (put_of self.old))) }
-        ensures no_room { IfErr result (λ _. (room_of self.old ≡ 0) × (room_of self.new ≡ 0)) }
-        ensures room { room_of self.old ≤ room_of self.new + 1 }
-        ensures staged { length (staged_of self.new) < most_staged (capacity_of self.new) }
-        ensures shown { IfErr result (λ _. staged_of self.new ≡ []) }
-        ensures refusals { refusals_of self.new
-            ≡ (if is_ok result then refusals_of self.old else one_more (refusals_of self.old)) }
+            × (self.old.capacity ≤ length (put_of self.old))) }
+        ensures no_room { IfErr result (λ _. (self.old.room ≡ 0) × (self.new.room ≡ 0)) }
+        ensures room { self.old.room ≤ self.new.room + 1 }
+        ensures staged { length self.new.staged < most_staged self.new.capacity }
+        ensures shown { IfErr result (λ _. self.new.staged ≡ []) }
+        ensures refusals { self.new.refusals
+            ≡ (if is_ok result then self.old.refusals else one_more self.old.refusals) }
         ensures unmarked { has_mark (put_of self.new) ≡ false }
     {
         self.staged.push_reserved(Item::One(value));
@@ -86,10 +111,10 @@ impl<T: Copy + Send> Sender<T> {
     pub fn flush(&mut self)
         ensures lane { SameSender self.old self.new }
         ensures put { put_of self.new ≡ put_of self.old }
-        ensures shown { shown_of self.new ≡ put_of self.old }
-        ensures none_staged { staged_of self.new ≡ [] }
-        ensures room { room_of self.old ≤ room_of self.new }
-        ensures refusals { refusals_of self.new ≡ refusals_of self.old }
+        ensures shown { self.new.shown ≡ put_of self.old }
+        ensures none_staged { self.new.staged ≡ [] }
+        ensures room { self.old.room ≤ self.new.room }
+        ensures refusals { self.new.refusals ≡ self.old.refusals }
     {
         if !self.staged.is_empty() {
             self.limit = publish(&mut self.ring, &mut self.staged, self.most);
@@ -98,18 +123,17 @@ impl<T: Copy + Send> Sender<T> {
 
     /// Puts a block of up to 64 values, or none of them if the lane has no room for all. It shows the taker all items
     /// put.
-    #[tactic(auto, using(crate::proofs::Marks::has_mark_block, crate::proofs::Marks::mark_last_values, crate::proofs::Marks::no_mark_in, crate::proofs::Marks::none_staged))]
+    #[tactic(auto, using(crate::proofs::Marks::of_values))]
     pub fn put_block(&mut self, values: &[T]) -> bool
         requires unmarked { has_mark (put_of self.old) ≡ false }
         requires most { length values.now ≤ BLOCK }
         ensures lane { SameSender self.old self.new }
         ensures put { IsTrue result → put_of self.new ≡ put_of self.old ++ map One values.now }
-        ensures full { IsFalse result → (put_of self.new ≡ put_of self.old) × (room_of self.new < length values.now) }
-        ensures succeeds { length values.now ≤ room_of self.old → IsTrue result }
+        ensures full { IsFalse result → (put_of self.new ≡ put_of self.old) × (self.new.room < length values.now) }
+        ensures succeeds { length values.now ≤ self.old.room → IsTrue result }
         ensures unmarked { has_mark (put_of self.new) ≡ false }
-        ensures shown { staged_of self.new ≡ [] }
-        ensures refusals { refusals_of self.new
-            ≡ (if result then refusals_of self.old else one_more (refusals_of self.old)) }
+        ensures shown { self.new.staged ≡ [] }
+        ensures refusals { self.new.refusals ≡ (if result then self.old.refusals else one_more self.old.refusals) }
     {
         self.flush();
         wrap(&mut self.staged, values);
@@ -123,18 +147,17 @@ impl<T: Copy + Send> Sender<T> {
     }
 
     /// Puts the mark, which takes a place too; false if the lane is full. It shows the taker all items put.
-    #[tactic(auto, using(crate::proofs::Marks::has_mark_more, crate::proofs::Marks::mark_last_more, crate::proofs::Marks::none_staged))]
+    #[tactic(auto, using(crate::proofs::Marks::of_an_item))]
     pub fn mark(&mut self) -> bool
         requires { has_mark (put_of self.old) ≡ false }
         ensures lane { SameSender self.old self.new }
         ensures put { IsTrue result → put_of self.new ≡ put_of self.old ++ Finish ∷ [] }
         ensures full { IsFalse result → (put_of self.new ≡ put_of self.old)
-            × (capacity_of self.old ≤ length (put_of self.old)) }
-        ensures no_room { IsFalse result → (room_of self.old ≡ 0) × (room_of self.new ≡ 0) }
+            × (self.old.capacity ≤ length (put_of self.old)) }
+        ensures no_room { IsFalse result → (self.old.room ≡ 0) × (self.new.room ≡ 0) }
         ensures marked { has_mark (put_of self.new) ≡ result }
-        ensures shown { staged_of self.new ≡ [] }
-        ensures refusals { refusals_of self.new
-            ≡ (if result then refusals_of self.old else one_more (refusals_of self.old)) }
+        ensures shown { self.new.staged ≡ [] }
+        ensures refusals { self.new.refusals ≡ (if result then self.old.refusals else one_more self.old.refusals) }
     {
         self.flush();
         if self.ring.is_full() {
@@ -150,14 +173,14 @@ impl<T: Copy + Send> Sender<T> {
     /// The number of further items that the sender knows to have room for, without a look at the other end. While it
     /// is above 0, `put` and `mark` succeed.
     pub fn room(&self) -> usize
-        ensures { result ≡ room_of self.now }
+        ensures { result ≡ self.now.room }
     {
         self.ring.cached_slots() - self.staged.len()
     }
 
     /// The greatest number of items in the lane.
     pub fn capacity(&self) -> usize
-        ensures { result ≡ capacity_of self.now }
+        ensures { result ≡ self.now.capacity }
     {
         self.ring.capacity()
     }
@@ -171,9 +194,9 @@ impl<T: Copy + Send> Sender<T> {
 
     /// The receipt, which holds the sender. It shows the taker all items put.
     pub fn end(mut self) -> End<T>
-        ensures lane { end_lane result ≡ lane_of self }
-        ensures put { all_put result ≡ put_of self }
-        ensures shown { all_shown result ≡ all_put result }
+        ensures lane { SameSender self result }
+        ensures put { put_of result ≡ put_of self }
+        ensures shown { result.shown ≡ put_of result }
     {
         self.flush();
         End { sender: self }

@@ -3,7 +3,7 @@
 ghost use Rattle.std.specs.Prelude.{◌≡◌, ◌≤◌, false, length};
 ghost use Rattle.lane.specs.declared.sender.TheConstants.{BLOCK};
 ghost use Rattle.lane.specs.Items.{has_mark};
-ghost use Rattle.lane.specs.Lanes.{lane_of, end_lane, put_of, taker_lane};
+ghost use Rattle.lane.specs.Lanes.{put_of};
 
 use lane::{BLOCK, End, Item, Sender, Taker, lane};
 use std::alloc::Global;
@@ -18,7 +18,7 @@ use trace::NoMemory;
 // What a call of the sender answers. The callers know of the ends no more than they need, or their proofs take long.
 fn puts<R: Abort>(rt: &R, sender: &mut Sender<u32>, value: u32, wanted: Result<(), u32>)
     requires { has_mark (put_of sender.old) ≡ false }
-    ensures lane { lane_of sender.new ≡ lane_of sender.old }
+    ensures lane { sender.new.lane ≡ sender.old.lane }
     ensures unmarked { has_mark (put_of sender.new) ≡ false }
 {
     assert!(rt; sender.put(value) == wanted, "{value}");
@@ -36,7 +36,7 @@ fn puts_block<R: Abort>(rt: &R, sender: &mut Sender<u32>, values: &[u32], wanted
 // Whether the mark is put.
 fn marks<R: Abort>(rt: &R, sender: &mut Sender<u32>, wanted: bool)
     requires { has_mark (put_of sender.old) ≡ false }
-    ensures lane { lane_of sender.new ≡ lane_of sender.old }
+    ensures lane { sender.new.lane ≡ sender.old.lane }
     ensures marked { has_mark (put_of sender.new) ≡ wanted }
 {
     assert!(rt; sender.mark() == wanted);
@@ -45,7 +45,7 @@ fn marks<R: Abort>(rt: &R, sender: &mut Sender<u32>, wanted: bool)
 
 // What a call of the taker answers.
 fn takes<R: Abort>(rt: &R, taker: &mut Taker<u32>, wanted: Option<Item<u32>>)
-    ensures { taker_lane taker.new ≡ taker_lane taker.old }
+    ensures { taker.new.lane ≡ taker.old.lane }
 {
     assert!(rt; taker.take() == wanted, "{wanted:?}");
 }
@@ -106,9 +106,9 @@ fn has_ready<R: Abort>(rt: &R, taker: &Taker<u32>, wanted: usize) {
 
 // Looks at the other end.
 fn looks(taker: &mut Taker<u32>, sender: &mut Sender<u32>)
-    requires { lane_of sender.old ≡ taker_lane taker.old }
-    ensures lane { lane_of sender.new ≡ lane_of sender.old }
-    ensures taken { taker_lane taker.new ≡ taker_lane taker.old }
+    requires { sender.old.lane ≡ taker.old.lane }
+    ensures lane { sender.new.lane ≡ sender.old.lane }
+    ensures taken { taker.new.lane ≡ taker.old.lane }
     ensures unmarked { has_mark (put_of sender.new) ≡ has_mark (put_of sender.old) }
 {
     taker.beside(sender);
@@ -116,7 +116,7 @@ fn looks(taker: &mut Taker<u32>, sender: &mut Sender<u32>)
 
 // Looks at the receipt.
 fn settles(taker: &mut Taker<u32>, mut end: End<u32>)
-    requires { end_lane end ≡ taker_lane taker.old }
+    requires { end.lane ≡ taker.old.lane }
 {
     taker.settle(&mut end);
 }
@@ -199,14 +199,13 @@ struct EndOf {
 
 impl Promise<End<u32>> for EndOf {
     ghost use Rattle.std.specs.Prelude.{◌≡◌};
-    ghost use Rattle.lane.specs.Lanes.{lane_of, end_lane};
 
-    ghost kept_by = { λ p r. end_lane r ≡ lane_of p.sender.value };
+    ghost kept_by = { λ p r. r.lane ≡ p.sender.value.lane };
 }
 
 fn put_waiting<R: Wait>(rt: &R, sender: &mut Sender<u32>, value: u32)
     requires { has_mark (put_of sender.old) ≡ false }
-    ensures lane { lane_of sender.new ≡ lane_of sender.old }
+    ensures lane { sender.new.lane ≡ sender.old.lane }
     ensures unmarked { has_mark (put_of sender.new) ≡ false }
 {
     for _ in rt.forever() {
@@ -220,7 +219,7 @@ fn put_waiting<R: Wait>(rt: &R, sender: &mut Sender<u32>, value: u32)
 
 fn mark_waiting<R: Wait>(rt: &R, mut sender: Sender<u32>) -> End<u32>
     requires { has_mark (put_of sender) ≡ false }
-    ensures { end_lane result ≡ lane_of sender }
+    ensures { result.lane ≡ sender.lane }
 {
     for _ in rt.forever() {
         if sender.mark() {
@@ -234,7 +233,7 @@ fn mark_waiting<R: Wait>(rt: &R, mut sender: Sender<u32>) -> End<u32>
 // Puts the numbers 1 to `count`, and the mark.
 fn send<R: Wait>(rt: &R, mut sender: Sender<u32>, count: u32) -> End<u32>
     requires { has_mark (put_of sender) ≡ false }
-    ensures { end_lane result ≡ lane_of sender }
+    ensures { result.lane ≡ sender.lane }
 {
     for value in 0..count {
         put_waiting(rt, &mut sender, value + 1);
@@ -244,7 +243,7 @@ fn send<R: Wait>(rt: &R, mut sender: Sender<u32>, count: u32) -> End<u32>
 
 // Takes up to the mark: the numbers from 1 on. The last one is checked.
 fn receive<R: Wait + Abort>(rt: &R, taker: &mut Taker<u32>) -> u32
-    ensures { taker_lane taker.new ≡ taker_lane taker.old }
+    ensures { taker.new.lane ≡ taker.old.lane }
 {
     let mut last = 0u32;
     for _ in rt.forever() {

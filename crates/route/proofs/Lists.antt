@@ -8,7 +8,7 @@ use Rattle.std.proofs.Math.Seq.{map-set_same}
 use Rattle.lane.specs.declared.item.Item.{Item}
 use Rattle.lane.specs.declared.item.Item.TheVariants.{One, Finish}
 use Rattle.lane.specs.declared.sender.Sender.{Sender}
-use Rattle.lane.specs.Lanes.{lane_of, SameSender, put_of, shown_of, capacity_of, room_of, refusals_of, one_more}
+use Rattle.lane.specs.Lanes.{SameSender, put_of, one_more}
 use Rattle.dag.specs.declared.records.Placed.{Placed}
 use Rattle.route.specs.Senders.{lanes, puts, shown, capacities, rooms, refusals, with_refusal}
 use Rattle.route.specs.Sending.{put_on, with_put}
@@ -27,8 +27,8 @@ puts-set ss k s t x h at more =
     ∙ ap (λ (l : List (Item Placed)). set (puts ss) k l) (more ∙ ap (λ (l : List (Item Placed)). l ++ x ∷ []) (ap put_of at ∙ sym (get_or-map put_of ss k s [] h)))
 
 -- the room that the sender at the place knows
-pub room_set : (ss : List (Sender Placed)) (k : ℕ) (t : Sender Placed) → k < length ss → slice_index_or (rooms (set ss k t)) k 0 ≡ room_of t
-room_set ss k t h = ap (λ (l : List ℕ). slice_index_or l k 0) (map-set room_of ss k t) ∙ get_or-set_same (rooms ss) k (room_of t) 0 (omega (arith, h, length-map ss room_of))
+pub room_set : (ss : List (Sender Placed)) (k : ℕ) (t : Sender Placed) → k < length ss → slice_index_or (rooms (set ss k t)) k 0 ≡ t.room
+room_set ss k t h = ap (λ (l : List ℕ). slice_index_or l k 0) (map-set (λ s. s.room) ss k t) ∙ get_or-set_same (rooms ss) k t.room 0 (omega (arith, h, length-map ss (λ s. s.room)))
 
 -- a lane with a put list has a sender
 sender_at : (ss : List (Sender Placed)) (k : ℕ) → k < length (puts ss) → k < length ss
@@ -38,20 +38,20 @@ sender_at ss k among = omega (arith, among, length-map ss put_of)
 pub put_at : (ss : List (Sender Placed)) (k : ℕ) (s : Sender Placed) → k < length (puts ss) → s ≡ get_or ss k s → put_on (puts ss) k ≡ put_of s
 put_at ss k s among at = get_or-map put_of ss k s [] (sender_at ss k among) ∙ ap put_of (sym at)
 
-pub capacity_at : (ss : List (Sender Placed)) (k : ℕ) (s : Sender Placed) → k < length ss → s ≡ get_or ss k s → slice_index_or (capacities ss) k 0 ≡ capacity_of s
-capacity_at ss k s h at = get_or-map capacity_of ss k s 0 h ∙ ap capacity_of (sym at)
+pub capacity_at : (ss : List (Sender Placed)) (k : ℕ) (s : Sender Placed) → k < length ss → s ≡ get_or ss k s → slice_index_or (capacities ss) k 0 ≡ s.capacity
+capacity_at ss k s h at = get_or-map (λ s. s.capacity) ss k s 0 h ∙ ap (λ s. s.capacity) (sym at)
 
 -- all that was put on the lane is shown
-pub shown_here : (ss : List (Sender Placed)) (k : ℕ) (t : Sender Placed) → k < length ss → shown_of t ≡ put_of t → slice_index_or (shown (set ss k t)) k [] ≡ put_on (puts (set ss k t)) k
+pub shown_here : (ss : List (Sender Placed)) (k : ℕ) (t : Sender Placed) → k < length ss → t.shown ≡ put_of t → slice_index_or (shown (set ss k t)) k [] ≡ put_on (puts (set ss k t)) k
 shown_here ss k t h all =
-    ap (λ (l : List (List (Item Placed))). slice_index_or l k []) (map-set shown_of ss k t) ∙ get_or-set_same (shown ss) k (shown_of t) [] (omega (arith, h, length-map ss shown_of))
+    ap (λ (l : List (List (Item Placed))). slice_index_or l k []) (map-set (λ s. s.shown) ss k t) ∙ get_or-set_same (shown ss) k t.shown [] (omega (arith, h, length-map ss (λ s. s.shown)))
     ∙ all ∙ sym (ap (λ (l : List (List (Item Placed))). slice_index_or l k []) (map-set put_of ss k t) ∙ get_or-set_same (puts ss) k (put_of t) [] (omega (arith, h, length-map ss put_of)))
 
 pub shown_others : (ss : List (Sender Placed)) (i k : ℕ) (t : Sender Placed) → (k ≡ i → ⊥) → slice_index_or (shown (set ss i t)) k [] ≡ slice_index_or (shown ss) k []
-shown_others ss i k t apart = ap (λ (l : List (List (Item Placed))). slice_index_or l k []) (map-set shown_of ss i t) ∙ get_or-set_other (shown ss) i k (shown_of t) [] apart
+shown_others ss i k t apart = ap (λ (l : List (List (Item Placed))). slice_index_or l k []) (map-set (λ s. s.shown) ss i t) ∙ get_or-set_other (shown ss) i k t.shown [] apart
 
 -- the lanes up to this one are shown
-pub all_shown : (ss : List (Sender Placed)) (at : ℕ) (s t : Sender Placed) → at < length ss → s ≡ get_or ss at s → put_of t ≡ put_of s → shown_of t ≡ put_of s
+pub all_shown : (ss : List (Sender Placed)) (at : ℕ) (s t : Sender Placed) → at < length ss → s ≡ get_or ss at s → put_of t ≡ put_of s → t.shown ≡ put_of s
     → ((k : ℕ) → k < at → slice_index_or (shown ss) k [] ≡ put_on (puts ss) k) → (k : ℕ) → k < at + 1 → slice_index_or (shown (set ss at t)) k [] ≡ put_on (puts (set ss at t)) k
 all_shown ss at s t within there same shows before k h =
     let P : ℕ → Type 0 = λ j. slice_index_or (shown (set ss at t)) j [] ≡ put_on (puts (set ss at t)) j in
@@ -68,12 +68,12 @@ pub record Put (ss ts : List (Sender Placed)) (k : ℕ) (x : Item Placed) : Type
   pub more : puts ts ≡ with_put (puts ss) k x
   pub counts : refusals ts ≡ refusals ss
 
-pub has_put : (ss : List (Sender Placed)) (k : ℕ) (s t : Sender Placed) (x : Item Placed) → k < length (puts ss) → s ≡ get_or ss k s → SameSender s t → put_of t ≡ put_of s ++ x ∷ [] → refusals_of t ≡ refusals_of s → Put ss (set ss k t) k x
+pub has_put : (ss : List (Sender Placed)) (k : ℕ) (s t : Sender Placed) (x : Item Placed) → k < length (puts ss) → s ≡ get_or ss k s → SameSender s t → put_of t ≡ put_of s ++ x ∷ [] → t.refusals ≡ s.refusals → Put ss (set ss k t) k x
 has_put ss k s t x among at lane put counts = record {
-  on = map-set_like lane_of ss k s t at lane.0;
-  holds = map-set_like capacity_of ss k s t at lane.1;
+  on = map-set_like (λ s. s.lane) ss k s t at lane.0;
+  holds = map-set_like (λ s. s.capacity) ss k s t at lane.1;
   more = puts-set ss k s t x (sender_at ss k among) at put;
-  counts = map-set_like refusals_of ss k s t at counts;
+  counts = map-set_like (λ s. s.refusals) ss k s t at counts;
 }
 
 -- after a refusal
@@ -86,36 +86,36 @@ pub record Refused (ss ts : List (Sender Placed)) (k : ℕ) : Type 0 where
   pub knows : slice_index_or (rooms ts) k 0 ≡ 0
   pub full : slice_index_or (capacities ss) k 0 ≤ length (put_on (puts ss) k)
 
-pub has_refused : (ss : List (Sender Placed)) (k : ℕ) (s t : Sender Placed) → k < length (puts ss) → s ≡ get_or ss k s → SameSender s t → (put_of t ≡ put_of s) × (capacity_of s ≤ length (put_of s)) → (room_of s ≡ 0) × (room_of t ≡ 0)
-    → refusals_of t ≡ one_more (refusals_of s) → Refused ss (set ss k t) k
+pub has_refused : (ss : List (Sender Placed)) (k : ℕ) (s t : Sender Placed) → k < length (puts ss) → s ≡ get_or ss k s → SameSender s t → (put_of t ≡ put_of s) × (s.capacity ≤ length (put_of s)) → (s.room ≡ 0) × (t.room ≡ 0)
+    → t.refusals ≡ one_more s.refusals → Refused ss (set ss k t) k
 has_refused ss k s t among at lane full none counts = record {
-  on = map-set_like lane_of ss k s t at lane.0;
-  holds = map-set_like capacity_of ss k s t at lane.1;
+  on = map-set_like (λ s. s.lane) ss k s t at lane.0;
+  holds = map-set_like (λ s. s.capacity) ss k s t at lane.1;
   same = map-set_like put_of ss k s t at full.0;
-  counts = map-set refusals_of ss k t ∙ ap (λ (n : ℕ). set (refusals ss) k n) (counts ∙ ap one_more (ap refusals_of at ∙ sym (get_or-map refusals_of ss k s 0 (sender_at ss k among))));
-  knew = get_or-map room_of ss k s 0 (sender_at ss k among) ∙ ap room_of (sym at) ∙ none.0;
+  counts = map-set (λ s. s.refusals) ss k t ∙ ap (λ (n : ℕ). set (refusals ss) k n) (counts ∙ ap one_more (ap (λ s. s.refusals) at ∙ sym (get_or-map (λ s. s.refusals) ss k s 0 (sender_at ss k among))));
+  knew = get_or-map (λ s. s.room) ss k s 0 (sender_at ss k among) ∙ ap (λ s. s.room) (sym at) ∙ none.0;
   knows = room_set ss k t (sender_at ss k among) ∙ none.1;
   full = omega (arith, full.1, capacity_at ss k s (sender_at ss k among) at, ap length (put_at ss k s among at));
 }
 
 -- the same of a sender's answer to a put
 pub put_ok : (ss : List (Sender Placed)) (k : ℕ) (s t : Sender Placed) (x : Placed) (r : Result (Unit {0}) Placed) (b : Bool) → k < length (puts ss) → s ≡ get_or ss k s → SameSender s t → b ≡ is_err r → b ≡ false
-    → OnOk r (put_of t ≡ put_of s ++ One x ∷ []) → refusals_of t ≡ cond (is_ok r) (refusals_of s) (one_more (refusals_of s)) → Put ss (set ss k t) k (One x)
+    → OnOk r (put_of t ≡ put_of s ++ One x ∷ []) → t.refusals ≡ cond (is_ok r) s.refusals (one_more s.refusals) → Put ss (set ss k t) k (One x)
 put_ok ss k s t x (Ok v) b among at lane is err put counts = has_put ss k s t (One x) among at lane put counts
 put_ok ss k s t x (Err v) b among at lane is err put counts = absurd (cc)
 
 pub put_err : (ss : List (Sender Placed)) (k : ℕ) (s t : Sender Placed) (x : Placed) (r : Result (Unit {0}) Placed) (b : Bool) → k < length (puts ss) → s ≡ get_or ss k s → SameSender s t → b ≡ is_err r → b ≡ true
-    → IfErr r (λ y. (y ≡ x) × (put_of t ≡ put_of s) × (capacity_of s ≤ length (put_of s))) → IfErr r (λ y. (room_of s ≡ 0) × (room_of t ≡ 0)) → refusals_of t ≡ cond (is_ok r) (refusals_of s) (one_more (refusals_of s)) → Refused ss (set ss k t) k
+    → IfErr r (λ y. (y ≡ x) × (put_of t ≡ put_of s) × (s.capacity ≤ length (put_of s))) → IfErr r (λ y. (s.room ≡ 0) × (t.room ≡ 0)) → t.refusals ≡ cond (is_ok r) s.refusals (one_more s.refusals) → Refused ss (set ss k t) k
 put_err ss k s t x (Ok v) b among at lane is err full none counts = absurd (cc)
 put_err ss k s t x (Err v) b among at lane is err full none counts = has_refused ss k s t among at lane (full.1, full.2) none counts
 
 -- and to the mark
 pub mark_ok : (ss : List (Sender Placed)) (k : ℕ) (s t : Sender Placed) (b : Bool) → k < length (puts ss) → s ≡ get_or ss k s → SameSender s t → b ≡ true
-    → (IsTrue b → put_of t ≡ put_of s ++ Finish ∷ []) → refusals_of t ≡ cond b (refusals_of s) (one_more (refusals_of s)) → Put ss (set ss k t) k Finish
+    → (IsTrue b → put_of t ≡ put_of s ++ Finish ∷ []) → t.refusals ≡ cond b s.refusals (one_more s.refusals) → Put ss (set ss k t) k Finish
 mark_ok ss k s t true among at lane is put counts = has_put ss k s t Finish among at lane (put refl) counts
 mark_ok ss k s t false among at lane is put counts = absurd (cc)
 
 pub mark_err : (ss : List (Sender Placed)) (k : ℕ) (s t : Sender Placed) (b : Bool) → k < length (puts ss) → s ≡ get_or ss k s → SameSender s t → b ≡ false
-    → (IsFalse b → (put_of t ≡ put_of s) × (capacity_of s ≤ length (put_of s))) → (IsFalse b → (room_of s ≡ 0) × (room_of t ≡ 0)) → refusals_of t ≡ cond b (refusals_of s) (one_more (refusals_of s)) → Refused ss (set ss k t) k
+    → (IsFalse b → (put_of t ≡ put_of s) × (s.capacity ≤ length (put_of s))) → (IsFalse b → (s.room ≡ 0) × (t.room ≡ 0)) → t.refusals ≡ cond b s.refusals (one_more s.refusals) → Refused ss (set ss k t) k
 mark_err ss k s t true among at lane is full none counts = absurd (cc)
 mark_err ss k s t false among at lane is full none counts = has_refused ss k s t among at lane (full refl) (none refl) counts

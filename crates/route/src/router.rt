@@ -2,7 +2,7 @@
 ghost use Rattle.std.specs.Prelude.{◌≡◌, ◌≤◌, ◌↔◌, [], map, All, IfOk, IsErr, OnOk, is_some, vec_len, vec_capacity};
 ghost use Rattle.dag.specs.declared.records.Placed.{Placed};
 ghost use Rattle.dag.specs.Bounds.{most_shards};
-ghost use Rattle.lane.specs.Lanes.{end_lane, all_put, put_of};
+ghost use Rattle.lane.specs.Lanes.{put_of};
 ghost use Rattle.route.specs.Senders.{puts};
 ghost use Rattle.route.specs.Routers.{IsRouter};
 ghost use Rattle.route.specs.Progresses.{OnIdle, OnMoved, IfBlocked};
@@ -181,8 +181,8 @@ impl Router {
     /// The receipts of the senders, in their order.
     pub fn into_ends(self) -> Vec<End<Placed>>
         requires { self.marked ≡ lane_count self }
-        ensures lanes { map end_lane result.items ≡ self.lanes }
-        ensures puts { map all_put result.items ≡ self.puts }
+        ensures lanes { map (λ e. e.lane) result.items ≡ self.lanes }
+        ensures puts { map put_of result.items ≡ self.puts }
         ensures count { vec_len result ≡ lane_count self }
     {
         let mut ends = self.ends;

@@ -1,7 +1,7 @@
 //! The router call by call, and what each lane gave at every point of a run.
 ghost use Rattle.std.specs.Prelude.{◌≡◌, ◌+◌, ◌≤◌, [], ◌∷◌, All, map, IfOk, OnOk, vec_len};
 ghost use Rattle.dag.specs.Bounds.{IsCapacity};
-ghost use Rattle.lane.specs.Lanes.{lane_of, put_of, taker_lane, end_lane};
+ghost use Rattle.lane.specs.Lanes.{put_of};
 ghost use Rattle.route.specs.Routers.{lane_count};
 
 use lane::{End, Item, Sender, Taker, lane};
@@ -29,7 +29,7 @@ fn over_two(
     second: usize,
 ) -> Result<(Router, Taker<Placed>, Taker<Placed>), NoMemory>
     requires { IsCapacity first × IsCapacity second }
-    ensures lanes { IfOk result (λ r. r.0.lanes ≡ taker_lane r.1 ∷ taker_lane r.2 ∷ []) }
+    ensures lanes { IfOk result (λ r. r.0.lanes ≡ r.1.lane ∷ r.2.lane ∷ []) }
     ensures count { IfOk result (λ r. lane_count r.0 ≡ 2) }
     ensures idle { IfOk result (λ r. r.0.pending ≡ None) }
     ensures unmarked { IfOk result (λ r. r.0.marked ≡ 0) }
@@ -45,7 +45,7 @@ fn router_of(
     second: Sender<Placed>,
 ) -> Result<Router, NoMemory>
     requires { (put_of first ≡ []) × (put_of second ≡ []) }
-    ensures lanes { IfOk result (λ r. r.lanes ≡ lane_of first ∷ lane_of second ∷ []) }
+    ensures lanes { IfOk result (λ r. r.lanes ≡ first.lane ∷ second.lane ∷ []) }
     ensures count { IfOk result (λ r. lane_count r ≡ 2) }
     ensures idle { IfOk result (λ r. r.pending ≡ None) }
     ensures unmarked { IfOk result (λ r. r.marked ≡ 0) }
@@ -91,7 +91,7 @@ fn mark_steps<R: Abort>(rt: &R, router: &mut Router, wanted: &[Progress])
 
 // What a lane gives next.
 fn gives<R: Abort>(rt: &R, taker: &mut Taker<Placed>, wanted: Item<Placed>)
-    ensures { taker_lane taker.new ≡ taker_lane taker.old }
+    ensures { taker.new.lane ≡ taker.old.lane }
 {
     assert!(rt; taker.take() == Some(wanted), "{wanted:?}");
 }
@@ -125,7 +125,7 @@ fn send_two<R: Abort>(
     mut other: Taker<Placed>,
 )
     requires unmarked { router.marked ≡ 0 }
-    requires lanes { router.lanes ≡ taker_lane taker ∷ taker_lane other ∷ [] }
+    requires lanes { router.lanes ≡ taker.lane ∷ other.lane ∷ [] }
 {
     offers(rt, &mut router, 1, Record::Spawn);
     steps(rt, &mut router, &[Moved, Moved, Idle]);
@@ -149,7 +149,7 @@ fn mark_two<R: Abort>(
     mut taker: Taker<Placed>,
     mut other: Taker<Placed>,
 )
-    requires lanes { router.lanes ≡ taker_lane taker ∷ taker_lane other ∷ [] }
+    requires lanes { router.lanes ≡ taker.lane ∷ other.lane ∷ [] }
 {
     assert!(rt; !router.pending());
     mark_steps(rt, &mut router, &[Blocked(0)]);
@@ -166,7 +166,7 @@ fn mark_two<R: Abort>(
 // The receipts of a router whose lanes have their marks.
 fn ends_of<R: Abort>(rt: &R, mut router: Router) -> Vec<End<Placed>>
     requires { router.pending ≡ None }
-    ensures { map end_lane result.items ≡ router.lanes }
+    ensures { map (λ e. e.lane) result.items ≡ router.lanes }
 {
     assert!(rt; router.mark_all_step() == Idle);
     router.into_ends()
@@ -174,7 +174,7 @@ fn ends_of<R: Abort>(rt: &R, mut router: Router) -> Vec<End<Placed>>
 
 // The receipts are those of the two lanes, in their order.
 fn settle_two(mut ends: Vec<End<Placed>>, mut taker: Taker<Placed>, mut other: Taker<Placed>)
-    requires { map end_lane ends.items ≡ taker_lane taker ∷ taker_lane other ∷ [] }
+    requires { map (λ e. e.lane) ends.items ≡ taker.lane ∷ other.lane ∷ [] }
 {
     taker.settle(&mut ends[0]);
     other.settle(&mut ends[1]);

@@ -2,7 +2,7 @@
 ghost use Rattle.std.specs.Prelude.{◌≡◌, false, [], ◌∷◌, ◌++◌};
 ghost use Rattle.lane.specs.declared.item.Item.TheVariants.{One, Finish};
 ghost use Rattle.lane.specs.Items.{has_mark};
-ghost use Rattle.lane.specs.Lanes.{lane_of, end_lane, put_of, all_put, all_shown};
+ghost use Rattle.lane.specs.Lanes.{put_of};
 
 use crate::Back;
 use lane::{End, Sender};
@@ -15,7 +15,7 @@ use waiting::Waiting;
 #[inline(never)]
 pub fn put_back<R: Wait + Clock>(rt: &R, back: &mut Sender<Back>, value: Back)
     requires { has_mark (put_of back.old) ≡ false }
-    ensures lane { lane_of back.new ≡ lane_of back.old }
+    ensures lane { back.new.lane ≡ back.old.lane }
     ensures put { put_of back.new ≡ put_of back.old ++ One value ∷ [] }
     ensures unmarked { has_mark (put_of back.new) ≡ false }
 {
@@ -34,9 +34,9 @@ pub fn put_back<R: Wait + Clock>(rt: &R, back: &mut Sender<Back>, value: Back)
 /// Puts the mark, as soon as there is room, and gives the receipt.
 pub fn mark<R: Wait + Clock>(rt: &R, mut back: Sender<Back>) -> End<Back>
     requires { has_mark (put_of back) ≡ false }
-    ensures lane { end_lane result ≡ lane_of back }
-    ensures put { all_put result ≡ put_of back ++ Finish ∷ [] }
-    ensures shown { all_shown result ≡ all_put result }
+    ensures lane { result.lane ≡ back.lane }
+    ensures put { put_of result ≡ put_of back ++ Finish ∷ [] }
+    ensures shown { result.shown ≡ put_of result }
 {
     let mut waiting = Waiting::new();
     for _ in rt.forever() {

@@ -5,7 +5,7 @@ ghost use Rattle.dag.specs.declared.records.Placed.{Placed};
 ghost use Rattle.lane.specs.declared.item.Item.{Item};
 ghost use Rattle.lane.specs.declared.item.Item.TheVariants.{One};
 ghost use Rattle.lane.specs.Items.{has_mark, records};
-ghost use Rattle.lane.specs.Lanes.{lane_of, put_of, shown_of};
+ghost use Rattle.lane.specs.Lanes.{put_of};
 ghost use Rattle.shard.specs.Working.{HasWorked};
 
 use crate::Back;
@@ -42,8 +42,8 @@ impl<S: BuildHasher + Drop> Worker<S> {
     )
         ensures worked { (u : List Placed) → HasWorked u self.old.shard (put_of self.old.back) self.old.stopped →
             HasWorked (u ++ records block.now) self.new.shard (put_of self.new.back) self.new.stopped }
-        ensures lane { lane_of self.new.back ≡ lane_of self.old.back }
-        ensures shown { shown_of self.new.back ≡ put_of self.new.back }
+        ensures lane { self.new.back.lane ≡ self.old.back.lane }
+        ensures shown { self.new.back.shown ≡ put_of self.new.back }
     {
         for item in block {
             // Only a race and a refused growth, which are rare, need the runtime.

@@ -1,6 +1,6 @@
 //! The worker's loop.
 ghost use Rattle.std.specs.Prelude.{◌≡◌, []};
-ghost use Rattle.lane.specs.Lanes.{put_of, taken_of};
+ghost use Rattle.lane.specs.Lanes.{put_of};
 ghost use Rattle.shard.specs.Shards.{IsFresh};
 ghost use Rattle.shard.specs.Worked.{DidWork};
 
@@ -55,7 +55,7 @@ pub fn work<R: Wait + Clock, S: BuildHasher + Drop, G: Gate>(
     gate: &G,
 ) -> Worked<S>
     requires new { IsFresh shard }
-    requires none_taken { taken_of taker ≡ [] }
+    requires none_taken { taker.taken ≡ [] }
     requires none_put { put_of back ≡ [] }
     ensures { DidWork taker back result }
 {

@@ -2,7 +2,7 @@
 ghost use Rattle.std.specs.Prelude.{◌≡◌, false, [], IfOk};
 ghost use Rattle.dag.specs.Bounds.{IsCapacity};
 ghost use Rattle.lane.specs.Items.{has_mark};
-ghost use Rattle.lane.specs.Lanes.{end_lane, lane_of, put_of, taken_of, taker_lane};
+ghost use Rattle.lane.specs.Lanes.{put_of};
 
 use lane::{Item, Sender, Taker, lane};
 use shard::{Back, Gate, Open, Shard, Worked, work};
@@ -335,7 +335,7 @@ impl Passes {
 
 /// Takes all that waits, at most 16 items.
 fn take_all(alloc: Global, taker: &mut Taker<Back>) -> Result<Vec<Item<Back>>, Fail>
-    ensures { taker_lane taker.new ≡ taker_lane taker.old }
+    ensures { taker.new.lane ≡ taker.old.lane }
 {
     let mut items = Vec::new(alloc);
     for _ in 0..16 {
@@ -352,10 +352,10 @@ fn lanes(
     capacity: usize,
 ) -> Result<(Sender<Placed>, Taker<Placed>, Sender<Back>, Taker<Back>), NoMemory>
     requires { IsCapacity capacity }
-    ensures to { IfOk result (λ r. lane_of r.0 ≡ taker_lane r.1) }
-    ensures back { IfOk result (λ r. lane_of r.2 ≡ taker_lane r.3) }
+    ensures to { IfOk result (λ r. r.0.lane ≡ r.1.lane) }
+    ensures back { IfOk result (λ r. r.2.lane ≡ r.3.lane) }
     ensures none_put { IfOk result (λ r. (put_of r.0 ≡ []) × (put_of r.2 ≡ [])) }
-    ensures none_taken { IfOk result (λ r. taken_of r.1 ≡ []) }
+    ensures none_taken { IfOk result (λ r. r.1.taken ≡ []) }
 {
     let (sender, taker) = lane::<Placed>(alloc, capacity)?;
     let (back, back_taker) = lane::<Back>(alloc, capacity)?;
@@ -385,7 +385,7 @@ fn put_back<R: Abort>(
     mut worked: Worked<Hasher>,
     mut back_taker: Taker<Back>,
 ) -> Result<(Vec<Item<Back>>, u64), Fail>
-    requires { end_lane worked.back ≡ taker_lane back_taker }
+    requires { worked.back.lane ≡ back_taker.lane }
 {
     assert!(rt; worked.taker.ended());
     let items = take_all(alloc, &mut back_taker)?;
@@ -447,7 +447,7 @@ impl Promise<Worked<Hasher>> for WorkOf {
 /// Puts the next record, or the mark after the last one, if the lane has room, and returns the number of the record
 /// that is then the next.
 fn put_next(sender: &mut Sender<Placed>, records: &[Record], next: usize) -> usize
-    ensures { lane_of sender.new ≡ lane_of sender.old }
+    ensures { sender.new.lane ≡ sender.old.lane }
 {
     if sender.marked() {
         return next;
@@ -471,8 +471,8 @@ fn exchange<R: Wait + Clock>(
     back: &mut Taker<Back>,
     records: &[Record],
 ) -> u64
-    ensures put { lane_of sender.new ≡ lane_of sender.old }
-    ensures taken { taker_lane back.new ≡ taker_lane back.old }
+    ensures put { sender.new.lane ≡ sender.old.lane }
+    ensures taken { back.new.lane ≡ back.old.lane }
 {
     let mut next = 0;
     let mut count = 0u64;
@@ -506,7 +506,7 @@ fn work_in_a_thread(rt: HostRuntime) -> Result<(), Fail> {
 
 /// Whether a race comes while the lane to the shard has no mark.
 fn race_comes(back: &mut Taker<Back>) -> bool
-    ensures { taker_lane back.new ≡ taker_lane back.old }
+    ensures { back.new.lane ≡ back.old.lane }
 {
     for _ in 0..1_000_000 {
         if let Some(Item::One(Back::Race(_))) = back.take() {
@@ -537,7 +537,7 @@ fn races_come_before_the_mark(rt: HostRuntime) -> Result<(), Fail> {
 
 /// Puts the records on a lane that has room for them, and shows them.
 fn put_all(sender: &mut Sender<Placed>, records: &[Record])
-    ensures { lane_of sender.new ≡ lane_of sender.old }
+    ensures { sender.new.lane ≡ sender.old.lane }
 {
     for next in 0..records.len() {
         put_next(sender, records, next);
@@ -547,8 +547,8 @@ fn put_all(sender: &mut Sender<Placed>, records: &[Record])
 
 /// Settles both lanes of a worker that has ended, and returns its count.
 fn settle(mut worked: Worked<Hasher>, sender: Sender<Placed>, mut back_taker: Taker<Back>) -> u64
-    requires to { lane_of sender ≡ taker_lane worked.taker }
-    requires back { end_lane worked.back ≡ taker_lane back_taker }
+    requires to { sender.lane ≡ worked.taker.lane }
+    requires back { worked.back.lane ≡ back_taker.lane }
 {
     worked.taker.settle(&mut sender.end());
     back_taker.settle(&mut worked.back);

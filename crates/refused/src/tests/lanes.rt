@@ -1,6 +1,5 @@
 //! Lanes and a router: only the calls that make them ask for memory.
 ghost use Rattle.std.specs.Prelude.{◌≡◌};
-ghost use Rattle.lane.specs.Lanes.{lane_of};
 
 use super::print_refused;
 use lane::{Item, Sender, Taker, lane};
@@ -10,7 +9,7 @@ use std::process::Abort;
 use trace::{NoMemory, Placed, Record};
 
 fn put_calls<R: Abort>(rt: &R, sender: &mut Sender<u32>)
-    ensures { lane_of sender.new ≡ lane_of sender.old }
+    ensures { sender.new.lane ≡ sender.old.lane }
 {
     assert!(rt; !sender.marked());
     assert_eq!(rt; sender.put(7), Ok(()));

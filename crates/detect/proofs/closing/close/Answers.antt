@@ -1,6 +1,5 @@
 use Rattle.std.proofs.Common.{◌≡◌, ℕ, vec_len, List, inl, refl, sym, ap, subst, ◌∙◌, arith}
 use Rattle.std.proofs.lemmas.Simd.{map-map}
-use Rattle.lane.specs.Lanes.{taken_of}
 use Rattle.dag.specs.Accesses.{RaceAt}
 use Rattle.dag.specs.Traces.{placed}
 use Rattle.dag.specs.Parts.{records_of}
@@ -43,7 +42,7 @@ returns-clause-answers g c = λ part n records depths change some most h.
       compared = compared;
       takers = takers_of settled.result.workers.items;
       lanes = c.into_run.ensures.lanes;
-      same = map-map taken_of (λ w. w.taker) settled.result.workers.items ∙ same.taken;
+      same = map-map (λ t. t.taken) (λ w. w.taker) settled.result.workers.items ∙ same.taken;
       emptied = λ k lt. settled.ensures.emptied k (omega (arith, lt, count));
       counts = c.into_run.ensures.taken ∙ same.counts;
       lane_count_is = omega (arith, c.into_run.result.lanes.ok.0, c.into_run.ensures.lane_count, settled.result.workers.ok.0, same.count, f.workers);

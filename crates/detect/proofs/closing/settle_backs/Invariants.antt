@@ -1,5 +1,4 @@
 use Rattle.std.proofs.Common.{◌≡◌, ℕ, ◌<◌, map}
-use Rattle.lane.specs.Lanes.{taker_lane}
 use Rattle.detect.specs.Gathered.{given_by}
 use Rattle.detect.specs.Closing.{given_back, takers_of, IsSameWork, IsSettled}
 use Rattle.detect.proofs.closing.settle_backs.Given as goal
@@ -9,6 +8,6 @@ invariant-loop-shard g l = record {
   same : IsSameWork l.fn.workers.items l.workers.items;
   takers : takers_of l.workers.items ≡ takers_of l.fn.workers.items;
   taken : given_by l.backs.items ≡ given_by l.fn.backs.items;
-  lanes : map taker_lane l.backs.items ≡ map taker_lane l.fn.backs.items;
+  lanes : map (λ t. t.lane) l.backs.items ≡ map (λ t. t.lane) l.fn.backs.items;
   settled : (k : ℕ) → k < l.shard → IsSettled (given_by l.fn.backs.items) (given_back l.fn.workers.items) k;
 }

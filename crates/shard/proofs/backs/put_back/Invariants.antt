@@ -1,12 +1,12 @@
 use Rattle.std.proofs.Common.{◌≡◌, false}
 use Rattle.lane.specs.Items.{has_mark}
-use Rattle.lane.specs.Lanes.{lane_of, put_of}
+use Rattle.lane.specs.Lanes.{put_of}
 use Rattle.shard.proofs.backs.put_back.Given as goal
 
 abbrev pub invariant-loop : goal.invariant-loop
 invariant-loop g l = record {
   same : l.left ≡ l.fn.value;
-  lane : lane_of l.back ≡ lane_of l.initial.back;
+  lane : l.back.lane ≡ l.initial.back.lane;
   put : put_of l.back ≡ put_of l.initial.back;
   unmarked : has_mark (put_of l.back) ≡ false;
 }

@@ -2,7 +2,7 @@ use Rattle.std.proofs.Common.{rules, ◌≡◌, List, [], ◌++◌, length, take
 use Rattle.dag.specs.declared.records.Placed.{Placed}
 use Rattle.lane.specs.declared.item.Item.{Item}
 use Rattle.lane.specs.Items.{has_mark, records}
-use Rattle.lane.specs.Lanes.{taken_of, put_of}
+use Rattle.lane.specs.Lanes.{put_of}
 use Rattle.lane.proofs.Marks.{records_append, all_to_mark}
 use Rattle.dag.specs.declared.back.Back.{Back}
 use Rattle.shard.specs.Working.{HasWorked, IsOfShare, PutsFound}
@@ -23,23 +23,23 @@ loop-init g c =
 pub loop-preserved : goal.loop-preserved
 loop-preserved g c =
     let i = c.loop.invariant in
-    let same : records (taken_of c.take_block-count.new.self) ≡ records (taken_of c.loop.taker) ++ records (take c.take_block-count.result c.take_block-count.new.items) = ap records c.take_block-count.ensures.taken ∙ records_append (taken_of c.loop.taker) _ in
+    let same : records c.take_block-count.new.self.taken ≡ records c.loop.taker.taken ++ records (take c.take_block-count.result c.take_block-count.new.items) = ap records c.take_block-count.ensures.taken ∙ records_append c.loop.taker.taken _ in
     let P : List Placed → Type 0 = λ u. HasWorked u c.apply_block.new.self.shard (put_of c.apply_block.new.self.back) c.apply_block.new.self.stopped in
     record {
       same_taker = c.take_block-count.ensures.lane.0 ∙ i.same_taker;
       same_back = c.apply_block.ensures.lane ∙ i.same_back;
       before_mark = search rules;
-      worked = subst P (sym same) (c.apply_block.ensures.worked (records (taken_of c.loop.taker)) i.worked);
+      worked = subst P (sym same) (c.apply_block.ensures.worked (records c.loop.taker.taken) i.worked);
     }
 
 pub returns-then-ended : goal.returns-then-ended
 returns-then-ended g c =
     let i = c.loop.invariant in
-    let taken = taken_of c.take_block-count.new.self in
+    let taken = c.take_block-count.new.self.taken in
     let put = put_of c.apply_block.new.self.back in
-    let same : records taken ≡ records (taken_of c.loop.taker) ++ records (take c.take_block-count.result c.take_block-count.new.items) = ap records c.take_block-count.ensures.taken ∙ records_append (taken_of c.loop.taker) _ in
+    let same : records taken ≡ records c.loop.taker.taken ++ records (take c.take_block-count.result c.take_block-count.new.items) = ap records c.take_block-count.ensures.taken ∙ records_append c.loop.taker.taken _ in
     let P : List Placed → Type 0 = λ u. HasWorked u c.apply_block.new.self.shard put c.apply_block.new.self.stopped in
-    let worked = subst P (sym same) (c.apply_block.ensures.worked (records (taken_of c.loop.taker)) i.worked) in
+    let worked = subst P (sym same) (c.apply_block.ensures.worked (records c.loop.taker.taken) i.worked) in
     let Q : List (Item Back) → Type 0 = λ all. IsOfShare (records taken) → (c.apply_block.new.self.shard.taken ≡ length (records taken)) × PutsFound (records taken) all in
     record {
       same_taker = c.take_block-count.ensures.lane.0 ∙ i.same_taker;

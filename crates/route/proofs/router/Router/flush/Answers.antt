@@ -1,5 +1,5 @@
 use Rattle.std.proofs.Common.{◌≡◌, ℕ, ◌<◌, length, refl, ap, ◌∙◌, arith}
-use Rattle.lane.specs.Lanes.{lane_of, put_of, capacity_of}
+use Rattle.lane.specs.Lanes.{put_of}
 use Rattle.route.specs.Senders.{puts}
 use Rattle.route.specs.Routers.{RouterState}
 use Rattle.route.proofs.Lists.{map-set_like, puts_counted, all_shown}
@@ -35,8 +35,8 @@ loop-lane-preserved c =
     let at : ℕ = c.loop-lane.lane in
     record {
       same_puts = same ∙ i.same_puts;
-      same_lanes = map-set_like lane_of s.senders.items at _ c.flush.new.self c.index_mut.ensures.value c.flush.ensures.lane.0 ∙ i.same_lanes;
-      same_capacities = map-set_like capacity_of s.senders.items at _ c.flush.new.self c.index_mut.ensures.value c.flush.ensures.lane.1 ∙ i.same_capacities;
+      same_lanes = map-set_like (λ s. s.lane) s.senders.items at _ c.flush.new.self c.index_mut.ensures.value c.flush.ensures.lane.0 ∙ i.same_lanes;
+      same_capacities = map-set_like (λ s. s.capacity) s.senders.items at _ c.flush.new.self c.index_mut.ensures.value c.flush.ensures.lane.1 ∙ i.same_capacities;
       pending = i.pending;
       next = i.next;
       marked = i.marked;

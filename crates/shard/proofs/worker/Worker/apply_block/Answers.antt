@@ -5,7 +5,7 @@ use Rattle.dag.specs.declared.back.Back.{Back}
 use Rattle.lane.specs.declared.item.Item.{Item}
 use Rattle.lane.specs.declared.item.Item.TheVariants.{One}
 use Rattle.lane.specs.Items.{records}
-use Rattle.lane.specs.Lanes.{lane_of, put_of}
+use Rattle.lane.specs.Lanes.{put_of}
 use Rattle.lane.proofs.Marks.{records_next}
 use Rattle.shard.specs.Working.{HasWorked}
 use Rattle.shard.proofs.worker.Worker.apply_block.Goals as goal
@@ -25,14 +25,14 @@ loop-item-preserved g c =
           (let adds : put_of w.put_back.new.back ≡ put ++ map One (option_to_list c.take_item.result) =
           w.put_back.ensures.put ∙ ap (λ b. put_of b ++ One w.in-Some.back ∷ []) c.take_item.ensures.back ∙ ap (λ (o : Option Back). put ++ map One (option_to_list o)) (sym w.in-Some.is) in
           record {
-            same_back = ap (λ s. lane_of s.back) w.self-is ∙ w.put_back.ensures.lane ∙ ap lane_of c.take_item.ensures.back ∙ c.loop-item.invariant.same_back;
+            same_back = ap (λ s. s.back.lane) w.self-is ∙ w.put_back.ensures.lane ∙ ap (λ s. s.lane) c.take_item.ensures.back ∙ c.loop-item.invariant.same_back;
             worked = λ u h. subst (λ s. HasWorked (u ++ records (take (i + 1) block)) s.shard (put_of s.back) s.stopped) (sym w.self-is) (subst Q (sym adds) worked u h);
           })
       | in_default w ↦
           (let adds : put_of c.take_item.new.self.back ≡ put ++ map One (option_to_list c.take_item.result) =
           ap put_of c.take_item.ensures.back ∙ sym (append-nil put) ∙ ap (λ (o : Option Back). put ++ map One (option_to_list o)) (sym w.in_default.is) in
           record {
-            same_back = ap (λ s. lane_of s.back) w.self-is ∙ ap lane_of c.take_item.ensures.back ∙ c.loop-item.invariant.same_back;
+            same_back = ap (λ s. s.back.lane) w.self-is ∙ ap (λ s. s.lane) c.take_item.ensures.back ∙ c.loop-item.invariant.same_back;
             worked = λ u h. subst (λ s. HasWorked (u ++ records (take (i + 1) block)) s.shard (put_of s.back) s.stopped) (sym w.self-is) (subst Q (sym adds) worked u h);
           })
     ]

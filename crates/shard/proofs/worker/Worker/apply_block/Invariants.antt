@@ -1,12 +1,12 @@
 use Rattle.std.proofs.Common.{◌≡◌, List, ◌++◌, take}
 use Rattle.dag.specs.declared.records.Placed.{Placed}
 use Rattle.lane.specs.Items.{records}
-use Rattle.lane.specs.Lanes.{lane_of, put_of}
+use Rattle.lane.specs.Lanes.{put_of}
 use Rattle.shard.specs.Working.{HasWorked}
 use Rattle.shard.proofs.worker.Worker.apply_block.Given as goal
 
 abbrev pub invariant-loop-item : goal.invariant-loop-item
 invariant-loop-item g l = record {
-  same_back : lane_of l.self.back ≡ lane_of l.fn.self.back;
+  same_back : l.self.back.lane ≡ l.fn.self.back.lane;
   worked : (u : List Placed) → HasWorked u l.fn.self.shard (put_of l.fn.self.back) l.fn.self.stopped → HasWorked (u ++ records (take l.item-index l.block)) l.self.shard (put_of l.self.back) l.self.stopped;
 }
