@@ -1,20 +1,17 @@
 -- What a run has found, from what was compared at its end.
-use Rattle.std.proofs.Common.{◌≡◌, ℕ, ◌<◌, ◌≤◌, true, false, List, [], ◌∷◌, ◌++◌, length, map, get_or, sym, ap, subst, ◌∙◌, append-nil, arith}
+use Rattle.std.proofs.Common.{◌≡◌, ℕ, ◌<◌, ◌≤◌, true, false, List, [], ◌∷◌, length, map, get_or, sym, ap, subst, ◌∙◌, append-nil, arith}
 use Rattle.dag.specs.declared.records.Placed.{Placed}
 use Rattle.dag.specs.Shares.{share}
 use Rattle.dag.proofs.Once.{AllAbove, Rises, increasing-from_rises}
 use Rattle.std.proofs.lemmas.List.{length-map}
 use Rattle.shadow.specs.Found.{by_location, found}
 use Rattle.lane.specs.declared.item.Item.{Item}
-use Rattle.lane.specs.declared.item.Item.TheVariants.{One, Finish}
 use Rattle.lane.specs.declared.taker.Taker.{Taker}
-use Rattle.lane.specs.Items.{has_mark, IsBeginning}
+use Rattle.lane.specs.Items.{has_mark, with_mark}
 use Rattle.route.specs.Routers.{RouterState}
-use Rattle.route.specs.Sending.{put_on}
 use Rattle.route.specs.Routed.{IsRising, in_hand}
-use Rattle.route.specs.Routers.{lane_count, HasSent}
-use Rattle.route.specs.Runs.{Event, IsRun, taken_list}
-use Rattle.route.specs.RouterRuns.{IsTakenFrom}
+use Rattle.route.specs.Routers.{lane_count}
+use Rattle.route.specs.RouterRuns.{IsTakenFrom, OfRuns, TakeWholeShares, OfRouters, AreTakesOfRun}
 use Rattle.dag.specs.declared.back.Back.{Back}
 use Rattle.shard.specs.Working.{RiseFrom}
 use Rattle.collect.specs.Collected.{KeepsBest, IsCollected}
@@ -45,10 +42,9 @@ rising_from n u h = increasing-from_rises place_of u (rises n u h)
 
 -- by the run of the lanes in which the takers took what they took: each has its share whole, since each has its mark
 shares_of : (r : RouterState) (u : List Placed) (taken : ℕ → List (Item Placed)) → IsTakenFrom r u taken → ((k : ℕ) → k < lane_count r → has_mark (taken k) ≡ true)
-    → ((n k : ℕ) (w : List Placed) (es : List Event) → IsRun n w es → k < n → has_mark (taken_list es k) ≡ true → taken_list es k ≡ map One (share k n w) ++ Finish ∷ [])
-    → (k : ℕ) → k < lane_count r → taken k ≡ map One (share k (lane_count r) u) ++ Finish ∷ []
+    → OfRuns TakeWholeShares → (k : ℕ) → k < lane_count r → taken k ≡ with_mark (share k (lane_count r) u)
 shares_of r u taken from marked whole k lt =
-    let is = from.takes k lt in sym is ∙ whole (lane_count r) k u from.events from.run lt (ap has_mark is ∙ marked k lt)
+    let is = from.takes k lt in sym is ∙ whole (lane_count r) u from.events from.run k lt (ap has_mark is ∙ marked k lt)
 
 module _ {S H : Type 0} where
   -- what was taken of lane k
@@ -57,26 +53,24 @@ module _ {S H : Type 0} where
 
   -- a run of the lanes, by the law of routers, in which the takers took what they took
   pub run_of_takers : (n : ℕ) (done : Done S H) (u : List Placed) → IsRising u → IsFinished n done u → IsCompared n done
-      → ((r : RouterState) (w : List Placed) (taken : ℕ → List (Item Placed)) → HasSent w r → IsRising (in_hand w r.pending) → ((k : ℕ) → k < lane_count r → IsBeginning (taken k) (put_on r.puts k)) → IsTakenFrom r (in_hand w r.pending) taken)
-      → IsTakenFrom done.reading.router u (taken_at done)
+      → OfRouters AreTakesOfRun → IsTakenFrom done.reading.router u (taken_at done)
   run_of_takers n done u rising f h law =
       let r = done.reading.router in
       let at_rest : in_hand u r.pending ≡ u = ap (in_hand u) f.idle ∙ append-nil u in
       let P : List Placed → Type 0 = λ w. IsTakenFrom r w (taken_at done) in
-      subst P at_rest (law r u (taken_at done) f.sent (subst IsRising (sym at_rest) rising) (λ k lt. (h.to_shards k (omega (arith, lt, f.count))).prefix))
+      subst P at_rest (law r u f.sent (subst IsRising (sym at_rest) rising) (taken_at done) (λ k lt. (h.to_shards k (omega (arith, lt, f.count))).prefix))
 
   -- each worker took its share, by the law of runs
   pub took_shares : (n : ℕ) (done : Done S H) (u : List Placed) → IsFinished n done u → IsTakenFrom done.reading.router u (taken_at done)
-      → ((n k : ℕ) (w : List Placed) (es : List Event) → IsRun n w es → k < n → has_mark (taken_list es k) ≡ true → taken_list es k ≡ map One (share k n w) ++ Finish ∷ [])
-      → (k : ℕ) → k < n → taken_at done k ≡ map One (share k n u) ++ Finish ∷ []
+      → OfRuns TakeWholeShares → (k : ℕ) → k < n → taken_at done k ≡ with_mark (share k n u)
   took_shares n done u f from law =
-      let OfCount : ℕ → Type 0 = λ m. (k : ℕ) → k < m → taken_at done k ≡ map One (share k m u) ++ Finish ∷ [] in
+      let OfCount : ℕ → Type 0 = λ m. (k : ℕ) → k < m → taken_at done k ≡ with_mark (share k m u) in
       let marked : (k : ℕ) → k < lane_count done.reading.router → has_mark (taken_at done k) ≡ true = λ k lt. marked_work _ _ _ (did_at f.lanes done.workers.items k f.did (omega (arith, lt, f.count, f.workers))) in
       subst OfCount f.count (shares_of done.reading.router u (taken_at done) from marked law)
 
   -- of what the takers of the shards' lanes know, nothing waits
   pub record IsClosing (n : ℕ) (done : Done S H) (u : List Placed) (run : Run) : Type 0 where
-    pub share_taken : (k : ℕ) → k < n → taken_at done k ≡ map One (share k n u) ++ Finish ∷ []
+    pub share_taken : (k : ℕ) → k < n → taken_at done k ≡ with_mark (share k n u)
     pub compared : IsCompared n done
     pub takers : List (Taker Placed)
     pub lanes : run.lanes.items ≡ takers
@@ -98,7 +92,7 @@ module _ {S H : Type 0} where
   took n done u run f orders h =
       let e = ends n done u run f h in
       let taken_is : map (λ t. t.taken) run.lanes.items ≡ taken_by done.workers.items = ap (map (λ t. t.taken)) h.lanes ∙ h.same in
-      let P : List (List (Item Placed)) → Type 0 = λ ts. (k : ℕ) → k < n → get_or ts k [] ≡ map One (share k n u) ++ Finish ∷ [] in
+      let P : List (List (Item Placed)) → Type 0 = λ ts. (k : ℕ) → k < n → get_or ts k [] ≡ with_mark (share k n u) in
       let Q : List ℕ → Type 0 = λ cs. (k : ℕ) → k < n → get_or cs k 0 ≡ length (share k n u) in
       let marked : (k : ℕ) → k < n → has_mark (get_or (map (λ t. t.taken) h.takers) k []) ≡ true = λ k lt.
       ap (λ l. has_mark (get_or l k [])) h.same ∙ marked_work _ _ _ (e.works k lt) in

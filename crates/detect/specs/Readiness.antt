@@ -1,5 +1,5 @@
 -- Private: what a run begins with.
-use Rattle.std.specs.Prelude.{◌≡◌, IsFalse, ℕ, ◌≤◌, [], length, map, None, vec_len, vec_capacity}
+use Rattle.std.specs.Prelude.{◌≡◌, IsFalse, ℕ, ◌≤◌, [], length, map, vec_len, vec_capacity}
 use Rattle.std.specs.List.{All, AllByRecursion}
 use Rattle.dag.specs.declared.records.Placed.{Placed}
 use Rattle.lane.specs.declared.sender.Sender.{Sender}

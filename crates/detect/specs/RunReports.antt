@@ -1,12 +1,12 @@
 -- Promised: what a run with shards answers.
-use Rattle.std.specs.Prelude.{◌≡◌, ℕ, ◌<◌, List, [], ◌∷◌, ◌++◌, length, map, slice_index, slice_index_or}
+use Rattle.std.specs.Prelude.{◌≡◌, ℕ, ◌<◌, List, [], length, map, slice_index, slice_index_or}
 use Rattle.dag.specs.declared.records.Record.{Record}
 use Rattle.dag.specs.declared.records.Placed.{Placed}
 use Rattle.dag.specs.declared.part.Part.{Part}
 use Rattle.dag.specs.Traces.{placed}
 use Rattle.dag.specs.Shares.{share}
 use Rattle.dag.specs.Parts.{records_of}
-use Rattle.lane.specs.declared.item.Item.TheVariants.{One, Finish}
+use Rattle.lane.specs.Items.{with_mark}
 use Rattle.detect.specs.declared.sharded.Run.{Run}
 use Rattle.serial.specs.Reported.{IsReportOf, IsPartReportOf}
 
@@ -15,8 +15,7 @@ use Rattle.serial.specs.Reported.{IsReportOf, IsPartReportOf}
 pub record TookSharesOf (n : ℕ) (u : List Placed) (run : Run) : Type 0 where
   pub lanes : length run.lanes.items ≡ n
   pub counts : length run.taken.items ≡ n
-  pub shares : (k : ℕ) → k < n
-      → slice_index_or (map (λ t. t.taken) run.lanes.items) k [] ≡ map One (share k n u) ++ Finish ∷ []
+  pub shares : (k : ℕ) → k < n → slice_index_or (map (λ t. t.taken) run.lanes.items) k [] ≡ with_mark (share k n u)
   pub taken : (k : ℕ) → k < n → slice_index run.taken.items k ≡ length (share k n u)
   pub settled : (k : ℕ) → k < n → slice_index_or (map (λ t. t.waiting) run.lanes.items) k [] ≡ []
 

@@ -1,5 +1,5 @@
 -- Private: what sends records goes on.
-use Rattle.std.specs.Prelude.{◌≡◌, IsFalse, List, [], ◌∷◌, ◌++◌, Some, None}
+use Rattle.std.specs.Prelude.{◌≡◌, IsFalse, List, [], ◌∷◌, ◌++◌, Some}
 use Rattle.dag.specs.declared.records.Placed.{Placed}
 use Rattle.route.specs.Steps.{IsIdle}
 use Rattle.route.specs.Routers.{RouterState, HasSent, IsOnLanes}

@@ -1,5 +1,5 @@
 -- Promised: lists of items: the place of the mark, and the values.
-use Rattle.std.specs.Prelude.{◌≡◌, Bool, true, false, List, [], ◌∷◌, ◌++◌}
+use Rattle.std.specs.Prelude.{◌≡◌, Bool, true, false, List, [], ◌∷◌, ◌++◌, map}
 use Rattle.lane.specs.declared.item.Item.{Item}
 use Rattle.lane.specs.declared.item.Item.TheVariants.{One, Finish}
 
@@ -30,6 +30,10 @@ module _ {T : Type 0} where
   records [] = []
   records (One x ∷ xs) = x ∷ records xs
   records (Finish ∷ xs) = records xs
+
+  -- these values, and then the mark
+  abbrev pub with_mark : List T → List (Item T)
+  with_mark values = map One values ++ Finish ∷ []
 
 -- the second list is the first, and then a rest
 abbrev pub IsBeginning : {X : Type 0} → List X → List X → Type 0

@@ -6,11 +6,9 @@ use Rattle.std.proofs.lemmas.List.{length-append, append_cancel_left}
 use Rattle.lane.specs.declared.item.Item.{Item}
 use Rattle.lane.specs.Items.{IsBeginning}
 use Rattle.dag.specs.declared.records.Placed.{Placed}
-use Rattle.route.specs.Routers.{RouterState}
-use Rattle.route.specs.Sending.{put_on}
-use Rattle.route.specs.Routed.{IsRising, in_hand}
-use Rattle.route.specs.Routers.{lane_count, HasSent}
-use Rattle.route.specs.RouterRuns.{sent_so_far, run_of, IsTakenFrom}
+use Rattle.route.specs.Routed.{in_hand}
+use Rattle.route.specs.Routers.{lane_count}
+use Rattle.route.specs.RouterRuns.{sent_so_far, run_of, OfRouters, AreTakesOfRun}
 use Rattle.route.specs.Runs.{Event, take, puts_in, takes_in, of_lane, put_list, taken_list, items_on, IsAllowed, IsRun}
 use Rattle.route.proofs.RunFronts.{Sends, of_lane-append}
 use Rattle.route.proofs.RunLists.{puts_in-append, takes_in-append, takes_in-events, kept_along}
@@ -115,9 +113,8 @@ first_lanes n w es taken (suc m) run none front within =
     }
 
 -- what the takers of a router's lanes took
-pub router_takes : (r : RouterState) (w : List Placed) (taken : ℕ → List (Item Placed)) → HasSent w r → IsRising (in_hand w r.pending)
-    → ((k : ℕ) → k < lane_count r → IsBeginning (taken k) (put_on r.puts k)) → IsTakenFrom r (in_hand w r.pending) taken
-router_takes r w taken sent rising front =
+pub router_takes : OfRouters AreTakesOfRun
+router_takes r w sent rising taken front =
     let n = lane_count r in
     let es = run_of w r in
     let none : takes_in es ≡ [] = takes_in-events (sent_so_far n w r.pending r.next r.marked) in

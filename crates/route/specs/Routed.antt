@@ -2,8 +2,7 @@
 use Rattle.std.specs.Prelude.{◌≡◌, ℕ, ◌<◌, ◌↔◌, ◌⊎◌, true, List, [], ◌∷◌, ◌++◌, map, Contains, Option, option_to_list}
 use Rattle.std.specs.List.Sorted.{IsStrictlyIncreasing}
 use Rattle.lane.specs.declared.item.Item.{Item}
-use Rattle.lane.specs.declared.item.Item.TheVariants.{One, Finish}
-use Rattle.lane.specs.Items.{has_mark, records, IsBeginning}
+use Rattle.lane.specs.Items.{has_mark, records, with_mark, IsBeginning}
 use Rattle.dag.specs.declared.records.Placed.{Placed}
 use Rattle.dag.specs.Shares.{goes_placed, share}
 
@@ -36,7 +35,7 @@ HasShare n on u k = (records (on k) ≡ share k n u)
 
 -- a lane with the mark has its whole share, and then the mark, and no record is being sent
 pub record HasWholeShare (n : ℕ) (on : ℕ → List (Item Placed)) (u : List Placed) (k : ℕ) : Type 0 where
-  pub whole : on k ≡ map One (share k n u) ++ Finish ∷ []
+  pub whole : on k ≡ with_mark (share k n u)
   pub none_sent : (p : Placed) → IsBeingSent n on p → ⊥
 
 -- The items taken from lane k are a prefix of its share of u, so each record comes once and in trace order. If the
@@ -44,7 +43,7 @@ pub record HasWholeShare (n : ℕ) (on : ℕ → List (Item Placed)) (u : List P
 pub record TakesShare (n : ℕ) (u : List Placed) (k : ℕ) (taken put : List (Item Placed)) : Type 0 where
   pub front : IsBeginning (records taken) (share k n u)
   pub each_once : IsRising (records taken)
-  pub whole : has_mark taken ≡ true → taken ≡ map One (share k n u) ++ Finish ∷ []
+  pub whole : has_mark taken ≡ true → taken ≡ with_mark (share k n u)
   pub none_more : has_mark taken ≡ true → put ≡ taken
 
 -- exactly one list was routed, and it is a prefix of w

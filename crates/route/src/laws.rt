@@ -1,16 +1,15 @@
 //! The items on the lanes at every point of every run, and on the lanes of every router.
 
-ghost use Rattle.std.specs.Prelude.{◌≡◌, ℕ, ◌<◌, ◌⊎◌, true, List, [], ◌∷◌, ◌++◌, map};
+ghost use Rattle.std.specs.Prelude.{◌≡◌, ℕ, ◌<◌, ◌⊎◌, true, List, ◌++◌, map};
 ghost use Rattle.lane.specs.declared.item.Item.{Item};
-ghost use Rattle.lane.specs.declared.item.Item.TheVariants.{One, Finish};
 ghost use Rattle.lane.specs.Items.{has_mark, IsBeginning};
 ghost use Rattle.dag.specs.declared.records.Placed.{Placed};
-ghost use Rattle.dag.specs.Shares.{share};
 ghost use Rattle.route.specs.Sending.{put_on};
 ghost use Rattle.route.specs.Routed.{IsRising, in_hand, IsRouted, HasRouted, HasShare, HasWholeShare, TakesShare};
 ghost use Rattle.route.specs.Routers.{RouterState, lane_count, HasSent, IsUnchanged};
 ghost use Rattle.route.specs.Runs.{Event, IsRun, put_event, sending, put_list, taken_list};
-ghost use Rattle.route.specs.RouterRuns.{run_of, IsTakenFrom, OfRouters, AtLanesOfRouters, AtLanesOfRuns};
+ghost use Rattle.route.specs.RouterRuns.{run_of, HavePuts, AreTakesOfRun, TakeWholeShares};
+ghost use Rattle.route.specs.RouterRuns.{OfRuns, AtLanesOfRuns, OfRouters, AtLanesOfRouters};
 
 /// For every run of lanes. Each prefix of a run is a run, so this is true at every point. One list was routed; a lane
 /// has its share of it, or lacks only the record that is being sent. A lane with the mark has its whole share. The
@@ -20,18 +19,16 @@ pub fn runs()
     ensures some { (n : ℕ) (w : List Placed) → 0 < n → IsRising w → IsRun n w (map put_event (sending n w)) }
     ensures points { (n : ℕ) (w : List Placed) (before after : List Event) → IsRun n w (before ++ after)
         → IsRun n w before }
-    ensures routed { (n : ℕ) (w : List Placed) (es : List Event) → IsRun n w es → HasRouted n (put_list es) w }
+    ensures routed { OfRuns (λ n w es. HasRouted n (put_list es) w) }
     ensures shares { AtLanesOfRuns (λ n k u es. HasShare n (put_list es) u k) }
     ensures marks { AtLanesOfRuns (λ n k u es. has_mark (put_list es k) ≡ true → HasWholeShare n (put_list es) u k) }
-    ensures taken { (n k : ℕ) (w : List Placed) (es : List Event) → IsRun n w es
-        → IsBeginning (taken_list es k) (put_list es k) }
+    ensures taken { OfRuns (λ n w es. (k : ℕ) → IsBeginning (taken_list es k) (put_list es k)) }
     // the items taken are a prefix of the lane's share, and with the mark the whole share
     ensures headline { AtLanesOfRuns (λ n k u es. TakesShare n u k (taken_list es k) (put_list es k)) }
     ensures ended { (n k : ℕ) (w : List Placed) (before after : List Event) → IsRun n w (before ++ after) → k < n
         → has_mark (taken_list before k) ≡ true → put_list (before ++ after) k ≡ taken_list before k }
     // the marks come last, so with the mark the items taken are the lane's share of all records
-    ensures whole { (n k : ℕ) (w : List Placed) (es : List Event) → IsRun n w es → k < n
-        → has_mark (taken_list es k) ≡ true → taken_list es k ≡ map One (share k n w) ++ Finish ∷ [] }
+    ensures whole { OfRuns TakeWholeShares }
 {}
 
 /// For every router that was offered records whose places ascend: the same; and the routed list is the records sent
@@ -40,8 +37,7 @@ pub fn routers()
     // what it has sent so far is a run of its lanes, an event for each put
     ensures run { (r : RouterState) (w : List Placed) → IsRising (in_hand w r.pending)
         → IsRun (lane_count r) (in_hand w r.pending) (run_of w r) }
-    ensures puts { (r : RouterState) (w : List Placed) → HasSent w r
-        → (k : ℕ) → k < lane_count r → put_list (run_of w r) k ≡ put_on r.puts k }
+    ensures puts { (r : RouterState) (w : List Placed) → HasSent w r → HavePuts r (run_of w r) }
     // where nothing was put the run is the same
     ensures still { (old new : RouterState) (w : List Placed) → IsUnchanged old new → run_of w new ≡ run_of w old }
     ensures routed { OfRouters (λ r w. HasRouted (lane_count r) (put_on r.puts) (in_hand w r.pending)) }
@@ -49,15 +45,11 @@ pub fn routers()
         → (u ≡ w) ⊎ (u ≡ in_hand w r.pending)) }
     ensures whole { (r : RouterState) (w u : List Placed) → HasSent w r → IsRising w
         → r.pending ≡ None → IsRouted (lane_count r) (put_on r.puts) u → u ≡ w }
-    ensures shares { AtLanesOfRouters (λ r k u. HasShare (lane_count r) (put_on r.puts) u k) }
-    ensures marks { AtLanesOfRouters (λ r k u. has_mark (put_on r.puts k) ≡ true
-        → HasWholeShare (lane_count r) (put_on r.puts) u k) }
+    ensures shares { AtLanesOfRouters (λ n on k u. HasShare n on u k) }
+    ensures marks { AtLanesOfRouters (λ n on k u. has_mark (on k) ≡ true → HasWholeShare n on u k) }
     // what the takers took, a prefix of what was put on each lane, was taken in a run of these lanes
-    ensures takes { (r : RouterState) (w : List Placed) (taken : ℕ → List (Item Placed)) → HasSent w r
-        → IsRising (in_hand w r.pending)
-        → ((k : ℕ) → k < lane_count r → IsBeginning (taken k) (put_on r.puts k))
-        → IsTakenFrom r (in_hand w r.pending) taken }
+    ensures takes { OfRouters AreTakesOfRun }
     // with the receipt of lane k the items that its taker took are a prefix of the items put
-    ensures headline { AtLanesOfRouters (λ r k u. (taken : List (Item Placed)) → IsBeginning taken (put_on r.puts k)
-        → TakesShare (lane_count r) u k taken (put_on r.puts k)) }
+    ensures headline { AtLanesOfRouters (λ n on k u. (taken : List (Item Placed)) → IsBeginning taken (on k)
+        → TakesShare n u k taken (on k)) }
 {}

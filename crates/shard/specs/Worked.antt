@@ -1,11 +1,11 @@
 -- Promised: what a worker has done when it answers.
-use Rattle.std.specs.Prelude.{◌≡◌, List, [], ◌∷◌, ◌++◌, length, map}
+use Rattle.std.specs.Prelude.{◌≡◌, List, [], ◌∷◌, ◌++◌, length}
 use Rattle.dag.specs.declared.records.Placed.{Placed}
 use Rattle.lane.specs.declared.item.Item.{Item}
-use Rattle.lane.specs.declared.item.Item.TheVariants.{One, Finish}
+use Rattle.lane.specs.declared.item.Item.TheVariants.{Finish}
 use Rattle.lane.specs.declared.sender.Sender.{Sender}
 use Rattle.lane.specs.declared.taker.Taker.{Taker}
-use Rattle.lane.specs.Items.{records}
+use Rattle.lane.specs.Items.{records, with_mark}
 use Rattle.lane.specs.Lanes.{put_of}
 use Rattle.dag.specs.declared.back.Back.{Back}
 use Rattle.shard.specs.declared.worker_loop.Worked.{Worked}
@@ -16,7 +16,7 @@ use Rattle.shard.specs.Working.{HasHandedBack, IsOfShare, PutsFound}
 pub record DidWork {S H : Type 0} (taker : Taker Placed) (back : Sender Back) (worked : Worked S H) : Type 0 where
   pub same_taker : worked.taker.lane ≡ taker.lane
   pub same_back : worked.back.lane ≡ back.lane
-  pub to_mark : worked.taker.taken ≡ map One (records worked.taker.taken) ++ Finish ∷ []
+  pub to_mark : worked.taker.taken ≡ with_mark (records worked.taker.taken)
   pub count : worked.shard.taken ≡ capped_count (length (records worked.taker.taken))
   pub answers : (put : List (Item Back)) × (put_of worked.back ≡ put ++ Finish ∷ [])
       × HasHandedBack (records worked.taker.taken) put

@@ -17,15 +17,15 @@ returns-clause-routed c = λ n w es run.
     let f = front_of n w es run in has_routed n (put_list es) f.v w f.pending (outcome_of n w es run f) (f.rest, f.whole)
 
 pub returns-clause-shares : goal.returns-clause-shares
-returns-clause-shares c = λ n k w u es run routed l.
+returns-clause-shares c = λ n w es run k u routed l.
     let f = front_of n w es run in (routes_of n (put_list es) f.v u f.pending (outcome_of n w es run f) routed).shares k l
 
 pub returns-clause-marks : goal.returns-clause-marks
-returns-clause-marks c = λ n k w u es run routed l h.
+returns-clause-marks c = λ n w es run k u routed l h.
     let f = front_of n w es run in (routes_of n (put_list es) f.v u f.pending (outcome_of n w es run f) routed).marks k l h
 
 pub returns-clause-headline : goal.returns-clause-headline
-returns-clause-headline c = λ n k w u es run routed l.
+returns-clause-headline c = λ n w es run k u routed l.
     let f = front_of n w es run in takes_share n (put_list es) u k (taken_list es k) l (routes_of n (put_list es) f.v u f.pending (outcome_of n w es run f) routed) (taken_front k es run.allowed)
 
 pub returns-clause-ended : goal.returns-clause-ended
@@ -35,7 +35,7 @@ returns-clause-ended c = λ n k w before after run l h.
     (takes_share n (put_list (before ++ after)) o.list k (taken_list before k) l o.routes (taken_before k before after run.allowed)).none_more h
 
 pub returns-clause-taken : goal.returns-clause-taken
-returns-clause-taken c = λ n k w es run. taken_front k es run.allowed
+returns-clause-taken c = λ n w es run k. taken_front k es run.allowed
 
 pub returns-clause-whole : goal.returns-clause-whole
-returns-clause-whole c = λ n k w es run l marked. run_took n k w es (taken_list es k) run l (taken_front k es run.allowed) marked
+returns-clause-whole c = λ n w es run k l marked. run_took n k w es (taken_list es k) run l (taken_front k es run.allowed) marked
