@@ -1,10 +1,11 @@
 -- Promised: what contracts see of the ends of a lane: which lane they are of, what was put, and what was taken.
-use Rattle.std.specs.Prelude.{◌≡◌, ℕ, ◌+◌, ◌%◌, ◌^◌, List, ◌++◌}
+use Rattle.std.specs.Prelude.{◌≡◌, ◌≤◌, ℕ, ◌+◌, ◌%◌, ◌^◌, Bool, false, if◌then◌else◌, List, ◌++◌, length}
 use Rattle.std.specs.declared.alloc.Global.{Global}
 use Rattle.rtrb.specs.Shared.{Names}
 use Rattle.rtrb.specs.declared.end.End.{End}
 use denote.RawPtr.{Ptr}
 use Rattle.lane.specs.declared.item.Item.{Item}
+use Rattle.lane.specs.Items.{has_mark}
 
 -- a lane, as a value that distinguishes it from each other lane: the place of its ring, and the ring's names
 abbrev pub LaneId : Type 0
@@ -46,6 +47,18 @@ module _ {T : Type 0} where
   -- what was put, the mark included
   abbrev pub put_of : SenderState T → List (Item T)
   put_of s = s.shown ++ s.staged
+
+  -- the mark wasn't put
+  abbrev pub IsUnmarked : SenderState T → Type 0
+  IsUnmarked s = has_mark (put_of s) ≡ false
+
+  -- nothing was put, and no fewer items were before than the lane holds at most
+  abbrev pub WasFull : SenderState T → SenderState T → Type 0
+  WasFull old new = (put_of new ≡ put_of old) × (old.capacity ≤ length (put_of old))
+
+  -- one refusal more is counted, unless the call succeeded
+  abbrev pub CountsRefusal : Bool → SenderState T → SenderState T → Type 0
+  CountsRefusal succeeded old new = new.refusals ≡ (if succeeded then old.refusals else one_more old.refusals)
 
   -- the same lane, which holds as many items at most
   abbrev pub SameSender : SenderState T → SenderState T → Type 0

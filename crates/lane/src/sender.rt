@@ -1,7 +1,6 @@
 //! The end of a lane that puts, and its receipt.
 ghost use Rattle.std.specs.Prelude.{◌≡◌, ◌+◌, ◌<◌, ◌≤◌, true, false, [], ◌∷◌, ◌++◌, length, map, vec_len, vec_capacity};
-ghost use Rattle.std.specs.Prelude.{is_ok, if◌then◌else◌};
-ghost use Rattle.std.specs.Prelude.{IsTrue, IsFalse, IfErr, IfNone, IfSome, OnOk};
+ghost use Rattle.std.specs.Prelude.{is_ok, IsTrue, IsFalse, IfErr, IfNone, IfSome, OnOk};
 ghost use Rattle.rtrb.specs.Ring.{sent, known_free, producer_capacity, SameProducer, ProducerLooked};
 ghost use Rattle.lane.specs.declared.sender.TheConstants.{BLOCK};
 ghost use Rattle.lane.specs.declared.item.Item.TheVariants.{One, Finish};
@@ -71,25 +70,23 @@ impl<T> Model for End<T> {
 }
 
 impl<T: Copy + Send> Sender<T> {
-    ghost use Rattle.lane.specs.Lanes.{put_of, one_more, SameSender};
+    ghost use Rattle.lane.specs.Lanes.{put_of, IsUnmarked, WasFull, CountsRefusal, SameSender};
 
     /// Puts the value behind those put before, or hands it back if the lane is full, when the taker is shown all items
     /// put. It shows values to the taker together: at the latest when `most_staged` of them are staged, or in `flush`.
     #[inline(always)]
     #[tactic(auto, using(crate::proofs::Marks::of_an_item))]
     pub fn put(&mut self, value: T) -> Result<(), T>
-        requires { has_mark (put_of self.old) ≡ false }
+        requires { IsUnmarked self.old }
         ensures lane { SameSender self.old self.new }
         ensures ok { OnOk result (put_of self.new ≡ put_of self.old ++ One value ∷ []) }
-        ensures full { IfErr result (λ x. (x ≡ value) × (put_of self.new ≡ put_of self.old)
-            × (self.old.capacity ≤ length (put_of self.old))) }
+        ensures full { IfErr result (λ x. (x ≡ value) × WasFull self.old self.new) }
         ensures no_room { IfErr result (λ _. (self.old.room ≡ 0) × (self.new.room ≡ 0)) }
         ensures room { self.old.room ≤ self.new.room + 1 }
         ensures staged { length self.new.staged < most_staged self.new.capacity }
         ensures shown { IfErr result (λ _. self.new.staged ≡ []) }
-        ensures refusals { self.new.refusals
-            ≡ (if is_ok result then self.old.refusals else one_more self.old.refusals) }
-        ensures unmarked { has_mark (put_of self.new) ≡ false }
+        ensures refusals { CountsRefusal (is_ok result) self.old self.new }
+        ensures unmarked { IsUnmarked self.new }
     {
         self.staged.push_reserved(Item::One(value));
         if self.staged.len() < self.limit {
@@ -125,15 +122,15 @@ impl<T: Copy + Send> Sender<T> {
     /// put.
     #[tactic(auto, using(crate::proofs::Marks::of_values))]
     pub fn put_block(&mut self, values: &[T]) -> bool
-        requires unmarked { has_mark (put_of self.old) ≡ false }
+        requires unmarked { IsUnmarked self.old }
         requires most { length values.now ≤ BLOCK }
         ensures lane { SameSender self.old self.new }
         ensures put { IsTrue result → put_of self.new ≡ put_of self.old ++ map One values.now }
         ensures full { IsFalse result → (put_of self.new ≡ put_of self.old) × (self.new.room < length values.now) }
         ensures succeeds { length values.now ≤ self.old.room → IsTrue result }
-        ensures unmarked { has_mark (put_of self.new) ≡ false }
+        ensures unmarked { IsUnmarked self.new }
         ensures shown { self.new.staged ≡ [] }
-        ensures refusals { self.new.refusals ≡ (if result then self.old.refusals else one_more self.old.refusals) }
+        ensures refusals { CountsRefusal result self.old self.new }
     {
         self.flush();
         wrap(&mut self.staged, values);
@@ -149,15 +146,14 @@ impl<T: Copy + Send> Sender<T> {
     /// Puts the mark, which takes a place too; false if the lane is full. It shows the taker all items put.
     #[tactic(auto, using(crate::proofs::Marks::of_an_item))]
     pub fn mark(&mut self) -> bool
-        requires { has_mark (put_of self.old) ≡ false }
+        requires { IsUnmarked self.old }
         ensures lane { SameSender self.old self.new }
         ensures put { IsTrue result → put_of self.new ≡ put_of self.old ++ Finish ∷ [] }
-        ensures full { IsFalse result → (put_of self.new ≡ put_of self.old)
-            × (self.old.capacity ≤ length (put_of self.old)) }
+        ensures full { IsFalse result → WasFull self.old self.new }
         ensures no_room { IsFalse result → (self.old.room ≡ 0) × (self.new.room ≡ 0) }
         ensures marked { has_mark (put_of self.new) ≡ result }
         ensures shown { self.new.staged ≡ [] }
-        ensures refusals { self.new.refusals ≡ (if result then self.old.refusals else one_more self.old.refusals) }
+        ensures refusals { CountsRefusal result self.old self.new }
     {
         self.flush();
         if self.ring.is_full() {

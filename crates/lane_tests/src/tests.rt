@@ -3,7 +3,7 @@
 ghost use Rattle.std.specs.Prelude.{◌≡◌, ◌≤◌, false, length};
 ghost use Rattle.lane.specs.declared.sender.TheConstants.{BLOCK};
 ghost use Rattle.lane.specs.Items.{has_mark};
-ghost use Rattle.lane.specs.Lanes.{put_of};
+ghost use Rattle.lane.specs.Lanes.{put_of, IsUnmarked};
 
 use lane::{BLOCK, End, Item, Sender, Taker, lane};
 use std::alloc::Global;
@@ -17,25 +17,25 @@ use trace::NoMemory;
 
 // What a call of the sender answers. The callers know of the ends no more than they need, or their proofs take long.
 fn puts<R: Abort>(rt: &R, sender: &mut Sender<u32>, value: u32, wanted: Result<(), u32>)
-    requires { has_mark (put_of sender.old) ≡ false }
+    requires { IsUnmarked sender.old }
     ensures lane { sender.new.lane ≡ sender.old.lane }
-    ensures unmarked { has_mark (put_of sender.new) ≡ false }
+    ensures unmarked { IsUnmarked sender.new }
 {
     assert!(rt; sender.put(value) == wanted, "{value}");
 }
 
 // What the sender answers to a block.
 fn puts_block<R: Abort>(rt: &R, sender: &mut Sender<u32>, values: &[u32], wanted: bool)
-    requires unmarked { has_mark (put_of sender.old) ≡ false }
+    requires unmarked { IsUnmarked sender.old }
     requires most { length values.now ≤ BLOCK }
-    ensures { has_mark (put_of sender.new) ≡ false }
+    ensures { IsUnmarked sender.new }
 {
     assert!(rt; sender.put_block(values) == wanted, "{values:?}");
 }
 
 // Whether the mark is put.
 fn marks<R: Abort>(rt: &R, sender: &mut Sender<u32>, wanted: bool)
-    requires { has_mark (put_of sender.old) ≡ false }
+    requires { IsUnmarked sender.old }
     ensures lane { sender.new.lane ≡ sender.old.lane }
     ensures marked { has_mark (put_of sender.new) ≡ wanted }
 {
@@ -204,9 +204,9 @@ impl Promise<End<u32>> for EndOf {
 }
 
 fn put_waiting<R: Wait>(rt: &R, sender: &mut Sender<u32>, value: u32)
-    requires { has_mark (put_of sender.old) ≡ false }
+    requires { IsUnmarked sender.old }
     ensures lane { sender.new.lane ≡ sender.old.lane }
-    ensures unmarked { has_mark (put_of sender.new) ≡ false }
+    ensures unmarked { IsUnmarked sender.new }
 {
     for _ in rt.forever() {
         if sender.put(value).is_ok() {
@@ -218,7 +218,7 @@ fn put_waiting<R: Wait>(rt: &R, sender: &mut Sender<u32>, value: u32)
 }
 
 fn mark_waiting<R: Wait>(rt: &R, mut sender: Sender<u32>) -> End<u32>
-    requires { has_mark (put_of sender) ≡ false }
+    requires { IsUnmarked sender }
     ensures { result.lane ≡ sender.lane }
 {
     for _ in rt.forever() {
@@ -232,7 +232,7 @@ fn mark_waiting<R: Wait>(rt: &R, mut sender: Sender<u32>) -> End<u32>
 
 // Puts the numbers 1 to `count`, and the mark.
 fn send<R: Wait>(rt: &R, mut sender: Sender<u32>, count: u32) -> End<u32>
-    requires { has_mark (put_of sender) ≡ false }
+    requires { IsUnmarked sender }
     ensures { result.lane ≡ sender.lane }
 {
     for value in 0..count {

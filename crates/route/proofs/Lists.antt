@@ -1,5 +1,5 @@
 -- Lists of senders after one of them has put an item.
-use Rattle.std.proofs.Common.{◌≡◌, ℕ, ◌+◌, ◌<◌, ◌⊎◌, ⊎_elim, subst, arith, slice_index_or, Bool, true, false, cond, List, [], ◌∷◌, ◌++◌, length, get_or, set, map, sym, refl, ap, ◌∙◌, ◌≤◌, Result, Ok, Err, OnOk, IfErr, is_ok, is_err, IsTrue, IsFalse, vec_len}
+use Rattle.std.proofs.Common.{◌≡◌, ℕ, ◌+◌, ◌<◌, ◌⊎◌, ⊎_elim, subst, arith, slice_index_or, Bool, true, false, List, [], ◌∷◌, ◌++◌, length, get_or, set, map, sym, refl, ap, ◌∙◌, ◌≤◌, Result, Ok, Err, OnOk, IfErr, is_ok, is_err, IsTrue, IsFalse, vec_len}
 use Rattle.std.specs.Prelude.{Vec}
 use Rattle.std.specs.declared.alloc.Global.{Global}
 use Rattle.std.proofs.lemmas.Bool.{cases_order}
@@ -8,7 +8,7 @@ use Rattle.std.proofs.Math.Seq.{map-set_same}
 use Rattle.lane.specs.declared.item.Item.{Item}
 use Rattle.lane.specs.declared.item.Item.TheVariants.{One, Finish}
 use Rattle.lane.specs.declared.sender.Sender.{Sender}
-use Rattle.lane.specs.Lanes.{SameSender, put_of, one_more}
+use Rattle.lane.specs.Lanes.{SameSender, put_of, one_more, WasFull, CountsRefusal}
 use Rattle.dag.specs.declared.records.Placed.{Placed}
 use Rattle.route.specs.Senders.{lanes, puts, shown, capacities, rooms, refusals, with_refusal}
 use Rattle.route.specs.Sending.{put_on, with_put}
@@ -86,7 +86,7 @@ pub record Refused (ss ts : List (Sender Placed)) (k : ℕ) : Type 0 where
   pub knows : slice_index_or (rooms ts) k 0 ≡ 0
   pub full : slice_index_or (capacities ss) k 0 ≤ length (put_on (puts ss) k)
 
-pub has_refused : (ss : List (Sender Placed)) (k : ℕ) (s t : Sender Placed) → k < length (puts ss) → s ≡ get_or ss k s → SameSender s t → (put_of t ≡ put_of s) × (s.capacity ≤ length (put_of s)) → (s.room ≡ 0) × (t.room ≡ 0)
+pub has_refused : (ss : List (Sender Placed)) (k : ℕ) (s t : Sender Placed) → k < length (puts ss) → s ≡ get_or ss k s → SameSender s t → WasFull s t → (s.room ≡ 0) × (t.room ≡ 0)
     → t.refusals ≡ one_more s.refusals → Refused ss (set ss k t) k
 has_refused ss k s t among at lane full none counts = record {
   on = map-set_like (λ s. s.lane) ss k s t at lane.0;
@@ -100,22 +100,22 @@ has_refused ss k s t among at lane full none counts = record {
 
 -- the same of a sender's answer to a put
 pub put_ok : (ss : List (Sender Placed)) (k : ℕ) (s t : Sender Placed) (x : Placed) (r : Result (Unit {0}) Placed) (b : Bool) → k < length (puts ss) → s ≡ get_or ss k s → SameSender s t → b ≡ is_err r → b ≡ false
-    → OnOk r (put_of t ≡ put_of s ++ One x ∷ []) → t.refusals ≡ cond (is_ok r) s.refusals (one_more s.refusals) → Put ss (set ss k t) k (One x)
+    → OnOk r (put_of t ≡ put_of s ++ One x ∷ []) → CountsRefusal (is_ok r) s t → Put ss (set ss k t) k (One x)
 put_ok ss k s t x (Ok v) b among at lane is err put counts = has_put ss k s t (One x) among at lane put counts
 put_ok ss k s t x (Err v) b among at lane is err put counts = absurd (cc)
 
 pub put_err : (ss : List (Sender Placed)) (k : ℕ) (s t : Sender Placed) (x : Placed) (r : Result (Unit {0}) Placed) (b : Bool) → k < length (puts ss) → s ≡ get_or ss k s → SameSender s t → b ≡ is_err r → b ≡ true
-    → IfErr r (λ y. (y ≡ x) × (put_of t ≡ put_of s) × (s.capacity ≤ length (put_of s))) → IfErr r (λ y. (s.room ≡ 0) × (t.room ≡ 0)) → t.refusals ≡ cond (is_ok r) s.refusals (one_more s.refusals) → Refused ss (set ss k t) k
+    → IfErr r (λ y. (y ≡ x) × WasFull s t) → IfErr r (λ y. (s.room ≡ 0) × (t.room ≡ 0)) → CountsRefusal (is_ok r) s t → Refused ss (set ss k t) k
 put_err ss k s t x (Ok v) b among at lane is err full none counts = absurd (cc)
-put_err ss k s t x (Err v) b among at lane is err full none counts = has_refused ss k s t among at lane (full.1, full.2) none counts
+put_err ss k s t x (Err v) b among at lane is err full none counts = has_refused ss k s t among at lane full.1 none counts
 
 -- and to the mark
 pub mark_ok : (ss : List (Sender Placed)) (k : ℕ) (s t : Sender Placed) (b : Bool) → k < length (puts ss) → s ≡ get_or ss k s → SameSender s t → b ≡ true
-    → (IsTrue b → put_of t ≡ put_of s ++ Finish ∷ []) → t.refusals ≡ cond b s.refusals (one_more s.refusals) → Put ss (set ss k t) k Finish
+    → (IsTrue b → put_of t ≡ put_of s ++ Finish ∷ []) → CountsRefusal b s t → Put ss (set ss k t) k Finish
 mark_ok ss k s t true among at lane is put counts = has_put ss k s t Finish among at lane (put refl) counts
 mark_ok ss k s t false among at lane is put counts = absurd (cc)
 
 pub mark_err : (ss : List (Sender Placed)) (k : ℕ) (s t : Sender Placed) (b : Bool) → k < length (puts ss) → s ≡ get_or ss k s → SameSender s t → b ≡ false
-    → (IsFalse b → (put_of t ≡ put_of s) × (s.capacity ≤ length (put_of s))) → (IsFalse b → (s.room ≡ 0) × (t.room ≡ 0)) → t.refusals ≡ cond b s.refusals (one_more s.refusals) → Refused ss (set ss k t) k
+    → (IsFalse b → WasFull s t) → (IsFalse b → (s.room ≡ 0) × (t.room ≡ 0)) → CountsRefusal b s t → Refused ss (set ss k t) k
 mark_err ss k s t true among at lane is full none counts = absurd (cc)
 mark_err ss k s t false among at lane is full none counts = has_refused ss k s t among at lane (full refl) (none refl) counts

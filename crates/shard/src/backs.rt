@@ -1,8 +1,7 @@
 //! Puts on the lane back, as soon as there is room.
 ghost use Rattle.std.specs.Prelude.{◌≡◌, false, [], ◌∷◌, ◌++◌};
 ghost use Rattle.lane.specs.declared.item.Item.TheVariants.{One, Finish};
-ghost use Rattle.lane.specs.Items.{has_mark};
-ghost use Rattle.lane.specs.Lanes.{put_of};
+ghost use Rattle.lane.specs.Lanes.{put_of, IsUnmarked};
 
 use crate::Back;
 use lane::{End, Sender};
@@ -14,10 +13,10 @@ use waiting::Waiting;
 #[cold]
 #[inline(never)]
 pub fn put_back<R: Wait + Clock>(rt: &R, back: &mut Sender<Back>, value: Back)
-    requires { has_mark (put_of back.old) ≡ false }
+    requires { IsUnmarked back.old }
     ensures lane { back.new.lane ≡ back.old.lane }
     ensures put { put_of back.new ≡ put_of back.old ++ One value ∷ [] }
-    ensures unmarked { has_mark (put_of back.new) ≡ false }
+    ensures unmarked { IsUnmarked back.new }
 {
     let mut left = value;
     let mut waiting = Waiting::new();
@@ -33,7 +32,7 @@ pub fn put_back<R: Wait + Clock>(rt: &R, back: &mut Sender<Back>, value: Back)
 
 /// Puts the mark, as soon as there is room, and gives the receipt.
 pub fn mark<R: Wait + Clock>(rt: &R, mut back: Sender<Back>) -> End<Back>
-    requires { has_mark (put_of back) ≡ false }
+    requires { IsUnmarked back }
     ensures lane { result.lane ≡ back.lane }
     ensures put { put_of result ≡ put_of back ++ Finish ∷ [] }
     ensures shown { result.shown ≡ put_of result }

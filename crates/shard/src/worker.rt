@@ -4,8 +4,8 @@ ghost use Rattle.std.specs.Option.{option_to_list};
 ghost use Rattle.dag.specs.declared.records.Placed.{Placed};
 ghost use Rattle.lane.specs.declared.item.Item.{Item};
 ghost use Rattle.lane.specs.declared.item.Item.TheVariants.{One};
-ghost use Rattle.lane.specs.Items.{has_mark, records};
-ghost use Rattle.lane.specs.Lanes.{put_of};
+ghost use Rattle.lane.specs.Items.{records};
+ghost use Rattle.lane.specs.Lanes.{put_of, IsUnmarked};
 ghost use Rattle.shard.specs.Working.{HasWorked};
 
 use crate::Back;
@@ -28,7 +28,7 @@ pub struct Worker<S: BuildHasher + Drop> {
     pub back: Sender<Back>,
     /// Whether it only counts the records from here on.
     pub stopped: bool,
-    ghost unmarked: { has_mark (put_of back) ≡ false },
+    ghost unmarked: { IsUnmarked back },
 }
 
 impl<S: BuildHasher + Drop> Worker<S> {

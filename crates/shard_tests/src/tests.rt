@@ -1,8 +1,7 @@
 //! A shard on worked rows, and its worker in one thread and in a thread of its own.
 ghost use Rattle.std.specs.Prelude.{◌≡◌, false, [], IfOk};
 ghost use Rattle.dag.specs.Bounds.{IsCapacity};
-ghost use Rattle.lane.specs.Items.{has_mark};
-ghost use Rattle.lane.specs.Lanes.{put_of};
+ghost use Rattle.lane.specs.Lanes.{put_of, IsUnmarked};
 
 use lane::{Item, Sender, Taker, lane};
 use shard::{Back, Gate, Open, Shard, Worked, work};
@@ -289,7 +288,7 @@ fn after_the_roots_return(rt: HostRuntime) -> Result<(), Fail> {
 
 /// Puts the records with the places from 1 on, and the mark.
 fn fill<R: Abort>(rt: &R, mut sender: Sender<Placed>, records: &[Record])
-    requires { has_mark (put_of sender) ≡ false }
+    requires { IsUnmarked sender }
 {
     for (index, what) in records.iter().enumerate() {
         let place = index as u64 + 1;

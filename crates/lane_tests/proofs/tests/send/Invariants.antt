@@ -1,7 +1,6 @@
 use Rattle.std.proofs.Common.{◌≡◌, false}
-use Rattle.lane.specs.Items.{has_mark}
-use Rattle.lane.specs.Lanes.{put_of}
+use Rattle.lane.specs.Lanes.{IsUnmarked}
 use Rattle.lane_tests.proofs.tests.send.Given as goal
 
 abbrev pub invariant-loop-value : goal.invariant-loop-value
-invariant-loop-value g l = (l.sender.lane ≡ l.initial.sender.lane) × (has_mark (put_of l.sender) ≡ false)
+invariant-loop-value g l = (l.sender.lane ≡ l.initial.sender.lane) × IsUnmarked l.sender

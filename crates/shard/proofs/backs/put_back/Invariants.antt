@@ -1,6 +1,5 @@
-use Rattle.std.proofs.Common.{◌≡◌, false}
-use Rattle.lane.specs.Items.{has_mark}
-use Rattle.lane.specs.Lanes.{put_of}
+use Rattle.std.proofs.Common.{◌≡◌}
+use Rattle.lane.specs.Lanes.{put_of, IsUnmarked}
 use Rattle.shard.proofs.backs.put_back.Given as goal
 
 abbrev pub invariant-loop : goal.invariant-loop
@@ -8,5 +7,5 @@ invariant-loop g l = record {
   same : l.left ≡ l.fn.value;
   lane : l.back.lane ≡ l.initial.back.lane;
   put : put_of l.back ≡ put_of l.initial.back;
-  unmarked : has_mark (put_of l.back) ≡ false;
+  unmarked : IsUnmarked l.back;
 }
