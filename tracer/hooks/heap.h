@@ -12,6 +12,7 @@ struct head {
     uint64_t born;
 };
 enum { NOT_IN_STRAND = 0, FREED = 1, DYING = 2 };
+_Static_assert((int)DYING < (int)FIRST_READ, "a strand has the number of none");
 
 static struct head *head_of(const void *block) { return (struct head *)block - 1; }
 

@@ -1,6 +1,6 @@
 /* A strand is what runs between two records of the structure. Each unit of the stack has a mark, which says what was done
    there last: twice the number of the strand, and one more where it wrote. */
-enum { UNTOUCHED = 0, TOUCHED = 1, FIRST_READ = 2 };
+enum { UNTOUCHED = 0, TOUCHED = 1, FIRST_READ = 4 };
 /* So many marks are cleared at once. */
 enum { CLEARED = 16 };
 /* The greatest number of a strand. */

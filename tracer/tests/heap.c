@@ -125,6 +125,18 @@ static void ask_for_too_much(void) {
     end_in_strands();
 }
 
+static void put(int *at) { *at = 1; }
+
+/* Memory comes again in the first strand too, for a block with parts that race with nothing. */
+static void live_in_first_strand(void) {
+    end_many(100000);
+    int *block = malloc(400);
+    cilk_spawn put(block);
+    put(block + 1);
+    cilk_sync;
+    free(block);
+}
+
 static int *made(void) {
     int *block = malloc(1000 * sizeof *block);
     block[5] = 7;
@@ -220,11 +232,11 @@ static void map_in_parallel(void) {
 
 static int run(const char *word) {
     static void (*const functions[])(void) = {
-        use_in_parallel,      use_bytes_in_parallel, sum_in_parallel, use_later,        end_in_parallel,
-        move_in_parallel,     use_of_library,        end_in_strands,  ask_for_too_much, outlive_strands,
-        race_in_a_later_life, grow_in_parallel,      map_in_parallel};
-    static const char *const names[] = {"used",    "bytes", "sum",     "later",      "ended", "moved", "library",
-                                        "strands", "vast",  "outlive", "later life", "large", "mapped"};
+        use_in_parallel,      use_bytes_in_parallel, sum_in_parallel, use_later,           end_in_parallel,
+        move_in_parallel,     use_of_library,        end_in_strands,  ask_for_too_much,    outlive_strands,
+        race_in_a_later_life, grow_in_parallel,      map_in_parallel, live_in_first_strand};
+    static const char *const names[] = {"used",    "bytes", "sum",     "later",      "ended", "moved",  "library",
+                                        "strands", "vast",  "outlive", "later life", "large", "mapped", "first"};
     for (size_t at = 0; at < sizeof names / sizeof *names; at++)
         if (strcmp(word, names[at]) == 0)
             functions[at]();

@@ -24,6 +24,7 @@ RACES = {
     "later life": [("[fill]", "[beside]")],
     "large": [],
     "mapped": [],
+    "first": [],
 }
 # What a run of these may take, in KB: with memory that doesn't come again each takes more.
 MOST = {"strands": 40000, "vast": 40000, "outlive": 20000, "large": 40000}
