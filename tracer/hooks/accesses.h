@@ -134,11 +134,6 @@ ACCESSES(4)
 ACCESSES(8)
 ACCESSES(16)
 
-/* In one step, as a handler of a signal sees it. */
-static inline void set_bit(uint8_t *done, uint8_t bit) {
-    __asm__ volatile("orb %1, %0" : "+m"(*done) : "qi"(bit) : "cc");
-}
-
 /* The first of some units that aren't noted quickly. */
 static inline void first_units(bool writes, uintptr_t at, size_t size, uintptr_t code) {
     struct touched in = block_at(at);
@@ -151,7 +146,7 @@ static inline void first_units(bool writes, uintptr_t at, size_t size, uintptr_t
 /* What the text in inline_checks.s calls for such an access that isn't noted quickly, with the byte of its first unit; and
    of the stack, where it is no repeat, with the mark. There the byte of a single unit says already that this is done. */
 __attribute__((noinline)) static void note_first(bool writes, uintptr_t at, uint8_t *done, uintptr_t code) {
-    *done &= (uint8_t) ~(writes ? WROTE_IT : READ_IT);
+    clear_bit(done, writes ? WROTE_IT : READ_IT);
     first_units(writes, at, 1 << USUAL_SHIFT, code);
 }
 
@@ -166,9 +161,9 @@ static inline void note_two(bool writes, uintptr_t at, uint8_t *done, uintptr_t 
     if (__builtin_expect((done[0] & done[1] & QUICK) != 0, 1))
         return;
     if (second)
-        done[1] &= (uint8_t)~bit;
+        clear_bit(&done[1], bit);
     if (first)
-        done[0] &= (uint8_t)~bit;
+        clear_bit(&done[0], bit);
     first_units(writes, at, 2 << USUAL_SHIFT, code);
 }
 

@@ -108,12 +108,19 @@ static inline uint64_t new_units(bool writes, const uint8_t *done, uint64_t unit
     return units & ~(units_with(done, WROTE_IT) | (writes ? 0 : units_with(done, READ_IT)));
 }
 
+/* Each in one step, so that what a handler of a signal sets meanwhile stays. */
+static inline void set_bit(uint8_t *done, uint8_t bit) {
+    __asm__ volatile("orb %1, %0" : "+m"(*done) : "qi"(bit) : "cc");
+}
+
+static inline void clear_bit(uint8_t *done, uint8_t bit) {
+    __asm__ volatile("andb %1, %0" : "+m"(*done) : "qi"((uint8_t)~bit) : "cc");
+}
+
 static inline void set_in_all(uint8_t *done, uint8_t bit) {
-    const __m128i bits = _mm_set1_epi8((char)bit);
-    for (unsigned part = 0; part < BLOCK_UNITS; part += 16) {
-        __m128i *bytes = (void *)(done + part);
-        _mm_store_si128(bytes, _mm_or_si128(_mm_load_si128(bytes), bits));
-    }
+    const uint64_t bits = bit * (UINT64_MAX / UINT8_MAX);
+    for (unsigned part = 0; part < BLOCK_UNITS; part += sizeof bits)
+        __asm__ volatile("orq %1, %0" : "+m"(*(uint64_t *)(done + part)) : "r"(bits) : "cc");
 }
 
 static inline void set_done(uint8_t *done, uint64_t units, uint8_t bit) {
@@ -122,12 +129,12 @@ static inline void set_done(uint8_t *done, uint64_t units, uint8_t bit) {
         return;
     }
     for (; units != 0; units &= units - 1)
-        done[__builtin_ctzll(units)] |= bit;
+        set_bit(&done[__builtin_ctzll(units)], bit);
 }
 
 static inline void clear_done(uint8_t *done, uint64_t units, uint8_t bit) {
     for (; units != 0; units &= units - 1)
-        done[__builtin_ctzll(units)] &= (uint8_t)~bit;
+        clear_bit(&done[__builtin_ctzll(units)], bit);
 }
 
 /* ---- The blocks of some memory ---- */

@@ -57,7 +57,8 @@
 .endm
 # The usual entry of a function, in place of the call of its hook: accesses go the short way, the newest frame hasn't
 # ended, and nothing has a mark below this one's end. A frame has 56 bytes: its end; its kind, which is 2 for a child, and
-# three numbers, all of them 0 here; how many records went before it; and what only others have.
+# three numbers, all of them 0 here; how many records went before it; and what only others have. Before the frame is the
+# newest one, a handler of a signal may have its own there: so the rest is written then, and the end again.
 .macro __spbags_entry
 	leaq 16(%rbp), %rcx
 	movq __spbags_top(%rip), %rax
@@ -73,10 +74,11 @@
 	movq __spbags_next_record(%rip), %rdx
 	subq __spbags_records_origin(%rip), %rdx
 	movq %rcx, (%rax)
+	movq %rax, __spbags_top(%rip)
+	movq %rcx, (%rax)
 	movq $0, 8(%rax)
 	movq $0, 16(%rax)
 	movq %rdx, 24(%rax)
-	movq %rax, __spbags_top(%rip)
 	movq %rcx, __spbags_short_way_end(%rip)
 	jmp .Lspbags_done\@
 .Lspbags_hook\@:

@@ -160,16 +160,14 @@ static void note_block_unit(bool writes, struct touched in, unsigned unit, uintp
     block_record(writes, in, unit, address, code);
 }
 
-/* Nothing of the block has been accessed, and it is the program's alone; what is there isn't read. From now on the first
-   accesses to its units are noted quickly, and these are noted. */
+/* Nothing of the block has been accessed, and it is the program's alone. From now on the first accesses to its units are
+   noted quickly, and these are noted. */
 static inline void begin_quick(bool writes, struct touched in, unsigned first, size_t count) {
-    const __m128i quick = _mm_set1_epi8((char)QUICK);
     begin_step();
     list_block(in);
-    for (unsigned part = 0; part < BLOCK_UNITS; part += 16)
-        _mm_store_si128((void *)(in.done + part), quick);
+    set_in_all(in.done, QUICK);
     for (size_t at = 0; at < count; at++)
-        in.done[first + at] = QUICK | (writes ? WROTE_IT : READ_IT);
+        set_bit(&in.done[first + at], writes ? WROTE_IT : READ_IT);
     end_step();
 }
 
@@ -178,10 +176,7 @@ static inline bool may_begin_quick(const struct block *block) {
 }
 
 /* The same of a block in which something may have been accessed. */
-static void note_quickly(struct touched in) {
-    set_in_all(in.done, QUICK);
-    clear_done(in.done, in.block->dead, QUICK);
-}
+static void note_quickly(struct touched in) { set_done(in.done, ~in.block->dead, QUICK); }
 
 /* Units of a block, of which the first one begins at this address. */
 __attribute__((noinline)) static void note_units(bool writes, uintptr_t address, struct part_of_block part,

@@ -110,9 +110,9 @@ void leave_top(uintptr_t code) {
 __attribute__((noinline, cold)) void leave_left(uintptr_t address, uintptr_t code) {
     leave_below(address, code);
     leave_children(code);
-    begin_record();
+    begin_records();
     end_strand();
-    end_change();
+    finish_records();
     begin_strand();
 }
 

@@ -5,6 +5,7 @@ import os
 import re
 import signal
 import sys
+from concurrent.futures import ThreadPoolExecutor
 
 sys.dont_write_bytecode = True
 import cases
@@ -161,6 +162,28 @@ class RefusedTest(InsideTest):
         self.assertEqual(2, done.status)
         self.assertRegex(done.errors, "the thread of the detector can.t be started: Resource temporarily unavailable")
         self.assertEqual(0, size_of("report"))
+
+
+class InterruptedTest(InsideTest):
+    """A handler of a signal after each instruction of an access or of a function's entry: its write has a race, and
+    there is no other, or the run says that it ends."""
+    REFUSED = "a signal handler of the program interrupted the detector"
+
+    def setUp(self):
+        super().setUp()
+        source = "tracer/tests/interrupted.c"
+        self.succeeds(CC, "-O1", "-mno-red-zone", "-DPLAIN", "-c", "-o", "plain.o", source)
+        self.build("interrupted", source, "plain.o")
+
+    def run_of(self, word, step):
+        done = self.run_command("./interrupted", word, str(step))
+        return done.status, *re.findall("^races .*", done.errors, re.MULTILINE), self.REFUSED in done.errors
+
+    def test_steps(self):
+        for word, steps in (("one", 400), ("two", 400), ("end", 60)):
+            with self.subTest(word), ThreadPoolExecutor(4) as pool:
+                runs = set(pool.map(lambda step: self.run_of(word, step), range(steps)))
+                self.assertEqual({(1, "races 1", False)}, runs - {(0, "races 0", False), (2, True)})
 
 
 class LibraryTest(InsideTest):
