@@ -125,9 +125,8 @@ static void put_strand(void) {
     find_short_way();
 }
 
-/* The access is new in its block. */
+/* The access is new in its block, which has its place. */
 static void keep_access(bool writes, struct touched in, unsigned unit, uint16_t site) {
-    list_block(in);
     if (doing.keeping_places)
         strand.sites[in.block->place - 1][writes][unit] = site;
     in.done[unit] |= writes ? WROTE_IT : READ_IT;
@@ -332,6 +331,8 @@ static inline void follow_access(bool writes, uint64_t location, uintptr_t unit,
 static inline void begin_access(bool writes, const struct touched *in, uint64_t location, uintptr_t address,
                                 uintptr_t code, uint64_t site) {
     const uint16_t number = doing.keeping_places ? site_number(site) : NO_SITE;
+    if (in)
+        list_block(*in);
     if (doing.looking)
         note_pending(writes, location, address, code);
     if (in)

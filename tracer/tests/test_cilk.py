@@ -26,6 +26,20 @@ int main(void) {
     cilk_sync;
 }
 """
+# The race's second access is that of the third block in its strand.
+FULL = """#include <cilk/cilk.h>
+static volatile struct { _Alignas(256) int first; } blocks[4];
+static void put(void) { blocks[2].first = 1; }
+int main(void) {
+    cilk_spawn put();
+    for (int at = 0; at < 3; at++)
+        blocks[at].first = 2;
+    cilk_sync; /* [wait] */
+    blocks[3].first = 1;
+    cilk_spawn put();
+    cilk_sync;
+}
+"""
 CALLER = """#include <cilk/cilk.h>
 int index(int *at);
 static int x;
@@ -75,6 +89,10 @@ class TraceTest(TracerTest):
         if INSIDE:
             with self.subTest("inside"):
                 self.has_same_report("./strands")
+        with self.subTest("the next wait behind the first access of a part"):
+            self.write("full.c", FULL)
+            self.succeeds(SPBAGS_CC, "-o", "full", "full.c", **few)
+            self.reports(1, f"it waits next at full.c:{line_of('full.c', '[wait]')}", "--", "./full")
 
     def test_stores(self):
         source = os.path.join(TESTS, "stores.c")
