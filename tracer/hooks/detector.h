@@ -288,6 +288,3 @@ static inline void step(unsigned kind, uint64_t location) { (void)kind, (void)lo
 static void step_words(uint64_t record, const uint64_t *words, size_t count) { (void)record, (void)words, (void)count; }
 static void end_detector(bool has_more_to_say) { (void)has_more_to_say; }
 #endif
-
-/* What the run makes, for a line about it. */
-static const char *made(void) { return detects() ? "report" : "trace"; }

@@ -71,7 +71,8 @@ static inline void step_access(bool writes, uint64_t location) {
 
 static inline void begin_record(void) {
     if (__builtin_expect(changes > 0, 0) && doing.tracing)
-        fail("a signal handler of the program interrupted the tracer, so the run ends here without a %s", made());
+        fail("a signal handler of the program interrupted the tracer, so the run ends here without a %s",
+             outcome_name());
     begin_change();
 }
 
