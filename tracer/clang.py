@@ -24,6 +24,10 @@ ATOMIC = re.compile(r"^  call void @__sanitizer_cov_(?:load|store)[0-9]+\(.*\n"
 # The same address as another type, which clang 14 puts before a hook.
 OTHER_TYPE = re.compile(r"  (%[\w.]+) = bitcast .* (%[\w.]+) to ")
 
+# A first block that doesn't return, up to its variables, and the rest.
+ENDLESS = re.compile(r'^(define .*\{\n(?:[\w.$"-]+:.*\n)?(?:  %\S+ = alloca .*\n)*)((?:  .*\n)*  unreachable.*\n)(?=\}|\n)',
+                     re.MULTILINE)
+
 
 # A file, and the description of a function: its name, its file and its line.
 FILE = re.compile(r'^(!\d+) = !DIFile\(filename: "([^"]*)", directory: "([^"]*)"', re.MULTILINE)
@@ -36,6 +40,11 @@ CALLS = re.compile(r"^define internal \w+ @(\.omp_task_entry\.[.\d]*|"
 CALLER = "__spbags_outlined"
 # How the names of what clang makes of OpenMP begin.
 MADE = (".omp", ".red_")
+
+
+def with_bodies(text):
+    """The text in which no function's first block ends without a way on: clang gives such a function no hooks."""
+    return ENDLESS.sub(r"\1  br label %spbags.body\n\nspbags.body:\n\2", text)
 
 
 def named(text):

@@ -26,6 +26,16 @@ int main(void) {
     cilk_sync;
 }
 """
+ENDLESS = """#include <cilk/cilk.h>
+#include <stdlib.h>
+int cell;
+static void put(void) { cell = 1; }
+static void leave(void) { cell = 2; exit(0); }
+int main(void) {
+    cilk_spawn put();
+    leave();
+}
+"""
 # The race's second access is that of the third block in its strand.
 FULL = """#include <cilk/cilk.h>
 static volatile struct { _Alignas(256) int first; } blocks[4];
@@ -93,6 +103,12 @@ class TraceTest(TracerTest):
             self.write("full.c", FULL)
             self.succeeds(SPBAGS_CC, "-o", "full", "full.c", **few)
             self.reports(1, f"it waits next at full.c:{line_of('full.c', '[wait]')}", "--", "./full")
+
+    def test_endless(self):
+        """A function that doesn't return has its accesses."""
+        self.write("endless.c", ENDLESS)
+        self.succeeds(SPBAGS_CC, "-w", "-o", "endless", "endless.c")
+        self.assertEqual(cases.as_races([(1, 4, 5)]), self.races_in("endless.c", "./endless"))
 
     def test_stores(self):
         source = os.path.join(TESTS, "stores.c")
