@@ -139,13 +139,13 @@ static inline void first_units(bool writes, uintptr_t at, size_t size, uintptr_t
     struct touched in = block_at(at);
     unsigned unit = unit_in_block(at);
     if (__builtin_expect(may_begin_quick(in.block), 1))
-        begin_quick(writes, in, unit, size >> USUAL_SHIFT);
+        begin_quick(writes, &in, unit, size >> USUAL_SHIFT);
     else if (notes_quickly)
         touch_block(writes, at, at + size, code);
     else
         for (uintptr_t part = at; part < at + size; part += 1 << USUAL_SHIFT, unit++)
             if (!was_done(writes, in.done[unit]))
-                note_block_unit(writes, in, unit, part, code);
+                note_block_unit(writes, &in, unit, part, code);
 }
 
 /* What the text in inline_checks.s calls for such an access that isn't noted quickly, with the byte of its first unit; and

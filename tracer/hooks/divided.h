@@ -44,7 +44,7 @@ __attribute__((noinline)) static bool divide_access(bool writes, const struct to
     if (unit->location == 0)
         return false;
     if (in) {
-        list_block(*in);
+        list_block(in);
         in->block->is_divided = true;
     } else {
         *stack_mark(address) = TOUCHED;

@@ -268,7 +268,7 @@ static void note_dead(bool writes, uintptr_t address, uintptr_t code) {
     size_t span = span_of_block(address), number = block_in(span, address);
     struct touched in = dead_block(span, number);
     if (!was_done(writes, in.done[number % BLOCK_UNITS]))
-        block_record(writes, in, number % BLOCK_UNITS, address, code);
+        block_record(writes, &in, number % BLOCK_UNITS, address, code);
 }
 
 static void use_dead(bool writes, uintptr_t address, uintptr_t code) {

@@ -144,14 +144,14 @@ static inline void note_stack_unit(bool writes, uintptr_t address, uint32_t *mar
 static void use_dead(bool writes, uintptr_t address, uintptr_t code);
 
 /* The same of a unit of a block. */
-static void note_block_unit(bool writes, struct touched in, unsigned unit, uintptr_t address, uintptr_t code) {
+static void note_block_unit(bool writes, const struct touched *in, unsigned unit, uintptr_t address, uintptr_t code) {
     const uint64_t bit = (uint64_t)1 << unit;
-    if ((in.block->dead & bit) != 0) {
+    if ((in->block->dead & bit) != 0) {
         use_dead(writes, address, code);
         return;
     }
     if (has_views) {
-        bool repeats = was_done(false, in.done[unit]);
+        bool repeats = was_done(false, in->done[unit]);
         enum update update = update_of_view(address, unit_shift, repeats);
         if (update != NO_UPDATE && repeats)
             return;
@@ -162,12 +162,12 @@ static void note_block_unit(bool writes, struct touched in, unsigned unit, uintp
 
 /* Nothing of the block has been accessed, and it is the program's alone. From now on the first accesses to its units are
    noted quickly, and these are noted. */
-static inline void begin_quick(bool writes, struct touched in, unsigned first, size_t count) {
+static inline void begin_quick(bool writes, const struct touched *in, unsigned first, size_t count) {
     begin_step();
     list_block(in);
-    set_in_all(in.done, QUICK);
+    set_in_all(in->done, QUICK);
     for (size_t at = 0; at < count; at++)
-        set_bit(&in.done[first + at], writes ? WROTE_IT : READ_IT);
+        set_bit(&in->done[first + at], writes ? WROTE_IT : READ_IT);
     end_step();
 }
 
@@ -176,20 +176,21 @@ static inline bool may_begin_quick(const struct block *block) {
 }
 
 /* The same of a block in which something may have been accessed. */
-static void note_quickly(struct touched in) { set_done(in.done, ~in.block->dead, QUICK); }
+static void note_quickly(const struct touched *in) { set_done(in->done, ~in->block->dead, QUICK); }
 
 /* Units of a block, of which the first one begins at this address. */
 __attribute__((noinline)) static void note_units(bool writes, uintptr_t address, struct part_of_block part,
                                                  uintptr_t code) {
     uint64_t units = new_units(writes, part.in.done, part.units);
     if (units != 0 && notes_quickly && (units & part.in.block->dead) == 0) {
-        step_units(writes, part.in, units);
-        note_quickly(part.in);
+        step_units(writes, &part.in, units);
+        note_quickly(&part.in);
         return;
     }
     for (; units != 0; units &= units - 1) {
         unsigned unit = (unsigned)__builtin_ctzll(units);
-        note_block_unit(writes, part.in, unit, (address & ~(block_size() - 1)) + ((uintptr_t)unit << unit_shift), code);
+        note_block_unit(writes, &part.in, unit, (address & ~(block_size() - 1)) + ((uintptr_t)unit << unit_shift),
+                        code);
     }
 }
 

@@ -127,10 +127,10 @@ static void put_strand(void) {
 }
 
 /* The access is new in its block, which has its place. */
-static void keep_access(bool writes, struct touched in, unsigned unit, uint16_t site) {
+static void keep_access(bool writes, const struct touched *in, unsigned unit, uint16_t site) {
     if (doing.keeping_places)
-        strand.sites[in.block->place - 1][writes][unit] = site;
-    in.done[unit] |= writes ? WROTE_IT : READ_IT;
+        strand.sites[in->block->place - 1][writes][unit] = site;
+    in->done[unit] |= writes ? WROTE_IT : READ_IT;
 }
 
 /* ---- The window, in a run that does more than detect ---- */
@@ -333,11 +333,11 @@ static inline void begin_access(bool writes, const struct touched *in, uint64_t 
                                 uintptr_t code, uint64_t site) {
     const uint16_t number = doing.keeping_places ? site_number(site) : NO_SITE;
     if (in)
-        list_block(*in);
+        list_block(in);
     if (doing.looking)
         note_pending(writes, location, address, code);
     if (in)
-        keep_access(writes, *in, (location - in->location) / 2, number);
+        keep_access(writes, in, (location - in->location) / 2, number);
     else
         keep_recent(spbags_record(writes ? SPBAGS_WRITE : SPBAGS_READ, location), number);
 }
@@ -361,10 +361,10 @@ OTHERWISE void other_access_record(bool writes, const struct touched *in, uint64
 }
 
 /* These units of a block have been accessed, in a run that detects, and that is all. */
-static void step_units(bool writes, struct touched in, uint64_t units) {
+static void step_units(bool writes, const struct touched *in, uint64_t units) {
     begin_step();
     list_block(in);
-    set_done(in.done, units, writes ? WROTE_IT : READ_IT);
+    set_done(in->done, units, writes ? WROTE_IT : READ_IT);
     end_step();
 }
 
@@ -376,9 +376,10 @@ static inline void access_record(bool writes, uint64_t location, uintptr_t addre
 }
 
 /* Of the unit in its block. */
-static inline void block_record(bool writes, struct touched in, unsigned unit, uintptr_t address, uintptr_t code) {
+static inline void block_record(bool writes, const struct touched *in, unsigned unit, uintptr_t address,
+                                uintptr_t code) {
     if (__builtin_expect(only_detects(), 1))
         step_units(writes, in, (uint64_t)1 << unit);
     else
-        other_access_record(writes, &in, in.location + 2 * unit, address, code);
+        other_access_record(writes, in, in->location + 2 * unit, address, code);
 }

@@ -34,9 +34,9 @@ static inline uint64_t part_now(void) { return strand.before + 1; }
 
 static void put_strand(void);
 
-static inline void place_block(struct touched touched) {
-    strand.list[strand.used] = touched;
-    touched.block->place = (uint32_t)++strand.used;
+static inline void place_block(const struct touched *touched) {
+    strand.list[strand.used] = *touched;
+    touched->block->place = (uint32_t)++strand.used;
 }
 
 /* While blocks go out nothing goes the short way, up to find_short_way: where a handler of a signal makes a new access,
@@ -66,7 +66,7 @@ static void drop_empty(void) {
         }
         if (strand.used < at)
             memcpy(strand.sites[strand.used], strand.sites[at], sizeof *strand.sites);
-        place_block(strand.list[at]);
+        place_block(&strand.list[at]);
     }
 }
 
@@ -80,8 +80,8 @@ __attribute__((noinline, cold)) static void make_room(void) {
 }
 
 /* The block has its place then. */
-static inline void list_block(struct touched touched) {
-    if (__builtin_expect(touched.block->place != 0, 1))
+static inline void list_block(const struct touched *touched) {
+    if (__builtin_expect(touched->block->place != 0, 1))
         return;
     if (__builtin_expect(strand.used == MOST_BLOCKS, 0))
         make_room();

@@ -70,11 +70,11 @@ static void leave_jumped(uintptr_t stack_pointer, uintptr_t code) { (void)stack_
 
 #include "../hooks/marks.h"
 
-static void step_units(bool writes, struct touched in, uint64_t units) {
+static void step_units(bool writes, const struct touched *in, uint64_t units) {
     list_block(in);
-    set_done(in.done, units, writes ? WROTE_IT : READ_IT);
+    set_done(in->done, units, writes ? WROTE_IT : READ_IT);
 }
-static void block_record(bool writes, struct touched in, unsigned unit, uintptr_t address, uintptr_t code);
+static void block_record(bool writes, const struct touched *in, unsigned unit, uintptr_t address, uintptr_t code);
 
 #include "../hooks/locations.h"
 
@@ -224,8 +224,8 @@ static void access_record(bool writes, uint64_t location, uintptr_t address, uin
     recorded = location;
 }
 
-static void block_record(bool writes, struct touched in, unsigned unit, uintptr_t address, uintptr_t code) {
-    access_record(writes, in.location + 2 * unit, address, code);
+static void block_record(bool writes, const struct touched *in, unsigned unit, uintptr_t address, uintptr_t code) {
+    access_record(writes, in->location + 2 * unit, address, code);
     step_units(writes, in, units_from(unit, 1));
 }
 
