@@ -6,6 +6,7 @@ mod groups;
 mod masks;
 mod page;
 mod pages;
+mod recent;
 mod step;
 
 pub use block_shadow::BlockShadow;

@@ -1,6 +1,7 @@
 //! The touched pages, by their numbers.
 ghost use Rattle.std.specs.Prelude.{◌≡◌, ◌≢◌, ℕ, ◌+◌, ◌^◌, ◌<◌, ◌≤◌, ◌++◌, []};
-ghost use Rattle.std.specs.Prelude.{IfSome, IfOk, IsTrue, OnOk, OnErr};
+ghost use Rattle.std.specs.Prelude.{IfSome, IfOk, IsTrue, OnOk, OnErr, None, nat_eq};
+ghost use Rattle.std.specs.Map.{lookup};
 ghost use Rattle.dag.specs.Bounds.{most_records};
 ghost use Rattle.shadow.specs.Before.{IsCellBefore};
 ghost use Rattle.std.specs.Int.RustNames.{count_ones};
@@ -9,6 +10,7 @@ ghost use Rattle.blocks.specs.Pages.{cell_of_unit, touched_at, races_up_to, forg
 ghost use Rattle.blocks.specs.Pages.{IsBlockAt, IsFoundBlock, HasSameUnits, HasPutUnits};
 
 use crate::page::Page;
+use crate::recent::Recent;
 use bags::Bags;
 use dag::{Kind, NoMemory, Race};
 use indexmap::IndexMap;
@@ -23,6 +25,7 @@ pub struct Pages<S: BuildHasher> {
     map: IndexMap<u64, Page, S>,
     // Where the last page was found. It isn't trusted.
     last: usize,
+    recent: Recent,
 }
 
 impl<S: BuildHasher> Model for Pages<S> {
@@ -43,6 +46,7 @@ impl<S: BuildHasher> Pages<S> {
             alloc,
             map: IndexMap::with_hasher(alloc, hasher),
             last: 0,
+            recent: Recent::new(),
         }
     }
 
@@ -67,23 +71,38 @@ impl<S: BuildHasher> Pages<S> {
         ensures kept { HasSameUnits self.old self.new }
         ensures err { OnErr result (self.new ≡ self.old) }
     {
-        if let Some(index) = self.look_up(page) {
-            self.last = index;
-            return Ok(index);
-        }
-        let index = self.map.len();
-        self.map.insert(page, Page::untouched(self.alloc))?;
+        let index = match self.look_up(page) {
+            Some(index) => index,
+            None => self.add(page)?,
+        };
         self.last = index;
+        self.recent.note(page, index);
         Ok(index)
     }
 
-    // Where the page stands, if it is there: often behind the last one.
+    fn add(&mut self, page: u64) -> Result<usize, NoMemory>
+        requires { lookup (nat_eq page) self.old ≡ None }
+        ensures there { IfOk result (λ at. IsBlockAt self.new at page) }
+        ensures kept { HasSameUnits self.old self.new }
+        ensures err { OnErr result (self.new ≡ self.old) }
+    {
+        let index = self.map.len();
+        self.map.insert(page, Page::untouched(self.alloc))?;
+        Ok(index)
+    }
+
+    // Where the page stands, if it is there: often behind the last one, and often where it was found lately.
     fn look_up(&self, page: u64) -> Option<usize>
         ensures { IsFoundBlock self.now page result }
     {
         let next = self.last.wrapping_add(1);
         if self.is_at(next, page) {
             return Some(next);
+        }
+        if let Some(index) = self.recent.guess(page) {
+            if self.is_at(index, page) {
+                return Some(index);
+            }
         }
         let index = self.map.get_index_of(&page)?;
         Some(index)

@@ -4,14 +4,14 @@ use Rattle.std.specs.Map.{lookup}
 use Rattle.indexmap.proofs.CallerLemmas.{insert_entry-new}
 use Rattle.dag.proofs.Lists.{slice_get-last}
 use Rattle.blocks.specs.Pages.{block_numbered, IsBlockAt, Block, no_block}
-use Rattle.blocks.proofs.pages.Pages.find_or_add.Goals as goal
+use Rattle.blocks.proofs.pages.Pages.add.Goals as goal
 
 pub returns-clause-there : goal.returns-clause-there
 returns-clause-there g c =
     let es : List (ℕ × Block) = c.self.inside.map.entries in
     let page : ℕ = c.args.page in
     let b : Block = c.untouched.result in
-    let none : lookup (nat_eq page) es ≡ None = ap (λ (xs : List (ℕ × Block)). lookup (nat_eq page) xs) c.self.view_is ∙ c.in_default.ensures in
+    let none : lookup (nat_eq page) es ≡ None = ap (λ (xs : List (ℕ × Block)). lookup (nat_eq page) xs) c.self.view_is ∙ c.requires in
     let last : c.insert.new.self.entries ≡ es ++ (page, b) ∷ [] = c.in_ok-insert.ensures.entries ∙ insert_entry-new nat_eq c.self.inside.map page b none in
     let is : block_numbered c.insert.new.self.entries page ≡ b
     = ap (λ (o : Option Block). unwrap_or o no_block) (c.in_ok-insert.ensures.updates.0 page ∙ ap (λ t. cond t (Some b) (lookup (nat_eq page) es)) (eq-eqb page page refl)) in
