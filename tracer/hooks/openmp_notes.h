@@ -1,109 +1,55 @@
-/* What the report of a run with OpenMP has to say beside the races. */
+/* What the report of a run with OpenMP has to say beside the races. Where it says something once, this has the code of the
+   first place, or 0. */
+#ifndef SPBAGS_OPENMP_NOTES_H
+#define SPBAGS_OPENMP_NOTES_H
 
-/* Room for a line of the source. */
-enum { ROOM = 400 };
+#include "common.h"
 
-/* A member of a team ends the run. */
-static void tell_unfinished(void) {
-    char line[ROOM];
-    const struct scope *thread = thread_now();
-    if (thread->kind == MEMBER)
-        tell_incomplete("%s: the run ends inside this parallel region: what its other threads do up to their next "
-                        "barrier isn't modelled",
-                        source_line(thread->team->code, line, ROOM));
+extern struct notes {
+    /* A task's children that outlive it are joined where it ends. Where a wait doesn't wait for them, what follows may
+       run beside them, and no race of those is seen: how many these are, the wait, and where the first came from. */
+    uint64_t outlived;
+    uintptr_t outlived_wait, outlived_code;
+    /* A region that has one thread by OMP_NUM_THREADS; and one that wants several in another region, and has one. */
+    uintptr_t alone_by_variable, inner_team;
+    /* A region that wanted more threads than it got, or the first of those that asked for a thread's number; how many
+       it has, and how many it wanted. */
+    uintptr_t small_team;
+    uint64_t small_team_has, small_team_wants;
+    bool small_team_asks;
+    /* A region that asks for a thread's number, where the last one does a single region, or its sums alone are
+       recorded. */
+    uintptr_t last_does;
+    /* A master region whose thread does what any may do beside it. */
+    uintptr_t master_does_more;
+    /* A masked region for a thread that its team doesn't have; which thread, and how many there are. */
+    uintptr_t masked_out;
+    int masked_thread, masked_team;
+    /* A loop whose threads have blocks, how many these are, and whether they ask for their numbers. */
+    uintptr_t blocks_of;
+    unsigned blocks_team;
+    bool blocks_asked;
+    /* A loop had shares of several iterations. */
+    bool has_long_shares;
+    uintptr_t simd_loop;
+    /* A task that asks for its thread's number, which may be any; or an iteration, if its team has one thread. */
+    uintptr_t task_asks;
+    /* An access to shared memory after an ordered region. */
+    uintptr_t after_ordered;
+    /* A task that waited for all before it by its `depend`; and one whose `depend` was ignored. */
+    uintptr_t depend_wait, depend_ignored;
+    /* A region that OpenMP would cancel. */
+    uintptr_t cancelled;
+} notes;
+
+static inline void notes_keep(uintptr_t *first, uintptr_t code) {
+    if (*first == 0)
+        *first = code;
 }
 
-static void tell_waits(void) {
-    char wait[ROOM], code[ROOM];
-    bool is_astray = is_second && waited[0] != scopes_begun;
-    if (outlived > 0 || is_astray)
-        tell_unmodelled(is_second || write_waited(scopes_begun) ? "waits" : "incomplete",
-                        "%s: this wait doesn't wait for %llu tasks, iterations or other parts, the first from %s. In "
-                        "the trace they have ended, so races with what follows aren't seen",
-                        source_line(outlived_wait, wait, ROOM), (unsigned long long)outlived,
-                        source_line(outlived_code, code, ROOM));
-    if (master_does_more != 0)
-        tell_incomplete("%s: the thread of this master region also does a loop, sections or a single region before the "
-                        "next barrier, and any thread may do those: races between both aren't seen",
-                        source_line(master_does_more, wait, ROOM));
-    if (after_ordered != 0)
-        tell_incomplete("%s: this access to shared memory comes after its iteration's ordered region, and in the trace "
-                        "before the next iteration's: races of such accesses aren't seen",
-                        source_line(after_ordered, wait, ROOM));
-}
+/* So many more outlive this wait. */
+void notes_add_outlived(uint64_t count, uintptr_t wait, uintptr_t code);
+/* The body of the region with this code begins here, which is a better place to name it by. */
+void notes_name_region(uintptr_t region, uintptr_t code);
 
-/* Two of its threads may do this, and in the trace the last one does. */
-static void tell_last(void) {
-    char line[ROOM];
-    if (last_does != 0)
-        tell_incomplete(
-            "%s: this parallel region asks for a thread's number, and the last thread does its single regions "
-            "or sums: races of these with what only that thread does aren't seen",
-            source_line(last_does, line, ROOM));
-}
-
-static void tell_depend(void) {
-    char line[ROOM];
-    if (depend_wait != 0)
-        tell_incomplete("%s: this depends on a task, and waits for all before it by SPBAGS_DEPEND=order: races of what "
-                        "comes before with what comes after aren't seen",
-                        source_line(depend_wait, line, ROOM));
-    if (first_depend != 0 && depend_way == IGNORED)
-        tell_seeming("%s: by SPBAGS_DEPEND=ignore nothing waits for data: what depend orders may look like a race",
-                     source_line(first_depend, line, ROOM));
-}
-
-static void tell_shares(void) {
-    char before[ROOM];
-    if (blocks_of != 0)
-        tell_incomplete("%s: each of %u threads does a block of this loop, since %s: races inside a block aren't seen",
-                        source_line(blocks_of, before, ROOM), blocks_team,
-                        blocks_asked ? "its region asks for a thread's number"
-                                     : "with schedule(static) and nowait a thread relies on what it did before");
-    if (inner_team != 0)
-        tell_incomplete("%s: a team inside another one has one thread: SPBAGS_NESTED=1 gives it several",
-                        source_line(inner_team, before, ROOM));
-    if (alone_by_variable != 0)
-        tell_incomplete("%s: this parallel region has one thread by OMP_NUM_THREADS, so nothing in it is parallel",
-                        source_line(alone_by_variable, before, ROOM));
-    if (masked_out != 0)
-        tell_incomplete("%s: this region is for thread %d, and its team has %d: it isn't run. SPBAGS_TEAM says how "
-                        "many there may be",
-                        source_line(masked_out, before, ROOM), masked_thread, masked_team);
-    if (first_cancelled != 0)
-        tell_incomplete("%s: OMP_CANCELLATION lets this cancel what is done, but here all of it is done",
-                        source_line(first_cancelled, before, ROOM));
-    if (has_long_shares)
-        tell_incomplete("SPBAGS_ITERATIONS=%llu makes that many iterations one child: races between them aren't seen",
-                        (unsigned long long)iterations);
-    if (small_team_asks)
-        tell_incomplete(
-            "%s: this parallel region has %llu threads, and asks for a thread's number: what only others do "
-            "isn't run. SPBAGS_TEAM says how many there may be",
-            source_line(small_team, before, ROOM), (unsigned long long)small_team_has);
-    else if (small_team != 0)
-        tell_report("%s: this parallel region wants %llu threads, and has %llu: SPBAGS_TEAM says how many there may be",
-                    source_line(small_team, before, ROOM), (unsigned long long)small_team_wants,
-                    (unsigned long long)small_team_has);
-    if (simd_loop != 0)
-        tell_report("%s: a loop with simd alone runs serially here: whether its iterations depend on each other isn't "
-                    "checked",
-                    source_line(simd_loop, before, ROOM));
-    if (task_asks != 0)
-        tell_seeming("%s: a task or an iteration asks for its thread's number, which is that of the thread that makes "
-                     "it, so memory that they choose by that number may look like a race",
-                     source_line(task_asks, before, ROOM));
-}
-
-bool has_openmp_beside(void) { return newest_scope > 0 || scopes[0].children + scopes[0].others > 0; }
-
-void tell_openmp_notes(void) {
-    tell_waits();
-    tell_last();
-    tell_depend();
-    tell_unfinished();
-    tell_shares();
-    if (own[THREAD].end > own[THREAD].first)
-        tell_report("variables of which each thread has its own, %zu bytes, aren't recorded",
-                    (size_t)(own[THREAD].end - own[THREAD].first));
-}
+#endif

@@ -20,8 +20,7 @@ struct stack {
     uintptr_t lowest;
     struct frame *frames, *frames_end, *top, *grouped, *silent_frame;
     struct part *parts;
-    struct body *bodies;
-    size_t newest_body;
+    struct body *bodies, *newest_body;
     unsigned initialising, hidden_updates;
     struct guard guards[MOST_GUARDS];
     unsigned guards_held;

@@ -1,4 +1,15 @@
-/* The beginning of a run with OpenMP. */
+/* The beginning of a run with OpenMP, whose settings are those of the environment. */
+#include "library_words.h"
+#include "openmp_asked.h"
+#include "openmp_bodies.h"
+#include "openmp_cancel.h"
+#include "openmp_depend.h"
+#include "openmp_loops.h"
+#include "openmp_reductions.h"
+#include "openmp_teams.h"
+#include "openmp_turns.h"
+#include "own.h"
+#include "settings.h"
 
 static uint64_t threads_of_team(void) {
     uint64_t threads = settings_number(SETTING_TEAM);
@@ -15,8 +26,8 @@ size_t room_for_members(size_t *own_size) {
     if (settings_is(SETTING_NESTED, "1"))
         others = MOST_STACKS - 1;
     *own_size = least(*own_size, whole / 2);
-    member_stack_size = least(*own_size, ((whole - *own_size) / others - stack_gap) & ~(size_t)0xffff);
-    return others * (member_stack_size + stack_gap);
+    turns.stack_size = least(*own_size, ((whole - *own_size) / others - stack_gap) & ~(size_t)0xffff);
+    return others * (turns.stack_size + stack_gap);
 }
 
 static bool is_true(const char *variable) {
@@ -33,34 +44,34 @@ static void set_threads_of_levels(void) {
         rest += strspn(rest, " ");
         if (threads < 1 || threads > INT_MAX || (*rest != '\0' && (*rest != ',' || rest[1] == '\0')))
             fail("%s=%s: expected numbers of threads, at least 1, with commas between", name, value);
-        if (levels_named < MOST_LEVELS)
-            threads_of_level[levels_named++] = (int)threads;
+        if (teams.levels_named < MOST_LEVELS)
+            teams.threads_of_level[teams.levels_named++] = (int)threads;
         at = rest + (*rest == ',');
     }
 }
 
 /* How many regions around one another may have several threads: as many as the environment says, or 1. */
 static int levels_of_teams(void) {
-    bool is_nested = nests || levels_named > 1 || is_true("OMP_NESTED");
+    bool is_nested = teams.nests || teams.levels_named > 1 || is_true("OMP_NESTED");
     uint64_t levels = settings_number_in("OMP_MAX_ACTIVE_LEVELS", "a number of levels", is_nested ? INT_MAX : 1);
-    return nests ? INT_MAX : (int)least(levels, INT_MAX);
+    return teams.nests ? INT_MAX : (int)least(levels, INT_MAX);
 }
 
 __attribute__((constructor(102))) static void start_openmp(void) {
-    scopes = reserve(MOST_SCOPES * sizeof *scopes);
-    bodies = reserve(MOST_SCOPES * sizeof *bodies);
-    loops = reserve(MOST_LOOPS * sizeof *loops);
-    scopes[0] = (struct scope){.kind = TEAM, .owns = true, .alone = true, .size = 1, .loop = &loops[loops_begun++]};
-    team_size = threads_of_team();
-    team_is_chosen = settings_text(SETTING_TEAM) != NULL;
-    nests = settings_is(SETTING_NESTED, "1");
+    scopes_start();
+    bodies_start();
+    loops_start();
+    scopes.first->loop = loops_of_thread();
+    teams.size = threads_of_team();
+    teams.is_chosen = settings_text(SETTING_TEAM) != NULL;
+    teams.nests = settings_is(SETTING_NESTED, "1");
     set_threads_of_levels();
-    scopes[0].threads_wanted = threads_by_variable(0);
-    most_active_levels = levels_of_teams();
-    set_depend_way();
-    may_cancel = is_true("OMP_CANCELLATION");
-    iterations = settings_number(SETTING_ITERATIONS);
-    own[COPIES].first = own[COPIES].end = (uintptr_t)reserve(most_copies);
+    scopes.first->threads_wanted = teams_threads_by_variable(0);
+    teams.most_active_levels = levels_of_teams();
+    depend_read_settings();
+    cancel_is_allowed = is_true("OMP_CANCELLATION");
+    loops.iterations = settings_number(SETTING_ITERATIONS);
+    reductions_start();
     dl_iterate_phdr(find_thread_memory, &own[THREAD]);
     if (doing.tracing)
         mark_own(own[THREAD].first, own[THREAD].end);

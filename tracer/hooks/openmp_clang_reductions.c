@@ -1,6 +1,14 @@
 /* Reductions that tasks take part in, as clang compiles them. For each variable it hands over functions that begin and
    end a copy, and that combine it. As a task runs at once, where it is made, it takes the copy of its thread, which is
    combined where its group ends, or what its thread does in the region. */
+#include "openmp_children.h"
+#include "openmp_clang.h"
+#include "openmp_parts.h"
+#include "openmp_reductions.h"
+#include "openmp_tasks.h"
+
+#pragma GCC visibility push(hidden)
+
 struct clang_reduction {
     void *shared, *original;
     size_t size;
@@ -44,24 +52,24 @@ static uintptr_t *reductions_of(size_t count, const struct clang_reduction *list
     return array;
 }
 
-static void begin_reductions(size_t scope, size_t count, const struct clang_reduction *list, uintptr_t stack_pointer,
+static void begin_reductions(size_t count, const struct clang_reduction *list, uintptr_t stack_pointer,
                              uintptr_t code) {
     uintptr_t *array = reductions_of(count, list);
-    register_reductions(scope, array, NULL);
-    open_part(CALLED, stack_pointer, code);
+    reductions_register(scopes.newest, array, NULL);
+    parts_open(CALLED, stack_pointer, code);
     for (size_t at = 0; at < count; at++)
         if ((list[at].flags & BEGINS_LATE) == 0)
-            begun_copy(copy_of(array, array + FIRST + at * WORDS_EACH), &list[at]);
-    close_part(code);
+            begun_copy(reductions_copy_of(array, array + FIRST + at * WORDS_EACH), &list[at]);
+    parts_close(code);
 }
 
 /* All tasks that take part have been waited for. */
 static void end_reductions(uintptr_t *array, uintptr_t stack_pointer, uintptr_t code) {
     if (!array)
         return;
-    open_part(CALLED, stack_pointer, code);
+    parts_open(CALLED, stack_pointer, code);
     for (uintptr_t number = 0; number < array[VARIABLES]; number++) {
-        uintptr_t *variable = array + FIRST + number * WORDS_EACH, copy = copy_of(array, variable);
+        uintptr_t *variable = array + FIRST + number * WORDS_EACH, copy = reductions_copy_of(array, variable);
         const struct clang_reduction *of = (const struct clang_reduction *)variable[2];
         if (!header_of_copy(copy)->begun)
             continue;
@@ -69,25 +77,25 @@ static void end_reductions(uintptr_t *array, uintptr_t stack_pointer, uintptr_t 
         if (of->end)
             of->end((void *)copy);
     }
-    close_part(code);
+    parts_close(code);
     free(array);
 }
 
 static void end_group(uintptr_t stack_pointer, uintptr_t code) {
-    uintptr_t *reductions = scopes[newest_scope].reductions;
-    close_waiting(code);
+    uintptr_t *reductions = scopes.newest->reductions;
+    children_end_waiting(code);
     end_reductions(reductions, stack_pointer, code);
 }
 
-void __kmpc_taskgroup(CLANG) { IGNORE, GOMP_taskgroup_start(); }
+void __kmpc_taskgroup(CLANG) { IGNORE, scopes_push(GROUP, false); }
 void __kmpc_end_taskgroup(CLANG) {
-    IGNORE, note_shares_left(CODE);
+    IGNORE, tasks_note_shares_left(CODE);
     end_group(STACK_POINTER, CODE);
 }
 
 void *__kmpc_taskred_init(int32_t number, int32_t count, const struct clang_reduction *list) {
     (void)number;
-    begin_reductions(newest_scope, (size_t)count, list, STACK_POINTER, CODE);
+    begin_reductions((size_t)count, list, STACK_POINTER, CODE);
     return NULL;
 }
 
@@ -95,8 +103,8 @@ void *__kmpc_taskred_init(int32_t number, int32_t count, const struct clang_redu
 void *__kmpc_taskred_modifier_init(CLANG, int32_t is_loop, int32_t count, const struct clang_reduction *list) {
     IGNORE;
     if (is_loop)
-        push_scope(GROUP, false);
-    begin_reductions(newest_scope, (size_t)count, list, STACK_POINTER, CODE);
+        scopes_push(GROUP, false);
+    begin_reductions((size_t)count, list, STACK_POINTER, CODE);
     return NULL;
 }
 
@@ -106,14 +114,16 @@ void __kmpc_task_reduction_modifier_fini(CLANG, int32_t is_loop) {
         end_group(STACK_POINTER, CODE);
         return;
     }
-    struct scope *thread = thread_now();
-    join_from(newest_scope, CODE);
+    struct scope *thread = scopes_thread();
+    children_join_from(scopes.newest, CODE);
     end_reductions(thread->reductions, STACK_POINTER, CODE);
     thread->reductions = NULL;
 }
 
 void *__kmpc_task_reduction_get_th_data(int32_t number, void *group, void *data) {
-    uintptr_t *array, *variable = reduced((uintptr_t)data, &array);
+    uintptr_t *array, *variable = reductions_find((uintptr_t)data, &array);
     (void)number, (void)group;
-    return (void *)begun_copy(copy_of(array, variable), (const struct clang_reduction *)variable[2]);
+    return (void *)begun_copy(reductions_copy_of(array, variable), (const struct clang_reduction *)variable[2]);
 }
+
+#pragma GCC visibility pop

@@ -1,0 +1,135 @@
+#include "openmp_shares.h"
+
+#include "library_words.h"
+#include "openmp_barriers.h"
+#include "openmp_children.h"
+#include "openmp_notes.h"
+#include "openmp_parts.h"
+#include "openmp_silence.h"
+
+/* How many iterations the thread's block still has, of those that are left. The last thread's has all. */
+static uint64_t left_of_block(const struct scope *thread, uint64_t left) {
+    uint64_t number = (uint64_t)thread->thread, count = thread->loop->count;
+    uint64_t block = count / thread->size + (number < count % thread->size);
+    return number + 1 == thread->size ? left : least(block - least(block, thread->taken), left);
+}
+
+uint64_t shares_left(const struct scope *thread) {
+    const struct loop *loop = thread->loop;
+    uint64_t left = loop->count - loop->begun;
+    if (loop->in_blocks)
+        return left_of_block(thread, left);
+    return left > 0 && barriers_leaves_to_others(thread) ? 0 : left;
+}
+
+/* How many iterations the thread has next. gcc asks for each section. */
+static uint64_t next_size(const struct scope *thread) {
+    const struct loop *loop = thread->loop;
+    uint64_t left = shares_left(thread);
+    return loop->in_blocks && !loop->is_sections ? left : least(loop->most, left);
+}
+
+/* What the thread does behind a block comes after that. */
+static void end_share(const struct scope *thread, uintptr_t code) {
+    parts_close(code);
+    children_close(code);
+    if (thread->loop->in_blocks)
+        children_join_from(scopes.newest, code);
+    if (doing.tracing)
+        forget_below(thread->stack_end);
+}
+
+/* The iterations of the share that has begun now go from this one to the newest. */
+static void note_share(const struct loop *loop, uint64_t first) {
+    note_part((struct part){.of = loop->is_sections ? "sections" : "loop",
+                            .first = first,
+                            .last = loop->start + (loop->begun - 1) * loop->step});
+}
+
+/* A block is no child, but a part of what its thread does. */
+static void begin_share(const struct scope *thread, uint64_t first, uintptr_t stack_pointer, uintptr_t code) {
+    struct loop *loop = thread->loop;
+    silence_from(NULL);
+    if (loop->code == 0)
+        loop->code = code;
+    if (thread->alone || loop->in_blocks)
+        return;
+    if (!loop->ordered)
+        children_open(SHARE, loop->code);
+    parts_open(LOOP_PART, stack_pointer, loop->code);
+    note_share(loop, first);
+}
+
+static bool has_following(const struct scope *thread) {
+    const struct loop *loop = thread->loop;
+    if (!thread->in_body || thread->alone || !scopes_is_thread(scopes_holder()))
+        return false;
+    return loop->in_blocks ? team_is_last(thread) && !loop->has_late_last : team_is_last(thread) || thread->shares > 0;
+}
+
+void shares_begin_following(const struct scope *thread, uintptr_t stack_pointer, uintptr_t code) {
+    if (has_following(thread)) {
+        children_open(SHARE, code)->follows_loop = true;
+        parts_open(LOOP_PART, stack_pointer, code);
+        note_part((struct part){.of = "reduction"});
+    }
+    silence_from(top);
+}
+
+void shares_end_following(uintptr_t code) {
+    if (scopes.newest->follows_loop) {
+        parts_close(code);
+        children_close(code);
+        if (doing.tracing)
+            forget_below(scopes_thread()->stack_end);
+    }
+    silence_follow_body();
+}
+
+void shares_note_long(const struct scope *thread, uint64_t size) {
+    if (thread->alone || size < 2)
+        return;
+    if (thread->loop->in_blocks && notes.blocks_of == 0) {
+        notes.blocks_of = thread->loop->code;
+        notes.blocks_team = thread->size;
+        notes.blocks_asked = thread->team && thread->team->asks;
+    }
+    notes.has_long_shares |= !thread->loop->in_blocks;
+}
+
+/* A loop may become one of blocks in its first share, which goes on then as a block. */
+bool shares_take(uint64_t *first, uint64_t *end, uintptr_t stack_pointer, uintptr_t code) {
+    struct scope *thread = scopes_thread();
+    struct loop *loop = thread->loop;
+    uint64_t size = next_size(thread);
+    bool goes_on = loop->in_blocks && size > 0;
+    if (thread->shares > 0 && !goes_on && scopes.newest->kind == SHARE)
+        end_share(thread, code);
+    if (size == 0)
+        return false;
+    *first = loop->start + loop->begun * loop->step;
+    loop->begun += size;
+    *end = loop->begun == loop->count ? loop->end : loop->start + loop->begun * loop->step;
+    if (thread->shares++ == 0 || !goes_on)
+        begin_share(thread, *first, stack_pointer, code);
+    thread->taken += size;
+    shares_note_long(thread, loop->in_blocks ? thread->taken : size);
+    return true;
+}
+
+bool shares_next(uint64_t *first, uint64_t *end, uintptr_t stack_pointer, uintptr_t code) {
+    bool is_left = shares_take(first, end, stack_pointer, code);
+    if (!is_left)
+        shares_begin_following(scopes_thread(), stack_pointer, code);
+    return is_left;
+}
+
+unsigned shares_next_section(uintptr_t stack_pointer, uintptr_t code) {
+    uint64_t section, end;
+    return shares_next(&section, &end, stack_pointer, code) ? (unsigned)section : 0;
+}
+
+void shares_end_loop(uintptr_t code) {
+    shares_end_following(code);
+    barriers_join_team(code);
+}

@@ -1,0 +1,23 @@
+#include "openmp_silence.h"
+
+#include "openmp_team.h"
+
+void silence_from(struct frame *frame) {
+    const struct scope *thread = scopes_thread();
+    if (thread->kind == MEMBER && !team_is_last(thread))
+        silent_frame = frame;
+}
+
+void silence_follow_body(void) {
+    const struct scope *thread = scopes_thread();
+    bool is_silent = thread->kind == MEMBER && !thread->in_body;
+    silence_from(is_silent ? thread->member->base + thread->team->region.functions : NULL);
+}
+
+void silence_combining(int change) {
+    if (top > silent_frame)
+        return;
+    left_out_update = true;
+    initialising += (unsigned)change;
+    find_short_way();
+}
