@@ -20,7 +20,7 @@ static void tell_notes(void) {
         tell_record(tell_numbered("depth", most_procedures - 1).text,
                     "procedures nest %u deep, so spbags needs --depth %u or more", most_procedures - 1,
                     most_procedures - 1);
-    tell_openmp_notes();
+    openmp_tell_notes();
     tell_unknown_functions();
     end_places();
 }

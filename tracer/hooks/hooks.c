@@ -20,7 +20,7 @@
 #include "look.h"
 #include "memory.h"
 #include "noting.h"
-#include "openmp_asked.h"
+#include "openmp.h"
 #include "output.h"
 #include "own.h"
 #include "places.h"
@@ -103,7 +103,7 @@ bool has_new_record(void) {
     return touched != touched_before || (only_detects() ? has_new_step() : seen != seen_before);
 }
 
-bool is_beside_others(void) { return doing.tracing && (procedures > 1 || owners[1] != NULL || has_openmp_beside()); }
+bool is_beside_others(void) { return doing.tracing && (procedures > 1 || owners[1] != NULL || openmp_has_beside()); }
 
 bool has_racy_report(void) { return has_races; }
 

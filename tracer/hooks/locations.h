@@ -220,8 +220,8 @@ __attribute__((noinline)) static void touch(bool writes, uintptr_t address, size
         narrow.first = address;
         narrow.end = address + size;
     }
-    if (__builtin_expect(watching, 0))
-        watch_access(writes, address, size, code);
+    if (__builtin_expect(openmp_watches, 0))
+        openmp_watch_access(writes, address, size, code);
     uintptr_t unit = address & ~unit_mask;
     while (unit < address + size)
         unit = (is_of_stack(unit) ? touch_stack : touch_block)(writes, unit, address + size, code);

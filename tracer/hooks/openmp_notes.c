@@ -1,6 +1,6 @@
 #include "openmp_notes.h"
 
-#include "openmp_asked.h"
+#include "openmp.h"
 #include "openmp_loops.h"
 #include "openmp_team.h"
 #include "openmp_waits.h"
@@ -118,7 +118,7 @@ static void tell_shares(void) {
                      source_line(notes.task_asks, before, ROOM));
 }
 
-void tell_openmp_notes(void) {
+void openmp_tell_notes(void) {
     tell_waits();
     tell_last();
     tell_depend();

@@ -1,6 +1,6 @@
 #include "openmp_ordered.h"
 
-#include "openmp_asked.h"
+#include "openmp.h"
 #include "openmp_children.h"
 #include "openmp_notes.h"
 #include "openmp_shares.h"
@@ -35,7 +35,7 @@ void ordered_end_region(void) {
     scopes_follow();
 }
 
-void watch_access(bool writes, uintptr_t address, size_t size, uintptr_t code) {
+void openmp_watch_access(bool writes, uintptr_t address, size_t size, uintptr_t code) {
     (void)writes, (void)size;
     bool is_on_own_stack = address >= running_first && address < scopes_thread()->stack_end;
     if (!is_on_own_stack && notes.after_ordered == 0 && !is_own(address & ~unit_mask))

@@ -1,6 +1,6 @@
 /* The beginning of a run with OpenMP, whose settings are those of the environment. */
 #include "library_words.h"
-#include "openmp_asked.h"
+#include "openmp.h"
 #include "openmp_bodies.h"
 #include "openmp_cancel.h"
 #include "openmp_depend.h"
@@ -18,7 +18,7 @@ static uint64_t threads_of_team(void) {
     return threads;
 }
 
-size_t room_for_members(size_t *own_size) {
+size_t openmp_room_for_members(size_t *own_size) {
     const size_t room = (size_t)120 << 20, whole = *own_size > room ? *own_size : room;
     uint64_t others = threads_of_team() - 1;
     if (others == 0)

@@ -1,10 +1,10 @@
 #include "openmp_scopes.h"
 
 #include "memory.h"
-#include "openmp_asked.h"
+#include "openmp.h"
 
 struct scopes scopes;
-bool watching;
+bool openmp_watches;
 
 void scopes_start(void) {
     scopes.first = scopes.newest = reserve(MOST_SCOPES * sizeof *scopes.first);
@@ -13,9 +13,9 @@ void scopes_start(void) {
 
 void scopes_follow(void) {
     bool wanted = doing.tracing && scopes.newest->is_watched;
-    if (wanted == watching)
+    if (wanted == openmp_watches)
         return;
-    watching = wanted;
+    openmp_watches = wanted;
     find_short_way();
 }
 
@@ -47,6 +47,6 @@ int scopes_level(bool active) {
     return count;
 }
 
-bool has_openmp_beside(void) {
+bool openmp_has_beside(void) {
     return scopes.newest > scopes.first || scopes.first->children + scopes.first->others > 0;
 }

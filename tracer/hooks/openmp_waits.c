@@ -4,7 +4,7 @@
 
 #include "library_words.h"
 #include "memory.h"
-#include "openmp_asked.h"
+#include "openmp.h"
 
 enum { BITS = 64 };
 static const uint64_t most_periods = (uint64_t)1 << 33;
@@ -15,7 +15,7 @@ static struct {
     uint64_t *words, count;
 } waited = {.file = -1};
 
-void open_waited(int file) {
+void openmp_open_waited(int file) {
     size_t count;
     const uint64_t *words = read_numbers(SETTING_WAITED, file, &count);
     waits_is_second = count > 0;

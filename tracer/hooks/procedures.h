@@ -24,7 +24,7 @@ ALWAYS_INLINE void clear_below(uintptr_t address) {
 
 void find_short_way(void) {
     bool records = doing.tracing && initialising == 0;
-    short_way_bits = records && !watching && unit_shift == USUAL_SHIFT ? UINTPTR_MAX : 0;
+    short_way_bits = records && !openmp_watches && unit_shift == USUAL_SHIFT ? UINTPTR_MAX : 0;
     short_way_first = only_detects() && short_way_bits != 0 ? stack_first : UINTPTR_MAX;
     follow_top();
 }

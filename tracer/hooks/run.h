@@ -86,7 +86,7 @@ static void open_ways(void) {
     if (report)
         start_look(output_named_file("SPBAGS_LOOK", report));
     if (waits)
-        open_waited(output_named_file("SPBAGS_WAITED", waits));
+        openmp_open_waited(output_named_file("SPBAGS_WAITED", waits));
     settings_forget(SETTING_SAYS);
     settings_forget(SETTING_LOOK);
     settings_forget(SETTING_DIVIDE);
@@ -118,7 +118,7 @@ static void find_stack(void) {
     if (getrlimit(RLIMIT_STACK, &limit) == 0 && limit.rlim_cur < most)
         size = limit.rlim_cur;
     uintptr_t end = (uintptr_t)environ;
-    size_t room = room_for_members(&size);
+    size_t room = openmp_room_for_members(&size);
     running_first = (end - size) & ~(uintptr_t)0xffff;
     running_size = (end & ~unit_mask) - running_first;
     stack_first = running_first - room;

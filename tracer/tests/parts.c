@@ -7,7 +7,7 @@
 #include "../hooks/formats.h"
 #include "../hooks/guards.h"
 #include "../hooks/memory.h"
-#include "../hooks/openmp_asked.h"
+#include "../hooks/openmp.h"
 #include "../hooks/own.h"
 #include "../hooks/tell.h"
 #include "../hooks/spans.h"

@@ -1,0 +1,36 @@
+/* What the other files ask of OpenMP. Its own files, whose names begin with openmp_, are compiled where a program needs
+   them, and stand in for the runtimes of gcc and clang. Each stands on those before it: notes; waits; scopes, children
+   and parts; tasks and depend; silence, critical, loops and bodies; turns, members, teams and barriers; shares, ordered
+   and worksharing; reductions and taskloops; calls, locks and cancel; those of clang; and run. */
+#ifndef SPBAGS_OPENMP_H
+#define SPBAGS_OPENMP_H
+
+#include "common.h"
+
+#ifdef SPBAGS_OPENMP
+/* Whether accesses are looked at beside, as those after an ordered region. They come here all. */
+extern bool openmp_watches;
+void openmp_watch_access(bool writes, uintptr_t address, size_t size, uintptr_t code);
+/* Whether a task or a thread may run beside what the program does now; for code that may have something in any
+   register. */
+__attribute__((no_caller_saved_registers, target("general-regs-only"))) bool openmp_has_beside(void);
+/* The stacks of a team's members lie below the program's own, where the system leaves room for that to grow. */
+size_t openmp_room_for_members(size_t *own_size);
+/* A file that says which tasks are waited for as parts of their parents. */
+void openmp_open_waited(int file);
+void openmp_tell_notes(void);
+#else
+enum { openmp_watches = false };
+static inline void openmp_watch_access(bool writes, uintptr_t address, size_t size, uintptr_t code) {
+    (void)writes, (void)address, (void)size, (void)code;
+}
+static inline bool openmp_has_beside(void) { return false; }
+static inline size_t openmp_room_for_members(size_t *own_size) {
+    (void)own_size;
+    return 0;
+}
+static inline void openmp_open_waited(int file) { close(file); }
+static inline void openmp_tell_notes(void) {}
+#endif
+
+#endif
