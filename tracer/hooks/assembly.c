@@ -1,5 +1,5 @@
 /* What spbags-cc puts beside a statement of the assembler. */
-#include "doing.h"
+#include "frames.h"
 #include "guards.h"
 #include "noting.h"
 #include "tell.h"

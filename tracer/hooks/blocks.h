@@ -3,6 +3,12 @@
    before, is a repeat, which makes no race of any location and unmakes none. A read behind a write isn't noted. Where the
    block has its place in the strand's list, QUICK says that nothing else is to be done at an access. A thread's own units
    count as written in each strand. */
+#ifndef SPBAGS_BLOCKS_H
+#define SPBAGS_BLOCKS_H
+
+#include "spans.h"
+#include "units.h"
+
 enum { BLOCK_BITS = 6, BLOCK_UNITS = 1 << BLOCK_BITS };
 enum { READ_IT = 1, WROTE_IT = 2, QUICK = 0x80 };
 
@@ -23,37 +29,21 @@ static const uintptr_t region_mask = ((uintptr_t)1 << REGION_BITS) - 1;
 
 /* Where the byte of the unit 0 would stand, if a region's bytes went on; or 0 where it has none. Of a region of the stack,
    which has marks, how many bytes behind the memory these begin: they are below it. */
-intptr_t regions[REGIONS] __asm__("__spbags_regions");
-/* The regions of the stack, whose other memory has bytes too. */
-static size_t stack_region, stack_regions_count;
-static intptr_t *rows_beside_stack;
+extern intptr_t regions[REGIONS] __asm__("__spbags_regions");
+/* That of the first access of a region, whose memory comes then, or of other memory in a region of the stack. */
+__attribute__((cold)) intptr_t blocks_other_row(size_t region);
+/* So many regions from this one on are of the stack. */
+void blocks_begin_stack(size_t region, size_t count);
 
 static inline size_t region_of(uintptr_t address) { return (address >> REGION_BITS) & (REGIONS - 1); }
 
-static size_t region_units(void) { return ((size_t)1 << REGION_BITS) >> unit_shift; }
+static inline size_t region_units(void) { return ((size_t)1 << REGION_BITS) >> unit_shift; }
 
 static inline size_t region_bytes(void) { return region_units() + (size_t)REGION_SPANS * DEAD_BLOCKS * BLOCK_UNITS; }
 
-static intptr_t make_row(size_t region) {
-    size_t size = region_bytes(), blocks = size / BLOCK_UNITS;
-    intptr_t row = (intptr_t)reserve(size + blocks * sizeof(struct block));
-    row -= (intptr_t)(region << REGION_BITS >> unit_shift);
-    if (row <= 0 && unit_shift == USUAL_SHIFT)
-        fail("the system has no memory for the hooks at high addresses");
-    return row;
-}
-
-__attribute__((noinline, cold)) static intptr_t other_row(size_t region) {
-    bool is_of_stack = region - stack_region < stack_regions_count;
-    intptr_t *row = is_of_stack ? &rows_beside_stack[region - stack_region] : &regions[region];
-    if (*row == 0)
-        *row = make_row(region);
-    return *row;
-}
-
 static inline intptr_t row_of(uintptr_t address) {
     intptr_t row = regions[region_of(address)];
-    return __builtin_expect(row > 0, 1) ? row : other_row(region_of(address));
+    return __builtin_expect(row > 0, 1) ? row : blocks_other_row(region_of(address));
 }
 
 /* A block with its bytes, and the location of its first unit. */
@@ -81,13 +71,7 @@ static inline struct touched block_at(uintptr_t address) {
 }
 
 /* The block of this heap block of a span, where that has died in the strand of its birth. */
-static struct touched dead_block(size_t span, size_t number) {
-    intptr_t row = row_of(span_first(span));
-    size_t at = (span % REGION_SPANS * DEAD_BLOCKS + number / BLOCK_UNITS) * BLOCK_UNITS;
-    uint8_t *done = (uint8_t *)row + ((span_first(span) & ~region_mask) >> unit_shift) + region_units() + at;
-    uint64_t location = 2 * ((name_of_dead(span) >> unit_shift) + (number & ~(size_t)(BLOCK_UNITS - 1)));
-    return (struct touched){block_of(row, span_first(span), done), done, location};
-}
+struct touched blocks_dead(size_t span, size_t number);
 
 /* A bit for each of a block's units whose byte has this one. */
 static inline uint64_t units_with(const uint8_t *done, int bit) {
@@ -157,3 +141,5 @@ static inline struct part_of_block part_from(uintptr_t address, uintptr_t end) {
     size_t count = (last - address + unit_mask) >> unit_shift;
     return (struct part_of_block){block_at(address), units_from(unit_in_block(address), count), last};
 }
+
+#endif

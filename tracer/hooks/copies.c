@@ -2,6 +2,7 @@
    program pushes %rdi and %rsi, and then has there the address and the size, or the place in the source of what isn't
    seen. In the wide form vectors of more than 16 bytes stay too: by XSAVE, whose form has 2688 bytes for them and a
    header behind the first 512. */
+#include "frames.h"
 #include "noting.h"
 #include "spawns_cplusplus.h"
 #include "tell.h"

@@ -1,6 +1,7 @@
 #include "ends.h"
 
-#include "doing.h"
+#include "closing.h"
+#include "detector.h"
 #include "settings.h"
 #include "tell.h"
 
@@ -24,10 +25,10 @@ static int own_status = PROGRAMS_OWN;
 
 /* The status with which the program is to end, which would end with this one. */
 static int end_trace_of(int status) {
-    end_trace();
+    closing_end();
     if (racy_status == PROGRAMS_OWN)
         return status;
-    if (has_racy_report())
+    if (has_races)
         return racy_status;
     return status == 0 && tell_incomplete_lines > 0 && !is_incomplete_ok ? NOT_ALL_SEEN : status;
 }
@@ -157,7 +158,7 @@ pid_t __wrap__Fork(void) {
     tell_fork();
     pid_t child = __real__Fork();
     if (child == 0)
-        stop_tracing();
+        closing_stop();
     return child;
 }
 
@@ -183,7 +184,7 @@ static void watch_thread_end(void) {
 void ends_begin(void) {
     traced_process = getpid();
     watch_thread_end();
-    pthread_atfork(tell_fork, NULL, stop_tracing);
+    pthread_atfork(tell_fork, NULL, closing_stop);
     at_quick_exit(quick_end);
     on_exit(keep_status, NULL);
 }

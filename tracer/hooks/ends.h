@@ -15,20 +15,10 @@ void catch_signals(void);
 
 /* Whether this is the process that is traced, and not one that fork or vfork made. */
 bool is_traced(void);
-void stop_tracing(void);
-/* The trace or the report ends here. */
-void end_trace(void);
-/* And so does a program that doesn't end by itself, if its status isn't its own. */
+/* The trace or the report ends here, and so does a program that doesn't end by itself, if its status isn't its own. */
 void end_racy(void);
 
 /* In the way of spbags-run there is no answer where the program forks. */
 void refuse_fork(void);
-
-/* Whether the report has races. */
-bool has_racy_report(void);
-/* Whether the detector is at work. */
-bool is_stepping(void);
-/* All that lies between a stack's end and its limit grows by itself, so a fault there is beyond the limit. */
-bool is_on_stack(const void *address);
 
 #endif

@@ -1,5 +1,5 @@
 /* The frames of the functions that are active and of the children that were spawned, and the procedures that they are in
-   the trace. procedures.h has what is done with them. */
+   the trace. procedures.c has what is done with them. */
 #ifndef SPBAGS_FRAMES_H
 #define SPBAGS_FRAMES_H
 
@@ -7,6 +7,7 @@
 
 #include "../include/spbags_inside.h"
 #include "caller.h"
+#include "changes.h"
 #include "doing.h"
 #include "tell.h"
 
@@ -66,6 +67,14 @@ static inline void follow_top(void) { short_way_end = top->kind != CHILD ? top->
 /* After a change of what is recorded. */
 void find_short_way(void);
 
+/* While blocks go out nothing goes the short way, up to find_short_way: where a handler of a signal makes a new access,
+   the run ends. */
+static inline void leave_short_way(void) {
+    short_way_bits = short_way_end = 0;
+    short_way_first = UINTPTR_MAX;
+    in_order();
+}
+
 static inline void push_frame_at(enum kind kind, uintptr_t end, uintptr_t position) {
     if (__builtin_expect(++top == frames_end, 0))
         fail("functions nest too deep");
@@ -107,9 +116,13 @@ static inline void back_to_function(uintptr_t stack_pointer, uintptr_t code) {
     leave_children(code);
 }
 
-/* Memory has no variable any more: that of the stack below this address, or so much here. */
+/* The stack memory below this address has no variable any more. */
 void forget_below(uintptr_t address);
-void forget_memory(uintptr_t address, size_t size);
+
+/* Between a spawn and the entry of what it calls, and between its exit and the return, compilers copy arguments and the
+   result through memory of the parent's frame, which no program sees. A library function that is the child itself says
+   so by its name. */
+static inline bool is_on_the_way(__spbags_function self) { return top->kind == CHILD && top->callee != self; }
 
 /* The frames whose groups of tasks end with the newest frame. */
 __attribute__((cold)) void leave_groups(uintptr_t code);
@@ -128,6 +141,13 @@ extern unsigned version;
 void open_procedure(enum spbags_kind kind, uintptr_t code);
 void sync_procedure(uintptr_t code);
 void close_procedure(uintptr_t code);
+
+/* Where nothing was a child no access has another one beside it. */
+static inline bool has_had_children(void) { return most_procedures > 1; }
+
+/* Whether something may run beside what the program does now: where all else is done, or comes later, that races with
+   nothing. For code that may have something in any register. */
+__attribute__((no_caller_saved_registers, target("general-regs-only"))) bool is_beside_others(void);
 
 /* ---- Parts ---- */
 

@@ -1,5 +1,5 @@
 # The test for a repeat at an access, in place of the call of its hook: `spbags-cc` puts it there. The address is in
-# %rdi, and what a call may change is free. An access goes the short way, as in accesses.h, if the stack pointer is
+# %rdi, and what a call may change is free. An access goes the short way, as in accesses.c, if the stack pointer is
 # below the end of that way, and the address is a multiple of the size. A region of the stack has a row below 0, and marks
 # there: then a repeat calls nothing. Others have a byte for each unit: then a repeat calls nothing, nor does the first
 # access to a single unit whose byte says QUICK, which is the sign. It says there what is done before it knows that, so

@@ -1,11 +1,15 @@
 #include "look.h"
 
+#include "closing.h"
 #include "guards.h"
+#include "heap.h"
 #include "memory.h"
 #include "noting.h"
+#include "own.h"
 #include "places.h"
+#include "reducers.h"
 #include "stacks.h"
-#include "units.h"
+#include "strands.h"
 
 uint64_t place_now, next_place = UINT64_MAX;
 
@@ -245,7 +249,7 @@ static uint64_t site_of(uintptr_t code, uint32_t node) {
 
 /* A block with a race is noted, and who allocates it. A function that longjmp left is no caller. */
 void look_at_block(uintptr_t address, size_t size, uintptr_t stack_pointer, uintptr_t code) {
-    uint64_t dead = location_if_dead(address), first = 2 * (name_in_life(address) >> unit_shift);
+    uint64_t dead = heap_location_if_dead(address), first = 2 * (name_in_life(address) >> unit_shift);
     address = name_in_life(address);
     if (size == 0 || !(has_race(first, 2 * ((address + size - 1) >> unit_shift)) || has_race(dead, dead)))
         return;
@@ -367,7 +371,7 @@ static void take_look(struct race *race, struct look *look, uintptr_t address, u
     race->address = name_in_life(address);
     race->frame = frame_owner(address, look);
     race->data = data_owner(address, look);
-    race->is_view = is_view(address);
+    race->is_view = reducers_have(address);
     race->meeting = meeting(race->first.node, look->node);
     race->waits = 0;
 }
@@ -378,9 +382,9 @@ void note_pending(bool writes, uint64_t location, uintptr_t address, uintptr_t c
     if (!race || race == races + races_count || race->location != location)
         return;
     struct look *look = race->first.place > place_now ? &race->first : &race->second;
-    if (look->writes != writes || look->place <= place_now || look->part == part_of_run())
+    if (look->writes != writes || look->place <= place_now || look->part == part_now())
         return;
-    look->part = part_of_run();
+    look->part = part_now();
     take_look(race, look, address, code);
     if (look == &race->second) {
         race->next_pending = newest_pending;
@@ -429,7 +433,7 @@ static void next_stop(void) {
     if (astray[0] == '\0')
         next_place = ++stops_met < stops_count ? stops[stops_met].place : UINT64_MAX;
     if (next_place == UINT64_MAX && last_record != UINT64_MAX)
-        end_here();
+        closing_end_run();
 }
 
 void look_at_structure(void) {
@@ -662,7 +666,7 @@ void start_look(int file) {
     pairs = reserve(MOST_PAIRS * sizeof *pairs);
     rows = reserve(MOST_PAIRS * sizeof *rows);
     slots = reserve(PAIR_SLOTS * sizeof *slots);
-    thread_first = first_of_thread();
+    thread_first = own_first_of_thread();
     note_guards();
     doing.looking = true;
 }

@@ -25,17 +25,4 @@ extern const char region_name[];
 static inline size_t top_at(void) { return (size_t)(top - frames); }
 uint32_t node_of(size_t frame);
 
-/* ---- What it asks of others ---- */
-
-/* The number of the part of a strand that runs. */
-uint64_t part_of_run(void);
-/* Whether the byte is of a reducer's view. */
-bool is_view(uintptr_t address);
-/* The location of a block of the heap that dies in the strand of its birth, or 0. */
-uint64_t location_if_dead(uintptr_t address);
-/* Where the program's own variables begin that are local to this thread. */
-uintptr_t first_of_thread(void);
-/* The trace and the run end. */
-__attribute__((cold)) void end_here(void);
-
 #endif

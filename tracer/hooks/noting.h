@@ -20,17 +20,7 @@ static inline void note_access_by(bool writes, uintptr_t at, size_t size, struct
     note_access(writes, at, size, by.self, by.stack_pointer, by.code);
 }
 
-/* One of this code's own, whatever frame is the newest. */
-void note_memory(bool writes, uintptr_t at, size_t size, uintptr_t code);
-
 /* Whoever may still use a block that the program gives back has a race, as if all of it were written. */
 void end_block(void *block, __spbags_function self, uintptr_t stack_pointer, uintptr_t code);
-
-/* Whether there was a record since this was asked last, other than of the stack's memory. */
-bool has_new_record(void);
-
-/* Whether something may run beside what the program does now: where all else is done, or comes later, that races with
-   nothing. For code that may have something in any register. */
-__attribute__((no_caller_saved_registers, target("general-regs-only"))) bool is_beside_others(void);
 
 #endif

@@ -13,5 +13,9 @@ int find_thread_memory(struct dl_phdr_info *about, size_t size, void *found);
 /* Nothing in this memory is recorded. */
 void mark_own(uintptr_t first, uintptr_t end);
 bool is_own(uintptr_t address);
+/* Which units of the block with this address are a thread's own. */
+uint64_t own_units(uintptr_t address);
+/* Where the program's own variables begin that are local to this thread. */
+uintptr_t own_first_of_thread(void);
 
 #endif

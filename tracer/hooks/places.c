@@ -94,8 +94,9 @@ static void give_up_places(void) {
     end_change();
 }
 
-void keep_places(const char *name) {
+void places_open(const char *name) {
     struct statvfs space;
+    output_open(&places, "SPBAGS_PLACES", name);
     sites = reserve(MOST_SITES * sizeof *sites);
     site_keys = reserve(SITE_SLOTS * sizeof *site_keys);
     site_numbers = reserve(SITE_SLOTS * sizeof *site_numbers);

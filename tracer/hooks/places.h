@@ -36,11 +36,11 @@ static inline void follow_course(uint64_t record, uint64_t site) {
     course.records++;
 }
 
-static inline uint64_t site_word(bool narrow, uintptr_t code) {
+static inline uint64_t site_word(bool is_narrow, uintptr_t code) {
     uint64_t list = guards_now();
     if (__builtin_expect(list > MOST_SITE_LISTS, 0))
         list = MOST_SITE_LISTS;
-    return code | list << LIST_SHIFT | (uint64_t)narrow << NARROW_SHIFT;
+    return code | list << LIST_SHIFT | (uint64_t)is_narrow << NARROW_SHIFT;
 }
 
 uint16_t find_site(uint64_t word);
@@ -57,8 +57,8 @@ static inline void write_place(uint16_t site) {
     places.used += sizeof site;
 }
 
-/* The places go to the output that is open for them. Those of a descriptor have a limit. */
-void keep_places(const char *name);
+/* Places go to the output of this name. Those of a descriptor have a limit. */
+void places_open(const char *name);
 /* What stands behind them. */
 void end_places(void);
 

@@ -1,73 +1,19 @@
 /* What goes out for each record of the run: a line of the trace, a step of the detector inside, or in a run that looks
    nothing but its number. */
-#ifdef SPBAGS_INSIDE
-#define OTHERWISE __attribute__((noinline)) static
-#else
-#define OTHERWISE static inline
-#endif
+#ifndef SPBAGS_RECORDS_H
+#define SPBAGS_RECORDS_H
 
+#include "closing.h"
+#include "detector.h"
+#include "places.h"
+#include "strands.h"
+#include "tell.h"
+
+/* The run may end behind the newest record. */
 static inline void end_at_last(void) {
     if (__builtin_expect(course.records >= last_record, 0))
-        end_here();
+        closing_end_run();
 }
-
-/* Some units may be divided into their bytes: whether this location's is, and then its record has gone out. */
-static bool divides;
-static bool divide_access(bool writes, const struct touched *in, uint64_t location, uintptr_t address, uintptr_t code);
-
-/* A line of the structure has at most eight bytes. So many are copied, since a copy of a fixed size is quick, and the
-   next line goes over those that aren't of this one. */
-struct line {
-    char bytes[8];
-    size_t length;
-};
-#define LINE(TEXT) \
-    { TEXT "\n", sizeof TEXT }
-static const struct line lines[] = {[SPBAGS_SPAWN] = LINE("spawn"),
-                                    [SPBAGS_CALL] = LINE("call"),
-                                    [SPBAGS_RETURN] = LINE("return"),
-                                    [SPBAGS_SYNC] = LINE("sync")};
-
-static inline void write_structure(enum spbags_kind kind) {
-    __builtin_memcpy(room(&outcome), lines[kind].bytes, sizeof lines[kind].bytes);
-    in_order();
-    outcome.used += lines[kind].length;
-}
-
-/* From 00 to 99. */
-static char two_digits[100][2];
-
-static void fill_digits(void) {
-    for (int number = 0; number < 100; number++) {
-        two_digits[number][0] = (char)('0' + number / 10);
-        two_digits[number][1] = (char)('0' + number % 10);
-    }
-}
-
-/* The line is made from its end, and then copied with what follows it, since a copy of a fixed size is quick. */
-static inline void write_access(bool writes, uint64_t location) {
-    char line[64];
-    char *at = line + 31;
-    *at = '\n';
-    for (; location > 99; location /= 100)
-        __builtin_memcpy(at -= 2, two_digits[location % 100], 2);
-    __builtin_memcpy(at -= 2, two_digits[location], 2);
-    at += location < 10;
-    at -= 6;
-    __builtin_memcpy(at, writes ? "write " : " read ", 6);
-    at += !writes;
-    __builtin_memcpy(room(&outcome), at, 32);
-    in_order();
-    outcome.used += (size_t)(line + 32 - at);
-}
-
-static inline void step_access(bool writes, uint64_t location) {
-    begin_step();
-    step(writes ? SPBAGS_WRITE : SPBAGS_READ, location);
-    end_step();
-}
-
-/* ---- What goes out when the strand has ended ---- */
 
 static inline void begin_record(void) {
     if (__builtin_expect(changes > 0, 0) && doing.tracing)
@@ -76,68 +22,9 @@ static inline void begin_record(void) {
     begin_change();
 }
 
-static inline void put_access(bool writes, uint64_t location, uint16_t site) {
-    if (doing.looking && ++place_now == next_place)
-        look_at_access(writes, location);
-    if (doing.keeping_places)
-        write_place(site);
-    if (!detects() && !doing.looking)
-        write_access(writes, location);
-}
-
-static void put_accesses(const struct touched *touched, uint64_t units, bool writes) {
-    const uint16_t *sites = strand.sites[touched - strand.list][writes];
-    for (; units != 0; units &= units - 1) {
-        unsigned unit = (unsigned)__builtin_ctzll(units);
-        put_access(writes, touched->location + 2 * unit, sites[unit]);
-    }
-}
-
-static void put_block(const struct touched *touched) {
-    uint64_t masks[2];
-    if (!touched->block)
-        return;
-    take_units(touched, masks);
-    if (detects() && (masks[false] | masks[true]) != 0)
-        step_words(spbags_record(block_follows, touched->location), masks, 2);
-    if (only_detects())
-        return;
-    put_accesses(touched, masks[false], false);
-    put_accesses(touched, masks[true], true);
-}
-
-static void end_records(void);
-
-/* Where the run ends meanwhile, as a signal handler may end it, the rest goes out then. */
-static void put_strand(void) {
-    static size_t at;
-    leave_short_way();
-    end_records();
-    if (doing.looking)
-        forget_pending();
-    while (at < strand.used) {
-        __builtin_prefetch(strand.list[at + AHEAD].done);
-        __builtin_prefetch(strand.list[at + AHEAD].block);
-        put_block(&strand.list[at++]);
-    }
-    at = strand.used = 0;
-    strand.has_gaps = false;
-    strand.before++;
-    find_short_way();
-}
-
-/* The access is new in its block, which has its place. */
-static void keep_access(bool writes, const struct touched *in, unsigned unit, uint16_t site) {
-    if (doing.keeping_places)
-        strand.sites[in->block->place - 1][writes][unit] = site;
-    in->done[unit] |= writes ? WROTE_IT : READ_IT;
-}
-
-/* ---- The window, in a run that does more than detect ---- */
-
-/* Its records, as the detector has them in its bundle, with the numbers of their sites; how many have gone out, and how
-   many went before. */
-static struct {
+/* The newest records in a run that does more than detect, as the detector has them in its bundle, with the numbers of their
+   sites; how many have gone out, and how many went before. */
+extern struct recent_records {
     struct recent {
         uint64_t record;
         uint16_t site;
@@ -146,59 +33,9 @@ static struct {
     uintptr_t before;
 } recent;
 
-static void step_record(uint64_t record) {
-    if (!detects())
-        return;
-    begin_step();
-    step(record & 7, record >> 3);
-    end_step();
-}
-
-static void pass_record(const struct recent *passed) {
-    step_record(passed->record);
-    if ((passed->record & 7) != numbers_end)
-        put_access((passed->record & 7) == SPBAGS_WRITE, passed->record >> 3, passed->site);
-}
-
-/* What is in the window goes on, and another one begins. */
-static void pass_window(void) {
-    while (recent.gone < recent.used)
-        pass_record(&recent.list[recent.gone++]);
-    recent.before += recent.used;
-    recent.used = recent.gone = 0;
-    window_number = last_number;
-}
-
-static void keep_recent(uint64_t record, uint16_t site) {
-    recent.list[recent.used++] = (struct recent){record, site};
-    if (recent.used == WINDOW)
-        pass_window();
-}
-
-static void leave_out_recent(uintptr_t before) {
-    size_t to = before > recent.before ? before - recent.before : 0;
-    to = to <= recent.used ? to : 0;
-    for (size_t from = to; from < recent.used; from++) {
-        uint64_t record = recent.list[from].record, location = unit_of(record >> 3);
-        recent.list[to] = recent.list[from];
-        to += !((record & 7) != numbers_end && location % 2 == 1 && is_dying(location / 2));
-    }
-    recent.used = to;
-}
-
-/* ---- The window in any run ---- */
-
 /* How many records went before, but for those that are left out. */
 static inline uintptr_t records_so_far(void) {
     return __builtin_expect(only_detects(), 1) ? steps_so_far() : recent.before + recent.used;
-}
-
-/* What is in the window can't be left out any more. */
-static void end_records(void) {
-    if (only_detects())
-        begin_steps();
-    else
-        pass_window();
 }
 
 /* Between these two records are put, or blocks. */
@@ -216,152 +53,42 @@ static inline void finish_records(void) {
         end_change();
 }
 
-__attribute__((noinline)) static void end_window(void) {
-    begin_records();
-    end_records();
-    finish_records();
-}
-
+/* What is in the window can't be left out any more. */
+void records_end_window(void);
 /* The accesses of the numbers that die are left out; before so many records there are none. */
-static void leave_out_dying(uintptr_t before) {
-    begin_records();
-    if (only_detects())
-        leave_out_steps(before);
-    else
-        leave_out_recent(before);
-    finish_records();
-    end_dying();
-}
-
+void records_leave_out_dying(uintptr_t before);
 /* Some numbers of the stack have ended. */
-static void record_end(uint64_t location) {
-    begin_records();
-    if (only_detects())
-        step(numbers_end, location);
-    else
-        keep_recent(location << 3 | numbers_end, NO_SITE);
-    finish_records();
-}
+void records_end_numbers(uint64_t location);
+/* A strand ends, or a part of it. Where the run ends meanwhile, as a signal handler may end it, the rest goes out then. */
+void records_put_strand(void);
+/* What hasn't gone out never does. */
+void records_drop(void);
 
-/* A strand ends without a record of the structure. */
-static void end_strand(void) { put_strand(); }
-
-/* ---- The end of a span's life ---- */
-
-/* A block that goes out before the others. */
-static void put_alone(struct block *block) {
-    if (block->place == 0)
-        return;
-    struct touched *touched = &strand.list[block->place - 1];
-    put_block(touched);
-    touched->block = NULL;
-    strand.has_gaps = true;
-}
-
-/* Some blocks in a row go out, at most 64, and the detector is told which of them it has. */
-static void end_blocks(struct touched first, size_t count) {
-    uint64_t ended_bits = 0;
-    for (size_t at = 0; at < count; at++) {
-        struct block *block = &first.block[at];
-        put_alone(block);
-        ended_bits |= (uint64_t)block->has_gone_out << at;
-        block->has_gone_out = false;
-        block->dead = 0;
-    }
-    if (detects() && ended_bits != 0)
-        step_words(spbags_record(numbers_end, first.location), &ended_bits, 1);
-}
-
-static void end_span_blocks(size_t span) {
-    size_t count = span_size / block_size();
-    for (size_t at = 0; at < count; at += BLOCK_UNITS)
-        end_blocks(block_at(span_first(span) + at * block_size()), least(count, BLOCK_UNITS));
-}
-
-/* If nothing was used after its death, nobody else has accessed these. */
-static void end_dead_blocks(struct life_end end) {
-    struct touched first = dead_block(end.span, 0);
-    if (!end.is_dead_used)
-        memset(first.done, 0, (size_t)end.dead * BLOCK_UNITS);
-    end_blocks(first, end.dead);
-}
+/* The end of a life: the span, how many blocks of locations stand for what died in one strand, and whether such a block
+   was used then. If it wasn't, none of these locations has another access. */
+struct life_end {
+    size_t span;
+    unsigned dead;
+    bool is_dead_used;
+};
 
 /* A span begins another life. */
-static void end_life_record(struct life_end end) {
-    begin_records();
-    end_records();
-    leave_short_way();
-    end_span_blocks(end.span);
-    end_dead_blocks(end);
-    find_short_way();
-    finish_records();
-    begin_life(end.span);
-}
+void records_end_life(struct life_end end);
 
 /* ---- Records as they come ---- */
 
-/* How many there were, but for those of the stack's memory, which each call of a function has anew. */
-static uint64_t news;
+/* What is done for one in a run that does more than detect. */
+void records_structure(enum spbags_kind kind, uintptr_t code);
+void records_access(bool writes, const struct touched *in, uint64_t location, uintptr_t address, uintptr_t code);
 
-OTHERWISE void other_structure_record(enum spbags_kind kind, uintptr_t code) {
-    put_strand();
-    news++;
-    if (doing.keeping_places || doing.looking)
-        follow_course(kind, code);
-    if (doing.looking && ++place_now == next_place)
-        look_at_structure();
-    if (doing.keeping_places)
-        write_place(site_number(code));
-    step_record(spbags_record(kind, 0));
-    if (!detects() && !doing.looking)
-        write_structure(kind);
-}
-
-static inline uint64_t site_of_access(uintptr_t unit, uintptr_t code) {
-    return site_word(bytes_left_out(unit) != 0, code);
-}
-
-/* The location is the unit's. */
-static inline void follow_access(bool writes, uint64_t location, uintptr_t unit, uint64_t site) {
-    enum { BYTES_SHIFT = 56 };
-    follow_course((uint64_t)bytes_left_out(unit) << BYTES_SHIFT | location << 3 | (writes ? SPBAGS_WRITE : SPBAGS_READ),
-                  site);
-}
-
-/* The access of a unit, or of a byte; its block, or null for one that goes out at once. */
-static inline void begin_access(bool writes, const struct touched *in, uint64_t location, uintptr_t address,
-                                uintptr_t code, uint64_t site) {
-    const uint16_t number = doing.keeping_places ? site_number(site) : NO_SITE;
-    if (in)
-        list_block(in);
-    if (doing.looking)
-        note_pending(writes, location, address, code);
-    if (in)
-        keep_access(writes, in, (location - in->location) / 2, number);
-    else
-        keep_recent(spbags_record(writes ? SPBAGS_WRITE : SPBAGS_READ, location), number);
-}
-
-OTHERWISE void other_access_record(bool writes, const struct touched *in, uint64_t location, uintptr_t address,
-                                   uintptr_t code) {
-    begin_record();
-    news += in != NULL;
-    if (!__builtin_expect(divides, 0) || !divide_access(writes, in, location, address, code)) {
-        uint64_t site = doing.keeping_places ? site_of_access(address, code) : 0;
-        if (doing.keeping_places || doing.looking)
-            follow_access(writes, location, address, site);
-        begin_access(writes, in, location, address, code, site);
-    }
-    if (doing.writing_repeats) {
-        end_strand();
-        begin_strand();
-    }
-    end_change();
-    end_at_last();
+static inline void step_access(bool writes, uint64_t location) {
+    begin_step();
+    step(writes ? SPBAGS_WRITE : SPBAGS_READ, location);
+    end_step();
 }
 
 /* These units of a block have been accessed, in a run that detects, and that is all. */
-static void step_units(bool writes, const struct touched *in, uint64_t units) {
+static inline void step_units(bool writes, const struct touched *in, uint64_t units) {
     begin_step();
     list_block(in);
     set_done(in->done, units, writes ? WROTE_IT : READ_IT);
@@ -372,7 +99,7 @@ static inline void access_record(bool writes, uint64_t location, uintptr_t addre
     if (__builtin_expect(only_detects(), 1))
         step_access(writes, location);
     else
-        other_access_record(writes, NULL, location, address, code);
+        records_access(writes, NULL, location, address, code);
 }
 
 /* Of the unit in its block. */
@@ -381,5 +108,20 @@ static inline void block_record(bool writes, const struct touched *in, unsigned 
     if (__builtin_expect(only_detects(), 1))
         step_units(writes, in, (uint64_t)1 << unit);
     else
-        other_access_record(writes, in, in->location + 2 * unit, address, code);
+        records_access(writes, in, in->location + 2 * unit, address, code);
 }
+
+/* ---- For units that are divided into their bytes ---- */
+
+/* The access of a byte, which goes out at once. */
+void records_begin_byte(bool writes, uint64_t location, uintptr_t address, uintptr_t code);
+/* The course of the run is that of the units. */
+void records_follow_unit(bool writes, uint64_t location, uintptr_t unit, uintptr_t code);
+
+/* ---- The beginning of a run, and what has come ---- */
+
+void records_begin(void);
+/* Whether there was a record since this was asked last, other than of the stack's memory. */
+bool records_have_new(void);
+
+#endif

@@ -1,6 +1,5 @@
 /* Signals that end the program. */
-#include "changes.h"
-#include "doing.h"
+#include "detector.h"
 #include "ends.h"
 #include "stacks.h"
 #include "tell.h"
@@ -72,12 +71,12 @@ static void on_signal(int number, siginfo_t *about, void *context) {
     came++;
     if (!is_traced() || came == ENOUGH)
         die_by(number);
-    else if ((changes > 0 || is_stepping()) && !fault)
+    else if ((changes > 0 || stepping) && !fault)
         waiting_signal = number;
     else {
-        if (fault && number == SIGSEGV && is_on_stack(about->si_addr))
+        if (fault && number == SIGSEGV && is_by_stack(about->si_addr))
             tell("the program needs more stack than its limit, which ulimit -s sets");
-        if (is_stepping())
+        if (stepping)
             die_inside(number);
         else
             end_after_handler(number, context);

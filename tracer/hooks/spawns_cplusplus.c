@@ -2,6 +2,7 @@
 #include "spawns_cplusplus.h"
 
 #include "frames.h"
+#include "locations.h"
 #include "noting.h"
 
 /* The arguments that the parent has read, and the end of the statement's frame once that is a child. A copy of one for
@@ -44,7 +45,7 @@ void __spbags_detach(const void *code) {
 
 void __spbags_stored_by(const volatile void *at, unsigned long size, const void *code) {
     if (doing.tracing && initialising == 0)
-        note_memory(true, (uintptr_t)at, size, (uintptr_t)code);
+        locations_touch(true, (uintptr_t)at, size, (uintptr_t)code);
 }
 
 /* What the statement evaluates may have thrown before there was a child. */
@@ -56,7 +57,7 @@ static bool end_child(const volatile void *function, unsigned long size, uintptr
         forget_below(top->stack_pointer);
         leave_top(code);
     }
-    forget_memory((uintptr_t)function, size);
+    locations_clear((uintptr_t)function, size);
     return is_child;
 }
 

@@ -37,12 +37,32 @@ extern uintptr_t running_first, running_size;
 extern uintptr_t lowest __asm__("__spbags_lowest");
 extern void *run_thread;
 
+/* The memory of all stacks, and what lies between them. */
+extern uintptr_t stack_first, stack_size;
+static inline bool is_of_stack(uintptr_t address) { return address - stack_first < stack_size; }
+
+/* All that lies between a stack's end and its limit grows by itself, so a fault there is beyond the limit. */
+static inline bool is_by_stack(const void *address) {
+    return (uintptr_t)address - (stack_first - stack_gap) < stack_size + stack_gap;
+}
+
 /* The one with this address, or null. */
 static inline struct stack *stack_of(uintptr_t address) {
     unsigned at = 0;
     while (at < stacks_count && address - stacks[at].first >= stacks[at].end - stacks[at].first)
         at++;
     return at < stacks_count ? &stacks[at] : NULL;
+}
+
+/* A unit of a stack that doesn't run has a number from now on. */
+__attribute__((cold)) void stacks_lower(uintptr_t address);
+
+/* A unit of the stack has a number from now on. */
+static inline void lower(uintptr_t address) {
+    if (__builtin_expect(address - running_first >= running_size, 0))
+        stacks_lower(address);
+    else if (address < lowest)
+        lowest = address;
 }
 
 /* The signals have a stack of their own, since the program's may be used up. */

@@ -2,6 +2,15 @@
    locations: the blocks in the order of their first touch, and of each first the reads, by ascending location, and then
    the writes. Those to odd locations go out at once. A strand with so many blocks goes out in parts. All kinds of runs
    have their records in this order. */
+#ifndef SPBAGS_STRANDS_H
+#define SPBAGS_STRANDS_H
+
+#include "common.h"
+
+#include "../include/spbags_inside.h"
+#include "blocks.h"
+#include "own.h"
+
 #ifndef MOST_BLOCKS
 #define MOST_BLOCKS 4096
 #endif
@@ -21,7 +30,7 @@ enum { AHEAD = 8 };
 
 /* The part at hand: how many went before, its blocks, without one where that has gone out alone, and the number of the
    site of each of their accesses where that is kept: the reads', and then the writes'. */
-static struct part_of_strand {
+extern struct part_of_strand {
     uint64_t before;
     size_t used;
     /* Whether something was left out. */
@@ -32,75 +41,26 @@ static struct part_of_strand {
 
 static inline uint64_t part_now(void) { return strand.before + 1; }
 
-static void put_strand(void);
-
 static inline void place_block(const struct touched *touched) {
     strand.list[strand.used] = *touched;
     touched->block->place = (uint32_t)++strand.used;
 }
 
-/* While blocks go out nothing goes the short way, up to find_short_way: where a handler of a signal makes a new access,
-   the run ends. */
-static inline void leave_short_way(void) {
-    short_way_bits = short_way_end = 0;
-    short_way_first = UINTPTR_MAX;
-    in_order();
-}
-
-static bool is_left(struct touched touched) {
-    if (!touched.block)
-        return false;
-    touched.block->place = 0;
-    return (units_with(touched.done, READ_IT) | units_with(touched.done, WROTE_IT)) != 0 || touched.block->is_divided;
-}
-
-/* The blocks of which nothing is left make room for others. */
-static void drop_empty(void) {
-    size_t used = strand.used;
-    strand.used = 0;
-    strand.has_gaps = false;
-    for (size_t at = 0; at < used; at++) {
-        if (!is_left(strand.list[at])) {
-            memset(strand.list[at].done, 0, strand.list[at].block ? BLOCK_UNITS : 0);
-            continue;
-        }
-        if (strand.used < at)
-            memcpy(strand.sites[strand.used], strand.sites[at], sizeof *strand.sites);
-        place_block(&strand.list[at]);
-    }
-}
-
-__attribute__((noinline, cold)) static void make_room(void) {
-    leave_short_way();
-    if (strand.has_gaps)
-        drop_empty();
-    find_short_way();
-    if (strand.used > MOST_BLOCKS / 4 * 3)
-        put_strand();
-}
+/* Makes room for another block; or what the strand has done so far goes out, by the records. */
+__attribute__((cold)) void strand_make_room(void);
 
 /* The block has its place then. */
 static inline void list_block(const struct touched *touched) {
     if (__builtin_expect(touched->block->place != 0, 1))
         return;
     if (__builtin_expect(strand.used == MOST_BLOCKS, 0))
-        make_room();
+        strand_make_room();
     place_block(touched);
 }
 
 /* This memory of a heap block dies in the strand of its birth: its accesses are left out, as far as they haven't gone
    out. */
-static void set_dead(uintptr_t address, uintptr_t end) {
-    strand.has_gaps = true;
-    while (address < end) {
-        struct part_of_block part = part_from(address, end);
-        memset(part.in.done + unit_in_block(address), 0, (part.end - address + unit_mask) >> unit_shift);
-        part.in.block->dead |= part.units;
-        address = part.end;
-    }
-}
-
-static uint64_t own_units(uintptr_t address);
+void strand_set_dead(uintptr_t address, uintptr_t end);
 
 /* The units of a block, which is empty then: those that were read, and those that were written. */
 static inline void take_units(const struct touched *touched, uint64_t masks[2]) {
@@ -115,10 +75,4 @@ static inline void take_units(const struct touched *touched, uint64_t masks[2]) 
     block->has_gone_out |= (masks[false] | masks[true]) != 0;
 }
 
-/* The end of a life: the span, how many blocks of locations stand for what died in one strand, and whether such a block
-   was used then. If it wasn't, none of these locations has another access. */
-struct life_end {
-    size_t span;
-    unsigned dead;
-    bool is_dead_used;
-};
+#endif

@@ -1,5 +1,5 @@
 /* System calls by their numbers. Nothing is known of most, so a report says that they were called. */
-#include "doing.h"
+#include "frames.h"
 #include "noting.h"
 #include "unknown.h"
 #include "watch.h"

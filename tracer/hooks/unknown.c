@@ -2,7 +2,7 @@
    function. So a report can say which of them were called. */
 #include "unknown.h"
 
-#include "doing.h"
+#include "frames.h"
 #include "noting.h"
 #include "tell.h"
 

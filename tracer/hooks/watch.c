@@ -6,6 +6,7 @@
 
 #include "doing.h"
 #include "noting.h"
+#include "records.h"
 #include "settings.h"
 #include "tell.h"
 
@@ -69,7 +70,7 @@ static void tell_where(const char *what) {
 
 static void look_for_progress(void) {
     uint64_t now = time_of(CLOCK_THREAD_CPUTIME_ID) + slept;
-    if (has_new_record())
+    if (records_have_new())
         new_at = now;
     if (now - new_at < patience)
         return;

@@ -1,15 +1,20 @@
 /* The newest records of a strand haven't gone out, in any kind of run. Of the units of the stack that got their numbers
    among them, and whose numbers end among them, no other strand knows: their accesses are left out. So many records or
    numbers make a window, and a strand that has more has several. */
+#ifndef SPBAGS_WINDOW_H
+#define SPBAGS_WINDOW_H
+
+#include "common.h"
+
 enum { WINDOW = 512, WINDOW_NUMBERS = 2048 };
 
 /* Numbers of the stack's units, and the last one from before the window. */
-static uint64_t last_number, window_number;
+extern uint64_t last_number, window_number;
 /* Whether what lives and dies in one strand is left out. */
-static bool leaves_out;
+extern bool leaves_out;
 
 /* Those of the window that end now, by how far they are behind its beginning. */
-static struct { uint64_t members[WINDOW_NUMBERS / 64], first, last; } dying = {.first = WINDOW_NUMBERS};
+extern struct dying { uint64_t members[WINDOW_NUMBERS / 64], first, last; } dying;
 
 static inline uint64_t in_window(uint64_t number) { return number - window_number - 1; }
 
@@ -39,3 +44,5 @@ static inline void end_dying(void) {
     dying.first = WINDOW_NUMBERS;
     dying.last = 0;
 }
+
+#endif

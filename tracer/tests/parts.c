@@ -1,17 +1,11 @@
 /* Parts of the hooks, each alone: the word names one, whose demands hold by the definitions. The compiler gets small
-   limits of a strand and of their number. */
-#include "../hooks/common.h"
+   limits of a strand and of their number. What stands here as a whole has variables that are looked at. */
+#include "../hooks/heap.c"
+#include "../hooks/locations.c"
 
-#include "../hooks/changes.h"
-#include "../hooks/doing.h"
+#include "../hooks/divided.h"
 #include "../hooks/formats.h"
-#include "../hooks/guards.h"
-#include "../hooks/memory.h"
 #include "../hooks/openmp.h"
-#include "../hooks/own.h"
-#include "../hooks/tell.h"
-#include "../hooks/spans.h"
-#include "../include/spbags_inside.h"
 #include "../spbags_cilk.h"
 
 #define DEMAND(HOLDS) \
@@ -25,67 +19,38 @@
 /* ---- What the parts stand on ---- */
 
 void __real__exit(int status) { _exit(status); }
+int __real_munmap(void *at, size_t size) { return munmap(at, size); }
+char __start_spbags_hooks[1], __stop_spbags_hooks[1];
 void end_by_signal(int number) { _exit(number); }
-volatile sig_atomic_t changes, waiting_signal;
-
-static unsigned unit_shift = 2;
-static uintptr_t unit_mask = 3;
-static const bool divides = false;
+volatile sig_atomic_t changes, waiting_signal, stepping;
 struct doing doing = {.detecting = true};
+static struct frame root;
+struct frame *top = &root, *silent_frame;
+unsigned initialising;
+uintptr_t short_way_bits, short_way_end, short_way_first;
+void find_short_way(void) {}
+void leave_left(uintptr_t address, uintptr_t code) { (void)address, (void)code; }
 
-static void end_window(void);
-static void leave_out_dying(uintptr_t before);
-static void record_end(uint64_t location);
-static void forget_divided(void) {}
-static void forget_views(void) {}
-static void clear_bytes(uintptr_t address, uintptr_t end) { (void)address, (void)end; }
-static struct range { uintptr_t first, end; } narrow;
-static void access_record(bool writes, uint64_t location, uintptr_t address, uintptr_t code);
-static inline bool is_of_byte(uint64_t location) { return location >= (uint64_t)1 << 60; }
-static uintptr_t short_way_bits, short_way_end, short_way_first;
-static void find_short_way(void) {}
-static void begin_step(void) {}
-static void end_step(void) {}
-enum { USUAL_SHIFT = 2 };
-static void look_at_block(uintptr_t block, size_t size, uintptr_t stack_pointer, uintptr_t code) {
-    (void)block, (void)size, (void)stack_pointer, (void)code;
-}
-static bool is_program(uintptr_t code) { return code == 0; }
-static unsigned initialising;
-static struct { uintptr_t end; } root, *top = &root, *silent_frame;
-static bool left_out_update;
-static bool is_on_the_way(__spbags_function self) { return !self; }
-static void leave_jumped(uintptr_t stack_pointer, uintptr_t code) { (void)stack_pointer, (void)code; }
-#define STACK_POINTER 0
-#define CODE 0
-#define LIBRARY_WRITE(AT, SIZE, SELF) (void)(SELF)
-
-#include "../hooks/blocks.h"
-
-#include "../hooks/strands.h"
-
-#include "../hooks/window.h"
-
-#include "../hooks/stacks.h"
-
-#include "../hooks/marks.h"
-
-static void step_units(bool writes, const struct touched *in, uint64_t units) {
-    list_block(in);
-    set_done(in->done, units, writes ? WROTE_IT : READ_IT);
-}
-static void block_record(bool writes, const struct touched *in, unsigned unit, uintptr_t address, uintptr_t code);
-
-#include "../hooks/locations.h"
-
-static enum update update_of_view(uintptr_t unit, unsigned shift, bool repeats) {
+bool divided_any, reducers_any;
+void divided_clear(uintptr_t address, uintptr_t end) { (void)address, (void)end; }
+void divided_forget(void) {}
+void reducers_forget(void) {}
+enum update reducers_update_of(uintptr_t unit, unsigned shift, bool repeats) {
     (void)unit, (void)shift, (void)repeats;
     return NO_UPDATE;
 }
-static void end_life_record(struct life_end end) { begin_life(end.span); }
-int __real_munmap(void *at, size_t size) { return munmap(at, size); }
 
-#include "../hooks/heap.h"
+uint64_t *next_record, *window, *window_end;
+struct bundle *filling;
+void detector_end_steps(void) {}
+void detector_refuse_handler(void) { abort(); }
+void records_end_life(struct life_end end) { begin_life(end.span); }
+void look_at_block(uintptr_t block, size_t size, uintptr_t stack_pointer, uintptr_t code) {
+    (void)block, (void)size, (void)stack_pointer, (void)code;
+}
+void note_write(uintptr_t at, size_t size, __spbags_function self, uintptr_t stack_pointer, uintptr_t code) {
+    (void)at, (void)size, (void)self, (void)stack_pointer, (void)code;
+}
 
 /* Numbers that look random, and are those of each run. */
 static unsigned drawn(unsigned below) {
@@ -108,7 +73,7 @@ static void make_stack(void) {
     running_first = stack_first = stacks[0].first = (uintptr_t)stack_memory;
     running_size = stack_size = STACK_BYTES;
     stacks[0].end = stack_first + STACK_BYTES;
-    make_marks(stack_first, stacks[0].end);
+    marks_begin(stack_first, stacks[0].end);
     numbers = reserve((stack_size >> unit_shift) * sizeof *numbers);
 }
 
@@ -118,7 +83,7 @@ static struct {
     uint64_t locations[MOST_BLOCKS], masks[MOST_BLOCKS][2];
 } out;
 
-static void put_strand(void) {
+void records_put_strand(void) {
     out.count = 0;
     for (size_t at = 0; at < strand.used; at++) {
         out.locations[out.count] = strand.list[at].location;
@@ -148,11 +113,11 @@ static void strand_blocks(void) {
                 continue;
             order[used] = block;
             used += touched[block] == 0;
-            touch(writes, memory_unit(block * BLOCK_UNITS + first), 4 * (size_t)count, 0);
+            locations_touch(writes, memory_unit(block * BLOCK_UNITS + first), 4 * (size_t)count, 0);
             wanted[block][writes] |= units_from(first, count) & ~(writes ? 0 : wanted[block][true]);
             touched[block] |= units_from(first, count);
         }
-        put_strand();
+        records_put_strand();
         DEMAND(out.parts == parts + 1 && out.count == used);
         for (unsigned at = 0; at < used; at++) {
             DEMAND(out.locations[at] == location_of_block(order[at]));
@@ -160,11 +125,11 @@ static void strand_blocks(void) {
         }
     }
     for (unsigned block = 0; block < MOST_BLOCKS; block++)
-        touch(true, memory_unit(block * BLOCK_UNITS), 4, 0);
+        locations_touch(true, memory_unit(block * BLOCK_UNITS), 4, 0);
     size_t parts = out.parts;
-    touch(true, memory_unit(0), 4, 0);
+    locations_touch(true, memory_unit(0), 4, 0);
     DEMAND(out.parts == parts);
-    touch(true, memory_unit(MOST_BLOCKS * BLOCK_UNITS), 4, 0);
+    locations_touch(true, memory_unit(MOST_BLOCKS * BLOCK_UNITS), 4, 0);
     DEMAND(out.parts == parts + 1 && out.count == MOST_BLOCKS && strand.used == 1);
 }
 
@@ -178,7 +143,7 @@ static void strand_locations(void) {
 
 /* They are no heap's, and don't stay dead. */
 static void die_alone(unsigned first, unsigned end) {
-    set_dead(memory_unit(first), memory_unit(end));
+    strand_set_dead(memory_unit(first), memory_unit(end));
     for (unsigned unit = first; unit < end; unit++) {
         struct block *block = block_at(memory_unit(unit)).block;
         DEMAND((block->dead & units_from(unit % BLOCK_UNITS, 1)) != 0);
@@ -194,7 +159,7 @@ static void strand_left_out(void) {
     for (int round = 0; round < 20000; round++) {
         unsigned unit = drawn(MOST), first = drawn(MOST), end = first + drawn(MOST - first) + 1;
         notes_quickly = drawn(2) != 0;
-        touch(true, memory_unit(unit), 4, 0);
+        locations_touch(true, memory_unit(unit), 4, 0);
         left[unit / BLOCK_UNITS] |= units_from(unit % BLOCK_UNITS, 1);
         if (drawn(20) == 0) {
             die_alone(first, end);
@@ -206,7 +171,7 @@ static void strand_left_out(void) {
     }
     size_t parts = out.parts;
     for (unsigned block = 0; block < 100; block++) {
-        touch(true, memory_unit(block % 10 * BLOCK_UNITS), 4, 0);
+        locations_touch(true, memory_unit(block % 10 * BLOCK_UNITS), 4, 0);
         die_alone(0, 10 * BLOCK_UNITS);
     }
     DEMAND(out.parts == parts);
@@ -218,19 +183,16 @@ static uintptr_t stack_unit(unsigned number) { return stack_first + STACK_BYTES 
 
 static unsigned records;
 static uint64_t recorded;
-static void access_record(bool writes, uint64_t location, uintptr_t address, uintptr_t code) {
-    (void)writes, (void)address, (void)code;
+void records_access(bool writes, const struct touched *in, uint64_t location, uintptr_t address, uintptr_t code) {
+    (void)address, (void)code;
     records++;
     recorded = location;
-}
-
-static void block_record(bool writes, const struct touched *in, unsigned unit, uintptr_t address, uintptr_t code) {
-    access_record(writes, in->location + 2 * unit, address, code);
-    step_units(writes, in, units_from(unit, 1));
+    if (in)
+        step_units(writes, in, units_from((unsigned)(location - in->location) / 2, 1));
 }
 
 static void next_strand(void) {
-    put_strand();
+    records_put_strand();
     begin_strand();
 }
 
@@ -242,7 +204,7 @@ static void marks_repeats(void) {
         unsigned unit = drawn(2 * UNITS), writes = drawn(2);
         bool repeats = (done[unit] & WROTE_IT) != 0 || (!writes && done[unit] != 0);
         records = 0;
-        touch(writes, unit < UNITS ? memory_unit(unit) : stack_unit(unit - UNITS), 4, 0);
+        locations_touch(writes, unit < UNITS ? memory_unit(unit) : stack_unit(unit - UNITS), 4, 0);
         DEMAND(records == !repeats);
         done[unit] |= writes ? WROTE_IT : READ_IT;
         if (drawn(500) == 0) {
@@ -259,7 +221,7 @@ static void marks_own(void) {
     mark_own(own[COPIES].first, own[COPIES].end);
     for (int strand = 0; strand < 3 * (int)MOST_STRANDS; strand++) {
         records = 0;
-        touch(true, memory_unit(2), 16, 0);
+        locations_touch(true, memory_unit(2), 16, 0);
         DEMAND(records == 2);
         next_strand();
     }
@@ -271,7 +233,7 @@ static void marks_units(void) {
     for (unsigned first = 0; first < 8; first++)
         for (unsigned size = 0; size < 20; size++) {
             records = 0;
-            touch(true, memory_unit(10) + first, size, 0);
+            locations_touch(true, memory_unit(10) + first, size, 0);
             DEMAND(records == (size == 0 ? 0 : (first + size - 1) / 4 - first / 4 + 1));
             next_strand();
         }
@@ -279,7 +241,7 @@ static void marks_units(void) {
 
 /* The numbers that have ended, but for those of the newest group. */
 static bool is_ended[100000];
-static void record_end(uint64_t location) {
+void records_end_numbers(uint64_t location) {
     DEMAND(location % 2 == 1);
     uint64_t group = location / 2 >> GROUP_NUMBERS, members = location / 2 % (1 << GROUP_NUMBERS);
     for (unsigned member = 0; member < GROUP_NUMBERS; member++)
@@ -289,8 +251,8 @@ static void record_end(uint64_t location) {
         }
 }
 
-static void end_window(void) { window_number = last_number; }
-static void leave_out_dying(uintptr_t before) {
+void records_end_window(void) { window_number = last_number; }
+void records_leave_out_dying(uintptr_t before) {
     (void)before;
     end_dying();
 }
@@ -309,7 +271,7 @@ static void stack_numbers(void) {
     make_stack();
     for (int round = 0; round < 2000; round++) {
         unit = drawn(2) ? drawn(UNITS) : (unit + 1) % UNITS;
-        touch(true, stack_unit(unit), 4, 0);
+        locations_touch(true, stack_unit(unit), 4, 0);
         newest += number[unit] == 0;
         number[unit] = number[unit] == 0 ? newest : number[unit];
         DEMAND(recorded == 2 * number[unit] + 1);
@@ -323,7 +285,7 @@ static void stack_numbers(void) {
             number[gone] = 0;
         }
     }
-    touch(true, memory_unit(7), 4, 0);
+    locations_touch(true, memory_unit(7), 4, 0);
     DEMAND(recorded == 2 * (memory_unit(7) / 4));
     for (uint64_t at = 1; at <= newest; at++)
         DEMAND(ends[at] == has_ended(at));
@@ -333,11 +295,11 @@ static void stack_numbers(void) {
 static void stack_window(void) {
     make_stack();
     leaves_out = true;
-    touch(true, stack_unit(0), 4, 0);
-    end_window();
-    touch(true, stack_unit(1), 4, 0);
-    touch(true, stack_unit(2), 4, 0);
-    clear(stack_unit(1), 4);
+    locations_touch(true, stack_unit(0), 4, 0);
+    records_end_window();
+    locations_touch(true, stack_unit(1), 4, 0);
+    locations_touch(true, stack_unit(2), 4, 0);
+    locations_clear(stack_unit(1), 4);
     DEMAND(!any_dies());
     clear_marks(stack_mark(stack_unit(2)), stack_mark(stack_unit(0)) + 1);
     DEMAND(any_dies() && !is_dying(1) && !is_dying(2) && is_dying(3) && !is_dying(4));
@@ -493,6 +455,8 @@ int main(int count, char **words) {
                  {"heap_sizes", heap_sizes},           {"heap_moves", heap_moves},
                  {"formats_print", formats_print},     {"formats_scan", formats_scan},
                  {"formats_narrow", formats_narrow}};
+    unit_shift = USUAL_SHIFT;
+    unit_mask = 3;
     for (size_t at = 0; at < sizeof parts / sizeof *parts; at++)
         if (count == 1)
             puts(parts[at].name);

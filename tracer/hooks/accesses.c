@@ -1,7 +1,8 @@
-/* Between a spawn and the entry of what it calls, and between its exit and the return, compilers copy arguments and the
-   result through memory of the parent's frame, which no program sees. A library function that is the child itself says
-   so by its name. */
-static inline bool is_on_the_way(__spbags_function self) { return top->kind == CHILD && top->callee != self; }
+/* The hooks of accesses. */
+#include "frames.h"
+#include "guards.h"
+#include "locations.h"
+#include "noting.h"
 
 /* An atomic access is made. */
 static bool is_atomic;
@@ -16,7 +17,7 @@ __attribute__((noinline)) static void other_access(bool writes, uintptr_t at, si
         return;
     }
     if (!is_on_the_way(self))
-        touch(writes, at, size, code);
+        locations_touch(writes, at, size, code);
 }
 
 static inline void any_access(bool writes, uintptr_t at, size_t size, __spbags_function self, uintptr_t stack_pointer,
@@ -24,6 +25,11 @@ static inline void any_access(bool writes, uintptr_t at, size_t size, __spbags_f
     if (!doing.tracing || (is_on_the_way(self) && stack_pointer < top->end))
         return;
     other_access(writes, at, size, self, stack_pointer, code);
+}
+
+void note_access(bool writes, uintptr_t at, size_t size, __spbags_function self, uintptr_t stack_pointer,
+                 uintptr_t code) {
+    any_access(writes, at, size, self, stack_pointer, code);
 }
 
 /* Of the short way: these units aren't all repeats. */
@@ -41,7 +47,7 @@ __attribute__((noinline)) static void note_one(bool writes, uintptr_t at, uint32
 /* A region of the stack has other memory too. */
 static inline void note_usual_marks(bool writes, uintptr_t at, size_t size, uint32_t *mark, uintptr_t code) {
     if (!is_of_stack(at))
-        touch_block(writes, at, at + size, code);
+        locations_touch_block(writes, at, at + size, code);
     else if (size >> USUAL_SHIFT == 1)
         note_one(writes, at, mark, code);
     else
@@ -73,7 +79,7 @@ static inline void usual_units(bool writes, uintptr_t at, size_t size, uintptr_t
         if (__builtin_expect(!are_repeats(writes, mark, size >> USUAL_SHIFT), 0))
             note_usual_marks(writes, at, size, mark, code);
     } else if (row == 0 || !are_done(writes, (uint8_t *)row + (at >> USUAL_SHIFT), size >> USUAL_SHIFT)) {
-        touch_block(writes, at, at + size, code);
+        locations_touch_block(writes, at, at + size, code);
     }
 }
 
@@ -95,30 +101,25 @@ void __spbags_stored(const volatile void *at, unsigned long size) {
     if (short_way_bits != 0 && size == 1 << USUAL_SHIFT && ((uintptr_t)at & (size - 1)) == 0)
         usual_units(true, (uintptr_t)at, 1 << USUAL_SHIFT, CODE);
     else if (doing.tracing)
-        touch(true, (uintptr_t)at, size, CODE);
+        locations_touch(true, (uintptr_t)at, size, CODE);
 }
 
 /* The linker's name for the end of what is only read in the program. */
 extern char __init_array_start[];
 
 /* Constants as a format aren't recorded, since nothing writes them; they would be told as narrow accesses. */
-__attribute__((noinline)) static void library_read(uintptr_t at, size_t size, __spbags_function self,
-                                                   uintptr_t stack_pointer, uintptr_t code) {
+void note_read(uintptr_t at, size_t size, __spbags_function self, uintptr_t stack_pointer, uintptr_t code) {
     if (at < (uintptr_t)__executable_start || at >= (uintptr_t)__init_array_start)
         any_access(false, at, size, self, stack_pointer, code);
 }
 
-/* Not in each wrapper, since there are many. */
-__attribute__((noinline)) static void library_write(uintptr_t at, size_t size, __spbags_function self,
-                                                    uintptr_t stack_pointer, uintptr_t code) {
+void note_write(uintptr_t at, size_t size, __spbags_function self, uintptr_t stack_pointer, uintptr_t code) {
     any_access(true, at, size, self, stack_pointer, code);
 }
 
 #define OFTEN(WRITES, AT, SIZE) usual_access(WRITES, (uintptr_t)(AT), SIZE, STACK_POINTER, CODE)
 #define READ(AT, SIZE) any_access(false, (uintptr_t)(AT), SIZE, NULL, STACK_POINTER, CODE)
 #define WRITE(AT, SIZE) any_access(true, (uintptr_t)(AT), SIZE, NULL, STACK_POINTER, CODE)
-#define LIBRARY_READ(AT, SIZE, SELF) library_read((uintptr_t)(AT), SIZE, (__spbags_function)SELF, STACK_POINTER, CODE)
-#define LIBRARY_WRITE(AT, SIZE, SELF) library_write((uintptr_t)(AT), SIZE, (__spbags_function)SELF, STACK_POINTER, CODE)
 
 /* With clang those of coverage stand beside the accesses instead of the sanitizer's. */
 #define ACCESSES(SIZE) \
@@ -141,11 +142,11 @@ static inline void first_units(bool writes, uintptr_t at, size_t size, uintptr_t
     if (__builtin_expect(may_begin_quick(in.block), 1))
         begin_quick(writes, &in, unit, size >> USUAL_SHIFT);
     else if (notes_quickly)
-        touch_block(writes, at, at + size, code);
+        locations_touch_block(writes, at, at + size, code);
     else
         for (uintptr_t part = at; part < at + size; part += 1 << USUAL_SHIFT, unit++)
             if (!was_done(writes, in.done[unit]))
-                note_block_unit(writes, &in, unit, part, code);
+                locations_note_unit(writes, &in, unit, part, code);
 }
 
 /* What the text in inline_checks.s calls for such an access that isn't noted quickly, with the byte of its first unit; and

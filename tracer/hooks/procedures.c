@@ -1,6 +1,13 @@
 /* What is done with frames, and the procedures of the trace. */
 #include "frames.h"
 #include "hidden.h"
+#include "locations.h"
+#include "look.h"
+#include "openmp.h"
+
+/* The address right above the stack memory of the function that called the hook: it keeps its frame pointer, which the
+   hook finds saved in its own frame. */
+#define FRAME_END (*(uintptr_t *)__builtin_frame_address(0) + 16)
 
 /* By these numbers the text in inline_checks.s knows a frame. */
 _Static_assert(offsetof(struct frame, end) == 0 && offsetof(struct frame, kind) == 8 &&
@@ -13,7 +20,7 @@ __attribute__((noinline)) static void clear_from_lowest(uintptr_t address) {
     clear_marks(stack_mark(lowest), stack_mark(address));
     lowest = address & ~unit_mask;
     if (__builtin_expect(any_dies(), 0))
-        leave_out_dying(top->position);
+        records_leave_out_dying(top->position);
 }
 
 /* The stack memory below this address has no variable any more. What had one began after the newest frame. */
@@ -22,15 +29,7 @@ ALWAYS_INLINE void clear_below(uintptr_t address) {
         clear_from_lowest(address);
 }
 
-void find_short_way(void) {
-    bool records = doing.tracing && initialising == 0;
-    short_way_bits = records && !openmp_watches && unit_shift == USUAL_SHIFT ? UINTPTR_MAX : 0;
-    short_way_first = only_detects() && short_way_bits != 0 ? stack_first : UINTPTR_MAX;
-    follow_top();
-}
-
-/* Where nothing was a child no access has another one beside it. */
-static bool has_had_children(void) { return most_procedures > 1; }
+void forget_below(uintptr_t address) { clear_below(address); }
 
 static inline void count_procedures(enum spbags_kind kind) {
     if (kind == SPBAGS_RETURN)
@@ -39,9 +38,9 @@ static inline void count_procedures(enum spbags_kind kind) {
         procedures++;
 }
 
-OTHERWISE void other_structure(enum spbags_kind kind, uintptr_t code) {
+__attribute__((noinline)) static void other_structure(enum spbags_kind kind, uintptr_t code) {
     begin_record();
-    other_structure_record(kind, code);
+    records_structure(kind, code);
     count_procedures(kind);
     end_change();
     end_at_last();
@@ -52,7 +51,7 @@ ALWAYS_INLINE void structure(enum spbags_kind kind, uintptr_t code) {
     if (__builtin_expect(only_detects(), 1)) {
         begin_step();
         if (strand.used > 0)
-            put_strand();
+            records_put_strand();
         step(kind, 0);
         count_procedures(kind);
         begin_steps();
@@ -80,6 +79,8 @@ void open_procedure(enum spbags_kind kind, uintptr_t code) { open_here(kind, cod
 void sync_procedure(uintptr_t code) { structure(SPBAGS_SYNC, code); }
 
 void close_procedure(uintptr_t code) { structure(SPBAGS_RETURN, code); }
+
+bool is_beside_others(void) { return doing.tracing && (procedures > 1 || owners[1] != NULL || openmp_has_beside()); }
 
 /* In version 1 procedures may have been opened above the one that holds these children; they end here. */
 static void sync_children(struct frame *frame, uintptr_t code) {
@@ -111,7 +112,7 @@ __attribute__((noinline, cold)) void leave_left(uintptr_t address, uintptr_t cod
     leave_below(address, code);
     leave_children(code);
     begin_records();
-    end_strand();
+    records_put_strand();
     finish_records();
     begin_strand();
 }
@@ -163,7 +164,7 @@ void __spbags_return(const volatile void *result, unsigned long size) {
         return;
     clear_below(top->stack_pointer);
     if (result)
-        clear((uintptr_t)result, size);
+        locations_clear((uintptr_t)result, size);
     leave_top(code);
 }
 

@@ -1,15 +1,27 @@
+/* How a run begins. */
+#include "closing.h"
+#include "detector.h"
+#include "divided.h"
+#include "ends.h"
+#include "frames.h"
+#include "heap.h"
+#include "locations.h"
+#include "look.h"
+#include "memory.h"
+#include "openmp.h"
+#include "output.h"
+#include "places.h"
+#include "settings.h"
+#include "streams.h"
+#include "watch.h"
+
 /* A number of bytes for the trace; where none is said, a quarter of the space that is free where it goes to a file. */
 static void set_limit(bool is_file) {
     struct statvfs space;
     if (is_file && fstatvfs(outcome.file, &space) == 0)
         outcome.most = space.f_bavail * space.f_frsize / 4;
-    outcome.at_limit = stop_at_limit;
+    outcome.at_limit = closing_at_limit;
     outcome.most = settings_number_or(SETTING_MAX_BYTES, outcome.most);
-}
-
-static void open_places(const char *name) {
-    output_open(&places, "SPBAGS_PLACES", name);
-    keep_places(name);
 }
 
 /* A trace that goes to a file has its places beside it, where nothing else was said. */
@@ -26,51 +38,8 @@ static void open_outputs(const char *name) {
         places_name = beside;
     }
     if (places_name && *places_name)
-        open_places(places_name);
+        places_open(places_name);
 }
-
-#ifdef SPBAGS_INSIDE
-/* No signal comes to the detector's thread. What the library allocates for it isn't the program's, whose blocks have
-   the same addresses as in a run without the detector. */
-static void start_thread(void) {
-    enum { BLOCKS = 1 << 20, STACK = 1 << 20 };
-    sigset_t all, before;
-    pthread_attr_t small;
-    aside.at = (uintptr_t)reserve(BLOCKS);
-    aside.end = aside.at + BLOCKS;
-    is_aside = true;
-    sem_init(&full_bundles, 0, 0);
-    sem_init(&free_bundles, 0, BUNDLES - 1);
-    fill_bundle(0);
-    sigfillset(&all);
-    sigprocmask(SIG_BLOCK, &all, &before);
-    pthread_attr_init(&small);
-    pthread_attr_setstacksize(&small, STACK);
-    int error = __real_pthread_create(&detector, &small, detect, NULL);
-    pthread_attr_destroy(&small);
-    sigprocmask(SIG_SETMASK, &before, NULL);
-    if (error != 0)
-        fail("the thread of the detector can't be started: %s", strerror(error));
-    is_aside = false;
-}
-
-/* The report goes where SPBAGS_REPORT says, named as a trace is, or else to standard error. */
-static void start_detector(void) {
-    const char *name = settings_text(SETTING_REPORT), *places_name = settings_text(SETTING_PLACES);
-    outcome.name = "standard error";
-    report_is_asked = name;
-    if (name)
-        output_open(&outcome, "SPBAGS_REPORT", name);
-    else
-        outcome.file = output_move_away("SPBAGS_REPORT", STDERR_FILENO);
-    if (places_name)
-        open_places(places_name);
-    find_heap();
-    session = reserve(spbags_room());
-    start_thread();
-    doing.detecting = true;
-}
-#endif
 
 /* What spbags-run asks for. */
 static void open_ways(void) {
@@ -82,7 +51,7 @@ static void open_ways(void) {
     }
     last_record = settings_number_or(SETTING_LAST, UINT64_MAX);
     if (units)
-        divide_units(output_named_file("SPBAGS_DIVIDE", units));
+        divided_begin(output_named_file("SPBAGS_DIVIDE", units));
     if (report)
         start_look(output_named_file("SPBAGS_LOOK", report));
     if (waits)
@@ -125,7 +94,7 @@ static void find_stack(void) {
     stack_size = room + running_size;
     stacks[0].first = running_first;
     stacks[0].end = running_first + running_size;
-    make_marks(stack_first, end);
+    marks_begin(stack_first, end);
     numbers = reserve((stack_size >> unit_shift) * sizeof *numbers);
     /* A frame has at least its return address and its frame pointer, and at most one open child. */
     size_t most_frames = size / 16 * 2;
@@ -158,16 +127,16 @@ __attribute__((constructor(101))) static void start(void) {
     doing.writing_repeats = settings_is(SETTING_REPEATS, "1");
     watch_set_patience();
     streams_judged = settings_is(SETTING_STREAMS, "1");
-    reuses = settings_is(SETTING_REUSE, "1");
-    leaves_out = reuses && !doing.writing_repeats;
+    heap_reuses = settings_is(SETTING_REUSE, "1");
+    leaves_out = heap_reuses && !doing.writing_repeats;
     run_thread = __builtin_thread_pointer();
-    fill_digits();
+    records_begin();
     give_streams_buffers();
     claim_threads();
     if (name)
         open_outputs(name);
     else
-        start_detector();
+        detector_begin();
     open_ways();
     /* A traced program that this one starts would write over the trace, or over the report. */
     settings_forget(SETTING_TRACE);
@@ -181,8 +150,9 @@ __attribute__((constructor(101))) static void start(void) {
     if (name && !doing.looking)
         put_header();
 #ifdef SPBAGS_INSIDE
-    doing.only_detecting = detects() && !doing.looking && !doing.keeping_places && !divides && !doing.writing_repeats;
-    follow_views();
+    doing.only_detecting =
+        detects() && !doing.looking && !doing.keeping_places && !divided_any && !doing.writing_repeats;
+    locations_follow_views();
 #endif
     doing.tracing = true;
     find_short_way();

@@ -1,0 +1,62 @@
+#include "closing.h"
+
+#include "detector.h"
+#include "frames.h"
+#include "locations.h"
+#include "look.h"
+#include "openmp.h"
+#include "output.h"
+#include "places.h"
+#include "unknown.h"
+
+void closing_stop(void) {
+    doing.tracing = false;
+    find_short_way();
+}
+
+static void tell_notes(void) {
+    if (has_had_children())
+        locations_tell_narrow();
+    if (most_procedures > DEFAULT_DEPTH + 1 && !detects())
+        tell_record(tell_numbered("depth", most_procedures - 1).text,
+                    "procedures nest %u deep, so spbags needs --depth %u or more", most_procedures - 1,
+                    most_procedures - 1);
+    openmp_tell_notes();
+    tell_unknown_functions();
+    end_places();
+}
+
+void closing_end(void) {
+    sigset_t all, before;
+    sigfillset(&all);
+    sigprocmask(SIG_BLOCK, &all, &before);
+    closing_stop();
+    tell_course();
+    records_put_strand();
+    outcome.most = next_place = last_record = UINT64_MAX;
+    while (procedures > 0)
+        close_procedure(0);
+    if (doing.looking)
+        put_notes();
+    tell_notes();
+    if (detects())
+        detector_end(has_had_children() || tell_has_told);
+    output_close(&places);
+    output_close(&outcome);
+    sigprocmask(SIG_SETMASK, &before, NULL);
+}
+
+void closing_end_run(void) {
+    closing_end();
+    __real__exit(0);
+}
+
+void closing_at_limit(void) {
+    uint64_t most = outcome.most;
+    records_drop();
+    closing_end();
+    fail_by(tell_numbered("end limit", most).text,
+            "the trace has reached its limit of %llu bytes, so the run ends here, and the trace has what came before: "
+            "SPBAGS_MAX_BYTES sets another limit",
+            (unsigned long long)most);
+}

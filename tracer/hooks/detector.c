@@ -1,0 +1,249 @@
+#include "detector.h"
+
+#include "detector_heap.h"
+#include "heap.h"
+#include "memory.h"
+#include "output.h"
+#include "places.h"
+#include "settings.h"
+#include "strands.h"
+#include "tell.h"
+
+uint64_t *next_record;
+uintptr_t records_origin;
+
+#ifdef SPBAGS_INSIDE
+/* By this spbags-run knows that a program has it. */
+__attribute__((used)) static const char inside_mark[] = "SPBAGS_INSIDE";
+static void *session;
+static struct bundle bundles[BUNDLES];
+static sem_t full_bundles, free_bundles;
+static pthread_t detector;
+
+struct bundle *filling;
+uint64_t *window, *window_end;
+const uint64_t *seen_steps;
+volatile sig_atomic_t stepping;
+bool has_races;
+
+static void fill_bundle(size_t number) {
+    filling = &bundles[number];
+    next_record = window = filling->records;
+    limit_window();
+}
+
+static void hand_over(const uint64_t *end) {
+    filling->used = (size_t)(end - filling->records);
+    sem_post(&full_bundles);
+}
+
+/* The program's errno is none of ours. */
+static void next_bundle(void) {
+    int error = errno;
+    const uint64_t *kept = window, *end = next_record;
+    hand_over(kept);
+    wait_for(&free_bundles);
+    fill_bundle((size_t)(filling - bundles + 1) % BUNDLES);
+    records_origin += (uintptr_t)window - (uintptr_t)kept;
+    while (kept < end)
+        *next_record++ = *kept++;
+    errno = error;
+}
+
+void detector_end_steps(void) {
+    if (!only_detects())
+        pass_steps();
+    else if (next_record - window == WINDOW)
+        begin_steps();
+    if (next_record == filling->records + BUNDLE_RECORDS)
+        next_bundle();
+}
+
+void detector_refuse_handler(void) {
+    fail("a signal handler of the program interrupted the detector, so the run ends here without a report");
+}
+
+void detector_step_words(uint64_t record, const uint64_t *words, size_t count) {
+    pass_steps();
+    if ((size_t)(filling->records + BUNDLE_RECORDS - next_record) <= 1 + count)
+        next_bundle();
+    *next_record++ = record;
+    for (size_t at = 0; at < count; at++)
+        *next_record++ = words[at];
+    pass_steps();
+}
+
+bool detector_has_new_step(void) {
+    const uint64_t *at = seen_steps, *seen = next_record;
+    seen_steps = seen;
+    if (at < filling->records || at > seen)
+        at = filling->records;
+    while (at < seen && ((*at & 7) == numbers_end || ((*at & 7) >= SPBAGS_READ && (*at >> 3) % 2 == 1)))
+        at++;
+    return at < seen;
+}
+
+/* ---- What the detector's thread does ---- */
+__attribute__((noinline, cold, noreturn)) static void refuse_step(unsigned status) {
+    if (status == SPBAGS_NO_MEMORY)
+        fail("out of memory: the detector needs more than the system gives, so the run ends here without a report");
+    fail("the detector rejected a record with status %u, so the run ends here without a report", status);
+}
+
+static void take_records(const uint64_t *first, const uint64_t *end) {
+    if (first == end)
+        return;
+    uint8_t status = spbags_steps(session, first, (size_t)(end - first));
+    if (status != SPBAGS_TAKEN)
+        refuse_step(status);
+}
+
+/* The bundle's records of numbers that have ended. They come last, so that the others are taken together. */
+static uint64_t endings[BUNDLE_RECORDS];
+static size_t endings_count;
+
+static uint64_t block_of_ending(uint64_t ending) {
+    return (ending >> 4) / ((uint64_t)BLOCK_UNITS / GROUP_NUMBERS << GROUP_NUMBERS);
+}
+
+static uint64_t units_of_ending(uint64_t ending) {
+    uint64_t group = ending >> 4 >> GROUP_NUMBERS, members = (ending >> 4) % (1u << GROUP_NUMBERS);
+    return members << group * GROUP_NUMBERS % BLOCK_UNITS;
+}
+
+static void forget(uint64_t location, uint64_t units) {
+    uint8_t status = spbags_forget(session, location, units);
+    if (status != SPBAGS_TAKEN)
+        refuse_step(status);
+}
+
+static void forget_numbers(uint64_t block, uint64_t units) { forget(2 * BLOCK_UNITS * block + 1, units); }
+
+/* Those of one block together, where they come so. */
+static void take_endings(void) {
+    uint64_t block = 0, units = 0;
+    for (size_t at = 0; at < endings_count; at++) {
+        if (block_of_ending(endings[at]) != block) {
+            forget_numbers(block, units);
+            block = block_of_ending(endings[at]);
+            units = 0;
+        }
+        units |= units_of_ending(endings[at]);
+    }
+    forget_numbers(block, units);
+    endings_count = 0;
+}
+
+/* A block's accesses; the next record. */
+static const uint64_t *take_block(const uint64_t *record) {
+    uint8_t status = spbags_block(session, *record >> 3, record[1], record[2]);
+    if (status != SPBAGS_TAKEN)
+        refuse_step(status);
+    return record + 3;
+}
+
+/* Blocks that have ended; the next record. */
+static const uint64_t *take_ended(const uint64_t *record) {
+    for (uint64_t bits = record[1]; bits != 0; bits &= bits - 1)
+        forget((*record >> 3) + 2 * BLOCK_UNITS * (uint64_t)__builtin_ctzll(bits), UINT64_MAX);
+    return record + 2;
+}
+
+static void take_bundle(struct bundle *bundle) {
+    uint64_t *end = bundle->records;
+    const uint64_t *at = end, *last = end + bundle->used;
+    while (at < last) {
+        uint64_t kind = *at & 7;
+        if (kind <= SPBAGS_WRITE) {
+            *end++ = *at++;
+        } else if (kind == numbers_end && (*at >> 3) % 2 == 1) {
+            endings[endings_count++] = *at++;
+        } else {
+            take_records(bundle->records, end);
+            end = bundle->records;
+            at = kind == block_follows ? take_block(at) : take_ended(at);
+        }
+    }
+    take_records(bundle->records, end);
+    take_endings();
+}
+
+/* Whether a setting names a place for the report, and whether it is made. If none does, and nothing ran beside
+   anything, it isn't: a build runs such programs, and reads what they print. */
+static bool report_is_asked, report_is_made;
+
+/* The program's thread waits meanwhile. */
+static void put_report(void) {
+    uint8_t status = spbags_report(session);
+    if (status != SPBAGS_TAKEN)
+        refuse_step(status);
+    size_t size = 0;
+    for (unsigned byte; (byte = spbags_next(session)) < SPBAGS_AT_END; size++) {
+        *room(&outcome) = (char)byte;
+        outcome.used++;
+    }
+    has_races = size > strlen("races 0\n");
+}
+
+static void *detect(void *nothing) {
+    bool is_last = false;
+    spbags_new(session);
+    for (size_t number = 0; !is_last; number = (number + 1) % BUNDLES) {
+        wait_for(&full_bundles);
+        take_bundle(&bundles[number]);
+        is_last = bundles[number].is_last;
+        sem_post(&free_bundles);
+    }
+    if (report_is_made)
+        put_report();
+    spbags_free(session);
+    return nothing;
+}
+
+/* ---- The beginning and the end ---- */
+
+/* No signal comes to the detector's thread. What the library allocates for it isn't the program's, whose blocks have
+   the same addresses as in a run without the detector. */
+static void start_thread(void) {
+    enum { BLOCKS = 1 << 20, STACK = 1 << 20 };
+    sigset_t all, before;
+    pthread_attr_t small;
+    heap_begin_aside(BLOCKS);
+    sem_init(&full_bundles, 0, 0);
+    sem_init(&free_bundles, 0, BUNDLES - 1);
+    fill_bundle(0);
+    sigfillset(&all);
+    sigprocmask(SIG_BLOCK, &all, &before);
+    pthread_attr_init(&small);
+    pthread_attr_setstacksize(&small, STACK);
+    int error = __real_pthread_create(&detector, &small, detect, NULL);
+    pthread_attr_destroy(&small);
+    sigprocmask(SIG_SETMASK, &before, NULL);
+    if (error != 0)
+        fail("the thread of the detector can't be started: %s", strerror(error));
+    heap_end_aside();
+}
+
+/* The report goes where SPBAGS_REPORT says, named as a trace is, or else to standard error. */
+void detector_begin(void) {
+    const char *name = settings_text(SETTING_REPORT), *places_name = settings_text(SETTING_PLACES);
+    outcome.name = "standard error";
+    report_is_asked = name;
+    if (name)
+        output_open(&outcome, "SPBAGS_REPORT", name);
+    else
+        outcome.file = output_move_away("SPBAGS_REPORT", STDERR_FILENO);
+    if (places_name)
+        places_open(places_name);
+    detector_heap_begin();
+    session = reserve(spbags_room());
+    start_thread();
+    doing.detecting = true;
+}
+void detector_end(bool has_more_to_say) {
+    report_is_made = report_is_asked || has_more_to_say;
+    filling->is_last = true;
+    hand_over(next_record);
+    pthread_join(detector, NULL);
+}
+#endif

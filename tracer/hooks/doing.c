@@ -1,0 +1,3 @@
+#include "doing.h"
+
+struct doing doing;

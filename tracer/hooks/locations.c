@@ -1,0 +1,143 @@
+#include "locations.h"
+
+#include "divided.h"
+#include "frames.h"
+#include "heap.h"
+#include "openmp.h"
+
+uint64_t *numbers;
+bool notes_quickly;
+
+/* Accesses that don't fill their units, and the bits of their addresses and sizes. */
+static uint64_t narrow_accesses;
+static uintptr_t narrow_bits;
+
+/* The group of the newest number that has ended, and which of its numbers have; they go out with the next group. */
+static struct {
+    uint64_t group;
+    unsigned members;
+} ended;
+
+static inline void end_number(uint64_t number) {
+    uint64_t group = number / GROUP_NUMBERS;
+    if (group != ended.group) {
+        records_end_numbers(2 * (ended.group << GROUP_NUMBERS | ended.members) + 1);
+        ended.group = group;
+        ended.members = 0;
+    }
+    ended.members |= 1u << number % GROUP_NUMBERS;
+}
+
+void locations_end_numbers(const uint32_t *marks, unsigned units) {
+    const uint64_t *first = numbers + (marks - stack_mark(stack_first));
+    for (; units != 0; units &= units - 1) {
+        uint64_t number = first[__builtin_ctz(units)];
+        if (!dies_in_window(number))
+            end_number(number);
+    }
+}
+
+static void clear_mark(uint32_t *mark) {
+    if (counts_ends() && *mark != UNTOUCHED)
+        locations_end_numbers(mark, 1);
+    *mark = UNTOUCHED;
+}
+
+/* A unit that is partly another variable's keeps its number. */
+void locations_clear(uintptr_t address, size_t size) {
+    uintptr_t first = (address + unit_mask) & ~unit_mask, end = (address + size) & ~unit_mask;
+    if (((address | size) & unit_mask) != 0 && divided_any)
+        divided_clear(address, address + size);
+    if (end - stack_first <= stack_size)
+        for (; first < end; first += unit_mask + 1)
+            clear_mark(stack_mark(first));
+    if (any_dies())
+        records_leave_out_dying(0);
+}
+
+void locations_follow_views(void) {
+    notes_quickly = only_detects() && !reducers_any;
+    leave_short_way();
+    for (size_t at = 0; at < strand.used && !notes_quickly; at++)
+        if (strand.list[at].block)
+            clear_done(strand.list[at].done, UINT64_MAX, QUICK);
+    find_short_way();
+}
+
+void locations_note_unit(bool writes, const struct touched *in, unsigned unit, uintptr_t address, uintptr_t code) {
+    const uint64_t bit = (uint64_t)1 << unit;
+    if ((in->block->dead & bit) != 0) {
+        heap_use_dead(writes, address, code);
+        return;
+    }
+    if (reducers_any) {
+        bool repeats = was_done(false, in->done[unit]);
+        enum update update = reducers_update_of(address, unit_shift, repeats);
+        if (update != NO_UPDATE && repeats)
+            return;
+        writes = writes && update == NO_UPDATE;
+    }
+    block_record(writes, in, unit, address, code);
+}
+
+/* A block in which something may have been accessed is noted quickly from now on. */
+static void note_quickly(const struct touched *in) { set_done(in->done, ~in->block->dead, QUICK); }
+
+/* Units of a block, of which the first one begins at this address. */
+__attribute__((noinline)) static void note_units(bool writes, uintptr_t address, struct part_of_block part,
+                                                 uintptr_t code) {
+    uint64_t units = new_units(writes, part.in.done, part.units);
+    if (units != 0 && notes_quickly && (units & part.in.block->dead) == 0) {
+        step_units(writes, &part.in, units);
+        note_quickly(&part.in);
+        return;
+    }
+    for (; units != 0; units &= units - 1) {
+        unsigned unit = (unsigned)__builtin_ctzll(units);
+        locations_note_unit(writes, &part.in, unit, (address & ~(block_size() - 1)) + ((uintptr_t)unit << unit_shift),
+                            code);
+    }
+}
+
+/* Those that this memory of the stack touches; what isn't of the stack any more. */
+static uintptr_t touch_stack(bool writes, uintptr_t unit, uintptr_t end, uintptr_t code) {
+    for (uint32_t *mark = stack_mark(unit); unit < end && is_of_stack(unit); unit += unit_mask + 1, mark++)
+        if (!is_repeat(writes, *mark))
+            note_stack_unit(writes, unit, mark, unit_shift, code);
+    return unit;
+}
+
+uintptr_t locations_touch_block(bool writes, uintptr_t unit, uintptr_t end, uintptr_t code) {
+    struct part_of_block part = part_from(unit, end);
+    note_units(writes, unit, part, code);
+    return part.end;
+}
+
+/* No memory of the program reaches further than its addresses do. */
+void locations_touch(bool writes, uintptr_t address, size_t size, uintptr_t code) {
+    const uintptr_t most = (uintptr_t)1 << 47;
+    if (size == 0 || address >= most || size > most - address)
+        return;
+    if (((address | size) & unit_mask) != 0) {
+        narrow_accesses++;
+        narrow_bits |= address | size;
+        narrow.first = address;
+        narrow.end = address + size;
+    }
+    if (__builtin_expect(openmp_watches, 0))
+        openmp_watch_access(writes, address, size, code);
+    uintptr_t unit = address & ~unit_mask;
+    while (unit < address + size)
+        unit = (is_of_stack(unit) ? touch_stack : locations_touch_block)(writes, unit, address + size, code);
+    narrow.end = 0;
+}
+
+void locations_tell_narrow(void) {
+    if (narrow_accesses == 0)
+        return;
+    unsigned unit = 1u << __builtin_ctzl(narrow_bits);
+    tell_record(tell_numbered("unit", unit).text,
+                "%llu accesses don't fill their units of %u bytes, so races may be only of neighbours: SPBAGS_UNIT=%u "
+                "separates them",
+                (unsigned long long)narrow_accesses, 1u << unit_shift, unit);
+}

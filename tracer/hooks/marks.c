@@ -1,0 +1,46 @@
+#include "marks.h"
+
+#include "blocks.h"
+#include "divided.h"
+#include "memory.h"
+#include "reducers.h"
+#include "tell.h"
+
+uint32_t has_read = FIRST_READ, strands_again;
+uintptr_t stack_marks;
+
+/* The usual unit has as many bytes as its mark. */
+static void name_marks(size_t region) {
+    intptr_t behind = (intptr_t)stack_mark(region << REGION_BITS) - (intptr_t)(region << REGION_BITS);
+    if (behind >= 0)
+        fail("the system has no memory for the hooks below the stack");
+    regions[region] = behind;
+}
+
+void marks_begin(uintptr_t first, uintptr_t end) {
+    size_t first_region = region_of(first - (CLEARED << unit_shift)), count = region_of(end) - first_region + 1;
+    uintptr_t marks = (uintptr_t)reserve((count << REGION_BITS >> unit_shift) * sizeof(uint32_t));
+    stack_marks = marks - (first_region << REGION_BITS >> unit_shift) * sizeof(uint32_t);
+    blocks_begin_stack(first_region, count);
+    for (size_t region = first_region; region < first_region + count; region++)
+        name_marks(region);
+    lowest = end & ~unit_mask;
+}
+
+/* A unit of the stack keeps its number. */
+static void forget_stack(const struct stack *stack) {
+    uintptr_t from = stack == running ? lowest : stack->lowest;
+    for (uint32_t *mark = stack_mark(from); mark < stack_mark(stack->end); mark++)
+        if (*mark != UNTOUCHED && *mark != own_mark)
+            *mark = TOUCHED;
+}
+
+/* What was touched stays touched, since that says that a unit has its number. */
+void marks_begin_again(void) {
+    for (unsigned number = 0; number < stacks_count; number++)
+        forget_stack(&stacks[number]);
+    divided_forget();
+    reducers_forget();
+    has_read = FIRST_READ - 2;
+    strands_again++;
+}

@@ -1,0 +1,332 @@
+#include "records.h"
+
+#include "divided.h"
+#include "frames.h"
+#include "library_words.h"
+#include "look.h"
+#include "marks.h"
+#include "output.h"
+
+struct recent_records recent;
+/* How many records there were, but for those of the stack's memory, which each call of a function has anew. */
+static uint64_t news;
+
+/* A line of the structure has at most eight bytes. So many are copied, since a copy of a fixed size is quick, and the
+   next line goes over those that aren't of this one. */
+struct line {
+    char bytes[8];
+    size_t length;
+};
+#define LINE(TEXT) \
+    { TEXT "\n", sizeof TEXT }
+static const struct line lines[] = {[SPBAGS_SPAWN] = LINE("spawn"),
+                                    [SPBAGS_CALL] = LINE("call"),
+                                    [SPBAGS_RETURN] = LINE("return"),
+                                    [SPBAGS_SYNC] = LINE("sync")};
+
+static inline void write_structure(enum spbags_kind kind) {
+    __builtin_memcpy(room(&outcome), lines[kind].bytes, sizeof lines[kind].bytes);
+    in_order();
+    outcome.used += lines[kind].length;
+}
+
+/* From 00 to 99. */
+static char two_digits[100][2];
+
+void records_begin(void) {
+    for (int number = 0; number < 100; number++) {
+        two_digits[number][0] = (char)('0' + number / 10);
+        two_digits[number][1] = (char)('0' + number % 10);
+    }
+}
+
+/* The line is made from its end, and then copied with what follows it, since a copy of a fixed size is quick. */
+static inline void write_access(bool writes, uint64_t location) {
+    char line[64];
+    char *at = line + 31;
+    *at = '\n';
+    for (; location > 99; location /= 100)
+        __builtin_memcpy(at -= 2, two_digits[location % 100], 2);
+    __builtin_memcpy(at -= 2, two_digits[location], 2);
+    at += location < 10;
+    at -= 6;
+    __builtin_memcpy(at, writes ? "write " : " read ", 6);
+    at += !writes;
+    __builtin_memcpy(room(&outcome), at, 32);
+    in_order();
+    outcome.used += (size_t)(line + 32 - at);
+}
+
+static inline void put_access(bool writes, uint64_t location, uint16_t site) {
+    if (doing.looking && ++place_now == next_place)
+        look_at_access(writes, location);
+    if (doing.keeping_places)
+        write_place(site);
+    if (!detects() && !doing.looking)
+        write_access(writes, location);
+}
+
+/* ---- The window, in a run that does more than detect ---- */
+
+static void step_record(uint64_t record) {
+    if (!detects())
+        return;
+    begin_step();
+    step(record & 7, record >> 3);
+    end_step();
+}
+
+static void pass_record(const struct recent *passed) {
+    step_record(passed->record);
+    if ((passed->record & 7) != numbers_end)
+        put_access((passed->record & 7) == SPBAGS_WRITE, passed->record >> 3, passed->site);
+}
+
+/* What is in the window goes on, and another one begins. */
+static void pass_window(void) {
+    while (recent.gone < recent.used)
+        pass_record(&recent.list[recent.gone++]);
+    recent.before += recent.used;
+    recent.used = recent.gone = 0;
+    window_number = last_number;
+}
+
+static void keep_recent(uint64_t record, uint16_t site) {
+    recent.list[recent.used++] = (struct recent){record, site};
+    if (recent.used == WINDOW)
+        pass_window();
+}
+
+static void leave_out_recent(uintptr_t before) {
+    size_t to = before > recent.before ? before - recent.before : 0;
+    to = to <= recent.used ? to : 0;
+    for (size_t from = to; from < recent.used; from++) {
+        uint64_t record = recent.list[from].record, location = unit_of(record >> 3);
+        recent.list[to] = recent.list[from];
+        to += !((record & 7) != numbers_end && location % 2 == 1 && is_dying(location / 2));
+    }
+    recent.used = to;
+}
+
+/* ---- The window in any run ---- */
+
+/* What is in the window can't be left out any more. */
+static inline void end_records(void) {
+    if (only_detects())
+        begin_steps();
+    else
+        pass_window();
+}
+
+void records_end_window(void) {
+    begin_records();
+    end_records();
+    finish_records();
+}
+
+void records_leave_out_dying(uintptr_t before) {
+    begin_records();
+    if (only_detects())
+        leave_out_steps(before);
+    else
+        leave_out_recent(before);
+    finish_records();
+    end_dying();
+}
+
+void records_end_numbers(uint64_t location) {
+    begin_records();
+    if (only_detects())
+        step(numbers_end, location);
+    else
+        keep_recent(location << 3 | numbers_end, NO_SITE);
+    finish_records();
+}
+
+/* ---- What goes out when the strand has ended ---- */
+
+static void put_accesses(const struct touched *touched, uint64_t units, bool writes) {
+    const uint16_t *sites = strand.sites[touched - strand.list][writes];
+    for (; units != 0; units &= units - 1) {
+        unsigned unit = (unsigned)__builtin_ctzll(units);
+        put_access(writes, touched->location + 2 * unit, sites[unit]);
+    }
+}
+
+static void put_block(const struct touched *touched) {
+    uint64_t masks[2];
+    if (!touched->block)
+        return;
+    take_units(touched, masks);
+    if (detects() && (masks[false] | masks[true]) != 0)
+        detector_step_words(spbags_record(block_follows, touched->location), masks, 2);
+    if (only_detects())
+        return;
+    put_accesses(touched, masks[false], false);
+    put_accesses(touched, masks[true], true);
+}
+
+void records_put_strand(void) {
+    static size_t at;
+    leave_short_way();
+    end_records();
+    if (doing.looking)
+        forget_pending();
+    while (at < strand.used) {
+        __builtin_prefetch(strand.list[at + AHEAD].done);
+        __builtin_prefetch(strand.list[at + AHEAD].block);
+        put_block(&strand.list[at++]);
+    }
+    at = strand.used = 0;
+    strand.has_gaps = false;
+    strand.before++;
+    find_short_way();
+}
+
+/* ---- The end of a span's life ---- */
+
+/* A block that goes out before the others. */
+static void put_alone(struct block *block) {
+    if (block->place == 0)
+        return;
+    struct touched *touched = &strand.list[block->place - 1];
+    put_block(touched);
+    touched->block = NULL;
+    strand.has_gaps = true;
+}
+
+/* Some blocks in a row go out, at most 64, and the detector is told which of them it has. */
+static void end_blocks(struct touched first, size_t count) {
+    uint64_t ended_bits = 0;
+    for (size_t at = 0; at < count; at++) {
+        struct block *block = &first.block[at];
+        put_alone(block);
+        ended_bits |= (uint64_t)block->has_gone_out << at;
+        block->has_gone_out = false;
+        block->dead = 0;
+    }
+    if (detects() && ended_bits != 0)
+        detector_step_words(spbags_record(numbers_end, first.location), &ended_bits, 1);
+}
+
+static void end_span_blocks(size_t span) {
+    size_t count = span_size / block_size();
+    for (size_t at = 0; at < count; at += BLOCK_UNITS)
+        end_blocks(block_at(span_first(span) + at * block_size()), least(count, BLOCK_UNITS));
+}
+
+/* If nothing was used after its death, nobody else has accessed these. */
+static void end_dead_blocks(struct life_end end) {
+    struct touched first = blocks_dead(end.span, 0);
+    if (!end.is_dead_used)
+        memset(first.done, 0, (size_t)end.dead * BLOCK_UNITS);
+    end_blocks(first, end.dead);
+}
+
+void records_end_life(struct life_end end) {
+    begin_records();
+    end_records();
+    leave_short_way();
+    end_span_blocks(end.span);
+    end_dead_blocks(end);
+    find_short_way();
+    finish_records();
+    begin_life(end.span);
+}
+
+/* ---- Records as they come ---- */
+
+void records_structure(enum spbags_kind kind, uintptr_t code) {
+    records_put_strand();
+    news++;
+    if (doing.keeping_places || doing.looking)
+        follow_course(kind, code);
+    if (doing.looking && ++place_now == next_place)
+        look_at_structure();
+    if (doing.keeping_places)
+        write_place(site_number(code));
+    step_record(spbags_record(kind, 0));
+    if (!detects() && !doing.looking)
+        write_structure(kind);
+}
+
+static inline uint64_t site_of_access(uintptr_t unit, uintptr_t code) {
+    return site_word(bytes_left_out(unit) != 0, code);
+}
+
+/* The location is the unit's. */
+static inline void follow_access(bool writes, uint64_t location, uintptr_t unit, uint64_t site) {
+    enum { BYTES_SHIFT = 56 };
+    follow_course((uint64_t)bytes_left_out(unit) << BYTES_SHIFT | location << 3 | (writes ? SPBAGS_WRITE : SPBAGS_READ),
+                  site);
+}
+
+/* The access is new in its block, which has its place. */
+static void keep_access(bool writes, const struct touched *in, unsigned unit, uint16_t site) {
+    if (doing.keeping_places)
+        strand.sites[in->block->place - 1][writes][unit] = site;
+    in->done[unit] |= writes ? WROTE_IT : READ_IT;
+}
+
+/* The access of a unit, or of a byte; its block, or null for one that goes out at once. */
+static inline void begin_access(bool writes, const struct touched *in, uint64_t location, uintptr_t address,
+                                uintptr_t code, uint64_t site) {
+    const uint16_t number = doing.keeping_places ? site_number(site) : NO_SITE;
+    if (in)
+        list_block(in);
+    if (doing.looking)
+        note_pending(writes, location, address, code);
+    if (in)
+        keep_access(writes, in, (location - in->location) / 2, number);
+    else
+        keep_recent(spbags_record(writes ? SPBAGS_WRITE : SPBAGS_READ, location), number);
+}
+
+void records_access(bool writes, const struct touched *in, uint64_t location, uintptr_t address, uintptr_t code) {
+    begin_record();
+    news += in != NULL;
+    if (!__builtin_expect(divided_any, 0) || !divided_access(writes, in, location, address, code)) {
+        uint64_t site = doing.keeping_places ? site_of_access(address, code) : 0;
+        if (doing.keeping_places || doing.looking)
+            follow_access(writes, location, address, site);
+        begin_access(writes, in, location, address, code, site);
+    }
+    if (doing.writing_repeats) {
+        records_put_strand();
+        begin_strand();
+    }
+    end_change();
+    end_at_last();
+}
+
+void records_begin_byte(bool writes, uint64_t location, uintptr_t address, uintptr_t code) {
+    begin_access(writes, NULL, location, address, code, site_word(true, code));
+}
+
+void records_follow_unit(bool writes, uint64_t location, uintptr_t unit, uintptr_t code) {
+    if (doing.keeping_places || doing.looking)
+        follow_access(writes, location, unit, site_of_access(unit, code));
+}
+
+/* ---- What others ask ---- */
+
+void records_drop(void) { strand.used = recent.used = recent.gone = 0; }
+
+/* What the strand has accessed in blocks. */
+static uint64_t units_touched(void) {
+    uint64_t count = 0;
+    for (size_t at = 0; at < strand.used; at++) {
+        const uint8_t *done = strand.list[at].done;
+        count += (uint64_t)__builtin_popcountll(units_with(done, READ_IT));
+        count += (uint64_t)__builtin_popcountll(units_with(done, WROTE_IT));
+    }
+    return count;
+}
+
+bool records_have_new(void) {
+    static uint64_t seen, touched;
+    const uint64_t seen_before = seen, touched_before = touched;
+    seen = news;
+    touched = units_touched();
+    return touched != touched_before || (only_detects() ? detector_has_new_step() : seen != seen_before);
+}

@@ -1,0 +1,223 @@
+#include "reducers.h"
+
+#include "frames.h"
+#include "hidden.h"
+#include "locations.h"
+#include "memory.h"
+
+bool reducers_any;
+
+struct view {
+    uintptr_t first, end;
+    /* Of a view on the stack the number of its first unit, and of any other the name of its memory: another variable
+       there has another one. */
+    uint64_t number;
+    /* The mark of the strand that wrote the view last; or that no access has been an update yet. */
+    uint32_t wrote;
+    /* How many end with it: itself, and those that stand behind it as the elements of one array. */
+    uint32_t count;
+};
+enum { MOST_VIEWS = 1 << 24, BEGINS = 0 };
+/* By their addresses. */
+static struct view *views;
+static size_t views_count;
+/* Whether a view is being written. */
+static bool writes_view;
+
+/* The first view that ends above this address. */
+static size_t view_above(uintptr_t address) {
+    size_t first = 0, end = views_count;
+    while (first < end) {
+        size_t middle = first + (end - first) / 2;
+        if (views[middle].end <= address)
+            first = middle + 1;
+        else
+            end = middle;
+    }
+    return first;
+}
+
+static void remove_view(size_t at) {
+    memmove(views + at, views + at + 1, (views_count - at - 1) * sizeof *views);
+    reducers_any = --views_count > 0;
+    locations_follow_views();
+}
+
+/* The number of the stack's unit with this address, which has none if nothing has touched it. */
+static uint64_t stack_number(uintptr_t address) {
+    uintptr_t unit = address & ~unit_mask;
+    return *stack_mark(unit) == UNTOUCHED ? 0 : numbers[(unit - stack_first) >> unit_shift];
+}
+
+static uint64_t number_at(uintptr_t address) {
+    return is_of_stack(address) ? stack_number(address) : name_in_life(address);
+}
+
+/* The view with this byte. One whose memory has ended is none any more. */
+static struct view *view_at(uintptr_t address) {
+    for (;;) {
+        size_t at = view_above(address);
+        if (at == views_count || views[at].first > address)
+            return NULL;
+        if (number_at(views[at].first) == views[at].number)
+            return &views[at];
+        remove_view(at);
+    }
+}
+
+bool reducers_have(uintptr_t address) { return view_at(address) != NULL; }
+
+enum update reducers_update_of(uintptr_t unit, unsigned shift, bool repeats) {
+    uintptr_t first = unit, end = unit + ((uintptr_t)1 << shift);
+    if (narrow.end != 0) {
+        first = narrow.first > first ? narrow.first : first;
+        end = narrow.end < end ? narrow.end : end;
+    }
+    struct view *view = writes_view ? NULL : view_at(first);
+    if (!view || end > view->end)
+        return NO_UPDATE;
+    if (!repeats && view->wrote == BEGINS)
+        view->wrote = TOUCHED;
+    return view->first <= unit && unit + ((uintptr_t)1 << shift) <= view->end ? UPDATES_UNIT : UPDATES_PART;
+}
+
+/* No unit of the stack's memory that is all the view's has been written, whatever its mark says. */
+static void forget_updates(const struct view *view) {
+    uintptr_t unit = (view->first + unit_mask) & ~unit_mask;
+    for (; is_of_stack(unit) && unit + unit_mask < view->end; unit += unit_mask + 1)
+        if (*stack_mark(unit) >= FIRST_READ)
+            *stack_mark(unit) = TOUCHED;
+}
+
+static void write_view(struct view *view, uintptr_t code) {
+    if (view->wrote == new_mark(true))
+        return;
+    if (view->wrote != BEGINS)
+        forget_updates(view);
+    view->wrote = new_mark(true);
+    writes_view = true;
+    locations_touch(true, view->first, view->end - view->first, code);
+    writes_view = false;
+}
+
+void reducers_forget(void) {
+    for (size_t at = 0; at < views_count; at++)
+        views[at].wrote = TOUCHED;
+}
+
+/* ---- The hooks ---- */
+
+static struct view *add_view(uintptr_t first, size_t size, const char *note) {
+    if (!views)
+        views = reserve(MOST_VIEWS * sizeof *views);
+    if (views_count == MOST_VIEWS)
+        fail("there are more than %d reducers at once", MOST_VIEWS);
+    size_t at = view_above(first);
+    while (at < views_count && views[at].first < first + size)
+        remove_view(at);
+    memmove(views + at + 1, views + at, (views_count - at) * sizeof *views);
+    views[at] = (struct view){.first = first, .end = first + size, .count = 1};
+    views_count++;
+    reducers_any = true;
+    locations_follow_views();
+    if (is_of_stack(first)) {
+        uint32_t *mark = stack_mark(first);
+        stack_location(first & ~unit_mask, *mark, unit_shift);
+        *mark = *mark == UNTOUCHED ? TOUCHED : *mark;
+    }
+    views[at].number = number_at(first);
+    if (note)
+        tell_not_run(note);
+    return &views[at];
+}
+
+static struct view *known_view(uintptr_t first, size_t size, const char *note) {
+    struct view *view = view_at(first);
+    return view && view->first == first && view->end == first + size ? view : add_view(first, size, note);
+}
+
+static bool records_views(void) { return doing.tracing && initialising == hidden_updates; }
+
+/* Some begin, one behind another. */
+static void begin_views(uintptr_t first, size_t size, size_t count, const char *note, uintptr_t stack_pointer,
+                        uintptr_t code) {
+    if (!doing.tracing || size == 0)
+        return;
+    leave_jumped(stack_pointer, code);
+    for (size_t at = 0; at < count; at++) {
+        struct view *view = add_view(first + at * size, size, note);
+        view->count = at == 0 ? (uint32_t)count : 1;
+        if (records_views())
+            write_view(view, code);
+    }
+}
+
+void __spbags_reducer(const volatile void *at, unsigned long size, const char *note) {
+    begin_views((uintptr_t)at, size, 1, note, STACK_POINTER, CODE);
+}
+
+void __spbags_reducers(const volatile void *at, unsigned long size, unsigned long each, const char *note) {
+    begin_views((uintptr_t)at, each, each > 0 ? size / each : 0, note, STACK_POINTER, CODE);
+}
+
+const char __spbags_no_reducer[] = "";
+
+/* One that never began, as a global one, begins now. */
+static void *update(uintptr_t at, size_t size, const char *note, uintptr_t stack_pointer, uintptr_t code) {
+    enum { FIRST_BYTES = 8 };
+    if (records_views() && size > 0 && note != __spbags_no_reducer) {
+        leave_jumped(stack_pointer, code);
+        known_view(at, size, note);
+        locations_touch(false, at, size < FIRST_BYTES ? size : FIRST_BYTES, code);
+    }
+    return (void *)at;
+}
+
+static void *value(uintptr_t at, size_t size, const char *note, uintptr_t stack_pointer, uintptr_t code) {
+    if (records_views() && size > 0 && note != __spbags_no_reducer) {
+        leave_jumped(stack_pointer, code);
+        write_view(known_view(at, size, note), code);
+    }
+    return (void *)at;
+}
+
+void *__spbags_update(const volatile void *at, unsigned long size, const char *note) {
+    return update((uintptr_t)at, size, note, STACK_POINTER, CODE);
+}
+
+void *__spbags_value(const volatile void *at, unsigned long size, const char *note) {
+    return value((uintptr_t)at, size, note, STACK_POINTER, CODE);
+}
+
+static bool is_in(const volatile void *at, const void *first, size_t size) {
+    return (uintptr_t)at - (uintptr_t)first < size;
+}
+
+void *__spbags_update_of(const volatile void *at, unsigned long size, const char *note, const void *first,
+                         unsigned long whole) {
+    return is_in(at, first, whole) ? update((uintptr_t)at, size, note, STACK_POINTER, CODE) : (void *)at;
+}
+
+void *__spbags_value_of(const volatile void *at, unsigned long size, const char *note, const void *first,
+                        unsigned long whole) {
+    return is_in(at, first, whole) ? value((uintptr_t)at, size, note, STACK_POINTER, CODE) : (void *)at;
+}
+
+static void end_view(struct view *view, uintptr_t code) {
+    if (records_views())
+        write_view(view, code);
+    remove_view((size_t)(view - views));
+}
+
+void __spbags_reducer_end(const volatile void *at) {
+    struct view *view = doing.tracing ? view_at((uintptr_t)at) : NULL;
+    if (!view)
+        return;
+    leave_jumped(STACK_POINTER, CODE);
+    size_t size = view->end - view->first, count = view->count;
+    for (size_t number = 0; number < count; number++) {
+        view = view_at((uintptr_t)at + number * size);
+        if (view)
+            end_view(view, CODE);
+    }
+}
