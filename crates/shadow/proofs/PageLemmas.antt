@@ -1,5 +1,5 @@
 -- Pages in a list by their numbers: their indices, and what is kept after one seat was put.
-use Rattle.std.proofs.Common.{◌≡◌, ◌≢◌, ◌≤◌, ◌+◌, ◌*◌, ◌/◌, ◌%◌, ℕ, zero, suc, ◌⊎◌, inl, inr, arith, ⊎_elim, List, [], ◌∷◌, Option, None, Some, true, false, cond, if◌then◌else◌, ◌==◌, ◌&&◌, nat_eq, unwrap_or, slice_get, option_map, position, get_or, length, ◌<◌, refl, sym, subst, ap, ◌∙◌}
+use Rattle.std.proofs.Common.{◌≡◌, ◌≢◌, ◌≤◌, ◌+◌, ◌*◌, ◌/◌, ◌%◌, ℕ, zero, suc, ◌⊎◌, inl, inr, arith, ⊎_elim, List, [], ◌∷◌, Option, Some, true, false, cond, if◌then◌else◌, ◌==◌, ◌&&◌, nat_eq, unwrap_or, slice_get, option_map, position, get_or, length, ◌<◌, refl, sym, subst, ap, ◌∙◌}
 use Rattle.std.specs.Map.{lookup, keys_of, values_of}
 use Rattle.std.proofs.lemmas.Bool.{cases_eq, eqb-true, eq-eqb, ne_eqb}
 use Rattle.std.proofs.lemmas.Bool.Decides.{eqb_tells}
@@ -12,6 +12,7 @@ use Rattle.bags.specs.Procedures.{Procedures}
 use Rattle.shadow.specs.Before.{IsCellBefore}
 use Rattle.shadow.specs.Touches.{HasTouched}
 use Rattle.shadow.specs.Cells.{Cell, touched}
+use Rattle.shadow.specs.Lending.{HasSetPage}
 use Rattle.shadow.specs.Pages.{page_numbered, cell_in, cell_of, page_of, seat_of, IsPageAt, HasPut, HasSameCells, Page, no_page, cell_at, shards_of, apart_of, own_page_of}
 use Rattle.shadow.specs.declared.spot.Layout.{Layout}
 use Rattle.shadow.specs.declared.spot.Layout.TheVariants.{Program, Shards}
@@ -34,29 +35,36 @@ value_at [] i page c e = ap (λ (o : Option (ℕ × Page)). option_map (λ p. p.
 value_at ((n, d) ∷ es) zero page c e = ap (λ (o : Option (ℕ × Page)). option_map (λ p. p.1) o) e
 value_at (d ∷ es) (suc i) page c e = value_at es i page c e
 
--- at a page's index there is a value
-pub some_value : (es : List (ℕ × Page)) (i page : ℕ) (o : Option Page) → IsPageAt es i page → o ≡ slice_get (values_of es) i → o ≡ None → ⊥
-some_value es i page o at is none = let e : None ≡ Some (page_numbered es page) = sym none ∙ is ∙ value_at es i page (page_numbered es page) at in absurd (cc)
-
 -- the value at a page's index is the page
 pub value_there : (es : List (ℕ × Page)) (i page : ℕ) (b : Page) → IsPageAt es i page → Some b ≡ slice_get (values_of es) i → b ≡ page_numbered es page
 value_there es i page b at is = ap (λ o. unwrap_or o no_page) (is ∙ value_at es i page (page_numbered es page) at)
 
--- what is kept after one page was changed in one seat, where each look-up says so
+-- a page was set, where each look-up says so
+pub set_page : (es fs : List (ℕ × Page)) (page : ℕ) (b : Page) → ((q : ℕ) → lookup (nat_eq q) fs ≡ cond (nat_eq page q) (Some b) (lookup (nat_eq q) es)) → HasSetPage page b es fs
+set_page es fs page b looks q = ap (λ o. unwrap_or o no_page) (looks q) ∙ ⊎_elim same other (eqb_tells page q)
+  where
+    Set : Type 0
+    Set = unwrap_or (cond (nat_eq page q) (Some b) (lookup (nat_eq q) es)) no_page ≡ (if q == page then b else page_numbered es q)
+
+    same : (nat_eq page q ≡ true) × (page ≡ q) → Set
+    same (is, e) = rw (is, eq-eqb q page (sym e)) refl
+
+    other : (nat_eq page q ≡ false) × (page ≢ q) → Set
+    other (is, ne) = rw (is, ne_eqb q page (λ e. ne (sym e))) refl
+
+-- what is kept after a page was set that differs in one seat
 pub put_changed : (es fs : List (ℕ × Page)) (page seat : ℕ) (c : Cell) (b : Page)
-    → ((k : ℕ) → cell_at b k ≡ (if k == seat then c else cell_at (page_numbered es page) k))
-    → ((q : ℕ) → lookup (nat_eq q) fs ≡ cond (nat_eq page q) (Some b) (lookup (nat_eq q) es))
-    → HasPut page seat c es fs
-put_changed es fs page seat c b seats looks q k = rw looks (⊎_elim same other (eqb_tells page q))
+    → ((k : ℕ) → cell_at b k ≡ (if k == seat then c else cell_at (page_numbered es page) k)) → HasSetPage page b es fs → HasPut page seat c es fs
+put_changed es fs page seat c b seats set q k = ap (λ p. cell_at p k) (set q) ∙ ⊎_elim same other (eqb_tells q page)
   where
     Changed : Type 0
-    Changed = cell_at (unwrap_or (cond (nat_eq page q) (Some b) (lookup (nat_eq q) es)) no_page) k ≡ (if q == page && k == seat then c else cell_at (page_numbered es q) k)
+    Changed = cell_at (if q == page then b else page_numbered es q) k ≡ (if q == page && k == seat then c else cell_at (page_numbered es q) k)
 
-    same : (nat_eq page q ≡ true) × (page ≡ q) → Changed
-    same (is, e) = rw (is, eq-eqb q page (sym e)) (seats k ∙ ap (λ p. if k == seat then c else cell_at (page_numbered es p) k) e)
+    same : (nat_eq q page ≡ true) × (q ≡ page) → Changed
+    same (is, e) = rw is (seats k ∙ ap (λ p. if k == seat then c else cell_at (page_numbered es p) k) (sym e))
 
-    other : (nat_eq page q ≡ false) × (page ≢ q) → Changed
-    other (is, ne) = rw (is, ne_eqb q page (λ e. ne (sym e))) refl
+    other : (nat_eq q page ≡ false) × (q ≢ page) → Changed
+    other (is, ne) = rw is refl
 
 -- a page that was left but for one seat
 pub but_one_seat : (old new : Page) (seat : ℕ) → ((k : ℕ) → k ≢ seat → cell_at new k ≡ cell_at old k) → (k : ℕ) → cell_at new k ≡ (if k == seat then cell_at new seat else cell_at old k)
@@ -65,43 +73,9 @@ but_one_seat old new seat others k = elim (cases_eq k seat) [
   | inr n ↦ rw (ne_eqb k seat n) (others k n)
 ]
 
--- what was put stands there
-pub put_here : (es fs : List (ℕ × Page)) (page seat : ℕ) (c : Cell) → HasPut page seat c es fs → cell_in fs page seat ≡ c
-put_here es fs page seat c put =
-    let here : cell_in fs page seat ≡ (if page == page && seat == seat then c else cell_in es page seat) = put page seat in
-    rw (eq-eqb page page refl, eq-eqb seat seat refl) at here
-
--- the page that was changed, where each look-up says so
-pub numbered_here : (es fs : List (ℕ × Page)) (page : ℕ) (b : Page) → ((q : ℕ) → lookup (nat_eq q) fs ≡ cond (nat_eq page q) (Some b) (lookup (nat_eq q) es)) → page_numbered fs page ≡ b
-numbered_here es fs page b looks = ap (λ o. unwrap_or o no_page) (looks page ∙ ap (λ t. cond t (Some b) (lookup (nat_eq page) es)) (eq-eqb page page refl))
-
--- a page that was changed in one seat
-pub seat_changed : (es fs : List (ℕ × Page)) (page seat : ℕ) (old new : Page) → old ≡ page_numbered es page
-    → ((q : ℕ) → lookup (nat_eq q) fs ≡ cond (nat_eq page q) (Some new) (lookup (nat_eq q) es))
-    → ((k : ℕ) → k ≢ seat → cell_at new k ≡ cell_at old k) → HasPut page seat (cell_in fs page seat) es fs
-seat_changed es fs page seat old new is looks others =
-    let put : HasPut page seat (cell_at new seat) es fs = put_changed es fs page seat (cell_at new seat) new (λ k. but_one_seat old new seat others k ∙ ap (λ p. if k == seat then cell_at new seat else cell_at p k) is) looks in
-    subst (λ (c : Cell). HasPut page seat c es fs) (sym (put_here es fs page seat (cell_at new seat) put)) put
-
--- and whose seat an access touched
-pub seat_touched : {s : Procedures} {l place : ℕ} {kind : Kind} {race : Option RaceAt} (es fs : List (ℕ × Page)) (page seat : ℕ) (old new : Page) → old ≡ page_numbered es page
-    → ((q : ℕ) → lookup (nat_eq q) fs ≡ cond (nat_eq page q) (Some new) (lookup (nat_eq q) es))
-    → HasTouched s l kind place (cell_at old seat) (cell_at new seat) race → HasTouched s l kind place (cell_in es page seat) (cell_in fs page seat) race
-seat_touched {s = s} {l = l} {place = place} {kind = kind} {race = race} es fs page seat old new is looks t =
-    subst (λ (p : Page). HasTouched s l kind place (cell_in es page seat) (cell_at p seat) race) (sym (numbered_here es fs page new looks))
-    (subst (λ (p : Page). HasTouched s l kind place (cell_at p seat) (cell_at new seat) race) is t)
-
--- a put over pages that keep the same
-pub put_over : (es ps fs : List (ℕ × Page)) (page seat : ℕ) (c : Cell) → HasSameCells es ps → HasPut page seat c ps fs → HasPut page seat c es fs
-put_over es ps fs page seat c same put q k = put q k ∙ ap (λ d. if q == page && k == seat then c else d) (same q k)
-
--- an access of the location in a seat
-pub touch_put : {s : Procedures} {l place : ℕ} {kind : Kind} {race : Option RaceAt} (es fs : List (ℕ × Page)) (page seat : ℕ) → HasTouched s l kind place (cell_in es page seat) (cell_in fs page seat) race
-    → HasPut page seat (cell_in fs page seat) es fs → HasPut page seat (touched s.active kind place (cell_in es page seat)) es fs
-touch_put es fs page seat t put = subst (λ (c : Cell). HasPut page seat c es fs) t.kept put
-
-pub touch_before : {s : Procedures} {l place : ℕ} {kind : Kind} {old new : Cell} {race : Option RaceAt} → HasTouched s l kind place old new race → IsCellBefore (place + 1) s.count (touched s.active kind place old)
-touch_before {s = s} {place = place} t = subst (IsCellBefore (place + 1) s.count) t.kept t.earlier
+-- the page that was set
+pub numbered_here : (es fs : List (ℕ × Page)) (page : ℕ) (b : Page) → HasSetPage page b es fs → page_numbered fs page ≡ b
+numbered_here es fs page b set = set page ∙ ap (λ t. if t then b else page_numbered es page) (eq-eqb page page refl)
 
 -- two numbers of a shard's locations that have one page there have seats of their own
 one_number : (y : Layout) (a b : ℕ) → own_page_of (apart_of y) a ≡ own_page_of (apart_of y) b → a / apart_of y % 8 ≡ b / apart_of y % 8 → a ≡ b
@@ -147,3 +121,29 @@ put_is_of n es fs l c some put q = put (page_of n q) (seat_of n q) ∙ ap (λ t.
         not_both (inl (p, pages)) (inl (s, seats)) = absurd (ne (one_seat n q l some pages seats))
         not_both (inl (p, pages)) (inr (s, seats)) = rw (p, s) refl
         not_both (inr (p, pages)) s = rw p refl
+
+-- what each location keeps once a page is back that was lent for an access; es are the pages before it was found
+pub kept_by_touch : {s : Procedures} {place : ℕ} {kind : Kind} {race : Option RaceAt} (n : Layout) (es ps fs : List (ℕ × Page)) (l page seat : ℕ) (old new : Page)
+    → 1 ≤ shards_of n → page ≡ page_of n l → seat ≡ seat_of n l → HasSameCells es ps → old ≡ page_numbered ps page → HasSetPage page new ps fs
+    → ((k : ℕ) → k ≢ seat → cell_at new k ≡ cell_at old k) → HasTouched s l kind place (cell_at old seat) (cell_at new seat) race
+    → IsCellBefore (place + 1) s.count (touched s.active kind place (cell_of n es l)) × ((q : ℕ) → cell_of n fs q ≡ with_cell l (touched s.active kind place (cell_of n es l)) (cell_of n es) q)
+kept_by_touch {s = s} {place = place} {kind = kind} n es ps fs l page seat old new some page_is seat_is same is set others t =
+    (subst (IsCellBefore (place + 1) s.count) now t.earlier, put_is_of n es fs l cell some put)
+  where
+    cell : Cell
+    cell = touched s.active kind place (cell_of n es l)
+
+    before : cell_at old seat ≡ cell_of n es l
+    before = ap (λ p. cell_at p seat) is ∙ same page seat ∙ ap (λ p. cell_in es p seat) page_is ∙ ap (λ k. cell_in es (page_of n l) k) seat_is
+
+    now : cell_at new seat ≡ cell
+    now = t.kept ∙ ap (touched s.active kind place) before
+
+    seats : (k : ℕ) → cell_at new k ≡ (if k == seat then cell else cell_at (page_numbered ps page) k)
+    seats k = but_one_seat old new seat others k ∙ ap (λ c. if k == seat then c else cell_at old k) now ∙ ap (λ p. if k == seat then cell else cell_at p k) is
+
+    there : HasPut page seat cell es fs
+    there q k = put_changed ps fs page seat cell new seats set q k ∙ ap (λ d. if q == page && k == seat then cell else d) (same q k)
+
+    put : HasPut (page_of n l) (seat_of n l) cell es fs
+    put = subst (λ p. HasPut p (seat_of n l) cell es fs) page_is (subst (λ k. HasPut page k cell es fs) seat_is there)

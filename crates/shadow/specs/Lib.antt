@@ -8,3 +8,4 @@ pub use Rattle.bags.specs.Procedures
 pub use Rattle.dag.specs.Accesses
 pub use Rattle.dag.specs.Shares
 pub mod Touches
+pub mod Lending

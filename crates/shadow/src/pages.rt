@@ -1,14 +1,15 @@
 //! The touched pages, by their numbers. A page has what is kept of eight locations.
 ghost use Rattle.std.specs.Prelude.{◌≡◌, ◌≢◌, ◌<◌, ℕ, [], IfSome, IfOk, IsTrue, OnErr, slice_index_or};
+ghost use Rattle.std.specs.Borrow.{sem};
+ghost use Rattle.indexmap.specs.IndexMap.{set_value_at};
 ghost use Rattle.shadow.specs.Cells.{untouched};
-ghost use Rattle.shadow.specs.Pages.{no_names, no_page, page_numbered, cell_at, cell_in};
+ghost use Rattle.shadow.specs.Pages.{Page, no_names, no_page, page_numbered, cell_at, cell_in};
 ghost use Rattle.shadow.specs.Pages.{IsPageAt, IsLookedUp, HasPut, HasSameCells};
-ghost use Rattle.shadow.specs.Touches.{MayTouch, HasTouched};
+ghost use Rattle.shadow.specs.Lending.{lends_page, HasSetPage};
 
 use crate::names::Names;
 use crate::spot::{Layout, Spot, slot_before};
-use bags::Bags;
-use dag::{Kind, NoMemory, Race};
+use dag::NoMemory;
 use indexmap::IndexMap;
 use std::alloc::Global;
 use std::hash::BuildHasher;
@@ -17,9 +18,9 @@ use std::marker::Model;
 /// What is kept of eight locations.
 #[derive(Drop)]
 pub struct Page {
-    names: [Names; 8],
-    // Whether the race of each location was reported. Few accesses look at it, so it stands apart from the names.
-    reported: [bool; 8],
+    pub names: [Names; 8],
+    /// Whether the race of each location was reported. Few accesses look at it, so it stands apart from the names.
+    pub reported: [bool; 8],
 }
 
 impl Model for Page {
@@ -199,33 +200,18 @@ impl<S: BuildHasher> Pages<S> {
         }
     }
 
-    /// Takes an access to the location of this spot, whose page is at this index, and reports its race, if any.
+    /// The page of this number, which is at this index, to write. All other pages stay as they are.
     #[inline(always)]
-    pub fn touch_cell(
-        &mut self,
-        at: usize,
-        spot: Spot,
-        bags: &Bags,
-        location: u64,
-        kind: Kind,
-        place: u64,
-    ) -> Option<Race>
-        requires there { IsPageAt self.old at spot.page }
-        requires may { MayTouch bags.now place (cell_in self.old spot.page spot.seat) }
-        ensures touched { HasTouched bags.now location kind place
-            (cell_in self.old spot.page spot.seat) (cell_in self.new spot.page spot.seat) result }
-        ensures others { HasPut spot.page spot.seat (cell_in self.new spot.page spot.seat) self.old self.new }
+    pub fn page_mut(&mut self, at: usize, page: u64) -> &mut Page
+        requires there { IsPageAt self.old at page }
+        ensures* writes_back { sem 𝓛
+            (lends_page S.row S.Hasher.row S.BuildHasher S.Hasher.Hasher self.entry at result) }
+        ensures value { result.now ≡ page_numbered self.old page }
+        ensures set { (left : Page) → HasSetPage page left self.old (set_value_at self.old at left) }
     {
-        match self.map.get_index_mut(at) {
-            Some(page) => page.names[spot.seat].update(
-                &mut page.reported[spot.seat],
-                bags,
-                location,
-                kind,
-                place,
-            ),
-            None => unreachable!(),
-        }
+        // The proof also needs what `len` says of the map: no number is there twice.
+        prove!(at < self.map.len());
+        &mut self.map[at]
     }
 
     /// The location of this spot is as it was before its first access. A page whose locations all are goes.
@@ -257,13 +243,9 @@ impl<S: BuildHasher> Pages<S> {
         ensures put { HasPut spot.page spot.seat untouched self.old self.new }
         ensures empty { IsTrue result → (k : ℕ) → cell_in self.new spot.page k ≡ untouched }
     {
-        match self.map.get_index_mut(at) {
-            Some(page) => {
-                page.forget_seat(spot.seat);
-                page.is_untouched()
-            }
-            None => unreachable!(),
-        }
+        let page = self.page_mut(at, spot.page);
+        page.forget_seat(spot.seat);
+        page.is_untouched()
     }
 
     // Drops the page of this number, whose locations are untouched.

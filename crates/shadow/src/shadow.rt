@@ -145,7 +145,8 @@ impl<S: BuildHasher> Shadow<S> {
         let at = self.pages.find(spot, self.layout)?;
         self.last_place = place;
         self.least_count = bags.count();
-        Ok(self.pages.touch_cell(at, spot, bags, location, kind, place))
+        let page = self.pages.page_mut(at, spot.page);
+        Ok(page.names[spot.seat].update(&mut page.reported[spot.seat], bags, location, kind, place))
     }
 
     /// The location is as it was before its first access.
