@@ -9,11 +9,11 @@ static bool is_atomic;
 
 __attribute__((noinline)) static void other_access(bool writes, uintptr_t at, size_t size, __spbags_function self,
                                                    uintptr_t stack_pointer, uintptr_t code) {
-    if (!doing.tracing || initialising > 0)
+    if (!doing.tracing || frames_initialising > 0)
         return;
     leave_jumped(stack_pointer, code);
-    if (is_atomic && top <= silent_frame) {
-        left_out_update = true;
+    if (is_atomic && frames_top <= frames_silent) {
+        frames_left_out_update = true;
         return;
     }
     if (!is_on_the_way(self))
@@ -22,7 +22,7 @@ __attribute__((noinline)) static void other_access(bool writes, uintptr_t at, si
 
 static inline void any_access(bool writes, uintptr_t at, size_t size, __spbags_function self, uintptr_t stack_pointer,
                               uintptr_t code) {
-    if (!doing.tracing || (is_on_the_way(self) && stack_pointer < top->end))
+    if (!doing.tracing || (is_on_the_way(self) && stack_pointer < frames_top->end))
         return;
     other_access(writes, at, size, self, stack_pointer, code);
 }

@@ -22,6 +22,6 @@ void __spbags_asm_outside(const char *place) {
 
 /* One that goes to memory by a register, or calls something. Each tells once, by its place in the source. */
 void __spbags_asm_unseen(const char *place) {
-    if (is_beside_others() && tell_is_first((uintptr_t)place))
+    if (procedures_run_beside() && tell_is_first((uintptr_t)place))
         tell_incomplete("%s: the assembly here may access memory that none of its operands names", place);
 }

@@ -6,7 +6,7 @@
 const char *__spbags_enter(const char *place) {
     if (doing.tracing) {
         back_to_function(STACK_POINTER, CODE);
-        push_frame(SCOPE, top->kind == SCOPE ? top->end : top->end - 1);
+        frames_push(SCOPE, frames_top->kind == SCOPE ? frames_top->end : frames_top->end - 1);
     }
     return place;
 }
@@ -15,12 +15,12 @@ void __spbags_leave(const char *const *place) {
     if (!doing.tracing)
         return;
     leave_jumped(STACK_POINTER, CODE);
-    if (top->kind == CHILD)
+    if (frames_top->kind == CHILD)
         tell_incomplete("%s: an exception leaves a child here, and what comes until it is waited for isn't run",
                         *place);
     leave_children(CODE);
-    if (top->kind == SCOPE)
-        leave_top(CODE);
+    if (frames_top->kind == SCOPE)
+        frames_leave_top(CODE);
 }
 
 /* Of the iteration that begins. */
@@ -32,8 +32,8 @@ void __spbags_iteration(long value, long shown) {
         return;
     uintptr_t code = CODE;
     /* No library function is the child itself. */
-    begin_child((__spbags_function)__spbags_counter, STACK_POINTER, code);
-    top->code = code;
+    frames_begin_child((__spbags_function)__spbags_counter, STACK_POINTER, code);
+    frames_top->code = code;
     note_part((struct part){.of = "cilk_for", .first = (uint64_t)shown, .last = (uint64_t)shown});
 }
 

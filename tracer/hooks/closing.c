@@ -11,16 +11,16 @@
 
 void closing_stop(void) {
     doing.tracing = false;
-    find_short_way();
+    short_way_find();
 }
 
 static void tell_notes(void) {
     if (has_had_children())
         locations_tell_narrow();
-    if (most_procedures > DEFAULT_DEPTH + 1 && !detects())
-        tell_record(tell_numbered("depth", most_procedures - 1).text,
-                    "procedures nest %u deep, so spbags needs --depth %u or more", most_procedures - 1,
-                    most_procedures - 1);
+    if (procedures_most > DEFAULT_DEPTH + 1 && !detects())
+        tell_record(tell_numbered("depth", procedures_most - 1).text,
+                    "procedures nest %u deep, so spbags needs --depth %u or more", procedures_most - 1,
+                    procedures_most - 1);
     openmp_tell_notes();
     tell_unknown_functions();
     end_places();
@@ -34,8 +34,8 @@ void closing_end(void) {
     tell_course();
     records_put_strand();
     outcome.most = next_place = last_record = UINT64_MAX;
-    while (procedures > 0)
-        close_procedure(0);
+    while (procedures_count > 0)
+        procedures_close(0);
     if (doing.looking)
         put_notes();
     tell_notes();

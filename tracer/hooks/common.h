@@ -4,7 +4,7 @@
    the serial order: a spawned child runs at once, as an ordinary call.
 
    Each part is a .c file with a header of what others may call; what is on the way of each access is inline there. An
-   access comes to accesses.c, and a function's entry or a spawn to procedures.c. Of memory blocks.h has what the strand
+   access comes to accesses.c, and a function's entry or a spawn to frames.c. Of memory blocks.h has what the strand
    has done, or marks.h for the stack; locations.c gives it its locations, and records.c passes their records on: strands.h
    and window.h have those that go out later, and detector.c or output.c gets them then. Where one of these calls what
    stands on it, its header says so.

@@ -14,7 +14,7 @@ __attribute__((used)) void __spbags_copy(uintptr_t at, size_t size, uintptr_t st
         return;
     if (kind != COPY_UNSEEN)
         note_access(kind == COPY_WRITTEN, at, size, NULL, stack_pointer, code);
-    else if (is_beside_others() && tell_is_first(at))
+    else if (procedures_run_beside() && tell_is_first(at))
         tell_incomplete("%s: a struct that a call takes or gives here isn't seen", (const char *)at);
 }
 

@@ -32,17 +32,17 @@ DELETE(_ZdaPvSt11align_val_tRKSt9nothrow_t)
         __real_##NAME(guard); \
         CHANGE; \
         if (doing.tracing) \
-            find_short_way(); \
+            short_way_find(); \
     }
-GUARD(__cxa_guard_release, initialising--)
-GUARD(__cxa_guard_abort, initialising--)
+GUARD(__cxa_guard_release, frames_initialising--)
+GUARD(__cxa_guard_abort, frames_initialising--)
 
 __attribute__((weak)) int __real___cxa_guard_acquire(void *guard);
 int __wrap___cxa_guard_acquire(void *guard) {
     int first = __real___cxa_guard_acquire(guard);
-    initialising += first != 0;
+    frames_initialising += first != 0;
     if (doing.tracing)
-        find_short_way();
+        short_way_find();
     return first;
 }
 

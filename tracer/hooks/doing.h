@@ -15,6 +15,8 @@ extern struct doing {
     bool keeping_places;
     /* Each record of an access begins a strand, so that there are no repeats. */
     bool writing_repeats;
+    /* The version of the trace's text. */
+    unsigned version;
 } doing;
 
 #ifdef SPBAGS_INSIDE

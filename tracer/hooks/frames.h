@@ -1,5 +1,5 @@
 /* The frames of the functions that are active and of the children that were spawned, and the procedures that they are in
-   the trace. procedures.c has what is done with them. */
+   the trace. */
 #ifndef SPBAGS_FRAMES_H
 #define SPBAGS_FRAMES_H
 
@@ -42,15 +42,15 @@ struct frame {
 };
 
 /* All, and the newest one. */
-extern struct frame *frames, *frames_end __asm__("__spbags_frames_end"), *top __asm__("__spbags_top");
+extern struct frame *frames_all, *frames_end __asm__("__spbags_frames_end"), *frames_top __asm__("__spbags_top");
 /* What the function of this frame and those around it update atomically isn't recorded, but what they call is. Or NULL. */
-extern struct frame *silent_frame;
+extern struct frame *frames_silent;
 /* Whether such an update was left out. */
-extern bool left_out_update;
+extern bool frames_left_out_update;
 /* What holds the newest group of tasks, or NULL. */
-extern struct frame *grouped;
+extern struct frame *frames_grouped;
 /* How many local statics of C++ are being initialised, while nothing is recorded. */
-extern unsigned initialising;
+extern unsigned frames_initialising;
 
 static inline bool is_of_function(const struct frame *frame) { return frame->kind == FUNCTION || frame->kind == SCOPE; }
 
@@ -63,51 +63,53 @@ extern uintptr_t short_way_bits;
    where no access does, or where records don't only go to the detector. */
 extern uintptr_t short_way_first __asm__("__spbags_short_way_first");
 
-static inline void follow_top(void) { short_way_end = top->kind != CHILD ? top->end & short_way_bits : 0; }
+static inline void follow_top(void) {
+    short_way_end = frames_top->kind != CHILD ? frames_top->end & short_way_bits : 0;
+}
 /* After a change of what is recorded. */
-void find_short_way(void);
+void short_way_find(void);
 
-/* While blocks go out nothing goes the short way, up to find_short_way: where a handler of a signal makes a new access,
+/* While blocks go out nothing goes the short way, up to short_way_find: where a handler of a signal makes a new access,
    the run ends. */
-static inline void leave_short_way(void) {
+static inline void short_way_leave(void) {
     short_way_bits = short_way_end = 0;
     short_way_first = UINTPTR_MAX;
     in_order();
 }
 
 static inline void push_frame_at(enum kind kind, uintptr_t end, uintptr_t position) {
-    if (__builtin_expect(++top == frames_end, 0))
+    if (__builtin_expect(++frames_top == frames_end, 0))
         fail("functions nest too deep");
-    top->end = end;
-    top->kind = kind;
-    top->called = false;
-    top->children = top->node = NONE;
-    top->position = position;
+    frames_top->end = end;
+    frames_top->kind = kind;
+    frames_top->called = false;
+    frames_top->children = frames_top->node = NONE;
+    frames_top->position = position;
     follow_top();
 }
 
 /* Behind all records so far. */
-void push_frame(enum kind kind, uintptr_t end);
-void begin_child(__spbags_function callee, uintptr_t stack_pointer, uintptr_t code);
-void leave_top(uintptr_t code);
+void frames_push(enum kind kind, uintptr_t end);
+void frames_begin_child(__spbags_function callee, uintptr_t stack_pointer, uintptr_t code);
+void frames_leave_top(uintptr_t code);
 
 /* Leaves the frames that ended at or below this address. */
 static inline void leave_below(uintptr_t address, uintptr_t code) {
-    while (top->end <= address)
-        leave_top(code);
+    while (frames_top->end <= address)
+        frames_leave_top(code);
 }
 
 static inline void leave_children(uintptr_t code) {
-    while (top->kind == CHILD)
-        leave_top(code);
+    while (frames_top->kind == CHILD)
+        frames_leave_top(code);
 }
 
 /* Leaves the frames that a longjmp left, and the children among them; a strand begins then. */
-__attribute__((noinline, cold)) void leave_left(uintptr_t address, uintptr_t code);
+__attribute__((noinline, cold)) void frames_leave_left(uintptr_t address, uintptr_t code);
 
 static inline void leave_jumped(uintptr_t address, uintptr_t code) {
-    if (__builtin_expect(top->end <= address, 0))
-        leave_left(address, code);
+    if (__builtin_expect(frames_top->end <= address, 0))
+        frames_leave_left(address, code);
 }
 
 /* A spawn and a sync are in a function itself: a child that is still open above it was left by a longjmp. */
@@ -117,37 +119,35 @@ static inline void back_to_function(uintptr_t stack_pointer, uintptr_t code) {
 }
 
 /* The stack memory below this address has no variable any more. */
-void forget_below(uintptr_t address);
+void frames_forget_below(uintptr_t address);
 
 /* Between a spawn and the entry of what it calls, and between its exit and the return, compilers copy arguments and the
    result through memory of the parent's frame, which no program sees. A library function that is the child itself says
    so by its name. */
-static inline bool is_on_the_way(__spbags_function self) { return top->kind == CHILD && top->callee != self; }
+static inline bool is_on_the_way(__spbags_function self) {
+    return frames_top->kind == CHILD && frames_top->callee != self;
+}
 
 /* The frames whose groups of tasks end with the newest frame. */
-__attribute__((cold)) void leave_groups(uintptr_t code);
-/* In a run that looks this function waits for its children, and maybe ends with that. */
-void look_at_wait(const struct frame *frame, uintptr_t code, bool ends);
+__attribute__((cold)) void parallel_leave_groups(uintptr_t code);
 
 /* ---- Procedures ---- */
 
 /* Those that stand open in the trace, from 1, the root's. Each has the frame whose unsynced children it holds, or none:
    that of the root, which spawns nothing. */
-extern struct frame **owners;
-extern uint32_t procedures, most_procedures;
-/* The version of the trace's text. */
-extern unsigned version;
+extern struct frame **procedures_owners;
+extern uint32_t procedures_count, procedures_most;
 
-void open_procedure(enum spbags_kind kind, uintptr_t code);
-void sync_procedure(uintptr_t code);
-void close_procedure(uintptr_t code);
+void procedures_open(enum spbags_kind kind, uintptr_t code);
+void procedures_sync(uintptr_t code);
+void procedures_close(uintptr_t code);
 
 /* Where nothing was a child no access has another one beside it. */
-static inline bool has_had_children(void) { return most_procedures > 1; }
+static inline bool has_had_children(void) { return procedures_most > 1; }
 
 /* Whether something may run beside what the program does now: where all else is done, or comes later, that races with
    nothing. For code that may have something in any register. */
-__attribute__((no_caller_saved_registers, target("general-regs-only"))) bool is_beside_others(void);
+__attribute__((no_caller_saved_registers, target("general-regs-only"))) bool procedures_run_beside(void);
 
 /* ---- Parts ---- */
 
@@ -161,12 +161,12 @@ struct part {
     /* Of a region and its members one has a row in a stack. */
     bool is_hidden;
 };
-extern struct part *parts;
+extern struct part *frames_parts;
 
 /* Of the part that the newest frame is. */
 static inline void note_part(struct part part) {
     if (__builtin_expect(doing.looking, 0))
-        parts[top - frames] = part;
+        frames_parts[frames_top - frames_all] = part;
 }
 
 #endif

@@ -310,7 +310,7 @@ static void die(uintptr_t block, size_t size) {
 }
 
 void end_block(void *block, __spbags_function self, uintptr_t stack_pointer, uintptr_t code) {
-    if (!block || !doing.tracing || initialising > 0 || (is_on_the_way(self) && stack_pointer < top->end))
+    if (!block || !doing.tracing || frames_initialising > 0 || (is_on_the_way(self) && stack_pointer < frames_top->end))
         return;
     leave_jumped(stack_pointer, code);
     if (is_on_the_way(self))

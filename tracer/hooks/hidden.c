@@ -22,10 +22,10 @@ void __spbags_not_seen(const char *note) {
 }
 
 void hide_updates(unsigned count) {
-    initialising += count - hidden_updates;
+    frames_initialising += count - hidden_updates;
     hidden_updates = count;
     if (doing.tracing)
-        find_short_way();
+        short_way_find();
 }
 
 /* An update of a view that has more memory elsewhere begins and ends. */

@@ -57,11 +57,11 @@ void locations_clear(uintptr_t address, size_t size) {
 
 void locations_follow_views(void) {
     notes_quickly = only_detects() && !reducers_any;
-    leave_short_way();
+    short_way_leave();
     for (size_t at = 0; at < strand.used && !notes_quickly; at++)
         if (strand.list[at].block)
             clear_done(strand.list[at].done, UINT64_MAX, QUICK);
-    find_short_way();
+    short_way_find();
 }
 
 void locations_note_unit(bool writes, const struct touched *in, unsigned unit, uintptr_t address, uintptr_t code) {

@@ -109,28 +109,28 @@ static _Unwind_Reason_Code unwind(struct _Unwind_Context *context, void *with) {
 /* Where the function with this frame is, if it called a library or a hook that called this code; 0 where nothing says
    it. */
 static uintptr_t code_in(size_t frame, uintptr_t code) {
-    while (frame > 0 && frames[frame].kind != FUNCTION)
+    while (frame > 0 && frames_all[frame].kind != FUNCTION)
         frame--;
     if (is_program(code) || frame == 0)
         return code;
-    struct unwinding unwinding = {.end = frames[frame].end};
+    struct unwinding unwinding = {.end = frames_all[frame].end};
     _Unwind_Backtrace(unwind, &unwinding);
     return is_program(unwinding.code) ? unwinding.code : 0;
 }
 
 static void add_node(size_t at) {
-    struct frame *frame = &frames[at];
+    struct frame *frame = &frames_all[at];
     if (last_node + 1 == MOST_NODES)
         fail("the races have too many different stacks");
-    enum kind around = frames[at - 1].kind;
+    enum kind around = frames_all[at - 1].kind;
     bool is_part = frame->kind >= CALLED, is_shown = is_part || frame->kind == FUNCTION;
     bool has_part = is_part || (frame->kind == CHILD && frame->code != 0);
     /* A part stands for the function that the hooks call in it. */
     if (!is_part && (around == CALLED || around == TASK_PART))
         is_shown = false;
-    if (has_part && parts[at].is_hidden)
+    if (has_part && frames_parts[at].is_hidden)
         is_shown = false;
-    uint32_t parent = frames[at - 1].node;
+    uint32_t parent = frames_all[at - 1].node;
     uintptr_t code = has_part ? frame->code : is_shown ? code_in(at - 1, *(uintptr_t *)(frame->end - 8)) : 0;
     nodes[++last_node] = (struct node){.parent = parent,
                                        .functions = nodes[parent].functions + is_shown,
@@ -138,18 +138,18 @@ static void add_node(size_t at) {
                                        .is_shown = is_shown && parent != 0,
                                        .is_child = !is_of_function(frame) && frame->kind != CALLED};
     if (has_part)
-        nodes[last_node].part = parts[at];
+        nodes[last_node].part = frames_parts[at];
     frame->node = last_node;
 }
 
 /* The node of this frame; those below it get theirs first. */
 uint32_t node_of(size_t frame) {
     size_t at = frame;
-    while (at > 0 && frames[at].node == 0)
+    while (at > 0 && frames_all[at].node == 0)
         at--;
     while (at < frame)
         add_node(++at);
-    return frames[frame].node;
+    return frames_all[frame].node;
 }
 
 /* The deepest function that holds both. */
@@ -177,7 +177,8 @@ static struct owner frame_owner(uintptr_t address, const struct look *look) {
     const struct stack *stack = stack_of(address);
     if (!stack)
         return (struct owner){0};
-    const struct frame *first = stack == running ? frames : stack->frames, *frame = stack == running ? top : stack->top;
+    const struct frame *first = stack == running ? frames_all : stack->frames,
+                       *frame = stack == running ? frames_top : stack->top;
     while (frame > first && (frame->kind != FUNCTION || frame->end <= address))
         frame--;
     uint32_t node = stack == running ? node_of((size_t)(frame - first)) : frame->node;
@@ -190,12 +191,13 @@ static struct owner data_owner(uintptr_t address, const struct look *look) {
     size_t nearest = 0;
     if (stack_of(address))
         for (size_t frame = top_at(); frame > 0; frame--)
-            if (frames[frame].kind >= CALLED && parts[frame].data != 0 && address - parts[frame].data < MOST_DATA &&
-                (nearest == 0 || parts[frame].data > parts[nearest].data))
+            if (frames_all[frame].kind >= CALLED && frames_parts[frame].data != 0 &&
+                address - frames_parts[frame].data < MOST_DATA &&
+                (nearest == 0 || frames_parts[frame].data > frames_parts[nearest].data))
                 nearest = frame;
     if (nearest == 0)
         return (struct owner){0};
-    return (struct owner){way_to(look, node_of(nearest)), (intptr_t)(address - parts[nearest].data)};
+    return (struct owner){way_to(look, node_of(nearest)), (intptr_t)(address - frames_parts[nearest].data)};
 }
 
 /* ---- Blocks of the heap ---- */
@@ -254,7 +256,7 @@ void look_at_block(uintptr_t address, size_t size, uintptr_t stack_pointer, uint
     if (size == 0 || !(has_race(first, 2 * ((address + size - 1) >> unit_shift)) || has_race(dead, dead)))
         return;
     size_t frame = top_at(), at = allocations_count++;
-    while (frames[frame].end <= stack_pointer)
+    while (frames_all[frame].end <= stack_pointer)
         frame--;
     for (; at > 0 && allocations[at - 1].address > address; at--)
         allocations[at] = allocations[at - 1];

@@ -13,6 +13,8 @@ extern uint64_t place_now, next_place;
 void start_look(int file);
 __attribute__((cold)) void look_at_structure(void);
 __attribute__((cold)) void look_at_access(bool writes, uint64_t location);
+/* This function waits for its children, and maybe ends with that. */
+void look_at_wait(const struct frame *frame, uintptr_t code, bool ends);
 /* An access that goes out later, and all such go out. */
 void note_pending(bool writes, uint64_t location, uintptr_t address, uintptr_t code);
 void forget_pending(void);
@@ -22,7 +24,7 @@ void put_notes(void);
 
 /* What stands for a frame in a stack. */
 extern const char region_name[];
-static inline size_t top_at(void) { return (size_t)(top - frames); }
+static inline size_t top_at(void) { return (size_t)(frames_top - frames_all); }
 uint32_t node_of(size_t frame);
 
 #endif

@@ -18,7 +18,7 @@ void bodies_start(void) { bodies.first = bodies.newest = bodies_reserve(); }
 
 /* The compiler may give the call of the runtime another line than the body has. clang makes two functions of a body. */
 static void name_part(uintptr_t code) {
-    struct frame *part = top - 1;
+    struct frame *part = frames_top - 1;
     part -= part->kind < CALLED;
     if (part->kind < CALLED)
         return;
@@ -62,7 +62,7 @@ static void end_child_body(const struct body *body, uintptr_t code) {
         children_close(code);
     }
     if (body->is_child && doing.tracing)
-        forget_below(scopes_thread()->stack_end);
+        frames_forget_below(scopes_thread()->stack_end);
     silence_follow_body();
 }
 

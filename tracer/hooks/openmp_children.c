@@ -1,5 +1,6 @@
 #include "openmp_children.h"
 
+#include "look.h"
 #include "openmp_waits.h"
 
 /* Whether something older than the newest scope is unsynced in its procedure. */
@@ -13,29 +14,29 @@ static bool has_older(void) {
 /* The function that calls the hooks here waits. */
 static void write_sync(uintptr_t code) {
     if (doing.tracing)
-        sync_procedure(code);
+        procedures_sync(code);
 }
 
 static void note_wait(uintptr_t code) {
-    if (doing.tracing && top->node != NONE)
-        look_at_wait(top, code, false);
+    if (doing.tracing && frames_top->node != NONE)
+        look_at_wait(frames_top, code, false);
 }
 
 static void write_open(enum spbags_kind kind, uintptr_t code) {
     if (doing.tracing)
-        open_procedure(kind, code);
+        procedures_open(kind, code);
 }
 
 static void write_return(uintptr_t code) {
     if (doing.tracing)
-        close_procedure(code);
+        procedures_close(code);
 }
 
 struct scope *children_open(enum scope_kind kind, uintptr_t code) {
     struct scope *parent = scopes.newest;
     bool waits = parent->kind != TASK || !waits_is_second;
     if (waits && scopes_unsynced(parent) == 0 && has_older()) {
-        if (version == 1)
+        if (doing.version == 1)
             fail("tasks of one group may run at once with older ones, which only version 2 of the trace can show: "
                  "leave out SPBAGS_VERSION=1");
         write_open(SPBAGS_CALL, code);

@@ -10,17 +10,17 @@
 
 static void begin_part(struct member *member, uintptr_t code) {
     *children_open(MEMBER, code) = member->scope;
-    member->depth = procedures;
+    member->depth = procedures_count;
     scopes_follow();
 }
 
 /* A `call` that a function has open ends here, and what the function spawns later needs another one. */
 static void close_calls(const struct member *member, uintptr_t code) {
-    if (procedures == member->depth)
+    if (procedures_count == member->depth)
         return;
-    while (procedures > member->depth)
-        close_procedure(code);
-    for (struct frame *frame = member->base; frame <= top; frame++)
+    while (procedures_count > member->depth)
+        procedures_close(code);
+    for (struct frame *frame = member->base; frame <= frames_top; frame++)
         if (is_of_function(frame)) {
             frame->called = false;
             frame->children = NONE;
@@ -30,9 +30,9 @@ static void close_calls(const struct member *member, uintptr_t code) {
 static void end_part(uintptr_t code) {
     const struct scope *scope = scopes.newest;
     struct member *member = scope->member;
-    if (left_out_update && scope->team->asks)
+    if (frames_left_out_update && scope->team->asks)
         notes_keep(&notes.last_does, scope->team->code);
-    left_out_update = false;
+    frames_left_out_update = false;
     if (doing.tracing)
         close_calls(member, code);
     member->scope = *scope;
@@ -96,11 +96,11 @@ void members_run(struct member *member, uintptr_t stack_end) {
     const struct team *team = member->scope.team;
     const struct region *region = &team->region;
     begin_part(member, team->code);
-    push_frame(TASK_PART, stack_end);
-    top->code = team->code;
+    frames_push(TASK_PART, stack_end);
+    frames_top->code = team->code;
     note_part((struct part){(uintptr_t)region->data, region_name, (uint64_t)member->scope.thread,
                             (uint64_t)member->scope.thread, region->whole != NULL});
-    member->base = top;
+    member->base = frames_top;
     silence_follow_body();
     if (region->whole)
         loops_begin(*region->whole);
@@ -109,7 +109,7 @@ void members_run(struct member *member, uintptr_t stack_end) {
     parts_close(team->code);
     end_part(team->code);
     member->has_ended = true;
-    forget_below(stack_end);
+    frames_forget_below(stack_end);
 }
 
 /* Where the loop is all of the region the other members have nothing to do once the first one has done it, but for what
@@ -143,7 +143,7 @@ void members_do_region(struct team *team) {
     const struct scope *around = scopes.newest;
     for (unsigned number = 0; number < team->size; number++)
         make_member(team, number, around, node);
-    members_run(team->members, top->end - 1);
+    members_run(team->members, frames_top->end - 1);
     for (unsigned number = 1; number < team->size && is_done(team); number++)
         team->members[number].has_ended = true;
     struct member *next = member_after(team->members, team->code);

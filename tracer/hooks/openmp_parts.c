@@ -4,22 +4,22 @@ void parts_open(enum kind kind, uintptr_t stack_pointer, uintptr_t code) {
     if (!doing.tracing)
         return;
     leave_jumped(stack_pointer, code);
-    push_frame(kind, kind == LOOP_PART ? top->end - 1 : stack_pointer);
-    top->code = code;
+    frames_push(kind, kind == LOOP_PART ? frames_top->end - 1 : stack_pointer);
+    frames_top->code = code;
     note_part((struct part){0});
 }
 
 void parts_close(uintptr_t code) {
     if (!doing.tracing)
         return;
-    while (top > frames && top->kind < CALLED)
-        leave_top(code);
-    leave_top(code);
+    while (frames_top > frames_all && frames_top->kind < CALLED)
+        frames_leave_top(code);
+    frames_leave_top(code);
 }
 
 void parts_stay_in_function(void) {
     if (!doing.tracing)
         return;
-    top->end = top[-1].end - 1;
+    frames_top->end = frames_top[-1].end - 1;
     follow_top();
 }

@@ -16,7 +16,7 @@ void scopes_follow(void) {
     if (wanted == openmp_watches)
         return;
     openmp_watches = wanted;
-    find_short_way();
+    short_way_find();
 }
 
 struct scope *scopes_push(enum scope_kind kind, bool owns) {

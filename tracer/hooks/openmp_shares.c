@@ -36,7 +36,7 @@ static void end_share(const struct scope *thread, uintptr_t code) {
     if (thread->loop->in_blocks)
         children_join_from(scopes.newest, code);
     if (doing.tracing)
-        forget_below(thread->stack_end);
+        frames_forget_below(thread->stack_end);
 }
 
 /* The iterations of the share that has begun now go from this one to the newest. */
@@ -73,7 +73,7 @@ void shares_begin_following(const struct scope *thread, uintptr_t stack_pointer,
         parts_open(LOOP_PART, stack_pointer, code);
         note_part((struct part){.of = "reduction"});
     }
-    silence_from(top);
+    silence_from(frames_top);
 }
 
 void shares_end_following(uintptr_t code) {
@@ -81,7 +81,7 @@ void shares_end_following(uintptr_t code) {
         parts_close(code);
         children_close(code);
         if (doing.tracing)
-            forget_below(scopes_thread()->stack_end);
+            frames_forget_below(scopes_thread()->stack_end);
     }
     silence_follow_body();
 }

@@ -5,7 +5,7 @@
 void silence_from(struct frame *frame) {
     const struct scope *thread = scopes_thread();
     if (thread->kind == MEMBER && !team_is_last(thread))
-        silent_frame = frame;
+        frames_silent = frame;
 }
 
 void silence_follow_body(void) {
@@ -15,9 +15,9 @@ void silence_follow_body(void) {
 }
 
 void silence_combining(int change) {
-    if (top > silent_frame)
+    if (frames_top > frames_silent)
         return;
-    left_out_update = true;
-    initialising += (unsigned)change;
-    find_short_way();
+    frames_left_out_update = true;
+    frames_initialising += (unsigned)change;
+    short_way_find();
 }

@@ -28,7 +28,7 @@ static void copy_data(const struct task *task, void *to, uintptr_t stack_pointer
    caller's locks. */
 void tasks_run(const struct task *task, const struct bounds *bounds, uintptr_t stack_pointer, uintptr_t code) {
     if (doing.tracing)
-        forget_below(stack_pointer);
+        frames_forget_below(stack_pointer);
     bool is_final = scopes_task()->final;
     char room[task->size + task->alignment];
     char *data = room + task->alignment - (uintptr_t)room % task->alignment;
@@ -55,7 +55,7 @@ void tasks_run(const struct task *task, const struct bounds *bounds, uintptr_t s
     memcpy(guards, kept, held * sizeof *kept);
     guards_held = deferred ? held : guards_held;
     if (doing.tracing)
-        forget_below(stack_pointer);
+        frames_forget_below(stack_pointer);
 }
 
 bool tasks_wait(uintptr_t code) {

@@ -53,7 +53,7 @@ void teams_begin(unsigned threads, void *data, uintptr_t stack_pointer, uintptr_
     uint64_t wanted = threads > 0 ? threads : (uint64_t)scopes_task()->threads_wanted;
     bool alone = is_alone(wanted, code);
     if (doing.tracing)
-        forget_below(stack_pointer);
+        frames_forget_below(stack_pointer);
     struct scope *team = scopes_push(TEAM, false);
     int inner = teams_threads_by_variable(scopes_level(false));
     team->threads_wanted = inner > 0 ? inner : team->threads_wanted;
@@ -75,7 +75,7 @@ void teams_end(uintptr_t stack_pointer, uintptr_t code) {
     parts_close(code);
     children_end_waiting(code);
     if (doing.tracing)
-        forget_below(stack_pointer);
+        frames_forget_below(stack_pointer);
 }
 
 void teams_run(struct region region, uintptr_t code) {
@@ -89,7 +89,7 @@ void teams_run(struct region region, uintptr_t code) {
     struct member members[scope->size];
     struct team team = {.region = region,
                         .code = code,
-                        .frame = top,
+                        .frame = frames_top,
                         .members = members,
                         .size = scope->size,
                         .wanted = scope->team_wanted,

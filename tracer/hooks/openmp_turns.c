@@ -14,16 +14,16 @@ static sigset_t members_mask;
 
 static void leave_stack(void) {
     struct stack *stack = running;
-    stack->frames = frames;
+    stack->frames = frames_all;
     stack->frames_end = frames_end;
-    stack->top = top;
-    stack->grouped = grouped;
-    stack->silent_frame = silent_frame;
-    stack->parts = parts;
+    stack->top = frames_top;
+    stack->grouped = frames_grouped;
+    stack->silent_frame = frames_silent;
+    stack->parts = frames_parts;
     stack->lowest = lowest;
     stack->bodies = bodies.first;
     stack->newest_body = bodies.newest;
-    stack->initialising = initialising;
+    stack->initialising = frames_initialising;
     stack->hidden_updates = hidden_updates;
     stack->guards_held = guards_held;
     memcpy(stack->guards, guards, guards_held * sizeof *guards);
@@ -33,19 +33,19 @@ static void enter_stack(struct stack *stack) {
     running = stack;
     running_first = stack->first;
     running_size = stack->end - stack->first;
-    frames = stack->frames;
+    frames_all = stack->frames;
     frames_end = stack->frames_end;
-    top = stack->top;
-    grouped = stack->grouped;
-    silent_frame = stack->silent_frame;
-    parts = stack->parts;
+    frames_top = stack->top;
+    frames_grouped = stack->grouped;
+    frames_silent = stack->silent_frame;
+    frames_parts = stack->parts;
     lowest = stack->lowest;
     bodies = (struct bodies){stack->bodies, stack->newest_body};
-    initialising = stack->initialising;
+    frames_initialising = stack->initialising;
     hidden_updates = stack->hidden_updates;
     guards_held = stack->guards_held;
     memcpy(guards, stack->guards, guards_held * sizeof *guards);
-    find_short_way();
+    short_way_find();
 }
 
 static void give_turn(struct stack *next) {
@@ -122,9 +122,9 @@ static void add_stack(void) {
         fail("there is no room for the stacks of a team below the program's own: SPBAGS_TEAM=1 needs none");
     size_t most_frames = turns.stack_size / 16 * 2;
     *stack = (struct stack){.first = first, .end = end, .lowest = end};
-    stack->frames = reserve(most_frames * sizeof *frames);
+    stack->frames = reserve(most_frames * sizeof *frames_all);
     stack->frames_end = stack->frames + most_frames;
-    stack->parts = doing.looking ? reserve(most_frames * sizeof *parts) : NULL;
+    stack->parts = doing.looking ? reserve(most_frames * sizeof *frames_parts) : NULL;
     stack->bodies = bodies_reserve();
     stacks_count++;
     start_thread(stack);

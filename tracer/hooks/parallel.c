@@ -2,6 +2,7 @@
    parallel ones, and the tasks of oneTBB's groups. */
 #include "frames.h"
 #include "guards.h"
+#include "look.h"
 #include "memory.h"
 #include "noting.h"
 #include "source_line.h"
@@ -15,16 +16,16 @@ static uint32_t parts_begun;
 void __spbags_part(const char *of, const void *code, long first, long last) {
     if (!doing.tracing)
         return;
-    begin_child((__spbags_function)__spbags_counter, STACK_POINTER, CODE);
-    top->code = code ? (uintptr_t)code : CODE;
-    top->called = ++parts_begun;
+    frames_begin_child((__spbags_function)__spbags_counter, STACK_POINTER, CODE);
+    frames_top->code = code ? (uintptr_t)code : CODE;
+    frames_top->called = ++parts_begun;
     note_part((struct part){.of = of, .first = (uint64_t)first, .last = (uint64_t)last});
 }
 
 /* The number of the child around, which no other one has; 0 in the root. */
 unsigned long __spbags_child_number(void) {
-    const struct frame *frame = top;
-    while (frame > frames && (frame->kind != CHILD || frame->called == 0))
+    const struct frame *frame = frames_top;
+    while (frame > frames_all && (frame->kind != CHILD || frame->called == 0))
         frame--;
     return doing.tracing && frame->kind == CHILD ? frame->called : 0;
 }
@@ -81,11 +82,11 @@ void __spbags_leave_parallel(const char *const *unused) {
     if (!doing.tracing)
         return;
     leave_jumped(STACK_POINTER, CODE);
-    if (top->kind == CHILD)
-        tell_at(top->code ? top->code : CODE, leaves_child);
+    if (frames_top->kind == CHILD)
+        tell_at(frames_top->code ? frames_top->code : CODE, leaves_child);
     leave_children(CODE);
-    if (top->kind == SCOPE)
-        leave_top(CODE);
+    if (frames_top->kind == SCOPE)
+        frames_leave_top(CODE);
 }
 
 /* ---- Groups of tasks ---- */
@@ -104,14 +105,14 @@ static struct task_group *task_groups;
 static size_t newest_group;
 
 static struct frame *holder_now(void) {
-    struct frame *frame = top;
+    struct frame *frame = frames_top;
     while (frame->kind == FUNCTION && is_of_function(frame - 1))
         frame--;
     return frame;
 }
 
 static void open_group(const void *id, struct frame *holder, uintptr_t code) {
-    if (version == 1)
+    if (doing.version == 1)
         fail("a group of tasks needs version 2 of the trace: leave out SPBAGS_VERSION=1");
     if (!task_groups)
         task_groups = reserve(MOST_DEPTH * sizeof *task_groups);
@@ -122,19 +123,19 @@ static void open_group(const void *id, struct frame *holder, uintptr_t code) {
 #endif
     bool marks = holder->children == NONE;
     if (marks)
-        holder->children = procedures;
-    open_procedure(SPBAGS_CALL, code);
-    task_groups[newest_group] = (struct task_group){id, holder, procedures, marks};
-    grouped = holder;
+        holder->children = procedures_count;
+    procedures_open(SPBAGS_CALL, code);
+    task_groups[newest_group] = (struct task_group){id, holder, procedures_count, marks};
+    frames_grouped = holder;
 }
 
 static void close_group(uintptr_t code) {
     const struct task_group *group = &task_groups[newest_group--];
-    while (procedures >= group->procedure)
-        close_procedure(code);
+    while (procedures_count >= group->procedure)
+        procedures_close(code);
     if (group->marks)
         group->holder->children = NONE;
-    grouped = newest_group > 0 ? task_groups[newest_group].holder : NULL;
+    frames_grouped = newest_group > 0 ? task_groups[newest_group].holder : NULL;
 }
 
 /* Whether what holds the group is itself one of its tasks. Then whoever waits for that waits for these too. */
@@ -142,8 +143,8 @@ static bool is_in_own_task(const struct task_group *group) {
     return group->holder[-1].kind == CHILD && group->holder[-1].callee == (__spbags_function)group->id;
 }
 
-void leave_groups(uintptr_t code) {
-    while (newest_group > 0 && task_groups[newest_group].holder >= top) {
+void parallel_leave_groups(uintptr_t code) {
+    while (newest_group > 0 && task_groups[newest_group].holder >= frames_top) {
         if (!is_in_own_task(&task_groups[newest_group]) && task_groups[newest_group].holder[-1].kind == CHILD)
             tell_at(
                 task_groups[newest_group].holder[-1].code,
@@ -175,12 +176,12 @@ void __spbags_group_run(const void *id, const char *of, const void *code, long f
         tell_at(here,
                 "a task begins in one group while a newer one hasn't been waited for, and the wait for that one waits "
                 "for it too: races after it aren't seen");
-    open_procedure(SPBAGS_SPAWN, CODE);
-    push_frame(CHILD, top->end - 1);
-    top->stack_pointer = stack_pointer;
-    top->callee = (__spbags_function)id;
-    top->code = here;
-    top->called = ++parts_begun;
+    procedures_open(SPBAGS_SPAWN, CODE);
+    frames_push(CHILD, frames_top->end - 1);
+    frames_top->stack_pointer = stack_pointer;
+    frames_top->callee = (__spbags_function)id;
+    frames_top->code = here;
+    frames_top->called = ++parts_begun;
     note_part((struct part){.of = of, .first = (uint64_t)first, .last = (uint64_t)last});
 }
 
@@ -191,8 +192,8 @@ static void wait_for_group(const void *id, uintptr_t code) {
     if (at < newest_group)
         tell_at(code,
                 "a newer group hasn't been waited for, and this wait waits for it too: races after it aren't seen");
-    if (top->node != NONE)
-        look_at_wait(top, code, false);
+    if (frames_top->node != NONE)
+        look_at_wait(frames_top, code, false);
     while (newest_group >= at)
         close_group(code);
 }
@@ -210,8 +211,8 @@ void __spbags_leave_group(const void *const *id) {
     if (!doing.tracing)
         return;
     leave_jumped(STACK_POINTER, CODE);
-    if (top->kind == CHILD)
-        tell_at(top->code ? top->code : CODE, leaves_child);
+    if (frames_top->kind == CHILD)
+        tell_at(frames_top->code ? frames_top->code : CODE, leaves_child);
     leave_children(CODE);
     wait_for_group(*id, CODE);
 }
@@ -220,9 +221,9 @@ void __spbags_leave_group(const void *const *id) {
 
 /* From here on nothing is recorded, or again: MORE is 1 or -1. */
 void __spbags_pause(int change) {
-    initialising += (unsigned)change;
+    frames_initialising += (unsigned)change;
     if (doing.tracing)
-        find_short_way();
+        short_way_find();
 }
 
 /* An access of what stands for a container's state. */

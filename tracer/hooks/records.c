@@ -168,7 +168,7 @@ static void put_block(const struct touched *touched) {
 
 void records_put_strand(void) {
     static size_t at;
-    leave_short_way();
+    short_way_leave();
     end_records();
     if (doing.looking)
         forget_pending();
@@ -180,7 +180,7 @@ void records_put_strand(void) {
     at = strand.used = 0;
     strand.has_gaps = false;
     strand.before++;
-    find_short_way();
+    short_way_find();
 }
 
 /* ---- The end of a span's life ---- */
@@ -226,10 +226,10 @@ static void end_dead_blocks(struct life_end end) {
 void records_end_life(struct life_end end) {
     begin_records();
     end_records();
-    leave_short_way();
+    short_way_leave();
     end_span_blocks(end.span);
     end_dead_blocks(end);
-    find_short_way();
+    short_way_find();
     finish_records();
     begin_life(end.span);
 }

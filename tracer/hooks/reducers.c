@@ -136,7 +136,7 @@ static struct view *known_view(uintptr_t first, size_t size, const char *note) {
     return view && view->first == first && view->end == first + size ? view : add_view(first, size, note);
 }
 
-static bool records_views(void) { return doing.tracing && initialising == hidden_updates; }
+static bool records_views(void) { return doing.tracing && frames_initialising == hidden_updates; }
 
 /* Some begin, one behind another. */
 static void begin_views(uintptr_t first, size_t size, size_t count, const char *note, uintptr_t stack_pointer,

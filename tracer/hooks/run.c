@@ -98,15 +98,15 @@ static void find_stack(void) {
     numbers = reserve((stack_size >> unit_shift) * sizeof *numbers);
     /* A frame has at least its return address and its frame pointer, and at most one open child. */
     size_t most_frames = size / 16 * 2;
-    top = frames = reserve(most_frames * sizeof *frames);
-    frames_end = frames + most_frames;
+    frames_top = frames_all = reserve(most_frames * sizeof *frames_all);
+    frames_end = frames_all + most_frames;
     if (doing.looking)
-        parts = reserve(most_frames * sizeof *parts);
-    owners = reserve((MOST_DEPTH + 3) * sizeof *owners);
+        frames_parts = reserve(most_frames * sizeof *frames_parts);
+    procedures_owners = reserve((MOST_DEPTH + 3) * sizeof *procedures_owners);
 }
 
 static void put_header(void) {
-    const char *header = version == 2 ? "trace 2\n" : "trace 1\n";
+    const char *header = doing.version == 2 ? "trace 2\n" : "trace 1\n";
     memcpy(room(&outcome), header, strlen(header));
     outcome.used += strlen(header);
 }
@@ -121,7 +121,7 @@ __attribute__((constructor(101))) static void start(void) {
         tell("SPBAGS_TRACE isn't set, so no trace is written");
         return;
     }
-    version = settings_digit(SETTING_VERSION);
+    doing.version = settings_digit(SETTING_VERSION);
     unit_shift = (unsigned)__builtin_ctz(settings_digit(SETTING_UNIT));
     unit_mask = ((uintptr_t)1 << unit_shift) - 1;
     doing.writing_repeats = settings_is(SETTING_REPEATS, "1");
@@ -144,8 +144,8 @@ __attribute__((constructor(101))) static void start(void) {
     settings_forget(SETTING_PLACES);
     spans_need();
     find_stack();
-    *top = (struct frame){.kind = ROOT, .end = UINTPTR_MAX};
-    procedures = most_procedures = 1;
+    *frames_top = (struct frame){.kind = ROOT, .end = UINTPTR_MAX};
+    procedures_count = procedures_most = 1;
     ends_begin();
     if (name && !doing.looking)
         put_header();
@@ -155,7 +155,7 @@ __attribute__((constructor(101))) static void start(void) {
     locations_follow_views();
 #endif
     doing.tracing = true;
-    find_short_way();
+    short_way_find();
     catch_signals();
     watch_begin();
 }

@@ -13,7 +13,7 @@ static unsigned passed_count;
 static uintptr_t passing;
 
 bool is_passed(uintptr_t at, size_t size) {
-    for (unsigned number = 0; number < passed_count && passing == top->end; number++)
+    for (unsigned number = 0; number < passed_count && passing == frames_top->end; number++)
         if (at >= passed[number].first && at + size <= passed[number].end)
             return true;
     return false;
@@ -35,16 +35,16 @@ void __spbags_detach(const void *code) {
     if (!doing.tracing)
         return;
     leave_jumped(STACK_POINTER, (uintptr_t)code);
-    uintptr_t end = top->end;
-    top--;
-    begin_child(NULL, end, (uintptr_t)code);
-    push_frame(FUNCTION, end);
+    uintptr_t end = frames_top->end;
+    frames_top--;
+    frames_begin_child(NULL, end, (uintptr_t)code);
+    frames_push(FUNCTION, end);
     passed_count = passing == 0 ? passed_count : 0;
     passing = end;
 }
 
 void __spbags_stored_by(const volatile void *at, unsigned long size, const void *code) {
-    if (doing.tracing && initialising == 0)
+    if (doing.tracing && frames_initialising == 0)
         locations_touch(true, (uintptr_t)at, size, (uintptr_t)code);
 }
 
@@ -52,10 +52,10 @@ void __spbags_stored_by(const volatile void *at, unsigned long size, const void 
 static bool end_child(const volatile void *function, unsigned long size, uintptr_t stack_pointer, uintptr_t code) {
     passing = passed_count = 0;
     leave_below(stack_pointer, code);
-    bool is_child = top->kind == CHILD;
+    bool is_child = frames_top->kind == CHILD;
     if (is_child) {
-        forget_below(top->stack_pointer);
-        leave_top(code);
+        frames_forget_below(frames_top->stack_pointer);
+        frames_leave_top(code);
     }
     locations_clear((uintptr_t)function, size);
     return is_child;

@@ -29,10 +29,10 @@ static void drop_empty(void) {
 }
 
 void strand_make_room(void) {
-    leave_short_way();
+    short_way_leave();
     if (strand.has_gaps)
         drop_empty();
-    find_short_way();
+    short_way_find();
     if (strand.used > MOST_BLOCKS / 4 * 3)
         records_put_strand();
 }

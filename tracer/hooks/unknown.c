@@ -19,7 +19,7 @@ extern struct unknown unknown_end[] __asm__("__spbags_unknown_end") __attribute_
    program the hooks call some themselves. */
 __attribute__((no_caller_saved_registers, target("general-regs-only"))) void
 __spbags_count_call(struct unknown *function) {
-    function->calls += doing.tracing && (function->always || is_beside_others());
+    function->calls += doing.tracing && (function->always || procedures_run_beside());
 }
 
 void tell_unknown_functions(void) {

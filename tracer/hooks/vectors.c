@@ -41,6 +41,6 @@ void __spbags_indexed(const volatile void *at, unsigned long element, unsigned l
 
 /* Each place tells once. An address of the program has no more than 48 bits. */
 void __spbags_vector_unseen(const char *function, const char *file, int line) {
-    if (is_beside_others() && tell_is_first((uintptr_t)file | (uintptr_t)line << 48))
+    if (procedures_run_beside() && tell_is_first((uintptr_t)file | (uintptr_t)line << 48))
         tell_incomplete("%s:%d: the instruction here, in %s, may access memory that isn't seen", file, line, function);
 }

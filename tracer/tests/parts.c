@@ -25,11 +25,11 @@ void end_by_signal(int number) { _exit(number); }
 volatile sig_atomic_t changes, waiting_signal, stepping;
 struct doing doing = {.detecting = true};
 static struct frame root;
-struct frame *top = &root, *silent_frame;
-unsigned initialising;
+struct frame *frames_top = &root, *frames_silent;
+unsigned frames_initialising;
 uintptr_t short_way_bits, short_way_end, short_way_first;
-void find_short_way(void) {}
-void leave_left(uintptr_t address, uintptr_t code) { (void)address, (void)code; }
+void short_way_find(void) {}
+void frames_leave_left(uintptr_t address, uintptr_t code) { (void)address, (void)code; }
 
 bool divided_any, reducers_any;
 void divided_clear(uintptr_t address, uintptr_t end) { (void)address, (void)end; }
