@@ -25,8 +25,8 @@ impl Recent {
         }
     }
 
-    /// Where a page may stand: where it was found, or behind its neighbour. A program that goes through arrays adds their
-    /// pages one behind the other.
+    /// Where a page may stand: where it was found, or behind its neighbour. A program that goes through arrays adds
+    /// their pages one behind the other.
     #[inline(always)]
     pub fn guess(&self, page: u64) -> Option<usize> {
         let found = self.found[slot_of(page)];
