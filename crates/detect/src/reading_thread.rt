@@ -48,11 +48,7 @@ impl ReadingThread {
         let mut intake = Intake::new(limits);
         'records: loop {
             match intake.next_known() {
-                Some(placed) => {
-                    if let Err(Full) = self.put(placed) {
-                        self.send_rest(rt)?;
-                    }
-                }
+                Some(placed) => self.send(rt, placed)?,
                 None => {
                     self.router.flush();
                     self.gathering.take_backs()?;
@@ -80,6 +76,7 @@ impl ReadingThread {
     }
 
     // Sends what the part has of the record.
+    #[inline(always)]
     fn send<T: Wait + Clock>(&mut self, rt: &T, placed: Placed) -> Result<(), Fault>
         requires { MaySend self.old }
         ensures sent { (w : List Placed) → HasSent (records_of self.old.part w) self.old.router
@@ -89,29 +86,12 @@ impl ReadingThread {
         ensures idle { self.new.router.pending ≡ None }
         ensures goes_on { GoesOn self.old self.new }
     {
-        match self.put(placed) {
-            Ok(()) => Ok(()),
-            Err(Full) => self.send_rest(rt),
+        if let Some(own) = record_of_part(self.part, placed) {
+            if let Err(Full) = self.router.send(own) {
+                return self.send_rest(rt);
+            }
         }
-    }
-
-    // Puts what the part has of the record on its lanes. If one of them is full, the record is pending.
-    #[inline(always)]
-    fn put(&mut self, placed: Placed) -> Result<(), Full>
-        requires { MaySend self.old }
-        ensures sent { OnOk result ((w : List Placed) → HasSent (records_of self.old.part w) self.old.router
-            → HasSent (records_of self.old.part (w ++ placed ∷ [])) self.new.router) }
-        ensures ready { OnOk result (MaySend self.new) }
-        ensures left { IsErr result → (w : List Placed) → HasSent (records_of self.old.part w) self.old.router
-            → LacksLast (records_of self.old.part (w ++ placed ∷ [])) self.new.router }
-        ensures full { IsErr result → IsStuck self.new.router self.new.router.next }
-        ensures unmarked { self.new.router.marked ≡ 0 }
-        ensures goes_on { GoesOn self.old self.new }
-    {
-        match record_of_part(self.part, placed) {
-            Some(own) => self.router.send(own),
-            None => Ok(()),
-        }
+        Ok(())
     }
 
     // Puts the pending record on the lanes that lack it; the next of them was full.

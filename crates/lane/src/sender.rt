@@ -92,7 +92,7 @@ impl<T: Copy + Send> Sender<T> {
         if self.staged.len() < self.limit {
             return Ok(());
         }
-        match next_limit(&mut self.ring, &mut self.staged, self.limit, self.most) {
+        match show(&mut self.ring, &mut self.staged, self.limit, self.most) {
             Some(limit) => {
                 self.limit = limit;
                 Ok(())
@@ -114,7 +114,8 @@ impl<T: Copy + Send> Sender<T> {
         ensures refusals { self.new.refusals ≡ self.old.refusals }
     {
         if !self.staged.is_empty() {
-            self.limit = publish(&mut self.ring, &mut self.staged, self.most);
+            let shown = show(&mut self.ring, &mut self.staged, self.limit, self.most);
+            self.limit = shown.unwrap_or(0);
         }
     }
 
@@ -206,11 +207,12 @@ pub(crate) fn most_staged(capacity: usize) -> usize
     (capacity / 2).min(BLOCK).max(1)
 }
 
-// Shows the taker what is staged, if that is as much as the limit, and says how many items may be staged next. If the
-// limit is 0 it first looks at the other end. `None` if the lane is full; then the one item is staged no more.
+// Shows the taker what is staged, and says how many items may be staged next. If the limit is 0 it first looks at the
+// other end, and shows the one item only if no other may be staged with it. `None` if the lane is full; then the item is
+// staged no more.
 #[cold]
 #[inline(never)]
-fn next_limit<T: Copy + Send>(
+fn show<T: Copy + Send>(
     ring: &mut Producer<Item<T>, Global, MarkLast>,
     staged: &mut Vec<Item<T>>,
     limit: usize,
@@ -223,6 +225,7 @@ fn next_limit<T: Copy + Send>(
     ensures ring { SameProducer ring.old ring.new }
     ensures memory { vec_capacity staged.new ≡ vec_capacity staged.old }
     ensures put { IfSome result (λ _. sent ring.new ++ staged.new.items ≡ sent ring.old ++ staged.old.items) }
+    ensures shown { 1 ≤ limit → staged.new.items ≡ [] }
     ensures room { IfSome result
         (λ _. known_free ring.old + vec_len staged.new ≤ known_free ring.new + vec_len staged.old) }
     ensures within { IfSome result (λ limit. (limit ≤ most) × (limit ≤ known_free ring.new)) }
@@ -241,29 +244,11 @@ fn next_limit<T: Copy + Send>(
             return Some(limit);
         }
     }
-    Some(publish(ring, staged, most))
-}
-
-// Shows the taker what is staged, after which nothing is, and says how many items may be staged next.
-fn publish<T: Copy + Send>(
-    ring: &mut Producer<Item<T>, Global, MarkLast>,
-    staged: &mut Vec<Item<T>>,
-    most: usize,
-) -> usize
-    requires room { vec_len staged.old ≤ known_free ring.old }
-    requires last { mark_last (sent ring.old ++ staged.old.items) ≡ true }
-    ensures ring { SameProducer ring.old ring.new }
-    ensures sent { sent ring.new ≡ sent ring.old ++ staged.old.items }
-    ensures room { known_free ring.old ≤ known_free ring.new + vec_len staged.old }
-    ensures staged { staged.new.items ≡ [] }
-    ensures memory { vec_capacity staged.new ≡ vec_capacity staged.old }
-    ensures within { (result ≤ most) × (result ≤ known_free ring.new) }
-{
     if ring.push_entire_slice(staged).is_err() {
         unreachable!()
     }
     staged.clear();
-    ring.cached_slots().min(most)
+    Some(ring.cached_slots().min(most))
 }
 
 // Makes items of the values, and keeps nothing else.

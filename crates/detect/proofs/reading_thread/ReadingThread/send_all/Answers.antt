@@ -26,31 +26,6 @@ records-init g c =
       depths = ap (λ (s : Feeding). s.nesting.max_depth) c.new-intake.ensures;
     }
 
-pub records-smaller-in_default : goal.records-smaller-in_default
-records-smaller-in_default g c =
-    let i = c.records.invariant in
-    let answer = c.in-Some.ensures.next (g.R.Source.state c.records.source) in
-    let next = answer.fed i.trace i.came i.fed in
-    omega (arith, next.2.1.has_used.has_read.count_is, next.2.1.has_used.has_read.within, i.fed.has_used.has_read.count_is, answer.limits.records, i.records, length-append i.trace (c.in-Some.placed.what ∷ []))
-
-pub records-preserved-in_default : goal.records-preserved-in_default
-records-preserved-in_default g c =
-    let i = c.records.invariant in
-    let answer = c.in-Some.ensures.next (g.R.Source.state c.records.source) in
-    let next = answer.fed i.trace i.came i.fed in
-    record {
-      trace = i.trace ++ c.in-Some.placed.what ∷ [];
-      came = i.came ++ next.0;
-      gave = consumes_more _ _ _ i.came next.0 i.gave next.1;
-      fed = next.2.1;
-      sent = sent_more c.args.self.now c.records.self c.put.new.self i.trace c.in-Some.placed next.2.0 i.goes_on (c.in_default.ensures.sent (placed i.trace)) i.sent;
-      ready = c.in_default.ensures.ready;
-      goes_on = goes_on_trans _ _ _ i.goes_on c.put.ensures.goes_on;
-      steady = next.2.2 ∙ i.steady;
-      records = answer.limits.records ∙ i.records;
-      depths = answer.limits.depths ∙ i.depths;
-    }
-
 pub records-smaller-in-Continue-1 : goal.records-smaller-in-Continue-1
 records-smaller-in-Continue-1 g c =
     let i = c.records.invariant in
@@ -68,9 +43,9 @@ records-preserved-in-Continue-1 g c =
       came = i.came ++ next.0;
       gave = consumes_more _ _ _ i.came next.0 i.gave next.1;
       fed = next.2.1;
-      sent = sent_more c.args.self.now c.records.self c.send_rest.new.self i.trace c.in-Some.placed next.2.0 i.goes_on (λ h. c.send_rest.ensures.sent _ (c.in-Err.ensures.left refl (placed i.trace) h)) i.sent;
-      ready = c.in_ok-send_rest-in-Some.ensures.ready;
-      goes_on = goes_on_trans _ _ _ i.goes_on (goes_on_trans _ _ _ c.put.ensures.goes_on c.send_rest.ensures.goes_on);
+      sent = sent_more c.args.self.now c.records.self c.send.new.self i.trace c.in-Some.placed next.2.0 i.goes_on (c.send.ensures.sent (placed i.trace)) i.sent;
+      ready = c.in_ok-send-in-Some.ensures.ready;
+      goes_on = goes_on_trans _ _ _ i.goes_on c.send.ensures.goes_on;
       steady = next.2.2 ∙ i.steady;
       records = answer.limits.records ∙ i.records;
       depths = answer.limits.depths ∙ i.depths;
@@ -130,9 +105,9 @@ records-preserved g c =
       came = i.came ++ fed.0;
       gave = consumes_more _ _ _ i.came fed.0 i.gave fed.1;
       fed = next.1;
-      sent = sent_more c.args.self.now taken c.send.new.self i.trace c.in-Some-2.placed next.0 goes_on (c.send.ensures.sent (placed i.trace)) before;
+      sent = sent_more c.args.self.now taken c.send-in-Some-2.new.self i.trace c.in-Some-2.placed next.0 goes_on (c.send-in-Some-2.ensures.sent (placed i.trace)) before;
       ready = c.in_ok-send-in-Some-2.ensures.ready;
-      goes_on = goes_on_trans _ _ _ goes_on c.send.ensures.goes_on;
+      goes_on = goes_on_trans _ _ _ goes_on c.send-in-Some-2.ensures.goes_on;
       steady = next.2 ∙ i.steady;
       records = c.read_on.ensures.limits.records ∙ ap (λ (s : Feeding). s.reading.limit) same ∙ i.records;
       depths = c.read_on.ensures.limits.depths ∙ ap (λ (s : Feeding). s.nesting.max_depth) same ∙ i.depths;

@@ -6,7 +6,7 @@ use Rattle.lane.specs.Lanes.{put_of}
 use Rattle.lane.proofs.Marks.{mark_last_staged}
 use Rattle.lane.proofs.sender.Sender.put.Goals as goal
 
-pub next_limit-requires-clause-last : goal.next_limit-requires-clause-last
-next_limit-requires-clause-last g c κs within =
+pub show-requires-clause-last : goal.show-requires-clause-last
+show-requires-clause-last g c κs within =
     ap (λ l. mark_last (sent c.self.inside.ring ++ l)) c.push_reserved.ensures.items
     ∙ mark_last_staged (sent c.self.inside.ring) c.self.inside.staged.items (One c.args.value) (ap (λ s. has_mark (put_of s)) c.self.view_is ∙ c.requires)
