@@ -15,10 +15,17 @@ uintptr_t records_origin;
 #ifdef SPBAGS_INSIDE
 /* By this spbags-run knows that a program has it. */
 __attribute__((used)) static const char inside_mark[] = "SPBAGS_INSIDE";
-static void *session;
 static struct bundle bundles[BUNDLES];
 static sem_t full_bundles, free_bundles;
 static pthread_t detector;
+/* What the detector's thread has at hand: its session, and the bundle's records of numbers that have ended. These come
+   last, so that the others are taken together. The program's thread writes to no line of the cache that has these. */
+enum { TWO_LINES = 128 };
+static struct {
+    void *session;
+    size_t endings_count;
+    uint64_t endings[BUNDLE_RECORDS];
+} at_hand __attribute__((aligned(TWO_LINES)));
 
 struct bundle *filling;
 uint64_t *window, *window_end;
@@ -93,14 +100,10 @@ __attribute__((noinline, cold, noreturn)) static void refuse_step(unsigned statu
 static void take_records(const uint64_t *first, const uint64_t *end) {
     if (first == end)
         return;
-    uint8_t status = spbags_steps(session, first, (size_t)(end - first));
+    uint8_t status = spbags_steps(at_hand.session, first, (size_t)(end - first));
     if (status != SPBAGS_TAKEN)
         refuse_step(status);
 }
-
-/* The bundle's records of numbers that have ended. They come last, so that the others are taken together. */
-static uint64_t endings[BUNDLE_RECORDS];
-static size_t endings_count;
 
 static uint64_t block_of_ending(uint64_t ending) {
     return (ending >> 4) / ((uint64_t)BLOCK_UNITS / GROUP_NUMBERS << GROUP_NUMBERS);
@@ -112,7 +115,7 @@ static uint64_t units_of_ending(uint64_t ending) {
 }
 
 static void forget(uint64_t location, uint64_t units) {
-    uint8_t status = spbags_forget(session, location, units);
+    uint8_t status = spbags_forget(at_hand.session, location, units);
     if (status != SPBAGS_TAKEN)
         refuse_step(status);
 }
@@ -122,21 +125,21 @@ static void forget_numbers(uint64_t block, uint64_t units) { forget(2 * BLOCK_UN
 /* Those of one block together, where they come so. */
 static void take_endings(void) {
     uint64_t block = 0, units = 0;
-    for (size_t at = 0; at < endings_count; at++) {
-        if (block_of_ending(endings[at]) != block) {
+    for (size_t at = 0; at < at_hand.endings_count; at++) {
+        if (block_of_ending(at_hand.endings[at]) != block) {
             forget_numbers(block, units);
-            block = block_of_ending(endings[at]);
+            block = block_of_ending(at_hand.endings[at]);
             units = 0;
         }
-        units |= units_of_ending(endings[at]);
+        units |= units_of_ending(at_hand.endings[at]);
     }
     forget_numbers(block, units);
-    endings_count = 0;
+    at_hand.endings_count = 0;
 }
 
 /* A block's accesses; the next record. */
 static const uint64_t *take_block(const uint64_t *record) {
-    uint8_t status = spbags_block(session, *record >> 3, record[1], record[2]);
+    uint8_t status = spbags_block(at_hand.session, *record >> 3, record[1], record[2]);
     if (status != SPBAGS_TAKEN)
         refuse_step(status);
     return record + 3;
@@ -157,7 +160,7 @@ static void take_bundle(struct bundle *bundle) {
         if (kind <= SPBAGS_WRITE) {
             *end++ = *at++;
         } else if (kind == numbers_end && (*at >> 3) % 2 == 1) {
-            endings[endings_count++] = *at++;
+            at_hand.endings[at_hand.endings_count++] = *at++;
         } else {
             take_records(bundle->records, end);
             end = bundle->records;
@@ -174,11 +177,11 @@ static bool report_is_asked, report_is_made;
 
 /* The program's thread waits meanwhile. */
 static void put_report(void) {
-    uint8_t status = spbags_report(session);
+    uint8_t status = spbags_report(at_hand.session);
     if (status != SPBAGS_TAKEN)
         refuse_step(status);
     size_t size = 0;
-    for (unsigned byte; (byte = spbags_next(session)) < SPBAGS_AT_END; size++) {
+    for (unsigned byte; (byte = spbags_next(at_hand.session)) < SPBAGS_AT_END; size++) {
         *room(&outcome) = (char)byte;
         outcome.used++;
     }
@@ -187,7 +190,7 @@ static void put_report(void) {
 
 static void *detect(void *nothing) {
     bool is_last = false;
-    spbags_new(session);
+    spbags_new(at_hand.session);
     for (size_t number = 0; !is_last; number = (number + 1) % BUNDLES) {
         wait_for(&full_bundles);
         take_bundle(&bundles[number]);
@@ -196,7 +199,7 @@ static void *detect(void *nothing) {
     }
     if (report_is_made)
         put_report();
-    spbags_free(session);
+    spbags_free(at_hand.session);
     return nothing;
 }
 
@@ -236,7 +239,7 @@ void detector_begin(void) {
     if (places_name)
         places_open(places_name);
     detector_heap_begin();
-    session = reserve(spbags_room());
+    at_hand.session = reserve(spbags_room());
     start_thread();
     doing.detecting = true;
 }
