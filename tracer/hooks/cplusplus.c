@@ -1,14 +1,14 @@
 /* What programs in C++ call beside the rest. */
 #include "frames.h"
+#include "heap.h"
 #include "library.h"
-#include "noting.h"
 
 /* The library's operator new calls malloc. Whoever may still use what is deleted has a race, as with free. All that
    follow the block are of no matter: its size, its alignment, and that nothing is thrown. */
 #define DELETE(NAME) \
     void NAME(void *block) { \
         if (is_program(CODE)) \
-            end_block(block, (__spbags_function)NAME, STACK_POINTER, CODE); \
+            heap_end_block(block, (__spbags_function)NAME, STACK_POINTER, CODE); \
         free(block); \
     }
 DELETE(_ZdlPv)

@@ -29,9 +29,9 @@ static struct {
 
 struct bundle *filling;
 uint64_t *window, *window_end;
-const uint64_t *seen_steps;
+const uint64_t *detector_seen_steps;
 volatile sig_atomic_t stepping;
-bool has_races;
+bool detector_has_races;
 
 static void fill_bundle(size_t number) {
     filling = &bundles[number];
@@ -81,8 +81,8 @@ void detector_step_words(uint64_t record, const uint64_t *words, size_t count) {
 }
 
 bool detector_has_new_step(void) {
-    const uint64_t *at = seen_steps, *seen = next_record;
-    seen_steps = seen;
+    const uint64_t *at = detector_seen_steps, *seen = next_record;
+    detector_seen_steps = seen;
     if (at < filling->records || at > seen)
         at = filling->records;
     while (at < seen && ((*at & 7) == numbers_end || ((*at & 7) >= SPBAGS_READ && (*at >> 3) % 2 == 1)))
@@ -185,7 +185,7 @@ static void put_report(void) {
         *room(&outcome) = (char)byte;
         outcome.used++;
     }
-    has_races = size > strlen("races 0\n");
+    detector_has_races = size > strlen("races 0\n");
 }
 
 static void *detect(void *nothing) {

@@ -29,9 +29,9 @@ extern uint64_t *window, *window_end;
 /* While a record is put into a bundle, a signal waits. */
 extern volatile sig_atomic_t stepping;
 /* Whether the report, once it is made, is more than the line `races 0`. */
-extern bool has_races;
+extern bool detector_has_races;
 
-/* The detector begins, and its thread. */
+/* The detector begins, and its thread, for which the heap has memory aside. */
 void detector_begin(void);
 /* Hands over what is left, and waits until the report is made. */
 void detector_end(bool has_more_to_say);
@@ -49,7 +49,7 @@ static inline void pass_steps(void) {
 
 static inline void begin_steps(void) {
     pass_steps();
-    window_number = last_number;
+    window_number = window_last_number;
 }
 
 /* The window has as many records as it may have, or the bundle. */
@@ -84,7 +84,7 @@ void detector_step_words(uint64_t record, const uint64_t *words, size_t count);
 static inline uintptr_t steps_so_far(void) { return (uintptr_t)next_record - records_origin; }
 
 /* Up to here detector_has_new_step has seen the newest bundle. */
-extern const uint64_t *seen_steps;
+extern const uint64_t *detector_seen_steps;
 
 /* The accesses of the numbers that die are left out; before so many records there are none. */
 static inline void leave_out_steps(uintptr_t before) {
@@ -98,15 +98,15 @@ static inline void leave_out_steps(uintptr_t before) {
         to += !(is_of_stack && is_dying(number));
     }
     next_record = to;
-    if (seen_steps > to)
-        seen_steps = to;
+    if (detector_seen_steps > to)
+        detector_seen_steps = to;
 }
 
 /* Whether the newest bundle has a record, since this was asked last, that isn't an access of the stack's memory, whose
    locations are odd. */
 bool detector_has_new_step(void);
 #else
-enum { stepping = false, has_races = false };
+enum { stepping = false, detector_has_races = false };
 static inline void detector_begin(void) {}
 static inline void detector_end(bool has_more_to_say) { (void)has_more_to_say; }
 static inline void begin_step(void) {}

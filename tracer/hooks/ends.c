@@ -28,7 +28,7 @@ static int end_trace_of(int status) {
     closing_end();
     if (racy_status == PROGRAMS_OWN)
         return status;
-    if (has_races)
+    if (detector_has_races)
         return racy_status;
     return status == 0 && tell_incomplete_lines > 0 && !is_incomplete_ok ? NOT_ALL_SEEN : status;
 }

@@ -253,7 +253,7 @@ static void *new_block(size_t alignment, size_t size) {
     uintptr_t block = taken + HEAD;
     if (alignment > 0)
         block = (block + alignment - 1) & ~(alignment - 1);
-    bool is_in_strand = doing.tracing && is_of_run() && leaves_out;
+    bool is_in_strand = doing.tracing && is_of_run() && window_leaves_out;
     head_of((void *)block)->size = size;
     ((struct head *)taken)->born = is_in_strand ? strand_now() : NOT_IN_STRAND;
     return (void *)block;
@@ -306,10 +306,10 @@ static bool is_of_strand(uintptr_t block) {
 static void die(uintptr_t block, size_t size) {
     *born_at(span_of_block(block), block) = DYING;
     spans[span_of_block(block)].has_dead = true;
-    strand_set_dead(block, block + size);
+    strands_set_dead(block, block + size);
 }
 
-void end_block(void *block, __spbags_function self, uintptr_t stack_pointer, uintptr_t code) {
+void heap_end_block(void *block, __spbags_function self, uintptr_t stack_pointer, uintptr_t code) {
     if (!block || !doing.tracing || frames_initialising > 0 || (is_on_the_way(self) && stack_pointer < frames_top->end))
         return;
     leave_jumped(stack_pointer, code);
@@ -438,7 +438,7 @@ int posix_memalign(void **block, size_t alignment, size_t size) {
     return 0;
 }
 
-#define END_BLOCK(BLOCK, SELF) end_block(BLOCK, (__spbags_function)SELF, STACK_POINTER, CODE)
+#define END_BLOCK(BLOCK, SELF) heap_end_block(BLOCK, (__spbags_function)SELF, STACK_POINTER, CODE)
 
 void __wrap_free(void *block) {
     END_BLOCK(block, __wrap_free);

@@ -5,7 +5,7 @@
 #include "heap.h"
 #include "openmp.h"
 
-uint64_t *numbers;
+uint64_t *locations_numbers;
 bool notes_quickly;
 
 /* Accesses that don't fill their units, and the bits of their addresses and sizes. */
@@ -29,7 +29,7 @@ static inline void end_number(uint64_t number) {
 }
 
 void locations_end_numbers(const uint32_t *marks, unsigned units) {
-    const uint64_t *first = numbers + (marks - stack_mark(stack_first));
+    const uint64_t *first = locations_numbers + (marks - stack_mark(stack_first));
     for (; units != 0; units &= units - 1) {
         uint64_t number = first[__builtin_ctz(units)];
         if (!dies_in_window(number))

@@ -9,7 +9,7 @@
 #include "reducers.h"
 
 /* By unit of the stack, from its first address on: a unit that is marked has its number. */
-extern uint64_t *numbers;
+extern uint64_t *locations_numbers;
 
 /* Of the unit of the stack that begins at this address, and has this mark. */
 static inline uint64_t stack_location(uintptr_t address, uint32_t mark, unsigned shift) {
@@ -17,10 +17,10 @@ static inline uint64_t stack_location(uintptr_t address, uint32_t mark, unsigned
     if (mark == UNTOUCHED) {
         if (__builtin_expect(is_window_full(), 0))
             records_end_window();
-        numbers[at >> shift] = ++last_number;
+        locations_numbers[at >> shift] = ++window_last_number;
         lower(address);
     }
-    return 2 * numbers[at >> shift] + 1;
+    return 2 * locations_numbers[at >> shift] + 1;
 }
 
 /* ---- Memory that has no variable any more ---- */
@@ -39,7 +39,7 @@ static inline unsigned touched_among(const uint32_t *marks) {
     return (unsigned)_mm_movemask_epi8(_mm_packs_epi16(first, last)) ^ ((1u << CLEARED) - 1);
 }
 
-static inline bool counts_ends(void) { return detects() || leaves_out; }
+static inline bool counts_ends(void) { return detects() || window_leaves_out; }
 
 /* Down to the lowest of these marks, and so many together that those below may be among them. */
 static inline void clear_marks(const uint32_t *lowest_mark, uint32_t *end) {
@@ -79,7 +79,7 @@ static inline void note_stack_unit(bool writes, uintptr_t address, uint32_t *mar
     access_record(writes, location, address, code);
 }
 
-/* The same of a unit of a block. */
+/* The same of a unit of a block. That of a heap block that has died is the heap's matter. */
 void locations_note_unit(bool writes, const struct touched *in, unsigned unit, uintptr_t address, uintptr_t code);
 
 /* Nothing of the block has been accessed, and it is the program's alone. From now on the first accesses to its units are

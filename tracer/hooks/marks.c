@@ -6,8 +6,8 @@
 #include "reducers.h"
 #include "tell.h"
 
-uint32_t has_read = FIRST_READ, strands_again;
-uintptr_t stack_marks;
+uint32_t has_read = FIRST_READ, marks_again;
+uintptr_t marks_of_stack;
 
 /* The usual unit has as many bytes as its mark. */
 static void name_marks(size_t region) {
@@ -20,7 +20,7 @@ static void name_marks(size_t region) {
 void marks_begin(uintptr_t first, uintptr_t end) {
     size_t first_region = region_of(first - (CLEARED << unit_shift)), count = region_of(end) - first_region + 1;
     uintptr_t marks = (uintptr_t)reserve((count << REGION_BITS >> unit_shift) * sizeof(uint32_t));
-    stack_marks = marks - (first_region << REGION_BITS >> unit_shift) * sizeof(uint32_t);
+    marks_of_stack = marks - (first_region << REGION_BITS >> unit_shift) * sizeof(uint32_t);
     blocks_begin_stack(first_region, count);
     for (size_t region = first_region; region < first_region + count; region++)
         name_marks(region);
@@ -42,5 +42,5 @@ void marks_begin_again(void) {
     divided_forget();
     reducers_forget();
     has_read = FIRST_READ - 2;
-    strands_again++;
+    marks_again++;
 }

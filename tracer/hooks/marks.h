@@ -18,7 +18,7 @@ enum { CLEARED = 16 };
    assembler's text stand here, this is of use beside the accesses too. */
 extern uint32_t has_read __asm__("__spbags_has_read");
 /* How often the numbers of strands have begun again. */
-extern uint32_t strands_again;
+extern uint32_t marks_again;
 
 /* What is a thread's own isn't shared, so nothing in it is recorded: with this mark all that is done there counts as a
    repeat. No other mark is above that of a write in the current strand. */
@@ -29,13 +29,13 @@ static inline bool is_repeat(bool writes, uint32_t mark) { return writes ? mark 
 static inline uint32_t new_mark(bool writes) { return has_read + writes; }
 
 /* The strand that runs has this number in the whole run. */
-static inline uint64_t strand_now(void) { return (uint64_t)strands_again << 32 | has_read; }
+static inline uint64_t strand_now(void) { return (uint64_t)marks_again << 32 | has_read; }
 
 /* Where the mark of the unit 0 would stand, if those of the stack went on. */
-extern uintptr_t stack_marks;
+extern uintptr_t marks_of_stack;
 
 static inline uint32_t *stack_mark(uintptr_t address) {
-    return (uint32_t *)(stack_marks + (address >> unit_shift) * sizeof(uint32_t));
+    return (uint32_t *)(marks_of_stack + (address >> unit_shift) * sizeof(uint32_t));
 }
 
 /* Makes the marks of the stack, which lies between these. */

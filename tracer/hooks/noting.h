@@ -20,7 +20,4 @@ static inline void note_access_by(bool writes, uintptr_t at, size_t size, struct
     note_access(writes, at, size, by.self, by.stack_pointer, by.code);
 }
 
-/* Whoever may still use a block that the program gives back has a race, as if all of it were written. */
-void end_block(void *block, __spbags_function self, uintptr_t stack_pointer, uintptr_t code);
-
 #endif

@@ -7,7 +7,7 @@
 #include "marks.h"
 #include "output.h"
 
-struct recent_records recent;
+struct recent_records records_recent;
 /* How many records there were, but for those of the stack's memory, which each call of a function has anew. */
 static uint64_t news;
 
@@ -84,28 +84,28 @@ static void pass_record(const struct recent *passed) {
 
 /* What is in the window goes on, and another one begins. */
 static void pass_window(void) {
-    while (recent.gone < recent.used)
-        pass_record(&recent.list[recent.gone++]);
-    recent.before += recent.used;
-    recent.used = recent.gone = 0;
-    window_number = last_number;
+    while (records_recent.gone < records_recent.used)
+        pass_record(&records_recent.list[records_recent.gone++]);
+    records_recent.before += records_recent.used;
+    records_recent.used = records_recent.gone = 0;
+    window_number = window_last_number;
 }
 
 static void keep_recent(uint64_t record, uint16_t site) {
-    recent.list[recent.used++] = (struct recent){record, site};
-    if (recent.used == WINDOW)
+    records_recent.list[records_recent.used++] = (struct recent){record, site};
+    if (records_recent.used == WINDOW)
         pass_window();
 }
 
 static void leave_out_recent(uintptr_t before) {
-    size_t to = before > recent.before ? before - recent.before : 0;
-    to = to <= recent.used ? to : 0;
-    for (size_t from = to; from < recent.used; from++) {
-        uint64_t record = recent.list[from].record, location = unit_of(record >> 3);
-        recent.list[to] = recent.list[from];
+    size_t to = before > records_recent.before ? before - records_recent.before : 0;
+    to = to <= records_recent.used ? to : 0;
+    for (size_t from = to; from < records_recent.used; from++) {
+        uint64_t record = records_recent.list[from].record, location = unit_of(record >> 3);
+        records_recent.list[to] = records_recent.list[from];
         to += !((record & 7) != numbers_end && location % 2 == 1 && is_dying(location / 2));
     }
-    recent.used = to;
+    records_recent.used = to;
 }
 
 /* ---- The window in any run ---- */
@@ -310,7 +310,7 @@ void records_follow_unit(bool writes, uint64_t location, uintptr_t unit, uintptr
 
 /* ---- What others ask ---- */
 
-void records_drop(void) { strand.used = recent.used = recent.gone = 0; }
+void records_drop(void) { strand.used = records_recent.used = records_recent.gone = 0; }
 
 /* What the strand has accessed in blocks. */
 static uint64_t units_touched(void) {

@@ -9,7 +9,7 @@
 #include "strands.h"
 #include "tell.h"
 
-/* The run may end behind the newest record. */
+/* The run may end behind the newest record, by closing.h. */
 static inline void end_at_last(void) {
     if (__builtin_expect(course.records >= last_record, 0))
         closing_end_run();
@@ -31,11 +31,11 @@ extern struct recent_records {
     } list[WINDOW];
     size_t used, gone;
     uintptr_t before;
-} recent;
+} records_recent;
 
 /* How many records went before, but for those that are left out. */
 static inline uintptr_t records_so_far(void) {
-    return __builtin_expect(only_detects(), 1) ? steps_so_far() : recent.before + recent.used;
+    return __builtin_expect(only_detects(), 1) ? steps_so_far() : records_recent.before + records_recent.used;
 }
 
 /* Between these two records are put, or blocks. */

@@ -46,7 +46,7 @@ static void remove_view(size_t at) {
 /* The number of the stack's unit with this address, which has none if nothing has touched it. */
 static uint64_t stack_number(uintptr_t address) {
     uintptr_t unit = address & ~unit_mask;
-    return *stack_mark(unit) == UNTOUCHED ? 0 : numbers[(unit - stack_first) >> unit_shift];
+    return *stack_mark(unit) == UNTOUCHED ? 0 : locations_numbers[(unit - stack_first) >> unit_shift];
 }
 
 static uint64_t number_at(uintptr_t address) {

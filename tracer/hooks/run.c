@@ -95,7 +95,7 @@ static void find_stack(void) {
     stacks[0].first = running_first;
     stacks[0].end = running_first + running_size;
     marks_begin(stack_first, end);
-    numbers = reserve((stack_size >> unit_shift) * sizeof *numbers);
+    locations_numbers = reserve((stack_size >> unit_shift) * sizeof *locations_numbers);
     /* A frame has at least its return address and its frame pointer, and at most one open child. */
     size_t most_frames = size / 16 * 2;
     frames_top = frames_all = reserve(most_frames * sizeof *frames_all);
@@ -128,7 +128,7 @@ __attribute__((constructor(101))) static void start(void) {
     watch_set_patience();
     streams_judged = settings_is(SETTING_STREAMS, "1");
     heap_reuses = settings_is(SETTING_REUSE, "1");
-    leaves_out = heap_reuses && !doing.writing_repeats;
+    window_leaves_out = heap_reuses && !doing.writing_repeats;
     run_thread = __builtin_thread_pointer();
     records_begin();
     give_streams_buffers();

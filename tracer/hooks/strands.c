@@ -28,7 +28,7 @@ static void drop_empty(void) {
     }
 }
 
-void strand_make_room(void) {
+void strands_make_room(void) {
     short_way_leave();
     if (strand.has_gaps)
         drop_empty();
@@ -37,7 +37,7 @@ void strand_make_room(void) {
         records_put_strand();
 }
 
-void strand_set_dead(uintptr_t address, uintptr_t end) {
+void strands_set_dead(uintptr_t address, uintptr_t end) {
     strand.has_gaps = true;
     while (address < end) {
         struct part_of_block part = part_from(address, end);

@@ -47,20 +47,20 @@ static inline void place_block(const struct touched *touched) {
 }
 
 /* Makes room for another block; or what the strand has done so far goes out, by the records. */
-__attribute__((cold)) void strand_make_room(void);
+__attribute__((cold)) void strands_make_room(void);
 
 /* The block has its place then. */
 static inline void list_block(const struct touched *touched) {
     if (__builtin_expect(touched->block->place != 0, 1))
         return;
     if (__builtin_expect(strand.used == MOST_BLOCKS, 0))
-        strand_make_room();
+        strands_make_room();
     place_block(touched);
 }
 
 /* This memory of a heap block dies in the strand of its birth: its accesses are left out, as far as they haven't gone
    out. */
-void strand_set_dead(uintptr_t address, uintptr_t end);
+void strands_set_dead(uintptr_t address, uintptr_t end);
 
 /* The units of a block, which is empty then: those that were read, and those that were written. */
 static inline void take_units(const struct touched *touched, uint64_t masks[2]) {

@@ -1,5 +1,5 @@
 #include "window.h"
 
-uint64_t last_number, window_number;
-bool leaves_out;
-struct dying dying = {.first = WINDOW_NUMBERS};
+uint64_t window_last_number, window_number;
+bool window_leaves_out;
+struct dying window_dying = {.first = WINDOW_NUMBERS};

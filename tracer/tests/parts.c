@@ -74,7 +74,7 @@ static void make_stack(void) {
     running_size = stack_size = STACK_BYTES;
     stacks[0].end = stack_first + STACK_BYTES;
     marks_begin(stack_first, stacks[0].end);
-    numbers = reserve((stack_size >> unit_shift) * sizeof *numbers);
+    locations_numbers = reserve((stack_size >> unit_shift) * sizeof *locations_numbers);
 }
 
 /* How many parts have gone out, and of the last one the blocks in their order with what was read there, and written. */
@@ -143,7 +143,7 @@ static void strand_locations(void) {
 
 /* They are no heap's, and don't stay dead. */
 static void die_alone(unsigned first, unsigned end) {
-    strand_set_dead(memory_unit(first), memory_unit(end));
+    strands_set_dead(memory_unit(first), memory_unit(end));
     for (unsigned unit = first; unit < end; unit++) {
         struct block *block = block_at(memory_unit(unit)).block;
         DEMAND((block->dead & units_from(unit % BLOCK_UNITS, 1)) != 0);
@@ -251,7 +251,7 @@ void records_end_numbers(uint64_t location) {
         }
 }
 
-void records_end_window(void) { window_number = last_number; }
+void records_end_window(void) { window_number = window_last_number; }
 void records_leave_out_dying(uintptr_t before) {
     (void)before;
     end_dying();
@@ -294,7 +294,7 @@ static void stack_numbers(void) {
 /* A number that ends in the window in which it began dies there, and isn't told. */
 static void stack_window(void) {
     make_stack();
-    leaves_out = true;
+    window_leaves_out = true;
     locations_touch(true, stack_unit(0), 4, 0);
     records_end_window();
     locations_touch(true, stack_unit(1), 4, 0);
