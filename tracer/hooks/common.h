@@ -3,11 +3,11 @@
    files instead of the sanitizer's own runtime. They are compiled without that flag. The program runs on one thread, in
    the serial order: a spawned child runs at once, as an ordinary call.
 
-   Each part is a .c file with a header of what others may call; what is on the way of each access is inline there. An
-   access comes to accesses.c, and a function's entry or a spawn to frames.c. Of memory blocks.h has what the strand
-   has done, or marks.h for the stack; locations.c gives it its locations, and records.c passes their records on: strands.h
-   and window.h have those that go out later, and detector.c or output.c gets them then. Where one of these calls what
-   stands on it, its header says so.
+   Each part is a .c file with a header of what others may call; what is on the way of each access is inline there.
+   Each stands on those before it: units, spans, blocks, stacks, marks and own, which say what the strand has done
+   where; strands and window, with what goes out later; detector and output, which get it; records; locations; frames,
+   with the hooks of functions and spawns; divided, reducers, accesses and heap; closing and run. Where one calls what
+   stands on it its header says so.
 
    Here is what each part may use: the system's headers, and the library's real functions. */
 #ifndef SPBAGS_COMMON_H

@@ -53,7 +53,7 @@ static inline void clear_marks(const uint32_t *lowest_mark, uint32_t *end) {
     }
 }
 
-/* So much memory from this address on. */
+/* So much memory from this address on; of units that are divided, bytes. */
 void locations_clear(uintptr_t address, size_t size);
 
 /* ---- Accesses ---- */

@@ -77,7 +77,7 @@ void records_end_life(struct life_end end);
 
 /* ---- Records as they come ---- */
 
-/* What is done for one in a run that does more than detect. */
+/* What is done for one in a run that does more than detect, where divided.h and look.h have their part. */
 void records_structure(enum spbags_kind kind, uintptr_t code);
 void records_access(bool writes, const struct touched *in, uint64_t location, uintptr_t address, uintptr_t code);
 
