@@ -3,6 +3,7 @@
 #include "hidden.h"
 #include "locations.h"
 #include "look.h"
+#include "memory.h"
 #include "openmp.h"
 
 /* The address right above the stack memory of the function that called the hook: it keeps its frame pointer, which the
@@ -22,6 +23,18 @@ unsigned frames_initialising;
 bool frames_left_out_update;
 uintptr_t short_way_end, short_way_bits, short_way_first;
 struct part *frames_parts;
+
+void frames_begin(size_t size) {
+    /* A frame has at least its return address and its frame pointer, and at most one open child. */
+    size_t most_frames = size / 16 * 2;
+    frames_top = frames_all = reserve(most_frames * sizeof *frames_all);
+    frames_end = frames_all + most_frames;
+    if (doing.looking)
+        frames_parts = reserve(most_frames * sizeof *frames_parts);
+    procedures_owners = reserve((MOST_DEPTH + 3) * sizeof *procedures_owners);
+    *frames_top = (struct frame){.kind = ROOT, .end = UINTPTR_MAX};
+    procedures_count = procedures_most = 1;
+}
 
 void short_way_find(void) {
     bool records = doing.tracing && frames_initialising == 0;

@@ -41,6 +41,8 @@ struct frame {
     uintptr_t code;
 };
 
+/* That of the root begins. There is room for as many as a stack of this size has. */
+void frames_begin(size_t size);
 /* All, and the newest one. */
 extern struct frame *frames_all, *frames_end __asm__("__spbags_frames_end"), *frames_top __asm__("__spbags_top");
 /* What the function of this frame and those around it update atomically isn't recorded, but what they call is. Or NULL. */

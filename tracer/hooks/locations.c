@@ -3,6 +3,7 @@
 #include "divided.h"
 #include "frames.h"
 #include "heap.h"
+#include "memory.h"
 #include "openmp.h"
 
 uint64_t *locations_numbers;
@@ -11,6 +12,8 @@ bool notes_quickly;
 /* Accesses that don't fill their units, and the bits of their addresses and sizes. */
 static uint64_t narrow_accesses;
 static uintptr_t narrow_bits;
+
+void locations_begin(void) { locations_numbers = reserve((stack_size >> unit_shift) * sizeof *locations_numbers); }
 
 /* The group of the newest number that has ended, and which of its numbers have; they go out with the next group. */
 static struct {

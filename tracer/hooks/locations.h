@@ -8,6 +8,7 @@
 #include "records.h"
 #include "reducers.h"
 
+void locations_begin(void);
 /* By unit of the stack, from its first address on: a unit that is marked has its number. */
 extern uint64_t *locations_numbers;
 

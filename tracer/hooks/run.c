@@ -7,7 +7,6 @@
 #include "heap.h"
 #include "locations.h"
 #include "look.h"
-#include "memory.h"
 #include "openmp.h"
 #include "output.h"
 #include "places.h"
@@ -95,14 +94,8 @@ static void find_stack(void) {
     stacks[0].first = running_first;
     stacks[0].end = running_first + running_size;
     marks_begin(stack_first, end);
-    locations_numbers = reserve((stack_size >> unit_shift) * sizeof *locations_numbers);
-    /* A frame has at least its return address and its frame pointer, and at most one open child. */
-    size_t most_frames = size / 16 * 2;
-    frames_top = frames_all = reserve(most_frames * sizeof *frames_all);
-    frames_end = frames_all + most_frames;
-    if (doing.looking)
-        frames_parts = reserve(most_frames * sizeof *frames_parts);
-    procedures_owners = reserve((MOST_DEPTH + 3) * sizeof *procedures_owners);
+    locations_begin();
+    frames_begin(size);
 }
 
 static void put_header(void) {
@@ -144,8 +137,6 @@ __attribute__((constructor(101))) static void start(void) {
     settings_forget(SETTING_PLACES);
     spans_need();
     find_stack();
-    *frames_top = (struct frame){.kind = ROOT, .end = UINTPTR_MAX};
-    procedures_count = procedures_most = 1;
     ends_begin();
     if (name && !doing.looking)
         put_header();

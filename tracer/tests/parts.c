@@ -74,7 +74,7 @@ static void make_stack(void) {
     running_size = stack_size = STACK_BYTES;
     stacks[0].end = stack_first + STACK_BYTES;
     marks_begin(stack_first, stacks[0].end);
-    locations_numbers = reserve((stack_size >> unit_shift) * sizeof *locations_numbers);
+    locations_begin();
 }
 
 /* How many parts have gone out, and of the last one the blocks in their order with what was read there, and written. */
