@@ -60,9 +60,8 @@ static void end_child_body(const struct body *body, uintptr_t code) {
     if (body->is_child) {
         parts_close(code);
         children_close(code);
+        parts_forget_below(scopes_thread()->stack_end);
     }
-    if (body->is_child && doing.tracing)
-        frames_forget_below(scopes_thread()->stack_end);
     silence_follow_body();
 }
 

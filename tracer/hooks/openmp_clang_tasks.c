@@ -85,8 +85,7 @@ int32_t __kmpc_omp_task(CLANG, struct clang_task *task) {
 void __kmpc_omp_task_begin_if0(CLANG, struct clang_task *task) {
     IGNORE;
     bool is_final = scopes_task()->final || (header_of(task)->flags & CLANG_FINAL) != 0;
-    if (doing.tracing)
-        frames_forget_below(STACK_POINTER);
+    parts_forget_below(STACK_POINTER);
     scopes_push(TASK, false)->final = is_final;
     parts_open(CALLED, STACK_POINTER, CODE);
     parts_stay_in_function();
@@ -97,8 +96,7 @@ void __kmpc_omp_task_complete_if0(CLANG, struct clang_task *task) {
     IGNORE, end_clang_task(task);
     parts_close(CODE);
     tasks_end_included(CODE);
-    if (doing.tracing)
-        frames_forget_below(STACK_POINTER);
+    parts_forget_below(STACK_POINTER);
 }
 
 int32_t __kmpc_omp_taskwait(CLANG) {

@@ -109,7 +109,7 @@ void members_run(struct member *member, uintptr_t stack_end) {
     parts_close(team->code);
     end_part(team->code);
     member->has_ended = true;
-    frames_forget_below(stack_end);
+    parts_forget_below(stack_end);
 }
 
 /* Where the loop is all of the region the other members have nothing to do once the first one has done it, but for what

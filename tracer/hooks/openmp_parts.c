@@ -23,3 +23,8 @@ void parts_stay_in_function(void) {
     frames_top->end = frames_top[-1].end - 1;
     follow_top();
 }
+
+void parts_forget_below(uintptr_t address) {
+    if (doing.tracing)
+        frames_forget_below(address);
+}

@@ -9,5 +9,7 @@ void parts_open(enum kind kind, uintptr_t stack_pointer, uintptr_t code);
 void parts_close(uintptr_t code);
 /* The caller itself goes on in the part that has begun. */
 void parts_stay_in_function(void);
+/* What the program has on the stack below this address is dead. */
+void parts_forget_below(uintptr_t address);
 
 #endif

@@ -35,8 +35,7 @@ static void end_share(const struct scope *thread, uintptr_t code) {
     children_close(code);
     if (thread->loop->in_blocks)
         children_join_from(scopes.newest, code);
-    if (doing.tracing)
-        frames_forget_below(thread->stack_end);
+    parts_forget_below(thread->stack_end);
 }
 
 /* The iterations of the share that has begun now go from this one to the newest. */
@@ -80,8 +79,7 @@ void shares_end_following(uintptr_t code) {
     if (scopes.newest->follows_loop) {
         parts_close(code);
         children_close(code);
-        if (doing.tracing)
-            frames_forget_below(scopes_thread()->stack_end);
+        parts_forget_below(scopes_thread()->stack_end);
     }
     silence_follow_body();
 }

@@ -27,8 +27,7 @@ static void copy_data(const struct task *task, void *to, uintptr_t stack_pointer
 /* What its caller has below the stack pointer is dead before and after, and a task that may run later holds none of the
    caller's locks. */
 void tasks_run(const struct task *task, const struct bounds *bounds, uintptr_t stack_pointer, uintptr_t code) {
-    if (doing.tracing)
-        frames_forget_below(stack_pointer);
+    parts_forget_below(stack_pointer);
     bool is_final = scopes_task()->final;
     char room[task->size + task->alignment];
     char *data = room + task->alignment - (uintptr_t)room % task->alignment;
@@ -54,8 +53,7 @@ void tasks_run(const struct task *task, const struct bounds *bounds, uintptr_t s
         tasks_end_included(code);
     memcpy(guards, kept, held * sizeof *kept);
     guards_held = deferred ? held : guards_held;
-    if (doing.tracing)
-        frames_forget_below(stack_pointer);
+    parts_forget_below(stack_pointer);
 }
 
 bool tasks_wait(uintptr_t code) {

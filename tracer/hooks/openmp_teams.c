@@ -52,8 +52,7 @@ static bool is_alone(uint64_t wanted, uintptr_t code) {
 void teams_begin(unsigned threads, void *data, uintptr_t stack_pointer, uintptr_t code) {
     uint64_t wanted = threads > 0 ? threads : (uint64_t)scopes_task()->threads_wanted;
     bool alone = is_alone(wanted, code);
-    if (doing.tracing)
-        frames_forget_below(stack_pointer);
+    parts_forget_below(stack_pointer);
     struct scope *team = scopes_push(TEAM, false);
     int inner = teams_threads_by_variable(scopes_level(false));
     team->threads_wanted = inner > 0 ? inner : team->threads_wanted;
@@ -74,8 +73,7 @@ void teams_end(uintptr_t stack_pointer, uintptr_t code) {
     loops_end_from(team->loop);
     parts_close(code);
     children_end_waiting(code);
-    if (doing.tracing)
-        frames_forget_below(stack_pointer);
+    parts_forget_below(stack_pointer);
 }
 
 void teams_run(struct region region, uintptr_t code) {
