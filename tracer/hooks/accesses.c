@@ -73,7 +73,7 @@ static inline bool are_done(bool writes, const uint8_t *done, size_t units) {
 
 /* Some units of the usual size in one block, or of the stack. */
 static inline void usual_units(bool writes, uintptr_t at, size_t size, uintptr_t code) {
-    intptr_t row = regions[region_of(at)];
+    intptr_t row = blocks_regions[region_of(at)];
     if (row < 0) {
         uint32_t *mark = (uint32_t *)((intptr_t)at + row);
         if (__builtin_expect(!are_repeats(writes, mark, size >> USUAL_SHIFT), 0))

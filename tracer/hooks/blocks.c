@@ -3,7 +3,7 @@
 #include "memory.h"
 #include "tell.h"
 
-intptr_t regions[REGIONS];
+intptr_t blocks_regions[REGIONS];
 /* The regions of the stack, whose other memory has bytes too. */
 static size_t stack_region, stack_regions_count;
 static intptr_t *rows_beside_stack;
@@ -25,7 +25,7 @@ static intptr_t make_row(size_t region) {
 
 intptr_t blocks_other_row(size_t region) {
     bool is_of_stack = region - stack_region < stack_regions_count;
-    intptr_t *row = is_of_stack ? &rows_beside_stack[region - stack_region] : &regions[region];
+    intptr_t *row = is_of_stack ? &rows_beside_stack[region - stack_region] : &blocks_regions[region];
     if (*row == 0)
         *row = make_row(region);
     return *row;

@@ -29,7 +29,7 @@ static const uintptr_t region_mask = ((uintptr_t)1 << REGION_BITS) - 1;
 
 /* Where the byte of the unit 0 would stand, if a region's bytes went on; or 0 where it has none. Of a region of the stack,
    which has marks, how many bytes behind the memory these begin: they are below it. */
-extern intptr_t regions[REGIONS] __asm__("__spbags_regions");
+extern intptr_t blocks_regions[REGIONS] __asm__("__spbags_regions");
 /* That of the first access of a region, whose memory comes then, or of other memory in a region of the stack. */
 __attribute__((cold)) intptr_t blocks_other_row(size_t region);
 /* So many regions from this one on are of the stack. */
@@ -42,7 +42,7 @@ static inline size_t region_units(void) { return ((size_t)1 << REGION_BITS) >> u
 static inline size_t region_bytes(void) { return region_units() + (size_t)REGION_SPANS * DEAD_BLOCKS * BLOCK_UNITS; }
 
 static inline intptr_t row_of(uintptr_t address) {
-    intptr_t row = regions[region_of(address)];
+    intptr_t row = blocks_regions[region_of(address)];
     return __builtin_expect(row > 0, 1) ? row : blocks_other_row(region_of(address));
 }
 

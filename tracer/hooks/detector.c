@@ -9,8 +9,8 @@
 #include "strands.h"
 #include "tell.h"
 
-uint64_t *next_record;
-uintptr_t records_origin;
+uint64_t *detector_next;
+uintptr_t detector_origin;
 
 #ifdef SPBAGS_INSIDE
 /* By this spbags-run knows that a program has it. */
@@ -27,42 +27,42 @@ static struct {
     uint64_t endings[BUNDLE_RECORDS];
 } at_hand __attribute__((aligned(TWO_LINES)));
 
-struct bundle *filling;
-uint64_t *window, *window_end;
+struct bundle *detector_bundle;
+uint64_t *detector_window, *detector_window_end;
 const uint64_t *detector_seen_steps;
-volatile sig_atomic_t stepping;
+volatile sig_atomic_t detector_stepping;
 bool detector_has_races;
 
 static void fill_bundle(size_t number) {
-    filling = &bundles[number];
-    next_record = window = filling->records;
+    detector_bundle = &bundles[number];
+    detector_next = detector_window = detector_bundle->records;
     limit_window();
 }
 
 static void hand_over(const uint64_t *end) {
-    filling->used = (size_t)(end - filling->records);
+    detector_bundle->used = (size_t)(end - detector_bundle->records);
     sem_post(&full_bundles);
 }
 
 /* The program's errno is none of ours. */
 static void next_bundle(void) {
     int error = errno;
-    const uint64_t *kept = window, *end = next_record;
+    const uint64_t *kept = detector_window, *end = detector_next;
     hand_over(kept);
     wait_for(&free_bundles);
-    fill_bundle((size_t)(filling - bundles + 1) % BUNDLES);
-    records_origin += (uintptr_t)window - (uintptr_t)kept;
+    fill_bundle((size_t)(detector_bundle - bundles + 1) % BUNDLES);
+    detector_origin += (uintptr_t)detector_window - (uintptr_t)kept;
     while (kept < end)
-        *next_record++ = *kept++;
+        *detector_next++ = *kept++;
     errno = error;
 }
 
 void detector_end_steps(void) {
     if (!only_detects())
         pass_steps();
-    else if (next_record - window == WINDOW)
+    else if (detector_next - detector_window == WINDOW)
         begin_steps();
-    if (next_record == filling->records + BUNDLE_RECORDS)
+    if (detector_next == detector_bundle->records + BUNDLE_RECORDS)
         next_bundle();
 }
 
@@ -72,19 +72,19 @@ void detector_refuse_handler(void) {
 
 void detector_step_words(uint64_t record, const uint64_t *words, size_t count) {
     pass_steps();
-    if ((size_t)(filling->records + BUNDLE_RECORDS - next_record) <= 1 + count)
+    if ((size_t)(detector_bundle->records + BUNDLE_RECORDS - detector_next) <= 1 + count)
         next_bundle();
-    *next_record++ = record;
+    *detector_next++ = record;
     for (size_t at = 0; at < count; at++)
-        *next_record++ = words[at];
+        *detector_next++ = words[at];
     pass_steps();
 }
 
 bool detector_has_new_step(void) {
-    const uint64_t *at = detector_seen_steps, *seen = next_record;
+    const uint64_t *at = detector_seen_steps, *seen = detector_next;
     detector_seen_steps = seen;
-    if (at < filling->records || at > seen)
-        at = filling->records;
+    if (at < detector_bundle->records || at > seen)
+        at = detector_bundle->records;
     while (at < seen && ((*at & 7) == numbers_end || ((*at & 7) >= SPBAGS_READ && (*at >> 3) % 2 == 1)))
         at++;
     return at < seen;
@@ -245,8 +245,8 @@ void detector_begin(void) {
 }
 void detector_end(bool has_more_to_say) {
     report_is_made = report_is_asked || has_more_to_say;
-    filling->is_last = true;
-    hand_over(next_record);
+    detector_bundle->is_last = true;
+    hand_over(detector_next);
     pthread_join(detector, NULL);
 }
 #endif

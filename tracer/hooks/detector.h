@@ -11,23 +11,24 @@
 #include "window.h"
 
 /* Where the next record goes, and how far a record in memory is from its place among all that went before. */
-extern uint64_t *next_record __asm__("__spbags_next_record");
-extern uintptr_t records_origin __asm__("__spbags_records_origin");
+extern uint64_t *detector_next __asm__("__spbags_next_record");
+extern uintptr_t detector_origin __asm__("__spbags_records_origin");
 
 #ifdef SPBAGS_INSIDE
 /* The detector has a thread of its own, which alone calls it. The program's thread hands it the records in bundles, and
    fills one while the detector goes through those before. */
 enum { BUNDLE_RECORDS = 1 << 13, BUNDLES = 8 };
-/* The bundle that is filled. */
-extern struct bundle {
+struct bundle {
     size_t used;
     bool is_last;
     uint64_t records[BUNDLE_RECORDS];
-} * filling;
+};
+/* The one that is filled. */
+extern struct bundle *detector_bundle;
 /* Where the window begins, and where it or the bundle ends. What is behind that beginning goes into the next bundle. */
-extern uint64_t *window, *window_end;
+extern uint64_t *detector_window, *detector_window_end;
 /* While a record is put into a bundle, a signal waits. */
-extern volatile sig_atomic_t stepping;
+extern volatile sig_atomic_t detector_stepping;
 /* Whether the report, once it is made, is more than the line `races 0`. */
 extern bool detector_has_races;
 
@@ -37,13 +38,13 @@ void detector_begin(void);
 void detector_end(bool has_more_to_say);
 
 static inline void limit_window(void) {
-    uint64_t *bundle_end = filling->records + BUNDLE_RECORDS;
-    window_end = bundle_end - window < WINDOW ? bundle_end : window + WINDOW;
+    uint64_t *bundle_end = detector_bundle->records + BUNDLE_RECORDS;
+    detector_window_end = bundle_end - detector_window < WINDOW ? bundle_end : detector_window + WINDOW;
 }
 
 /* What went before can't be left out any more. */
 static inline void pass_steps(void) {
-    window = next_record;
+    detector_window = detector_next;
     limit_window();
 }
 
@@ -58,22 +59,22 @@ void detector_end_steps(void);
 __attribute__((noreturn, cold)) void detector_refuse_handler(void);
 
 static inline void begin_step(void) {
-    if (__builtin_expect(stepping, 0))
+    if (__builtin_expect(detector_stepping, 0))
         detector_refuse_handler();
-    stepping = true;
+    detector_stepping = true;
     in_order();
 }
 
 static inline void end_step(void) {
     in_order();
-    stepping = false;
+    detector_stepping = false;
     let_signal_end();
 }
 
 /* Between both of these. */
 static inline void step(unsigned kind, uint64_t location) {
-    *next_record++ = spbags_record(kind, location);
-    if (__builtin_expect(next_record == window_end, 0))
+    *detector_next++ = spbags_record(kind, location);
+    if (__builtin_expect(detector_next == detector_window_end, 0))
         detector_end_steps();
 }
 
@@ -81,23 +82,23 @@ static inline void step(unsigned kind, uint64_t location) {
 void detector_step_words(uint64_t record, const uint64_t *words, size_t count);
 
 /* How many records went before, but for those that are left out. */
-static inline uintptr_t steps_so_far(void) { return (uintptr_t)next_record - records_origin; }
+static inline uintptr_t steps_so_far(void) { return (uintptr_t)detector_next - detector_origin; }
 
 /* Up to here detector_has_new_step has seen the newest bundle. */
 extern const uint64_t *detector_seen_steps;
 
 /* The accesses of the numbers that die are left out; before so many records there are none. */
 static inline void leave_out_steps(uintptr_t before) {
-    uint64_t *to = (uint64_t *)(before + records_origin);
-    if (to < window || to > next_record)
-        to = window;
-    for (const uint64_t *from = to; from < next_record; from++) {
+    uint64_t *to = (uint64_t *)(before + detector_origin);
+    if (to < detector_window || to > detector_next)
+        to = detector_window;
+    for (const uint64_t *from = to; from < detector_next; from++) {
         uint64_t record = *from, kind = record & 7, number = record >> 4;
         bool is_of_stack = (kind == SPBAGS_READ || kind == SPBAGS_WRITE) && (record >> 3) % 2 == 1;
         *to = record;
         to += !(is_of_stack && is_dying(number));
     }
-    next_record = to;
+    detector_next = to;
     if (detector_seen_steps > to)
         detector_seen_steps = to;
 }
@@ -106,7 +107,7 @@ static inline void leave_out_steps(uintptr_t before) {
    locations are odd. */
 bool detector_has_new_step(void);
 #else
-enum { stepping = false, detector_has_races = false };
+enum { detector_stepping = false, detector_has_races = false };
 static inline void detector_begin(void) {}
 static inline void detector_end(bool has_more_to_say) { (void)has_more_to_say; }
 static inline void begin_step(void) {}

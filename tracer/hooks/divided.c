@@ -33,7 +33,7 @@ static void put_byte(struct divided *unit, size_t byte, bool writes, uintptr_t a
 
 /* Units of blocks have no repeats in one part of a strand. */
 static void follow_unit(struct divided *unit, bool writes, uintptr_t address, uintptr_t code) {
-    const uint64_t mark = is_gathered(unit->location) ? 2 * part_now() : has_read;
+    const uint64_t mark = is_gathered(unit->location) ? 2 * part_now() : marks_read;
     if (unit->mark >= mark + writes)
         return;
     unit->mark = mark + writes;

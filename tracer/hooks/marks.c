@@ -6,7 +6,7 @@
 #include "reducers.h"
 #include "tell.h"
 
-uint32_t has_read = FIRST_READ, marks_again;
+uint32_t marks_read = FIRST_READ, marks_again;
 uintptr_t marks_of_stack;
 
 /* The usual unit has as many bytes as its mark. */
@@ -14,7 +14,7 @@ static void name_marks(size_t region) {
     intptr_t behind = (intptr_t)stack_mark(region << REGION_BITS) - (intptr_t)(region << REGION_BITS);
     if (behind >= 0)
         fail("the system has no memory for the hooks below the stack");
-    regions[region] = behind;
+    blocks_regions[region] = behind;
 }
 
 void marks_begin(uintptr_t first, uintptr_t end) {
@@ -41,6 +41,6 @@ void marks_begin_again(void) {
         forget_stack(&stacks[number]);
     divided_forget();
     reducers_forget();
-    has_read = FIRST_READ - 2;
+    marks_read = FIRST_READ - 2;
     marks_again++;
 }

@@ -16,7 +16,7 @@ enum { CLEARED = 16 };
 
 /* What the current strand has read has this mark, and what it has written one more. Like all whose names in the
    assembler's text stand here, this is of use beside the accesses too. */
-extern uint32_t has_read __asm__("__spbags_has_read");
+extern uint32_t marks_read __asm__("__spbags_has_read");
 /* How often the numbers of strands have begun again. */
 extern uint32_t marks_again;
 
@@ -24,12 +24,12 @@ extern uint32_t marks_again;
    repeat. No other mark is above that of a write in the current strand. */
 static const uint32_t own_mark = UINT32_MAX;
 
-static inline bool is_repeat(bool writes, uint32_t mark) { return writes ? mark > has_read : mark >= has_read; }
+static inline bool is_repeat(bool writes, uint32_t mark) { return writes ? mark > marks_read : mark >= marks_read; }
 
-static inline uint32_t new_mark(bool writes) { return has_read + writes; }
+static inline uint32_t new_mark(bool writes) { return marks_read + writes; }
 
 /* The strand that runs has this number in the whole run. */
-static inline uint64_t strand_now(void) { return (uint64_t)marks_again << 32 | has_read; }
+static inline uint64_t strand_now(void) { return (uint64_t)marks_again << 32 | marks_read; }
 
 /* Where the mark of the unit 0 would stand, if those of the stack went on. */
 extern uintptr_t marks_of_stack;
@@ -45,9 +45,9 @@ void marks_begin(uintptr_t first, uintptr_t end);
 __attribute__((cold)) void marks_begin_again(void);
 
 static inline void begin_strand(void) {
-    if (__builtin_expect(has_read / 2 >= MOST_STRANDS, 0))
+    if (__builtin_expect(marks_read / 2 >= MOST_STRANDS, 0))
         marks_begin_again();
-    has_read += 2;
+    marks_read += 2;
 }
 
 #endif

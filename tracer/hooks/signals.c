@@ -71,12 +71,12 @@ static void on_signal(int number, siginfo_t *about, void *context) {
     came++;
     if (!is_traced() || came == ENOUGH)
         die_by(number);
-    else if ((changes > 0 || stepping) && !fault)
+    else if ((changes > 0 || detector_stepping) && !fault)
         waiting_signal = number;
     else {
         if (fault && number == SIGSEGV && is_by_stack(about->si_addr))
             tell("the program needs more stack than its limit, which ulimit -s sets");
-        if (stepping)
+        if (detector_stepping)
             die_inside(number);
         else
             end_after_handler(number, context);

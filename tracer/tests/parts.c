@@ -22,7 +22,7 @@ void __real__exit(int status) { _exit(status); }
 int __real_munmap(void *at, size_t size) { return munmap(at, size); }
 char __start_spbags_hooks[1], __stop_spbags_hooks[1];
 void end_by_signal(int number) { _exit(number); }
-volatile sig_atomic_t changes, waiting_signal, stepping;
+volatile sig_atomic_t changes, waiting_signal, detector_stepping;
 struct doing doing = {.detecting = true};
 static struct frame root;
 struct frame *frames_top = &root, *frames_silent;
@@ -40,8 +40,8 @@ enum update reducers_update_of(uintptr_t unit, unsigned shift, bool repeats) {
     return NO_UPDATE;
 }
 
-uint64_t *next_record, *window, *window_end;
-struct bundle *filling;
+uint64_t *detector_next, *detector_window, *detector_window_end;
+struct bundle *detector_bundle;
 void detector_end_steps(void) {}
 void detector_refuse_handler(void) { abort(); }
 void records_end_life(struct life_end end) { begin_life(end.span); }
