@@ -98,6 +98,17 @@ static void find_stack(void) {
     frames_begin(size);
 }
 
+static void read_settings(void) {
+    doing.version = settings_digit(SETTING_VERSION);
+    unit_shift = (unsigned)__builtin_ctz(settings_digit(SETTING_UNIT));
+    unit_mask = ((uintptr_t)1 << unit_shift) - 1;
+    doing.writing_repeats = settings_is(SETTING_REPEATS, "1");
+    watch_set_patience();
+    streams_judged = settings_is(SETTING_STREAMS, "1");
+    heap_reuses = settings_is(SETTING_REUSE, "1");
+    window_leaves_out = heap_reuses && !doing.writing_repeats;
+}
+
 static void put_header(void) {
     const char *header = doing.version == 2 ? "trace 2\n" : "trace 1\n";
     memcpy(room(&outcome), header, strlen(header));
@@ -114,14 +125,7 @@ __attribute__((constructor(101))) static void start(void) {
         tell("SPBAGS_TRACE isn't set, so no trace is written");
         return;
     }
-    doing.version = settings_digit(SETTING_VERSION);
-    unit_shift = (unsigned)__builtin_ctz(settings_digit(SETTING_UNIT));
-    unit_mask = ((uintptr_t)1 << unit_shift) - 1;
-    doing.writing_repeats = settings_is(SETTING_REPEATS, "1");
-    watch_set_patience();
-    streams_judged = settings_is(SETTING_STREAMS, "1");
-    heap_reuses = settings_is(SETTING_REUSE, "1");
-    window_leaves_out = heap_reuses && !doing.writing_repeats;
+    read_settings();
     run_thread = __builtin_thread_pointer();
     records_begin();
     give_streams_buffers();
