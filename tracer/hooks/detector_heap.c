@@ -1,4 +1,3 @@
-/* The detector's thread alone calls what follows. */
 #ifdef SPBAGS_INSIDE
 #include "detector_heap.h"
 
@@ -21,6 +20,8 @@ void detector_heap_begin(void) {
     if (!library_malloc || !library_realloc || !library_free)
         fail("the C library has no heap for the detector");
 }
+
+/* ---- What the detector's thread alone calls ---- */
 
 /* A block of so many bytes or more has memory of its own, which begins with a large page: the system takes large pages
    for it where it has some, since the detector goes through all of its memory. Few such blocks live at once; those that
