@@ -7,8 +7,8 @@
 int __real_munmap(void *at, size_t size);
 void *__real_mremap(void *at, size_t before, size_t size, int flags, ...);
 
-/* It is that of the C library, where memory comes again. The tracer's own malloc stands before it, so no other code
-   calls it. */
+/* The heap is that of the C library, where memory comes again. The tracer's own malloc stands before it, so no other
+   code calls it. */
 static void *(*library_malloc)(size_t);
 static void *(*library_realloc)(void *, size_t);
 static void (*library_free)(void *);
