@@ -11,6 +11,8 @@ extern struct doing {
     bool detecting, looking;
     /* A record goes to the detector, and that is all. In a program with the detector few runs do anything else. */
     bool only_detecting;
+    /* A record goes to the detector or into the trace, and that is all. */
+    bool plain;
     /* Each record's place is kept, as long as there is room, and the course of the run is followed. */
     bool keeping_places;
     /* Each record of an access begins a strand, so that there are no repeats. */

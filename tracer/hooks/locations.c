@@ -59,7 +59,7 @@ void locations_clear(uintptr_t address, size_t size) {
 }
 
 void locations_follow_views(void) {
-    notes_quickly = only_detects() && !reducers_any;
+    notes_quickly = doing.plain && !reducers_any;
     short_way_leave();
     for (size_t at = 0; at < strand.used && !notes_quickly; at++)
         if (strand.list[at].block)
@@ -91,7 +91,7 @@ __attribute__((noinline)) static void note_units(bool writes, uintptr_t address,
                                                  uintptr_t code) {
     uint64_t units = new_units(writes, part.in.done, part.units);
     if (units != 0 && notes_quickly && (units & part.in.block->dead) == 0) {
-        step_units(writes, &part.in, units);
+        note_in_block(writes, &part.in, units);
         note_quickly(&part.in);
         return;
     }

@@ -59,7 +59,7 @@ void locations_clear(uintptr_t address, size_t size);
 
 /* ---- Accesses ---- */
 
-/* Without views of reducers, if the run detects and that is all, a unit is noted quickly. */
+/* Without views of reducers, if the run is plain, a unit of a block is noted quickly. */
 extern bool notes_quickly;
 /* After a change of either. */
 void locations_follow_views(void);
@@ -86,12 +86,12 @@ void locations_note_unit(bool writes, const struct touched *in, unsigned unit, u
 /* Nothing of the block has been accessed, and it is the program's alone. From now on the first accesses to its units are
    noted quickly, and these are noted. */
 static inline void begin_quick(bool writes, const struct touched *in, unsigned first, size_t count) {
-    begin_step();
+    begin_records();
     list_block(in);
     set_in_all(in->done, QUICK);
     for (size_t at = 0; at < count; at++)
         set_bit(&in->done[first + at], writes ? WROTE_IT : READ_IT);
-    end_step();
+    finish_records();
 }
 
 static inline bool may_begin_quick(const struct block *block) {

@@ -57,6 +57,40 @@ static inline void write_access(bool writes, uint64_t location) {
     outcome.used += (size_t)(line + 32 - at);
 }
 
+/* The line of an access whose location has this number of hundreds, as it is where that ends in 00. */
+struct hundred {
+    uint64_t number;
+    char line[LONGEST];
+    size_t length;
+};
+
+static void make_hundred(struct hundred *made, bool writes, uint64_t number) {
+    char *at = made->line + sizeof made->line;
+    made->number = number;
+    for (*--at = '\n', at -= 2; number > 0; number /= 10)
+        *--at = (char)('0' + number % 10);
+    at -= 6;
+    __builtin_memcpy(at, writes ? "write " : " read ", 6);
+    at += !writes;
+    made->length = (size_t)(made->line + sizeof made->line - at);
+    memmove(made->line, at, made->length);
+}
+
+/* Accesses of a block, in a plain run. No location of one is below 100. */
+static void write_accesses(bool writes, uint64_t first, uint64_t units) {
+    struct hundred hundred = {.number = UINT64_MAX};
+    for (; units != 0; units &= units - 1) {
+        uint64_t location = first + 2 * (uint64_t)__builtin_ctzll(units);
+        if (location / 100 != hundred.number)
+            make_hundred(&hundred, writes, location / 100);
+        char *line = room(&outcome);
+        __builtin_memcpy(line, hundred.line, sizeof hundred.line);
+        __builtin_memcpy(line + hundred.length - 3, two_digits[location % 100], 2);
+        in_order();
+        outcome.used += hundred.length;
+    }
+}
+
 static inline void put_access(bool writes, uint64_t location, uint16_t site) {
     if (doing.looking && ++place_now == next_place)
         look_at_access(writes, location);
@@ -146,6 +180,10 @@ void records_end_numbers(uint64_t location) {
 /* ---- What goes out when the strand has ended ---- */
 
 static void put_accesses(const struct touched *touched, uint64_t units, bool writes) {
+    if (doing.plain) {
+        write_accesses(writes, touched->location, units);
+        return;
+    }
     const uint16_t *sites = strand.sites[touched - strand.list][writes];
     for (; units != 0; units &= units - 1) {
         unsigned unit = (unsigned)__builtin_ctzll(units);
@@ -237,7 +275,10 @@ void records_end_life(struct life_end end) {
 /* ---- Records as they come ---- */
 
 void records_structure(enum spbags_kind kind, uintptr_t code) {
-    records_put_strand();
+    if (doing.plain && strand.used == 0)
+        end_records();
+    else
+        records_put_strand();
     news++;
     if (doing.keeping_places || doing.looking)
         follow_course(kind, code);

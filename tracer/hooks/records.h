@@ -87,12 +87,12 @@ static inline void step_access(bool writes, uint64_t location) {
     end_step();
 }
 
-/* These units of a block have been accessed, in a run that detects, and that is all. */
-static inline void step_units(bool writes, const struct touched *in, uint64_t units) {
-    begin_step();
+/* These units of a block have been accessed, in a plain run. */
+static inline void note_in_block(bool writes, const struct touched *in, uint64_t units) {
+    begin_records();
     list_block(in);
     set_done(in->done, units, writes ? WROTE_IT : READ_IT);
-    end_step();
+    finish_records();
 }
 
 static inline void access_record(bool writes, uint64_t location, uintptr_t address, uintptr_t code) {
@@ -106,7 +106,7 @@ static inline void access_record(bool writes, uint64_t location, uintptr_t addre
 static inline void block_record(bool writes, const struct touched *in, unsigned unit, uintptr_t address,
                                 uintptr_t code) {
     if (__builtin_expect(only_detects(), 1))
-        step_units(writes, in, (uint64_t)1 << unit);
+        note_in_block(writes, in, (uint64_t)1 << unit);
     else
         records_access(writes, in, in->location + 2 * unit, address, code);
 }

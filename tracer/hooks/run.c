@@ -144,11 +144,9 @@ __attribute__((constructor(101))) static void start(void) {
     ends_begin();
     if (name && !doing.looking)
         put_header();
-#ifdef SPBAGS_INSIDE
-    doing.only_detecting =
-        detects() && !doing.looking && !doing.keeping_places && !divided_any && !doing.writing_repeats;
+    doing.plain = !doing.looking && !doing.keeping_places && !divided_any && !doing.writing_repeats;
+    doing.only_detecting = detects() && doing.plain;
     locations_follow_views();
-#endif
     doing.tracing = true;
     short_way_find();
     catch_signals();
