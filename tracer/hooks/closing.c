@@ -33,9 +33,11 @@ void closing_end(void) {
     closing_stop();
     tell_course();
     records_put_strand();
+    records_put_rest();
     outcome.most = next_place = last_record = UINT64_MAX;
     while (procedures_count > 0)
         procedures_close(0);
+    records_put_rest();
     if (doing.looking)
         put_notes();
     tell_notes();

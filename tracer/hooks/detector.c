@@ -9,13 +9,16 @@
 #include "strands.h"
 #include "tell.h"
 
-uint64_t *detector_next;
-uintptr_t detector_origin;
-
 #ifdef SPBAGS_INSIDE
 /* By this spbags-run knows that a program has it. */
 __attribute__((used)) static const char inside_mark[] = "SPBAGS_INSIDE";
-static struct bundle bundles[BUNDLES];
+static struct bundle {
+    size_t used;
+    bool is_last;
+    uint64_t records[STEPS_AT_HAND];
+} bundles[BUNDLES];
+/* That which is filled. */
+static struct bundle *filling;
 static sem_t full_bundles, free_bundles;
 static pthread_t detector;
 /* What the detector's thread has at hand: its session, and the bundle's records of numbers that have ended. These come
@@ -24,46 +27,22 @@ enum { TWO_LINES = 128 };
 static struct {
     void *session;
     size_t endings_count;
-    uint64_t endings[BUNDLE_RECORDS];
+    uint64_t endings[STEPS_AT_HAND];
 } at_hand __attribute__((aligned(TWO_LINES)));
 
-struct bundle *detector_bundle;
-uint64_t *detector_window, *detector_window_end;
-const uint64_t *detector_seen_steps;
 volatile sig_atomic_t detector_stepping;
 bool detector_has_races;
 
-static void fill_bundle(size_t number) {
-    detector_bundle = &bundles[number];
-    detector_next = detector_window = detector_bundle->records;
-    limit_window();
-}
-
-static void hand_over(const uint64_t *end) {
-    detector_bundle->used = (size_t)(end - detector_bundle->records);
+static void give_bundle(const uint64_t *end) {
+    filling->used = (size_t)(end - filling->records);
     sem_post(&full_bundles);
 }
 
-/* The program's errno is none of ours. */
-static void next_bundle(void) {
-    int error = errno;
-    const uint64_t *kept = detector_window, *end = detector_next;
-    hand_over(kept);
+uint64_t *detector_hand_over(const uint64_t *end) {
+    give_bundle(end);
     wait_for(&free_bundles);
-    fill_bundle((size_t)(detector_bundle - bundles + 1) % BUNDLES);
-    detector_origin += (uintptr_t)detector_window - (uintptr_t)kept;
-    while (kept < end)
-        *detector_next++ = *kept++;
-    errno = error;
-}
-
-void detector_end_steps(void) {
-    if (!only_detects())
-        pass_steps();
-    else if (detector_next - detector_window == WINDOW)
-        begin_steps();
-    if (detector_next == detector_bundle->records + BUNDLE_RECORDS)
-        next_bundle();
+    filling = &bundles[(filling - bundles + 1) % BUNDLES];
+    return filling->records;
 }
 
 void detector_refuse_handler(void) {
@@ -72,22 +51,12 @@ void detector_refuse_handler(void) {
 
 void detector_step_words(uint64_t record, const uint64_t *words, size_t count) {
     pass_steps();
-    if ((size_t)(detector_bundle->records + BUNDLE_RECORDS - detector_next) <= 1 + count)
-        next_bundle();
-    *detector_next++ = record;
+    if ((size_t)(steps_end - steps_next) <= 1 + count)
+        steps_pass_on();
+    *steps_next++ = record;
     for (size_t at = 0; at < count; at++)
-        *detector_next++ = words[at];
+        *steps_next++ = words[at];
     pass_steps();
-}
-
-bool detector_has_new_step(void) {
-    const uint64_t *at = detector_seen_steps, *seen = detector_next;
-    detector_seen_steps = seen;
-    if (at < detector_bundle->records || at > seen)
-        at = detector_bundle->records;
-    while (at < seen && ((*at & 7) == numbers_end || ((*at & 7) >= SPBAGS_READ && (*at >> 3) % 2 == 1)))
-        at++;
-    return at < seen;
 }
 
 /* ---- What the detector's thread does ---- */
@@ -214,7 +183,8 @@ static void start_thread(void) {
     heap_begin_aside(BLOCKS);
     sem_init(&full_bundles, 0, 0);
     sem_init(&free_bundles, 0, BUNDLES - 1);
-    fill_bundle(0);
+    filling = bundles;
+    steps_begin(filling->records);
     sigfillset(&all);
     sigprocmask(SIG_BLOCK, &all, &before);
     pthread_attr_init(&small);
@@ -245,8 +215,8 @@ void detector_begin(void) {
 }
 void detector_end(bool has_more_to_say) {
     report_is_made = report_is_asked || has_more_to_say;
-    detector_bundle->is_last = true;
-    hand_over(detector_next);
+    filling->is_last = true;
+    give_bundle(steps_next);
     pthread_join(detector, NULL);
 }
 #endif

@@ -39,7 +39,7 @@ void frames_begin(size_t size) {
 void short_way_find(void) {
     bool records = doing.tracing && frames_initialising == 0;
     short_way_bits = records && !openmp_watches && unit_shift == USUAL_SHIFT ? UINTPTR_MAX : 0;
-    short_way_first = only_detects() && short_way_bits != 0 ? stack_first : UINTPTR_MAX;
+    short_way_first = doing.plain && short_way_bits != 0 ? stack_first : UINTPTR_MAX;
     follow_top();
 }
 
@@ -75,14 +75,14 @@ __attribute__((noinline)) static void other_structure(enum spbags_kind kind, uin
 
 /* With each record of the structure a strand ends and another begins. */
 ALWAYS_INLINE void structure(enum spbags_kind kind, uintptr_t code) {
-    if (__builtin_expect(only_detects(), 1)) {
-        begin_step();
+    if (__builtin_expect(doing.plain, 1)) {
+        begin_records();
         if (strand.used > 0)
             records_put_strand();
         step(kind, 0);
+        begin_window();
         count_procedures(kind);
-        begin_steps();
-        end_step();
+        finish_records();
     } else
         other_structure(kind, code);
     begin_strand();

@@ -32,63 +32,61 @@ static inline void write_structure(enum spbags_kind kind) {
 
 /* From 00 to 99. */
 static char two_digits[100][2];
+/* The newest records of a plain run that writes a trace. */
+static uint64_t at_hand[STEPS_AT_HAND];
 
 void records_begin(void) {
     for (int number = 0; number < 100; number++) {
         two_digits[number][0] = (char)('0' + number / 10);
         two_digits[number][1] = (char)('0' + number % 10);
     }
+    steps_begin(at_hand);
 }
 
-/* The line is made from its end, and then copied with what follows it, since a copy of a fixed size is quick. */
-static inline void write_access(bool writes, uint64_t location) {
-    char line[64];
-    char *at = line + 31;
-    *at = '\n';
-    for (; location > 99; location /= 100)
-        __builtin_memcpy(at -= 2, two_digits[location % 100], 2);
-    __builtin_memcpy(at -= 2, two_digits[location], 2);
-    at += location < 10;
-    at -= 6;
-    __builtin_memcpy(at, writes ? "write " : " read ", 6);
-    at += !writes;
-    __builtin_memcpy(room(&outcome), at, 32);
-    in_order();
-    outcome.used += (size_t)(line + 32 - at);
-}
-
-/* The line of an access whose location has this number of hundreds, as it is where that ends in 00. */
-struct hundred {
+/* Lines of accesses whose locations have this number of hundreds, of reads and of writes: as they are where the location
+   ends in 00. */
+static struct hundred {
     uint64_t number;
-    char line[LONGEST];
     size_t length;
-};
+    char line[LONGEST];
+} hundreds[2];
 
+/* A line is made from its end. */
 static void make_hundred(struct hundred *made, bool writes, uint64_t number) {
-    char *at = made->line + sizeof made->line;
+    char *end = made->line + sizeof made->line, *at = end;
     made->number = number;
-    for (*--at = '\n', at -= 2; number > 0; number /= 10)
+    *--at = '\n';
+    for (at -= 2; number > 0; number /= 10)
         *--at = (char)('0' + number % 10);
     at -= 6;
     __builtin_memcpy(at, writes ? "write " : " read ", 6);
     at += !writes;
-    made->length = (size_t)(made->line + sizeof made->line - at);
+    made->length = (size_t)(end - at);
     memmove(made->line, at, made->length);
 }
 
-/* Accesses of a block, in a plain run. No location of one is below 100. */
-static void write_accesses(bool writes, uint64_t first, uint64_t units) {
-    struct hundred hundred = {.number = UINT64_MAX};
-    for (; units != 0; units &= units - 1) {
-        uint64_t location = first + 2 * (uint64_t)__builtin_ctzll(units);
-        if (location / 100 != hundred.number)
-            make_hundred(&hundred, writes, location / 100);
-        char *line = room(&outcome);
-        __builtin_memcpy(line, hundred.line, sizeof hundred.line);
-        __builtin_memcpy(line + hundred.length - 3, two_digits[location % 100], 2);
-        in_order();
-        outcome.used += hundred.length;
+static void write_below_hundred(bool writes, uint64_t location) {
+    char *line = room(&outcome);
+    size_t length = (size_t)sprintf(line, "%s %u\n", writes ? "write" : "read", (unsigned)location);
+    in_order();
+    outcome.used += length;
+}
+
+/* So many bytes are copied that the size is fixed, since such a copy is quick. */
+static inline void write_access(bool writes, uint64_t location) {
+    struct hundred *hundred = &hundreds[writes];
+    if (location < 100) {
+        write_below_hundred(writes, location);
+        return;
     }
+    const uint64_t number = location / 100;
+    if (number != hundred->number)
+        make_hundred(hundred, writes, number);
+    char *line = room(&outcome);
+    __builtin_memcpy(line, hundred->line, sizeof hundred->line);
+    __builtin_memcpy(line + hundred->length - 3, two_digits[location - 100 * number], 2);
+    in_order();
+    outcome.used += hundred->length;
 }
 
 static inline void put_access(bool writes, uint64_t location, uint16_t site) {
@@ -100,7 +98,28 @@ static inline void put_access(bool writes, uint64_t location, uint16_t site) {
         write_access(writes, location);
 }
 
-/* ---- The window, in a run that does more than detect ---- */
+/* ---- In a plain run that writes a trace ---- */
+
+/* Of the procedures those that stand open in what has gone out. */
+static uint32_t open_outside = 1;
+
+static inline void write_step(uint64_t record) {
+    unsigned kind = record & 7;
+    if (kind >= SPBAGS_READ && kind != numbers_end)
+        write_access(kind == SPBAGS_WRITE, record >> 3);
+    else if (kind < SPBAGS_READ) {
+        write_structure(kind);
+        open_outside += kind == SPBAGS_RETURN ? -1u : kind != SPBAGS_SYNC;
+    }
+}
+
+uint64_t *records_write_out(const uint64_t *first, const uint64_t *end) {
+    for (; first < end; first++)
+        write_step(*first);
+    return at_hand;
+}
+
+/* ---- The window, in a run that isn't plain ---- */
 
 static void step_record(uint64_t record) {
     if (!detects())
@@ -146,8 +165,8 @@ static void leave_out_recent(uintptr_t before) {
 
 /* What is in the window can't be left out any more. */
 static inline void end_records(void) {
-    if (only_detects())
-        begin_steps();
+    if (doing.plain)
+        begin_window();
     else
         pass_window();
 }
@@ -160,8 +179,8 @@ void records_end_window(void) {
 
 void records_leave_out_dying(uintptr_t before) {
     begin_records();
-    if (only_detects())
-        leave_out_steps(before);
+    if (doing.plain)
+        steps_leave_out(before);
     else
         leave_out_recent(before);
     finish_records();
@@ -170,7 +189,7 @@ void records_leave_out_dying(uintptr_t before) {
 
 void records_end_numbers(uint64_t location) {
     begin_records();
-    if (only_detects())
+    if (doing.plain)
         step(numbers_end, location);
     else
         keep_recent(location << 3 | numbers_end, NO_SITE);
@@ -180,15 +199,20 @@ void records_end_numbers(uint64_t location) {
 /* ---- What goes out when the strand has ended ---- */
 
 static void put_accesses(const struct touched *touched, uint64_t units, bool writes) {
-    if (doing.plain) {
-        write_accesses(writes, touched->location, units);
-        return;
-    }
     const uint16_t *sites = strand.sites[touched - strand.list][writes];
     for (; units != 0; units &= units - 1) {
         unsigned unit = (unsigned)__builtin_ctzll(units);
-        put_access(writes, touched->location + 2 * unit, sites[unit]);
+        uint64_t location = touched->location + 2 * unit;
+        if (__builtin_expect(doing.plain, 1))
+            write_access(writes, location);
+        else
+            put_access(writes, location, sites[unit]);
     }
+}
+
+void records_put_rest(void) {
+    if (doing.plain && !detects())
+        steps_pass_on();
 }
 
 static void put_block(const struct touched *touched) {
@@ -200,6 +224,7 @@ static void put_block(const struct touched *touched) {
         detector_step_words(spbags_record(block_follows, touched->location), masks, 2);
     if (only_detects())
         return;
+    records_put_rest();
     put_accesses(touched, masks[false], false);
     put_accesses(touched, masks[true], true);
 }
@@ -275,10 +300,7 @@ void records_end_life(struct life_end end) {
 /* ---- Records as they come ---- */
 
 void records_structure(enum spbags_kind kind, uintptr_t code) {
-    if (doing.plain && strand.used == 0)
-        end_records();
-    else
-        records_put_strand();
+    records_put_strand();
     news++;
     if (doing.keeping_places || doing.looking)
         follow_course(kind, code);
@@ -351,7 +373,13 @@ void records_follow_unit(bool writes, uint64_t location, uintptr_t unit, uintptr
 
 /* ---- What others ask ---- */
 
-void records_drop(void) { strand.used = records_recent.used = records_recent.gone = 0; }
+void records_drop(void) {
+    strand.used = records_recent.used = records_recent.gone = 0;
+    if (doing.plain) {
+        procedures_count = open_outside;
+        steps_begin(at_hand);
+    }
+}
 
 /* What the strand has accessed in blocks. */
 static uint64_t units_touched(void) {
@@ -369,5 +397,5 @@ bool records_have_new(void) {
     const uint64_t seen_before = seen, touched_before = touched;
     seen = news;
     touched = units_touched();
-    return touched != touched_before || (only_detects() ? detector_has_new_step() : seen != seen_before);
+    return touched != touched_before || (doing.plain ? steps_have_new() : seen != seen_before);
 }

@@ -22,8 +22,8 @@ static inline void begin_record(void) {
     begin_change();
 }
 
-/* The newest records in a run that does more than detect, as the detector has them in its bundle, with the numbers of their
-   sites; how many have gone out, and how many went before. */
+/* The newest records in a run that isn't plain, packed as in the others, with the numbers of their sites; how many have gone
+   out, and how many went before. */
 extern struct recent_records {
     struct recent {
         uint64_t record;
@@ -35,7 +35,7 @@ extern struct recent_records {
 
 /* How many records went before, but for those that are left out. */
 static inline uintptr_t records_so_far(void) {
-    return __builtin_expect(only_detects(), 1) ? steps_so_far() : records_recent.before + records_recent.used;
+    return __builtin_expect(doing.plain, 1) ? steps_so_far() : records_recent.before + records_recent.used;
 }
 
 /* Between these two records are put, or blocks. */
@@ -61,6 +61,8 @@ void records_leave_out_dying(uintptr_t before);
 void records_end_numbers(uint64_t location);
 /* A strand ends, or a part of it. Where the run ends meanwhile, as a signal handler may end it, the rest goes out then. */
 void records_put_strand(void);
+/* In a plain run what can't be left out any more goes into the trace. */
+void records_put_rest(void);
 /* What hasn't gone out never does. */
 void records_drop(void);
 
@@ -77,14 +79,14 @@ void records_end_life(struct life_end end);
 
 /* ---- Records as they come ---- */
 
-/* What is done for one in a run that does more than detect, where divided.h and look.h have their part. */
+/* What is done for one in a run that isn't plain, where divided.h and look.h have their part. */
 void records_structure(enum spbags_kind kind, uintptr_t code);
 void records_access(bool writes, const struct touched *in, uint64_t location, uintptr_t address, uintptr_t code);
 
 static inline void step_access(bool writes, uint64_t location) {
-    begin_step();
+    begin_records();
     step(writes ? SPBAGS_WRITE : SPBAGS_READ, location);
-    end_step();
+    finish_records();
 }
 
 /* These units of a block have been accessed, in a plain run. */
@@ -96,7 +98,7 @@ static inline void note_in_block(bool writes, const struct touched *in, uint64_t
 }
 
 static inline void access_record(bool writes, uint64_t location, uintptr_t address, uintptr_t code) {
-    if (__builtin_expect(only_detects(), 1))
+    if (__builtin_expect(doing.plain, 1))
         step_access(writes, location);
     else
         records_access(writes, NULL, location, address, code);
@@ -105,7 +107,7 @@ static inline void access_record(bool writes, uint64_t location, uintptr_t addre
 /* Of the unit in its block. */
 static inline void block_record(bool writes, const struct touched *in, unsigned unit, uintptr_t address,
                                 uintptr_t code) {
-    if (__builtin_expect(only_detects(), 1))
+    if (__builtin_expect(doing.plain, 1))
         note_in_block(writes, in, (uint64_t)1 << unit);
     else
         records_access(writes, in, in->location + 2 * unit, address, code);

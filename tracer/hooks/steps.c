@@ -1,0 +1,62 @@
+#include "steps.h"
+
+#include "detector.h"
+#include "strands.h"
+
+uint64_t *steps_next, *steps_window, *steps_window_end, *steps_end;
+uintptr_t steps_origin;
+
+/* Where the memory at hand begins, and up to where steps_have_new has seen it. */
+static const uint64_t *begun, *seen;
+
+void steps_begin(uint64_t *memory) {
+    begun = steps_next = memory;
+    steps_end = memory + STEPS_AT_HAND;
+    pass_steps();
+}
+
+void steps_end_window(void) {
+    if (!doing.plain)
+        pass_steps();
+    else if (steps_next - steps_window == WINDOW)
+        begin_window();
+    if (steps_next == steps_end)
+        steps_pass_on();
+}
+
+/* The program's errno is none of ours. */
+void steps_pass_on(void) {
+    int error = errno;
+    const uint64_t *kept = steps_window, *end = steps_next;
+    uint64_t *memory = detects() ? detector_hand_over(kept) : records_write_out(begun, kept);
+    steps_origin += (uintptr_t)memory - (uintptr_t)kept;
+    steps_begin(memory);
+    while (kept < end)
+        *steps_next++ = *kept++;
+    errno = error;
+}
+
+void steps_leave_out(uintptr_t before) {
+    uint64_t *to = (uint64_t *)(before + steps_origin);
+    if (to < steps_window || to > steps_next)
+        to = steps_window;
+    for (const uint64_t *from = to; from < steps_next; from++) {
+        uint64_t record = *from, kind = record & 7, number = record >> 4;
+        bool is_of_stack = (kind == SPBAGS_READ || kind == SPBAGS_WRITE) && (record >> 3) % 2 == 1;
+        *to = record;
+        to += !(is_of_stack && is_dying(number));
+    }
+    steps_next = to;
+    if (seen > to)
+        seen = to;
+}
+
+bool steps_have_new(void) {
+    const uint64_t *at = seen;
+    seen = steps_next;
+    if (at < begun || at > seen)
+        at = begun;
+    while (at < seen && ((*at & 7) == numbers_end || ((*at & 7) >= SPBAGS_READ && (*at >> 3) % 2 == 1)))
+        at++;
+    return at < seen;
+}

@@ -1,0 +1,56 @@
+/* The newest records of a run that detects or writes a trace, and that is all: one after another in memory, where a part
+   of them is the window. They are packed as the detector takes them. In a run that detects they lie in its bundles. */
+#ifndef SPBAGS_STEPS_H
+#define SPBAGS_STEPS_H
+
+#include "common.h"
+
+#include "../include/spbags_inside.h"
+#include "doing.h"
+#include "window.h"
+
+/* Where the next record goes, and how far a record in memory is from its place among all that went before. */
+extern uint64_t *steps_next __asm__("__spbags_next_record");
+extern uintptr_t steps_origin __asm__("__spbags_records_origin");
+/* Where the window begins, and where it or the memory at hand ends. */
+extern uint64_t *steps_window, *steps_window_end, *steps_end;
+
+/* The memory at hand is this from now on, of so many records, and empty. */
+enum { STEPS_AT_HAND = 1 << 13 };
+void steps_begin(uint64_t *memory);
+
+/* What went before can't be left out any more. */
+static inline void pass_steps(void) {
+    steps_window = steps_next;
+    steps_window_end = steps_end - steps_window < WINDOW ? steps_end : steps_window + WINDOW;
+}
+
+static inline void begin_window(void) {
+    pass_steps();
+    window_number = window_last_number;
+}
+
+/* Part of the memory at hand goes into the trace; the memory, which is then free. */
+uint64_t *records_write_out(const uint64_t *first, const uint64_t *end);
+
+/* The window has as many records as it may have, or the memory at hand. */
+void steps_end_window(void);
+/* What stands before the window goes on. */
+void steps_pass_on(void);
+
+static inline void step(unsigned kind, uint64_t location) {
+    *steps_next++ = spbags_record(kind, location);
+    if (__builtin_expect(steps_next == steps_window_end, 0))
+        steps_end_window();
+}
+
+/* How many records went before, but for those that are left out. */
+static inline uintptr_t steps_so_far(void) { return (uintptr_t)steps_next - steps_origin; }
+
+/* The accesses of the numbers that die are left out; before so many records there are none. */
+void steps_leave_out(uintptr_t before);
+/* Whether the memory at hand has a record, since this was asked last, that isn't an access of the stack's memory, whose
+   locations are odd. */
+bool steps_have_new(void);
+
+#endif
