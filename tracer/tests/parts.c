@@ -40,9 +40,8 @@ enum update reducers_update_of(uintptr_t unit, unsigned shift, bool repeats) {
     return NO_UPDATE;
 }
 
-uint64_t *detector_next, *detector_window, *detector_window_end;
-struct bundle *detector_bundle;
-void detector_end_steps(void) {}
+uint64_t *detector_hand_over(const uint64_t *end) { return (void)end, NULL; }
+uint64_t *records_write_out(const uint64_t *first, const uint64_t *end) { return (void)first, (void)end, NULL; }
 void detector_refuse_handler(void) { abort(); }
 void records_end_life(struct life_end end) { begin_life(end.span); }
 void look_at_block(uintptr_t block, size_t size, uintptr_t stack_pointer, uintptr_t code) {
@@ -188,7 +187,7 @@ void records_access(bool writes, const struct touched *in, uint64_t location, ui
     records++;
     recorded = location;
     if (in)
-        step_units(writes, in, units_from((unsigned)(location - in->location) / 2, 1));
+        note_in_block(writes, in, units_from((unsigned)(location - in->location) / 2, 1));
 }
 
 static void next_strand(void) {
