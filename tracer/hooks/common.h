@@ -5,9 +5,9 @@
 
    Each part is a .c file with a header of what others may call; what is on the way of each access is inline there.
    Each stands on those before it: units, spans, blocks, stacks, marks and own, which say what the strand has done
-   where; strands and window, with what goes out later; detector and output, which get it; records; locations; frames,
-   with the hooks of functions and spawns; divided, reducers, accesses and heap; closing and run. Where one calls what
-   stands on it its header says so.
+   where; strands, window and steps, with what goes out later; detector and output, which get it; records; locations;
+   frames, with the hooks of functions and spawns; divided, reducers, accesses and heap; closing and run. Where one calls
+   what stands on it its header says so.
 
    Here is what each part may use: the system's headers, and the library's real functions. */
 #ifndef SPBAGS_COMMON_H
