@@ -61,14 +61,15 @@ impl Gathering {
         ensures ended { HasBackMark self.new shard }
     {
         let mut waiting = Waiting::new();
+        let mut finds: u64 = 0;
         for _ in rt.forever() {
             if self.backs[shard].ended() {
                 return;
             }
             if self.take_from(shard) {
-                waiting.end();
+                finds = finds.saturating_add(1);
             } else {
-                waiting.wait(rt);
+                waiting.wait(rt, finds);
             }
         }
         unreachable!()

@@ -68,7 +68,7 @@ pub(crate) fn make<S: BuildHasher + Drop>(
                 backs,
                 collector: Collector::new(alloc),
             },
-            waiting: Waiting::new(),
+            waiting: Waiting::beside(1, capacity as usize),
         },
         jobs,
         handles: with_room(alloc, count)?,

@@ -88,7 +88,7 @@ impl ReadingThread {
     {
         if let Some(own) = record_of_part(self.part, placed) {
             if let Err(Full) = self.router.send(own) {
-                return self.send_rest(rt);
+                return self.send_rest(rt, placed.place);
             }
         }
         Ok(())
@@ -97,7 +97,7 @@ impl ReadingThread {
     // Puts the pending record on the lanes that lack it; the next of them was full.
     #[cold]
     #[inline(never)]
-    fn send_rest<T: Wait + Clock>(&mut self, rt: &T) -> Result<(), Fault>
+    fn send_rest<T: Wait + Clock>(&mut self, rt: &T, place: u64) -> Result<(), Fault>
         requires unmarked { self.old.router.marked ≡ 0 }
         requires full { IsStuck self.old.router self.old.router.next }
         ensures sent { (w : List Placed) → LacksLast w self.old.router → HasSent w self.new.router }
@@ -106,12 +106,12 @@ impl ReadingThread {
         ensures idle { self.new.router.pending ≡ None }
         ensures goes_on { GoesOn self.old self.new }
     {
-        self.wait(rt);
+        self.wait(rt, place);
         for _ in rt.forever() {
             match self.router.step() {
                 Progress::Idle => return self.gathering.first_trouble(Ok(())),
-                Progress::Moved => self.waiting.end(),
-                Progress::Blocked(_) => self.wait(rt),
+                Progress::Moved => {}
+                Progress::Blocked(_) => self.wait(rt, place),
             }
         }
         unreachable!()
@@ -129,23 +129,24 @@ impl ReadingThread {
             match self.router.mark_all_step() {
                 Progress::Idle => return,
                 Progress::Moved => {}
-                Progress::Blocked(_) => self.wait(rt),
+                Progress::Blocked(_) => self.wait(rt, 0),
             }
         }
         unreachable!()
     }
 
-    // Waits at a full lane. Its shard may be waiting for room on its lane back, or others for what they aren't shown.
+    // Waits at a full lane with the record of this place. Its shard may be waiting for room on its lane back, or others
+    // for what they aren't shown.
     #[cold]
     #[inline(never)]
-    fn wait<T: Wait + Clock>(&mut self, rt: &T)
+    fn wait<T: Wait + Clock>(&mut self, rt: &T, place: u64)
         ensures shown { ShowsAll self.new.router }
         ensures unchanged { IsUnchanged self.old.router self.new.router }
         ensures goes_on { GoesOn self.old self.new }
     {
         self.router.flush();
         self.gathering.take_from_all();
-        self.waiting.wait(rt);
+        self.waiting.wait(rt, place);
     }
 }
 

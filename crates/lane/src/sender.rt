@@ -208,8 +208,8 @@ pub(crate) fn most_staged(capacity: usize) -> usize
 }
 
 // Shows the taker what is staged, and says how many items may be staged next. If the limit is 0 it first looks at the
-// other end, and shows the one item only if no other may be staged with it. `None` if the lane is full; then the item is
-// staged no more.
+// other end, and shows the one item only if no other may be staged with it. `None` if the lane is full; then the item
+// is staged no more.
 #[cold]
 #[inline(never)]
 fn show<T: Copy + Send>(

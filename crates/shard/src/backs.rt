@@ -25,7 +25,7 @@ pub fn put_back<R: Wait + Clock>(rt: &R, back: &mut Sender<Back>, value: Back)
             Ok(()) => return,
             Err(value) => left = value,
         }
-        waiting.wait(rt);
+        waiting.wait(rt, 0);
     }
     unreachable!()
 }
@@ -42,7 +42,7 @@ pub fn mark<R: Wait + Clock>(rt: &R, mut back: Sender<Back>) -> End<Back>
         if back.mark() {
             return back.end();
         }
-        waiting.wait(rt);
+        waiting.wait(rt, 0);
     }
     unreachable!()
 }

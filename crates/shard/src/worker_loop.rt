@@ -59,7 +59,7 @@ pub fn work<R: Wait + Clock, S: BuildHasher + Drop, G: Gate>(
     requires none_put { put_of back ≡ [] }
     ensures { DidWork taker back result }
 {
-    let mut waiting = Waiting::beside(shard.shards());
+    let mut waiting = Waiting::beside(shard.shards(), taker.capacity());
     let mut worker = Worker {
         shard,
         back,
@@ -82,9 +82,7 @@ pub fn work<R: Wait + Clock, S: BuildHasher + Drop, G: Gate>(
             };
         }
         if count == 0 {
-            waiting.wait(rt);
-        } else {
-            waiting.end();
+            waiting.wait(rt, worker.shard.taken());
         }
     }
     unreachable!()
