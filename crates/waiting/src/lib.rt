@@ -24,13 +24,13 @@ pub struct Waiting {
     parker: Parker,
     // how many threads wait side by side
     threads: u64,
-    // how much there may be to find at once, and how far the thread had come at the last wait
+    // how much there is to find at most, and how far the thread had come at the last wait
     most: u64,
     come: u64,
     // how many looks of all these threads come before a nap, and how many came
     most_looks: u64,
     looks: u64,
-    // how long the first nap takes, and how long the next one, in microseconds; 0 before the first
+    // how long the first nap of a wait takes, and how long the last one took, in microseconds; 0 before the first
     first_nap: u64,
     nap: u64,
     // how many of the next waits are naps, and how many will be when the processor comes back late again
