@@ -11,12 +11,12 @@ static intptr_t *rows_beside_stack;
 void blocks_begin_stack(size_t region, size_t count) {
     stack_region = region;
     stack_regions_count = count;
-    rows_beside_stack = reserve(count * sizeof *rows_beside_stack);
+    rows_beside_stack = memory_reserve(count * sizeof *rows_beside_stack);
 }
 
 static intptr_t make_row(size_t region) {
     size_t size = region_bytes(), blocks = size / BLOCK_UNITS;
-    intptr_t row = (intptr_t)reserve(size + blocks * sizeof(struct block));
+    intptr_t row = (intptr_t)memory_reserve(size + blocks * sizeof(struct block));
     row -= (intptr_t)(region << REGION_BITS >> unit_shift);
     if (row <= 0 && unit_shift == USUAL_SHIFT)
         fail("the system has no memory for the hooks at high addresses");

@@ -23,7 +23,7 @@ static void tell_notes(void) {
                     procedures_most - 1);
     openmp_tell_notes();
     tell_unknown_functions();
-    end_places();
+    places_end();
 }
 
 void closing_end(void) {
@@ -31,10 +31,10 @@ void closing_end(void) {
     sigfillset(&all);
     sigprocmask(SIG_BLOCK, &all, &before);
     closing_stop();
-    tell_course();
+    places_tell_course();
     records_put_strand();
     records_put_rest();
-    outcome.most = next_place = last_record = UINT64_MAX;
+    outcome.most = next_place = places_last_record = UINT64_MAX;
     while (procedures_count > 0)
         procedures_close(0);
     records_put_rest();

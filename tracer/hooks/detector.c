@@ -209,7 +209,7 @@ void detector_begin(void) {
     if (places_name)
         places_open(places_name);
     detector_heap_begin();
-    at_hand.session = reserve(spbags_room());
+    at_hand.session = memory_reserve(spbags_room());
     start_thread();
     doing.detecting = true;
 }

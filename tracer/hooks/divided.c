@@ -80,10 +80,10 @@ void divided_forget(void) {
 
 void divided_begin(int file) {
     size_t count;
-    const uint64_t *locations = read_numbers(SETTING_DIVIDE, file, &count);
+    const uint64_t *locations = memory_read_numbers(SETTING_DIVIDE, file, &count);
     for (divided_slots = 2; divided_slots < 2 * count; divided_slots *= 2)
         continue;
-    divided_units = reserve(divided_slots * sizeof *divided_units);
+    divided_units = memory_reserve(divided_slots * sizeof *divided_units);
     for (size_t at = 0; at < count; at++)
         slot_of_unit(locations[at])->location = locations[at];
     divided_any = count > 0;

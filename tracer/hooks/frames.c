@@ -27,11 +27,11 @@ struct part *frames_parts;
 void frames_begin(size_t size) {
     /* A frame has at least its return address and its frame pointer, and at most one open child. */
     size_t most_frames = size / 16 * 2;
-    frames_top = frames_all = reserve(most_frames * sizeof *frames_all);
+    frames_top = frames_all = memory_reserve(most_frames * sizeof *frames_all);
     frames_end = frames_all + most_frames;
     if (doing.looking)
-        frames_parts = reserve(most_frames * sizeof *frames_parts);
-    procedures_owners = reserve((MOST_DEPTH + 3) * sizeof *procedures_owners);
+        frames_parts = memory_reserve(most_frames * sizeof *frames_parts);
+    procedures_owners = memory_reserve((MOST_DEPTH + 3) * sizeof *procedures_owners);
     *frames_top = (struct frame){.kind = ROOT, .end = UINTPTR_MAX};
     procedures_count = procedures_most = 1;
 }

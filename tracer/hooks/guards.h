@@ -20,21 +20,21 @@ struct guard {
 /* Those that are held, the newest last, if the run notes them. */
 extern struct guard guards[MOST_GUARDS];
 extern unsigned guards_held;
-extern bool notes_guards;
+extern bool guards_noted;
 
 /* Reserves what the run notes them in. */
-void note_guards(void);
+void guards_begin(void);
 
 /* The guard with this number is held from here on; one that is entered twice is left twice. The name stays where it is;
    where it ends with a space the report adds the name of the variable whose address the number is. Beyond so many that
    are held at once no more are noted. */
 static inline void enter_guard(uintptr_t id, const char *name) {
-    if (notes_guards && guards_held < MOST_GUARDS)
+    if (guards_noted && guards_held < MOST_GUARDS)
         guards[guards_held++] = (struct guard){name_in_life(id), name};
 }
 
 /* Before all others, so that it is the one that is told where two accesses hold several. */
-void enter_first_guard(uintptr_t id, const char *name);
+void guards_enter_first(uintptr_t id, const char *name);
 
 /* The last entry of it is left; of what isn't held nothing is. */
 static inline void leave_guard(uintptr_t id) {
@@ -56,27 +56,27 @@ enum { MOST_LISTS = 1 << 17, LIST_SLOTS = 2 * MOST_LISTS, UNKNOWN_LIST = MOST_LI
 struct guard_list {
     uint32_t first, length;
 };
-extern struct guard_list *lists;
-extern struct guard *listed;
-extern uint32_t lists_count, listed_count, last_list;
+extern struct guard_list *guards_lists;
+extern struct guard *guards_listed;
+extern uint32_t guards_lists_count, guards_listed_count, guards_last_list;
 
 static inline bool is_held_list(uint32_t list) {
-    return lists[list].length == guards_held &&
-           memcmp(listed + lists[list].first, guards, guards_held * sizeof *guards) == 0;
+    return guards_lists[list].length == guards_held &&
+           memcmp(guards_listed + guards_lists[list].first, guards, guards_held * sizeof *guards) == 0;
 }
 
-uint32_t find_list(void);
+uint32_t guards_find_list(void);
 
 /* The list of what is held now. */
 static inline uint32_t guards_now(void) {
     if (__builtin_expect(guards_held == 0, 1))
         return 0;
-    return is_held_list(last_list) ? last_list : find_list();
+    return is_held_list(guards_last_list) ? guards_last_list : guards_find_list();
 }
 
 /* This guard in a list, or null. */
-const struct guard *guard_in(uint32_t list, uintptr_t id);
+const struct guard *guards_find(uint32_t list, uintptr_t id);
 /* What both hold: null where there is none, and the unknown one where that can't be told. */
-const struct guard *common_guard(uint32_t list, uint32_t other);
+const struct guard *guards_common(uint32_t list, uint32_t other);
 
 #endif

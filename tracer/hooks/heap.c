@@ -79,7 +79,7 @@ static bool map_spans(size_t count) {
     size_t size = (count * span_size + CHUNK - 1) & ~(size_t)(CHUNK - 1);
     if (has_no_spans || spans_mapped + size / span_size > SPANS)
         return false;
-    if (!spans && !(spans_begin() && (spans = reserve_or_none(SPANS * sizeof *spans))))
+    if (!spans && !(spans_begin() && (spans = memory_reserve_or_none(SPANS * sizeof *spans))))
         return false;
     void *chunk = map_chunk(wish, size);
     if (chunk == MAP_FAILED)
@@ -209,7 +209,7 @@ static uintptr_t take_aside(size_t size) {
 }
 
 void heap_begin_aside(size_t size) {
-    aside.at = (uintptr_t)reserve(size);
+    aside.at = (uintptr_t)memory_reserve(size);
     aside.end = aside.at + size;
     is_aside = true;
 }

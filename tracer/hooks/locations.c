@@ -13,7 +13,9 @@ bool notes_quickly;
 static uint64_t narrow_accesses;
 static uintptr_t narrow_bits;
 
-void locations_begin(void) { locations_numbers = reserve((stack_size >> unit_shift) * sizeof *locations_numbers); }
+void locations_begin(void) {
+    locations_numbers = memory_reserve((stack_size >> unit_shift) * sizeof *locations_numbers);
+}
 
 /* The group of the newest number that has ended, and which of its numbers have; they go out with the next group. */
 static struct {

@@ -333,7 +333,7 @@ static void wait_in_meeting(struct race *race) {
 
 /* Both accesses of a race have gone out. */
 static void add_race(struct race *race) {
-    const struct guard *guard = common_guard(race->first.guards, race->second.guards);
+    const struct guard *guard = guards_common(race->first.guards, race->second.guards);
     const struct allocation *allocation = allocation_of(race->address);
     uint64_t site = allocation ? allocation->site : 0;
     uint32_t *slot = slot_of(race, guard, site);
@@ -434,7 +434,7 @@ __attribute__((format(__printf__, 1, 2))) static void go_astray(const char *form
 static void next_stop(void) {
     if (astray[0] == '\0')
         next_place = ++stops_met < stops_count ? stops[stops_met].place : UINT64_MAX;
-    if (next_place == UINT64_MAX && last_record != UINT64_MAX)
+    if (next_place == UINT64_MAX && places_last_record != UINT64_MAX)
         closing_end_run();
 }
 
@@ -502,7 +502,7 @@ static void put_child(uint32_t node, uint32_t meets) {
 
 static void put_side(const char *name, const struct look *look, uint32_t meets) {
     put("%s %s", name, look->writes ? "write" : "read");
-    put(" %d", guard_in(look->guards, ATOMIC) != NULL);
+    put(" %d", guards_find(look->guards, ATOMIC) != NULL);
     put_stack("", look->code, look->node);
     put_child(look->node, meets);
 }
@@ -645,14 +645,14 @@ static struct look look_at(uint64_t access) { return (struct look){.place = acce
 static void read_races(int file) {
     enum { OF_RACE = 3, OF_STOP = 2 };
     size_t total;
-    const uint64_t *at = read_numbers(SETTING_LOOK, file, &total);
+    const uint64_t *at = memory_read_numbers(SETTING_LOOK, file, &total);
     races_count = total > 0 ? *at++ : 0;
     stops_count = 2 * races_count;
     if (races_count == 0 || total != 1 + OF_RACE * races_count + OF_STOP * stops_count)
         fail("SPBAGS_LOOK: these are no races");
-    races = reserve((races_count + 1) * sizeof *races);
-    stops = reserve(stops_count * sizeof *stops);
-    allocations = reserve((races_count + 1) * sizeof *allocations);
+    races = memory_reserve((races_count + 1) * sizeof *races);
+    stops = memory_reserve(stops_count * sizeof *stops);
+    allocations = memory_reserve((races_count + 1) * sizeof *allocations);
     for (struct race *race = races; race < races + races_count; race++, at += OF_RACE) {
         *race = (struct race){.location = at[0], .first = look_at(at[1]), .second = look_at(at[2])};
         race_filter[filter_at(at[0]) / 64] |= (uint64_t)1 << filter_at(at[0]) % 64;
@@ -664,11 +664,11 @@ static void read_races(int file) {
 
 void start_look(int file) {
     read_races(file);
-    nodes = reserve(MOST_NODES * sizeof *nodes);
-    pairs = reserve(MOST_PAIRS * sizeof *pairs);
-    rows = reserve(MOST_PAIRS * sizeof *rows);
-    slots = reserve(PAIR_SLOTS * sizeof *slots);
+    nodes = memory_reserve(MOST_NODES * sizeof *nodes);
+    pairs = memory_reserve(MOST_PAIRS * sizeof *pairs);
+    rows = memory_reserve(MOST_PAIRS * sizeof *rows);
+    slots = memory_reserve(PAIR_SLOTS * sizeof *slots);
     thread_first = own_first_of_thread();
-    note_guards();
+    guards_begin();
     doing.looking = true;
 }

@@ -19,7 +19,7 @@ static void name_marks(size_t region) {
 
 void marks_begin(uintptr_t first, uintptr_t end) {
     size_t first_region = region_of(first - (CLEARED << unit_shift)), count = region_of(end) - first_region + 1;
-    uintptr_t marks = (uintptr_t)reserve((count << REGION_BITS >> unit_shift) * sizeof(uint32_t));
+    uintptr_t marks = (uintptr_t)memory_reserve((count << REGION_BITS >> unit_shift) * sizeof(uint32_t));
     marks_of_stack = marks - (first_region << REGION_BITS >> unit_shift) * sizeof(uint32_t);
     blocks_begin_stack(first_region, count);
     for (size_t region = first_region; region < first_region + count; region++)

@@ -6,11 +6,11 @@
 #include "settings.h"
 
 /* At addresses of our own where the system has them free: what the program maps lies where it lies in other runs. */
-void *reserve(size_t size);
+void *memory_reserve(size_t size);
 /* The same, or NULL. */
-void *reserve_or_none(size_t size);
+void *memory_reserve_or_none(size_t size);
 /* The numbers of a file that spbags-run hands to a run by this setting. They aren't mapped, since then what the program
    maps would lie elsewhere. */
-const uint64_t *read_numbers(enum setting setting, int file, size_t *count);
+const uint64_t *memory_read_numbers(enum setting setting, int file, size_t *count);
 
 #endif

@@ -11,7 +11,7 @@
 struct bodies bodies;
 
 struct body *bodies_reserve(void) {
-    return reserve(MOST_SCOPES * sizeof(struct body));
+    return memory_reserve(MOST_SCOPES * sizeof(struct body));
 }
 
 void bodies_start(void) { bodies.first = bodies.newest = bodies_reserve(); }

@@ -29,7 +29,7 @@ void depend_read_settings(void) {
     if (!settings_is(SETTING_DEPEND, "order"))
         return;
     depend.way = ORDERED;
-    depend.table = reserve(MOST_DEPENDENCES * sizeof *depend.table);
+    depend.table = memory_reserve(MOST_DEPENDENCES * sizeof *depend.table);
 }
 
 static struct dependence *dependence_of(uintptr_t address, uint64_t parent) {

@@ -7,7 +7,7 @@
 enum { MOST_LOOPS = 1 << 20 };
 struct loops loops;
 
-void loops_start(void) { loops.first = loops.next = reserve(MOST_LOOPS * sizeof *loops.first); }
+void loops_start(void) { loops.first = loops.next = memory_reserve(MOST_LOOPS * sizeof *loops.first); }
 
 static struct loop *new_loop(struct loop loop) {
     if (loops.next == loops.first + MOST_LOOPS)

@@ -10,7 +10,7 @@
 
 static const size_t most_copies = (size_t)1 << 36;
 
-void reductions_start(void) { own[COPIES].first = own[COPIES].end = (uintptr_t)reserve(most_copies); }
+void reductions_start(void) { own[COPIES].first = own[COPIES].end = (uintptr_t)memory_reserve(most_copies); }
 
 static uintptr_t own_block(size_t alignment, size_t size) {
     uintptr_t block = (own[COPIES].end + alignment - 1) & ~(alignment - 1);

@@ -7,7 +7,7 @@ struct scopes scopes;
 bool openmp_watches;
 
 void scopes_start(void) {
-    scopes.first = scopes.newest = reserve(MOST_SCOPES * sizeof *scopes.first);
+    scopes.first = scopes.newest = memory_reserve(MOST_SCOPES * sizeof *scopes.first);
     *scopes.first = (struct scope){.kind = TEAM, .owns = true, .alone = true, .size = 1};
 }
 

@@ -122,9 +122,9 @@ static void add_stack(void) {
         fail("there is no room for the stacks of a team below the program's own: SPBAGS_TEAM=1 needs none");
     size_t most_frames = turns.stack_size / 16 * 2;
     *stack = (struct stack){.first = first, .end = end, .lowest = end};
-    stack->frames = reserve(most_frames * sizeof *frames_all);
+    stack->frames = memory_reserve(most_frames * sizeof *frames_all);
     stack->frames_end = stack->frames + most_frames;
-    stack->parts = doing.looking ? reserve(most_frames * sizeof *frames_parts) : NULL;
+    stack->parts = doing.looking ? memory_reserve(most_frames * sizeof *frames_parts) : NULL;
     stack->bodies = bodies_reserve();
     stacks_count++;
     start_thread(stack);

@@ -17,11 +17,11 @@ static struct {
 
 void openmp_open_waited(int file) {
     size_t count;
-    const uint64_t *words = read_numbers(SETTING_WAITED, file, &count);
+    const uint64_t *words = memory_read_numbers(SETTING_WAITED, file, &count);
     waits_is_second = count > 0;
     waited.file = file;
     waited.count = waits_is_second ? count : most_periods / BITS;
-    waited.words = reserve(waited.count * sizeof *waited.words);
+    waited.words = memory_reserve(waited.count * sizeof *waited.words);
     memcpy(waited.words, words, count * sizeof *words);
 }
 

@@ -115,7 +115,7 @@ static void open_group(const void *id, struct frame *holder, uintptr_t code) {
     if (doing.version == 1)
         fail("a group of tasks needs version 2 of the trace: leave out SPBAGS_VERSION=1");
     if (!task_groups)
-        task_groups = reserve(MOST_DEPTH * sizeof *task_groups);
+        task_groups = memory_reserve(MOST_DEPTH * sizeof *task_groups);
     if (++newest_group == MOST_DEPTH)
         fail("groups of tasks nest deeper than %d", MOST_DEPTH);
 #ifdef SPBAGS_OPENMP

@@ -8,32 +8,32 @@
 static const uint64_t no_list = (uint64_t)MOST_SITE_LISTS << LIST_SHIFT;
 static uint64_t *sites;
 static uint32_t sites_count;
-uint64_t *site_keys;
-uint16_t *site_numbers;
-struct course course;
-uint64_t last_record = UINT64_MAX;
+uint64_t *places_site_keys;
+uint16_t *places_site_numbers;
+struct course places_course;
+uint64_t places_last_record = UINT64_MAX;
 
-void tell_course(void) {
+void places_tell_course(void) {
     char line[100];
-    snprintf(line, sizeof line, "course %" PRIu64 " %" PRIx64, course.records, course.digest);
+    snprintf(line, sizeof line, "course %" PRIu64 " %" PRIx64, places_course.records, places_course.digest);
     if (doing.keeping_places && tells_records())
         tell_text(line, "");
 }
 
-uint16_t find_site(uint64_t word) {
+uint16_t places_find_site(uint64_t word) {
     size_t slot = word * 0x9e3779b97f4a7c15u >> 47;
-    while (site_keys[slot] != word + 1 && site_keys[slot] != 0)
+    while (places_site_keys[slot] != word + 1 && places_site_keys[slot] != 0)
         slot = (slot + 1) % SITE_SLOTS;
-    if (site_keys[slot] == 0) {
+    if (places_site_keys[slot] == 0) {
         if (sites_count >= MOST_SITES - FREE_SITES && (word & no_list) != 0 && (word & no_list) != no_list)
-            return find_site(word | no_list);
+            return places_find_site(word | no_list);
         if (sites_count == MOST_SITES)
             return NO_SITE;
-        site_keys[slot] = word + 1;
-        site_numbers[slot] = (uint16_t)sites_count;
+        places_site_keys[slot] = word + 1;
+        places_site_numbers[slot] = (uint16_t)sites_count;
         sites[sites_count++] = word;
     }
-    return site_numbers[slot];
+    return places_site_numbers[slot];
 }
 
 /* ---- The end of the file ---- */
@@ -48,8 +48,8 @@ static void add_to_places(const void *bytes, size_t size) {
 /* A line for each list that a site names, from the first on; how many bytes. */
 static uint64_t put_lists(void) {
     uint64_t bytes = 0;
-    for (uint32_t list = 1; list < lists_count && list < MOST_SITE_LISTS; list++) {
-        const struct guard *guard = listed + lists[list].first, *end = guard + lists[list].length;
+    for (uint32_t list = 1; list < guards_lists_count && list < MOST_SITE_LISTS; list++) {
+        const struct guard *guard = guards_listed + guards_lists[list].first, *end = guard + guards_lists[list].length;
         for (; guard < end; guard++) {
             char text[1000];
             snprintf(text, sizeof text, "%lx %s%c", guard->id, guard->name, guard + 1 < end ? '\t' : '\n');
@@ -61,7 +61,7 @@ static uint64_t put_lists(void) {
 }
 
 /* spbags-run has the lines of the report by their records. For who reads a trace that is kept they stand here. */
-void end_places(void) {
+void places_end(void) {
     static const char mark[8] = "spbplace";
     if (places.file < 0)
         return;
@@ -77,7 +77,7 @@ void end_places(void) {
 /* There is no room for more places. The last of those that are there make room for the end, and the run goes on. */
 static void give_up_places(void) {
     static bool is_given_up;
-    uint64_t needed = sites_count * sizeof *sites + 100 * (uint64_t)listed_count + tell_kept_length + PIECE;
+    uint64_t needed = sites_count * sizeof *sites + 100 * (uint64_t)guards_listed_count + tell_kept_length + PIECE;
     uint64_t kept = places.written > needed ? (places.written - needed) / 2 * 2 : 0;
     begin_change();
     places.used = places.gone = 0;
@@ -85,7 +85,7 @@ static void give_up_places(void) {
     if (!is_given_up && ftruncate(places.file, (off_t)kept) == 0 && lseek(places.file, (off_t)kept, SEEK_SET) >= 0) {
         is_given_up = true;
         places.written = kept;
-        end_places();
+        places_end();
         output_write(&places);
         tell("there is no room for places after the first %llu", (unsigned long long)kept / 2);
     }
@@ -97,10 +97,10 @@ static void give_up_places(void) {
 void places_open(const char *name) {
     struct statvfs space;
     output_open(&places, "SPBAGS_PLACES", name);
-    sites = reserve(MOST_SITES * sizeof *sites);
-    site_keys = reserve(SITE_SLOTS * sizeof *site_keys);
-    site_numbers = reserve(SITE_SLOTS * sizeof *site_numbers);
-    note_guards();
+    sites = memory_reserve(MOST_SITES * sizeof *sites);
+    places_site_keys = memory_reserve(SITE_SLOTS * sizeof *places_site_keys);
+    places_site_numbers = memory_reserve(SITE_SLOTS * sizeof *places_site_numbers);
+    guards_begin();
     doing.keeping_places = true;
     places.at_limit = give_up_places;
     places.is_spare = strncmp(name, "fd:", 3) == 0;

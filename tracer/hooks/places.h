@@ -16,24 +16,24 @@ enum { FREE_SITES = 1 << 14 };
    that have no room there it says that it can't be told. */
 enum { LIST_SHIFT = 48, NARROW_SHIFT = 63, MOST_SITE_LISTS = 0x7fff };
 /* By a hash: a site's word and one, and its number. */
-extern uint64_t *site_keys;
-extern uint16_t *site_numbers;
+extern uint64_t *places_site_keys;
+extern uint16_t *places_site_numbers;
 
 /* The course of a run: how many records it has had, and a digest of them. A run whose course is the same did the same,
    as far as that can be told. */
 struct course {
     uint64_t records, digest;
 };
-extern struct course course;
+extern struct course places_course;
 /* The run ends behind so many records; one that looks, at the last place that it looks at, if that comes before. */
-extern uint64_t last_record;
+extern uint64_t places_last_record;
 
-void tell_course(void);
+void places_tell_course(void);
 
 static inline void follow_course(uint64_t record, uint64_t site) {
-    uint64_t mixed = course.digest ^ record ^ (site << 24 | site >> 40);
-    course.digest = (mixed << 29 | mixed >> 35) * 0x9e3779b97f4a7c15u;
-    course.records++;
+    uint64_t mixed = places_course.digest ^ record ^ (site << 24 | site >> 40);
+    places_course.digest = (mixed << 29 | mixed >> 35) * 0x9e3779b97f4a7c15u;
+    places_course.records++;
 }
 
 static inline uint64_t site_word(bool is_narrow, uintptr_t code) {
@@ -43,11 +43,11 @@ static inline uint64_t site_word(bool is_narrow, uintptr_t code) {
     return code | list << LIST_SHIFT | (uint64_t)is_narrow << NARROW_SHIFT;
 }
 
-uint16_t find_site(uint64_t word);
+uint16_t places_find_site(uint64_t word);
 
 static inline uint16_t site_number(uint64_t word) {
     size_t slot = word * 0x9e3779b97f4a7c15u >> 47;
-    return __builtin_expect(site_keys[slot] == word + 1, 1) ? site_numbers[slot] : find_site(word);
+    return __builtin_expect(places_site_keys[slot] == word + 1, 1) ? places_site_numbers[slot] : places_find_site(word);
 }
 
 static inline void write_place(uint16_t site) {
@@ -60,6 +60,6 @@ static inline void write_place(uint16_t site) {
 /* Places go to the output of this name. Those of a descriptor have a limit. */
 void places_open(const char *name);
 /* What stands behind them. */
-void end_places(void);
+void places_end(void);
 
 #endif

@@ -11,7 +11,7 @@
 
 /* The run may end behind the newest record, by closing.h. */
 static inline void end_at_last(void) {
-    if (__builtin_expect(course.records >= last_record, 0))
+    if (__builtin_expect(places_course.records >= places_last_record, 0))
         closing_end_run();
 }
 

@@ -109,7 +109,7 @@ void reducers_forget(void) {
 
 static struct view *add_view(uintptr_t first, size_t size, const char *note) {
     if (!views)
-        views = reserve(MOST_VIEWS * sizeof *views);
+        views = memory_reserve(MOST_VIEWS * sizeof *views);
     if (views_count == MOST_VIEWS)
         fail("there are more than %d reducers at once", MOST_VIEWS);
     size_t at = view_above(first);

@@ -48,7 +48,7 @@ static void open_ways(void) {
         tell_file = output_named_file("SPBAGS_SAYS", said);
         pthread_atfork(refuse_fork, NULL, NULL);
     }
-    last_record = settings_number_or(SETTING_LAST, UINT64_MAX);
+    places_last_record = settings_number_or(SETTING_LAST, UINT64_MAX);
     if (units)
         divided_begin(output_named_file("SPBAGS_DIVIDE", units));
     if (report)

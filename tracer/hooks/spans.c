@@ -7,7 +7,7 @@ struct lives spans_lives;
 
 bool spans_begin(void) {
     if (!spans_lives.of)
-        spans_lives.of = reserve_or_none(SPANS * sizeof *spans_lives.of);
+        spans_lives.of = memory_reserve_or_none(SPANS * sizeof *spans_lives.of);
     return spans_lives.of != NULL;
 }
 

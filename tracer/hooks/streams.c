@@ -8,7 +8,7 @@
 bool streams_judged, streams_shared = true;
 
 static void note_order(uintptr_t at, const char *lock, struct caller by) {
-    enter_first_guard(at, lock);
+    guards_enter_first(at, lock);
     note_access_by(true, at, sizeof(int), by);
     note_access_by(false, at + sizeof(int), sizeof(int), by);
     leave_guard(at);
