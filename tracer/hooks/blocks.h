@@ -37,7 +37,7 @@ void blocks_begin_stack(size_t region, size_t count);
 
 static inline size_t region_of(uintptr_t address) { return (address >> REGION_BITS) & (REGIONS - 1); }
 
-static inline size_t region_units(void) { return ((size_t)1 << REGION_BITS) >> unit_shift; }
+static inline size_t region_units(void) { return ((size_t)1 << REGION_BITS) >> units_shift; }
 
 static inline size_t region_bytes(void) { return region_units() + (size_t)REGION_SPANS * DEAD_BLOCKS * BLOCK_UNITS; }
 
@@ -55,18 +55,18 @@ struct touched {
 
 /* The block of these bytes, in the row of this region's address. */
 static inline struct block *block_of(intptr_t row, uintptr_t address, const uint8_t *done) {
-    uintptr_t first = (uintptr_t)row + ((address & ~region_mask) >> unit_shift);
+    uintptr_t first = (uintptr_t)row + ((address & ~region_mask) >> units_shift);
     return (struct block *)(first + region_bytes()) + ((uintptr_t)done - first) / BLOCK_UNITS;
 }
 
 /* The location of the unit with this address, in the life that its memory has. */
-static inline uint64_t location_in_life(uintptr_t address) { return 2 * (name_in_life(address) >> unit_shift); }
+static inline uint64_t location_in_life(uintptr_t address) { return 2 * (name_in_life(address) >> units_shift); }
 
-static inline uintptr_t block_size(void) { return (uintptr_t)BLOCK_UNITS << unit_shift; }
+static inline uintptr_t block_size(void) { return (uintptr_t)BLOCK_UNITS << units_shift; }
 
 static inline struct touched block_at(uintptr_t address) {
     intptr_t row = row_of(address);
-    uint8_t *done = (uint8_t *)((uintptr_t)(row + (intptr_t)(address >> unit_shift)) & ~(uintptr_t)(BLOCK_UNITS - 1));
+    uint8_t *done = (uint8_t *)((uintptr_t)(row + (intptr_t)(address >> units_shift)) & ~(uintptr_t)(BLOCK_UNITS - 1));
     return (struct touched){block_of(row, address, done), done, location_in_life(address & ~(block_size() - 1))};
 }
 
@@ -126,7 +126,7 @@ static inline void clear_done(uint8_t *done, uint64_t units, uint8_t bit) {
 /* From 1 to 64 units, from this one on. */
 static inline uint64_t units_from(unsigned first, size_t count) { return UINT64_MAX >> (BLOCK_UNITS - count) << first; }
 
-static inline unsigned unit_in_block(uintptr_t address) { return address >> unit_shift & (BLOCK_UNITS - 1); }
+static inline unsigned unit_in_block(uintptr_t address) { return address >> units_shift & (BLOCK_UNITS - 1); }
 
 /* The units of a block that some memory has, which begins with one of them: as many as begin before its end. The part
    ends where the block does, or before. */
@@ -138,7 +138,7 @@ struct part_of_block {
 
 static inline struct part_of_block part_from(uintptr_t address, uintptr_t end) {
     uintptr_t block_end = (address | (block_size() - 1)) + 1, last = end < block_end ? end : block_end;
-    size_t count = (last - address + unit_mask) >> unit_shift;
+    size_t count = (last - address + units_mask) >> units_shift;
     return (struct part_of_block){block_at(address), units_from(unit_in_block(address), count), last};
 }
 

@@ -52,7 +52,7 @@ bool divided_access(bool writes, const struct touched *in, uint64_t location, ui
     }
     follow_unit(unit, writes, address, code);
     unsigned left_out = bytes_left_out(address);
-    for (size_t byte = 0; byte <= unit_mask; byte++)
+    for (size_t byte = 0; byte <= units_mask; byte++)
         if ((left_out >> byte & 1) == 0 && !is_repeat(writes, unit->marks[byte])) {
             unit->marks[byte] = new_mark(writes);
             put_byte(unit, byte, writes, address + byte, code);
@@ -61,12 +61,12 @@ bool divided_access(bool writes, const struct touched *in, uint64_t location, ui
 }
 
 void divided_clear(uintptr_t address, uintptr_t end) {
-    for (; address - stack_first < stack_size && address < end; address++) {
-        uintptr_t at = address - stack_first;
-        struct divided *unit = slot_of_unit(2 * locations_numbers[at >> unit_shift] + 1);
+    for (; address - stacks_first < stacks_size && address < end; address++) {
+        uintptr_t at = address - stacks_first;
+        struct divided *unit = slot_of_unit(2 * locations_numbers[at >> units_shift] + 1);
         if (unit->location != 0 && *stack_mark(address) != UNTOUCHED) {
-            unit->marks[at & unit_mask] = UNTOUCHED;
-            unit->fresh[at & unit_mask] = last_fresh += 2;
+            unit->marks[at & units_mask] = UNTOUCHED;
+            unit->fresh[at & units_mask] = last_fresh += 2;
         }
     }
 }

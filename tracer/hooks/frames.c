@@ -38,21 +38,21 @@ void frames_begin(size_t size) {
 
 void short_way_find(void) {
     bool records = doing.tracing && frames_initialising == 0;
-    short_way_bits = records && !openmp_watches && unit_shift == USUAL_SHIFT ? UINTPTR_MAX : 0;
-    short_way_first = doing.plain && short_way_bits != 0 ? stack_first : UINTPTR_MAX;
+    short_way_bits = records && !openmp_watches && units_shift == USUAL_SHIFT ? UINTPTR_MAX : 0;
+    short_way_first = doing.plain && short_way_bits != 0 ? stacks_first : UINTPTR_MAX;
     follow_top();
 }
 
 __attribute__((noinline)) static void clear_from_lowest(uintptr_t address) {
-    clear_marks(stack_mark(lowest), stack_mark(address));
-    lowest = address & ~unit_mask;
+    clear_marks(stack_mark(stacks_lowest), stack_mark(address));
+    stacks_lowest = address & ~units_mask;
     if (__builtin_expect(any_dies(), 0))
         records_leave_out_dying(frames_top->position);
 }
 
 /* The stack memory below this address has no variable any more. What had one began after the newest frame. */
 ALWAYS_INLINE void clear_below(uintptr_t address) {
-    if (lowest < address)
+    if (stacks_lowest < address)
         clear_from_lowest(address);
 }
 
@@ -77,7 +77,7 @@ __attribute__((noinline)) static void other_structure(enum spbags_kind kind, uin
 ALWAYS_INLINE void structure(enum spbags_kind kind, uintptr_t code) {
     if (__builtin_expect(doing.plain, 1)) {
         begin_records();
-        if (strand.used > 0)
+        if (strands_part.used > 0)
             records_put_strand();
         step(kind, 0);
         begin_window();
@@ -211,8 +211,8 @@ void __tsan_func_entry(void *caller) {
     if (!doing.tracing)
         return;
     uintptr_t end = FRAME_END;
-    if (end - stack_first > stack_size)
-        fail("the program runs on a stack of its own, or on more than %zu bytes of stack", (size_t)stack_size);
+    if (end - stacks_first > stacks_size)
+        fail("the program runs on a stack of its own, or on more than %zu bytes of stack", (size_t)stacks_size);
     leave_jumped(end, CODE);
     clear_below(end);
     push_frame_at(FUNCTION, end, records_so_far());

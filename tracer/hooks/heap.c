@@ -64,7 +64,7 @@ static bool is_aside;
 static bool heap_locked;
 bool heap_reuses = true;
 
-static bool is_of_run(void) { return __builtin_thread_pointer() == run_thread; }
+static bool is_of_run(void) { return __builtin_thread_pointer() == stacks_running_thread; }
 
 /* ---- Spans ---- */
 
@@ -336,7 +336,7 @@ static void give_back_wide(struct wide_block block) {
     for (size_t span = block.first; span < block.first + block.spans; span++) {
         end_span(span);
         struct touched first = block_at(span_first(span));
-        give_back_pages(first.done, first.done + (span_size >> unit_shift));
+        give_back_pages(first.done, first.done + (span_size >> units_shift));
         give_back_pages(first.block, first.block + span_size / block_size());
     }
     give_back_pages((void *)span_first(block.first), (void *)span_first(block.first + block.spans));

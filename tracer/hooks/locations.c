@@ -14,7 +14,7 @@ static uint64_t narrow_accesses;
 static uintptr_t narrow_bits;
 
 void locations_begin(void) {
-    locations_numbers = memory_reserve((stack_size >> unit_shift) * sizeof *locations_numbers);
+    locations_numbers = memory_reserve((stacks_size >> units_shift) * sizeof *locations_numbers);
 }
 
 /* The group of the newest number that has ended, and which of its numbers have; they go out with the next group. */
@@ -34,7 +34,7 @@ static inline void end_number(uint64_t number) {
 }
 
 void locations_end_numbers(const uint32_t *marks, unsigned units) {
-    const uint64_t *first = locations_numbers + (marks - stack_mark(stack_first));
+    const uint64_t *first = locations_numbers + (marks - stack_mark(stacks_first));
     for (; units != 0; units &= units - 1) {
         uint64_t number = first[__builtin_ctz(units)];
         if (!dies_in_window(number))
@@ -50,11 +50,11 @@ static void clear_mark(uint32_t *mark) {
 
 /* A unit that is partly another variable's keeps its number. */
 void locations_clear(uintptr_t address, size_t size) {
-    uintptr_t first = (address + unit_mask) & ~unit_mask, end = (address + size) & ~unit_mask;
-    if (((address | size) & unit_mask) != 0 && divided_any)
+    uintptr_t first = (address + units_mask) & ~units_mask, end = (address + size) & ~units_mask;
+    if (((address | size) & units_mask) != 0 && divided_any)
         divided_clear(address, address + size);
-    if (end - stack_first <= stack_size)
-        for (; first < end; first += unit_mask + 1)
+    if (end - stacks_first <= stacks_size)
+        for (; first < end; first += units_mask + 1)
             clear_mark(stack_mark(first));
     if (any_dies())
         records_leave_out_dying(0);
@@ -63,9 +63,9 @@ void locations_clear(uintptr_t address, size_t size) {
 void locations_follow_views(void) {
     notes_quickly = doing.plain && !reducers_any;
     short_way_leave();
-    for (size_t at = 0; at < strand.used && !notes_quickly; at++)
-        if (strand.list[at].block)
-            clear_done(strand.list[at].done, UINT64_MAX, QUICK);
+    for (size_t at = 0; at < strands_part.used && !notes_quickly; at++)
+        if (strands_part.list[at].block)
+            clear_done(strands_part.list[at].done, UINT64_MAX, QUICK);
     short_way_find();
 }
 
@@ -77,7 +77,7 @@ void locations_note_unit(bool writes, const struct touched *in, unsigned unit, u
     }
     if (reducers_any) {
         bool repeats = was_done(false, in->done[unit]);
-        enum update update = reducers_update_of(address, unit_shift, repeats);
+        enum update update = reducers_update_of(address, units_shift, repeats);
         if (update != NO_UPDATE && repeats)
             return;
         writes = writes && update == NO_UPDATE;
@@ -99,16 +99,16 @@ __attribute__((noinline)) static void note_units(bool writes, uintptr_t address,
     }
     for (; units != 0; units &= units - 1) {
         unsigned unit = (unsigned)__builtin_ctzll(units);
-        locations_note_unit(writes, &part.in, unit, (address & ~(block_size() - 1)) + ((uintptr_t)unit << unit_shift),
+        locations_note_unit(writes, &part.in, unit, (address & ~(block_size() - 1)) + ((uintptr_t)unit << units_shift),
                             code);
     }
 }
 
 /* Those that this memory of the stack touches; what isn't of the stack any more. */
 static uintptr_t touch_stack(bool writes, uintptr_t unit, uintptr_t end, uintptr_t code) {
-    for (uint32_t *mark = stack_mark(unit); unit < end && is_of_stack(unit); unit += unit_mask + 1, mark++)
+    for (uint32_t *mark = stack_mark(unit); unit < end && is_of_stack(unit); unit += units_mask + 1, mark++)
         if (!is_repeat(writes, *mark))
-            note_stack_unit(writes, unit, mark, unit_shift, code);
+            note_stack_unit(writes, unit, mark, units_shift, code);
     return unit;
 }
 
@@ -123,18 +123,18 @@ void locations_touch(bool writes, uintptr_t address, size_t size, uintptr_t code
     const uintptr_t most = (uintptr_t)1 << 47;
     if (size == 0 || address >= most || size > most - address)
         return;
-    if (((address | size) & unit_mask) != 0) {
+    if (((address | size) & units_mask) != 0) {
         narrow_accesses++;
         narrow_bits |= address | size;
-        narrow.first = address;
-        narrow.end = address + size;
+        units_narrow.first = address;
+        units_narrow.end = address + size;
     }
     if (__builtin_expect(openmp_watches, 0))
         openmp_watch_access(writes, address, size, code);
-    uintptr_t unit = address & ~unit_mask;
+    uintptr_t unit = address & ~units_mask;
     while (unit < address + size)
         unit = (is_of_stack(unit) ? touch_stack : locations_touch_block)(writes, unit, address + size, code);
-    narrow.end = 0;
+    units_narrow.end = 0;
 }
 
 void locations_tell_narrow(void) {
@@ -144,5 +144,5 @@ void locations_tell_narrow(void) {
     tell_record(tell_numbered("unit", unit).text,
                 "%llu accesses don't fill their units of %u bytes, so races may be only of neighbours: SPBAGS_UNIT=%u "
                 "separates them",
-                (unsigned long long)narrow_accesses, 1u << unit_shift, unit);
+                (unsigned long long)narrow_accesses, 1u << units_shift, unit);
 }

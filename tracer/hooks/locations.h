@@ -14,7 +14,7 @@ extern uint64_t *locations_numbers;
 
 /* Of the unit of the stack that begins at this address, and has this mark. */
 static inline uint64_t stack_location(uintptr_t address, uint32_t mark, unsigned shift) {
-    uintptr_t at = address - stack_first;
+    uintptr_t at = address - stacks_first;
     if (mark == UNTOUCHED) {
         if (__builtin_expect(is_window_full(), 0))
             records_end_window();

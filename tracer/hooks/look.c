@@ -177,11 +177,11 @@ static struct owner frame_owner(uintptr_t address, const struct look *look) {
     const struct stack *stack = stack_of(address);
     if (!stack)
         return (struct owner){0};
-    const struct frame *first = stack == running ? frames_all : stack->frames,
-                       *frame = stack == running ? frames_top : stack->top;
+    const struct frame *first = stack == stacks_running ? frames_all : stack->frames,
+                       *frame = stack == stacks_running ? frames_top : stack->top;
     while (frame > first && (frame->kind != FUNCTION || frame->end <= address))
         frame--;
-    uint32_t node = stack == running ? node_of((size_t)(frame - first)) : frame->node;
+    uint32_t node = stack == stacks_running ? node_of((size_t)(frame - first)) : frame->node;
     return (struct owner){way_to(look, node), (intptr_t)(address - frame->end)};
 }
 
@@ -251,9 +251,9 @@ static uint64_t site_of(uintptr_t code, uint32_t node) {
 
 /* A block with a race is noted, and who allocates it. A function that longjmp left is no caller. */
 void look_at_block(uintptr_t address, size_t size, uintptr_t stack_pointer, uintptr_t code) {
-    uint64_t dead = heap_location_if_dead(address), first = 2 * (name_in_life(address) >> unit_shift);
+    uint64_t dead = heap_location_if_dead(address), first = 2 * (name_in_life(address) >> units_shift);
     address = name_in_life(address);
-    if (size == 0 || !(has_race(first, 2 * ((address + size - 1) >> unit_shift)) || has_race(dead, dead)))
+    if (size == 0 || !(has_race(first, 2 * ((address + size - 1) >> units_shift)) || has_race(dead, dead)))
         return;
     size_t frame = top_at(), at = allocations_count++;
     while (frames_all[frame].end <= stack_pointer)
@@ -513,7 +513,7 @@ static void put_owner(struct owner owner) {
 }
 
 static bool owner_goes_on(struct owner before, struct owner owner) {
-    return owner.code == before.code && (owner.code == 0 || owner.offset == before.offset + (intptr_t)unit_mask + 1);
+    return owner.code == before.code && (owner.code == 0 || owner.offset == before.offset + (intptr_t)units_mask + 1);
 }
 
 /* Whether the calls down to both of these are the same: a loop may make one again and again. */
@@ -532,7 +532,7 @@ static bool has_stacks_of(const struct race *race, const struct race *other) {
 /* Whether this race is of the unit behind that of the one before, in one pair. */
 static bool goes_on(const struct race *before, const struct race *race) {
     return !is_of_byte(race->location) && race->pair == before->pair && race != pairs[race->pair].race &&
-           race->address == before->address + unit_mask + 1 && owner_goes_on(before->frame, race->frame) &&
+           race->address == before->address + units_mask + 1 && owner_goes_on(before->frame, race->frame) &&
            owner_goes_on(before->data, race->data) && has_stacks_of(before, race);
 }
 

@@ -18,18 +18,18 @@ static void name_marks(size_t region) {
 }
 
 void marks_begin(uintptr_t first, uintptr_t end) {
-    size_t first_region = region_of(first - (CLEARED << unit_shift)), count = region_of(end) - first_region + 1;
-    uintptr_t marks = (uintptr_t)memory_reserve((count << REGION_BITS >> unit_shift) * sizeof(uint32_t));
-    marks_of_stack = marks - (first_region << REGION_BITS >> unit_shift) * sizeof(uint32_t);
+    size_t first_region = region_of(first - (CLEARED << units_shift)), count = region_of(end) - first_region + 1;
+    uintptr_t marks = (uintptr_t)memory_reserve((count << REGION_BITS >> units_shift) * sizeof(uint32_t));
+    marks_of_stack = marks - (first_region << REGION_BITS >> units_shift) * sizeof(uint32_t);
     blocks_begin_stack(first_region, count);
     for (size_t region = first_region; region < first_region + count; region++)
         name_marks(region);
-    lowest = end & ~unit_mask;
+    stacks_lowest = end & ~units_mask;
 }
 
 /* A unit of the stack keeps its number. */
 static void forget_stack(const struct stack *stack) {
-    uintptr_t from = stack == running ? lowest : stack->lowest;
+    uintptr_t from = stack == stacks_running ? stacks_lowest : stack->lowest;
     for (uint32_t *mark = stack_mark(from); mark < stack_mark(stack->end); mark++)
         if (*mark != UNTOUCHED && *mark != own_mark)
             *mark = TOUCHED;

@@ -35,7 +35,7 @@ static inline uint64_t strand_now(void) { return (uint64_t)marks_again << 32 | m
 extern uintptr_t marks_of_stack;
 
 static inline uint32_t *stack_mark(uintptr_t address) {
-    return (uint32_t *)(marks_of_stack + (address >> unit_shift) * sizeof(uint32_t));
+    return (uint32_t *)(marks_of_stack + (address >> units_shift) * sizeof(uint32_t));
 }
 
 /* Makes the marks of the stack, which lies between these. */

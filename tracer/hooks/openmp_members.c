@@ -122,7 +122,7 @@ static bool is_done(const struct team *team) {
 /* Makes the member of this number, whose scope AROUND is that of its team. */
 static void make_member(struct team *team, unsigned number, const struct scope *around, uint32_t node) {
     struct member *member = &team->members[number];
-    *member = (struct member){.stack = number == 0 ? running : turns_next_stack(member, node)};
+    *member = (struct member){.stack = number == 0 ? stacks_running : turns_next_stack(member, node)};
     uint64_t scope = scopes_new_number();
     member->scope = (struct scope){.kind = MEMBER,
                                    .owns = true,

@@ -37,8 +37,8 @@ void ordered_end_region(void) {
 
 void openmp_watch_access(bool writes, uintptr_t address, size_t size, uintptr_t code) {
     (void)writes, (void)size;
-    bool is_on_own_stack = address >= running_first && address < scopes_thread()->stack_end;
-    if (!is_on_own_stack && notes.after_ordered == 0 && !is_own(address & ~unit_mask))
+    bool is_on_own_stack = address >= stacks_running_first && address < scopes_thread()->stack_end;
+    if (!is_on_own_stack && notes.after_ordered == 0 && !own_has(address & ~units_mask))
         notes.after_ordered = code;
 }
 

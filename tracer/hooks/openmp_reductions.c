@@ -18,7 +18,7 @@ static uintptr_t own_block(size_t alignment, size_t size) {
     if (own[COPIES].end - own[COPIES].first > most_copies)
         fail("out of memory for the copies of reductions");
     if (doing.tracing)
-        mark_own(block, own[COPIES].end);
+        own_add(block, own[COPIES].end);
     return block;
 }
 

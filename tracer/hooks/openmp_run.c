@@ -72,7 +72,7 @@ __attribute__((constructor(102))) static void start_openmp(void) {
     cancel_is_allowed = is_true("OMP_CANCELLATION");
     loops.iterations = settings_number(SETTING_ITERATIONS);
     reductions_start();
-    dl_iterate_phdr(find_thread_memory, &own[THREAD]);
+    dl_iterate_phdr(own_find_thread, &own[THREAD]);
     if (doing.tracing)
-        mark_own(own[THREAD].first, own[THREAD].end);
+        own_add(own[THREAD].first, own[THREAD].end);
 }

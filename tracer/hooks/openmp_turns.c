@@ -13,14 +13,14 @@ struct turns turns = {.stacks_used = 1};
 static sigset_t members_mask;
 
 static void leave_stack(void) {
-    struct stack *stack = running;
+    struct stack *stack = stacks_running;
     stack->frames = frames_all;
     stack->frames_end = frames_end;
     stack->top = frames_top;
     stack->grouped = frames_grouped;
     stack->silent_frame = frames_silent;
     stack->parts = frames_parts;
-    stack->lowest = lowest;
+    stack->lowest = stacks_lowest;
     stack->bodies = bodies.first;
     stack->newest_body = bodies.newest;
     stack->initialising = frames_initialising;
@@ -30,16 +30,16 @@ static void leave_stack(void) {
 }
 
 static void enter_stack(struct stack *stack) {
-    running = stack;
-    running_first = stack->first;
-    running_size = stack->end - stack->first;
+    stacks_running = stack;
+    stacks_running_first = stack->first;
+    stacks_running_size = stack->end - stack->first;
     frames_all = stack->frames;
     frames_end = stack->frames_end;
     frames_top = stack->top;
     frames_grouped = stack->grouped;
     frames_silent = stack->silent_frame;
     frames_parts = stack->parts;
-    lowest = stack->lowest;
+    stacks_lowest = stack->lowest;
     bodies = (struct bodies){stack->bodies, stack->newest_body};
     frames_initialising = stack->initialising;
     hidden_updates = stack->hidden_updates;
@@ -57,14 +57,14 @@ static void give_turn(struct stack *next) {
 }
 
 void turns_switch_to(struct stack *next) {
-    struct stack *stack = running;
+    struct stack *stack = stacks_running;
     sigset_t all, before;
     int error = errno;
     sigfillset(&all);
     sigprocmask(SIG_BLOCK, &all, &before);
     give_turn(next);
     wait_for(&stack->turn);
-    run_thread = __builtin_thread_pointer();
+    stacks_running_thread = __builtin_thread_pointer();
     sigprocmask(SIG_SETMASK, &before, NULL);
     errno = error;
 }
@@ -72,10 +72,10 @@ void turns_switch_to(struct stack *next) {
 /* The first turn of a member's thread. */
 static void prepare_thread(void) {
     struct own_memory memory;
-    sigaltstack(&(stack_t){.ss_sp = signal_stack, .ss_size = sizeof signal_stack}, NULL);
-    dl_iterate_phdr(find_thread_memory, &memory);
+    sigaltstack(&(stack_t){.ss_sp = stacks_for_signals, .ss_size = sizeof stacks_for_signals}, NULL);
+    dl_iterate_phdr(own_find_thread, &memory);
     if (doing.tracing)
-        mark_own(memory.first, memory.end);
+        own_add(memory.first, memory.end);
     watch_begin();
 }
 
@@ -85,7 +85,7 @@ static void *take_turns(void *with) {
     sigfillset(&all);
     for (bool is_prepared = false;; is_prepared = true) {
         wait_for(&stack->turn);
-        run_thread = __builtin_thread_pointer();
+        stacks_running_thread = __builtin_thread_pointer();
         if (!is_prepared)
             prepare_thread();
         sigprocmask(SIG_SETMASK, &members_mask, NULL);

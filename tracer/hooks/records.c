@@ -199,7 +199,7 @@ void records_end_numbers(uint64_t location) {
 /* ---- What goes out when the strand has ended ---- */
 
 static void put_accesses(const struct touched *touched, uint64_t units, bool writes) {
-    const uint16_t *sites = strand.sites[touched - strand.list][writes];
+    const uint16_t *sites = strands_part.sites[touched - strands_part.list][writes];
     for (; units != 0; units &= units - 1) {
         unsigned unit = (unsigned)__builtin_ctzll(units);
         uint64_t location = touched->location + 2 * unit;
@@ -235,14 +235,14 @@ void records_put_strand(void) {
     end_records();
     if (doing.looking)
         forget_pending();
-    while (at < strand.used) {
-        __builtin_prefetch(strand.list[at + AHEAD].done);
-        __builtin_prefetch(strand.list[at + AHEAD].block);
-        put_block(&strand.list[at++]);
+    while (at < strands_part.used) {
+        __builtin_prefetch(strands_part.list[at + AHEAD].done);
+        __builtin_prefetch(strands_part.list[at + AHEAD].block);
+        put_block(&strands_part.list[at++]);
     }
-    at = strand.used = 0;
-    strand.has_gaps = false;
-    strand.before++;
+    at = strands_part.used = 0;
+    strands_part.has_gaps = false;
+    strands_part.before++;
     short_way_find();
 }
 
@@ -252,10 +252,10 @@ void records_put_strand(void) {
 static void put_alone(struct block *block) {
     if (block->place == 0)
         return;
-    struct touched *touched = &strand.list[block->place - 1];
+    struct touched *touched = &strands_part.list[block->place - 1];
     put_block(touched);
     touched->block = NULL;
-    strand.has_gaps = true;
+    strands_part.has_gaps = true;
 }
 
 /* Some blocks in a row go out, at most 64, and the detector is told which of them it has. */
@@ -327,7 +327,7 @@ static inline void follow_access(bool writes, uint64_t location, uintptr_t unit,
 /* The access is new in its block, which has its place. */
 static void keep_access(bool writes, const struct touched *in, unsigned unit, uint16_t site) {
     if (doing.keeping_places)
-        strand.sites[in->block->place - 1][writes][unit] = site;
+        strands_part.sites[in->block->place - 1][writes][unit] = site;
     in->done[unit] |= writes ? WROTE_IT : READ_IT;
 }
 
@@ -374,7 +374,7 @@ void records_follow_unit(bool writes, uint64_t location, uintptr_t unit, uintptr
 /* ---- What others ask ---- */
 
 void records_drop(void) {
-    strand.used = records_recent.used = records_recent.gone = 0;
+    strands_part.used = records_recent.used = records_recent.gone = 0;
     if (doing.plain) {
         procedures_count = open_outside;
         steps_begin(at_hand);
@@ -384,8 +384,8 @@ void records_drop(void) {
 /* What the strand has accessed in blocks. */
 static uint64_t units_touched(void) {
     uint64_t count = 0;
-    for (size_t at = 0; at < strand.used; at++) {
-        const uint8_t *done = strand.list[at].done;
+    for (size_t at = 0; at < strands_part.used; at++) {
+        const uint8_t *done = strands_part.list[at].done;
         count += (uint64_t)__builtin_popcountll(units_with(done, READ_IT));
         count += (uint64_t)__builtin_popcountll(units_with(done, WROTE_IT));
     }

@@ -45,8 +45,8 @@ static void remove_view(size_t at) {
 
 /* The number of the stack's unit with this address, which has none if nothing has touched it. */
 static uint64_t stack_number(uintptr_t address) {
-    uintptr_t unit = address & ~unit_mask;
-    return *stack_mark(unit) == UNTOUCHED ? 0 : locations_numbers[(unit - stack_first) >> unit_shift];
+    uintptr_t unit = address & ~units_mask;
+    return *stack_mark(unit) == UNTOUCHED ? 0 : locations_numbers[(unit - stacks_first) >> units_shift];
 }
 
 static uint64_t number_at(uintptr_t address) {
@@ -69,9 +69,9 @@ bool reducers_have(uintptr_t address) { return view_at(address) != NULL; }
 
 enum update reducers_update_of(uintptr_t unit, unsigned shift, bool repeats) {
     uintptr_t first = unit, end = unit + ((uintptr_t)1 << shift);
-    if (narrow.end != 0) {
-        first = narrow.first > first ? narrow.first : first;
-        end = narrow.end < end ? narrow.end : end;
+    if (units_narrow.end != 0) {
+        first = units_narrow.first > first ? units_narrow.first : first;
+        end = units_narrow.end < end ? units_narrow.end : end;
     }
     struct view *view = writes_view ? NULL : view_at(first);
     if (!view || end > view->end)
@@ -83,8 +83,8 @@ enum update reducers_update_of(uintptr_t unit, unsigned shift, bool repeats) {
 
 /* No unit of the stack's memory that is all the view's has been written, whatever its mark says. */
 static void forget_updates(const struct view *view) {
-    uintptr_t unit = (view->first + unit_mask) & ~unit_mask;
-    for (; is_of_stack(unit) && unit + unit_mask < view->end; unit += unit_mask + 1)
+    uintptr_t unit = (view->first + units_mask) & ~units_mask;
+    for (; is_of_stack(unit) && unit + units_mask < view->end; unit += units_mask + 1)
         if (*stack_mark(unit) >= FIRST_READ)
             *stack_mark(unit) = TOUCHED;
 }
@@ -122,7 +122,7 @@ static struct view *add_view(uintptr_t first, size_t size, const char *note) {
     locations_follow_views();
     if (is_of_stack(first)) {
         uint32_t *mark = stack_mark(first);
-        stack_location(first & ~unit_mask, *mark, unit_shift);
+        stack_location(first & ~units_mask, *mark, units_shift);
         *mark = *mark == UNTOUCHED ? TOUCHED : *mark;
     }
     views[at].number = number_at(first);

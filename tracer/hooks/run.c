@@ -87,21 +87,21 @@ static void find_stack(void) {
         size = limit.rlim_cur;
     uintptr_t end = (uintptr_t)environ;
     size_t room = openmp_room_for_members(&size);
-    running_first = (end - size) & ~(uintptr_t)0xffff;
-    running_size = (end & ~unit_mask) - running_first;
-    stack_first = running_first - room;
-    stack_size = room + running_size;
-    stacks[0].first = running_first;
-    stacks[0].end = running_first + running_size;
-    marks_begin(stack_first, end);
+    stacks_running_first = (end - size) & ~(uintptr_t)0xffff;
+    stacks_running_size = (end & ~units_mask) - stacks_running_first;
+    stacks_first = stacks_running_first - room;
+    stacks_size = room + stacks_running_size;
+    stacks[0].first = stacks_running_first;
+    stacks[0].end = stacks_running_first + stacks_running_size;
+    marks_begin(stacks_first, end);
     locations_begin();
     frames_begin(size);
 }
 
 static void read_settings(void) {
     doing.version = settings_digit(SETTING_VERSION);
-    unit_shift = (unsigned)__builtin_ctz(settings_digit(SETTING_UNIT));
-    unit_mask = ((uintptr_t)1 << unit_shift) - 1;
+    units_shift = (unsigned)__builtin_ctz(settings_digit(SETTING_UNIT));
+    units_mask = ((uintptr_t)1 << units_shift) - 1;
     doing.writing_repeats = settings_is(SETTING_REPEATS, "1");
     watch_set_patience();
     streams_judged = settings_is(SETTING_STREAMS, "1");
@@ -126,7 +126,7 @@ __attribute__((constructor(101))) static void start(void) {
         return;
     }
     read_settings();
-    run_thread = __builtin_thread_pointer();
+    stacks_running_thread = __builtin_thread_pointer();
     records_begin();
     give_streams_buffers();
     claim_threads();

@@ -48,7 +48,7 @@ static void end_after_handler(int number, ucontext_t *context) {
     greg_t *registers = context->uc_mcontext.gregs;
     registers[REG_RIP] = (greg_t)end_by_signal;
     registers[REG_RDI] = number;
-    registers[REG_RSP] = (greg_t)(signal_stack + sizeof signal_stack - 8);
+    registers[REG_RSP] = (greg_t)(stacks_for_signals + sizeof stacks_for_signals - 8);
     registers[REG_EFL] &= ~DIRECTION;
     sigfillset(&context->uc_sigmask);
 }
@@ -100,7 +100,7 @@ static int catch_signal(int number, struct sigaction *before) {
 
 void catch_signals(void) {
     struct sigaction before;
-    sigaltstack(&(stack_t){.ss_sp = signal_stack, .ss_size = sizeof signal_stack}, NULL);
+    sigaltstack(&(stack_t){.ss_sp = stacks_for_signals, .ss_size = sizeof stacks_for_signals}, NULL);
     for (int number = 1; number <= LAST_SIGNAL; number++)
         if (!is_harmless(number) && __real_sigaction(number, NULL, &before) == 0 && before.sa_handler == SIG_DFL)
             catch_signal(number, NULL);

@@ -6,7 +6,7 @@
 #include "common.h"
 
 enum { SPAN_BITS = 16, SPANS = 1 << 24 };
-static const uintptr_t heap_first = (uintptr_t)1 << 32, span_size = (uintptr_t)1 << SPAN_BITS;
+static const uintptr_t spans_first = (uintptr_t)1 << 32, span_size = (uintptr_t)1 << SPAN_BITS;
 
 /* The life of each span, or 0 in its first; and the newest, since each life has a number of its own. */
 struct lives {
@@ -20,9 +20,9 @@ bool spans_begin(void);
 void spans_need(void);
 
 /* The number of the span that has this address, or SPANS or more where none has. */
-static inline size_t span_at(uintptr_t address) { return (address - heap_first) >> SPAN_BITS; }
+static inline size_t span_at(uintptr_t address) { return (address - spans_first) >> SPAN_BITS; }
 
-static inline uintptr_t span_first(size_t span) { return heap_first + ((uintptr_t)span << SPAN_BITS); }
+static inline uintptr_t span_first(size_t span) { return spans_first + ((uintptr_t)span << SPAN_BITS); }
 
 static inline void begin_life(size_t span) { spans_lives.of[span] = ++spans_lives.newest; }
 

@@ -2,10 +2,10 @@
 
 struct stack stacks[MOST_STACKS];
 unsigned stacks_count = 1;
-struct stack *running = stacks;
-uintptr_t running_first, running_size, lowest, stack_first, stack_size;
-void *run_thread;
-_Alignas(16) char signal_stack[1 << 18];
+struct stack *stacks_running = stacks;
+uintptr_t stacks_running_first, stacks_running_size, stacks_lowest, stacks_first, stacks_size;
+void *stacks_running_thread;
+_Alignas(16) char stacks_for_signals[1 << 18];
 
 void stacks_lower(uintptr_t address) {
     struct stack *stack = stack_of(address);

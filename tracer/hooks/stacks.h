@@ -31,19 +31,19 @@ struct stack {
 extern struct stack stacks[MOST_STACKS];
 extern unsigned stacks_count;
 /* The one that runs, its memory, and the thread that has it, by its pointer. */
-extern struct stack *running;
-extern uintptr_t running_first, running_size;
+extern struct stack *stacks_running;
+extern uintptr_t stacks_running_first, stacks_running_size;
 /* No mark of it stands below this address, which begins a unit. */
-extern uintptr_t lowest __asm__("__spbags_lowest");
-extern void *run_thread;
+extern uintptr_t stacks_lowest __asm__("__spbags_lowest");
+extern void *stacks_running_thread;
 
 /* The memory of all stacks, and what lies between them. */
-extern uintptr_t stack_first, stack_size;
-static inline bool is_of_stack(uintptr_t address) { return address - stack_first < stack_size; }
+extern uintptr_t stacks_first, stacks_size;
+static inline bool is_of_stack(uintptr_t address) { return address - stacks_first < stacks_size; }
 
 /* All that lies between a stack's end and its limit grows by itself, so a fault there is beyond the limit. */
 static inline bool is_by_stack(const void *address) {
-    return (uintptr_t)address - (stack_first - stack_gap) < stack_size + stack_gap;
+    return (uintptr_t)address - (stacks_first - stack_gap) < stacks_size + stack_gap;
 }
 
 /* The one with this address, or null. */
@@ -59,13 +59,13 @@ __attribute__((cold)) void stacks_lower(uintptr_t address);
 
 /* A unit of the stack has a number from now on. */
 static inline void lower(uintptr_t address) {
-    if (__builtin_expect(address - running_first >= running_size, 0))
+    if (__builtin_expect(address - stacks_running_first >= stacks_running_size, 0))
         stacks_lower(address);
-    else if (address < lowest)
-        lowest = address;
+    else if (address < stacks_lowest)
+        stacks_lowest = address;
 }
 
 /* The signals have a stack of their own, since the program's may be used up. */
-extern char signal_stack[1 << 18];
+extern char stacks_for_signals[1 << 18];
 
 #endif

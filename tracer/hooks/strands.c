@@ -3,7 +3,7 @@
 #include "frames.h"
 #include "records.h"
 
-struct part_of_strand strand;
+struct part_of_strand strands_part;
 
 static bool is_left(struct touched touched) {
     if (!touched.block)
@@ -14,34 +14,34 @@ static bool is_left(struct touched touched) {
 
 /* The blocks of which nothing is left make room for others. */
 static void drop_empty(void) {
-    size_t used = strand.used;
-    strand.used = 0;
-    strand.has_gaps = false;
+    size_t used = strands_part.used;
+    strands_part.used = 0;
+    strands_part.has_gaps = false;
     for (size_t at = 0; at < used; at++) {
-        if (!is_left(strand.list[at])) {
-            memset(strand.list[at].done, 0, strand.list[at].block ? BLOCK_UNITS : 0);
+        if (!is_left(strands_part.list[at])) {
+            memset(strands_part.list[at].done, 0, strands_part.list[at].block ? BLOCK_UNITS : 0);
             continue;
         }
-        if (strand.used < at)
-            memcpy(strand.sites[strand.used], strand.sites[at], sizeof *strand.sites);
-        place_block(&strand.list[at]);
+        if (strands_part.used < at)
+            memcpy(strands_part.sites[strands_part.used], strands_part.sites[at], sizeof *strands_part.sites);
+        place_block(&strands_part.list[at]);
     }
 }
 
 void strands_make_room(void) {
     short_way_leave();
-    if (strand.has_gaps)
+    if (strands_part.has_gaps)
         drop_empty();
     short_way_find();
-    if (strand.used > MOST_BLOCKS / 4 * 3)
+    if (strands_part.used > MOST_BLOCKS / 4 * 3)
         records_put_strand();
 }
 
 void strands_set_dead(uintptr_t address, uintptr_t end) {
-    strand.has_gaps = true;
+    strands_part.has_gaps = true;
     while (address < end) {
         struct part_of_block part = part_from(address, end);
-        memset(part.in.done + unit_in_block(address), 0, (part.end - address + unit_mask) >> unit_shift);
+        memset(part.in.done + unit_in_block(address), 0, (part.end - address + units_mask) >> units_shift);
         part.in.block->dead |= part.units;
         address = part.end;
     }

@@ -37,13 +37,13 @@ extern struct part_of_strand {
     bool has_gaps;
     struct touched list[MOST_BLOCKS + AHEAD];
     uint16_t sites[MOST_BLOCKS][2][BLOCK_UNITS];
-} strand;
+} strands_part;
 
-static inline uint64_t part_now(void) { return strand.before + 1; }
+static inline uint64_t part_now(void) { return strands_part.before + 1; }
 
 static inline void place_block(const struct touched *touched) {
-    strand.list[strand.used] = *touched;
-    touched->block->place = (uint32_t)++strand.used;
+    strands_part.list[strands_part.used] = *touched;
+    touched->block->place = (uint32_t)++strands_part.used;
 }
 
 /* Makes room for another block; or what the strand has done so far goes out, by the records. */
@@ -53,7 +53,7 @@ __attribute__((cold)) void strands_make_room(void);
 static inline void list_block(const struct touched *touched) {
     if (__builtin_expect(touched->block->place != 0, 1))
         return;
-    if (__builtin_expect(strand.used == MOST_BLOCKS, 0))
+    if (__builtin_expect(strands_part.used == MOST_BLOCKS, 0))
         strands_make_room();
     place_block(touched);
 }
@@ -65,7 +65,7 @@ void strands_set_dead(uintptr_t address, uintptr_t end);
 /* The units of a block, which is empty then: those that were read, and those that were written. */
 static inline void take_units(const struct touched *touched, uint64_t masks[2]) {
     struct block *block = touched->block;
-    const uint64_t own_mask = block->has_own ? own_units(touched->location / 2 << unit_shift) : 0;
+    const uint64_t own_mask = block->has_own ? own_units(touched->location / 2 << units_shift) : 0;
     block->place = 0;
     masks[false] = units_with(touched->done, READ_IT);
     masks[true] = units_with(touched->done, WROTE_IT) & ~own_mask;

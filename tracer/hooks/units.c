@@ -1,5 +1,5 @@
 #include "units.h"
 
-unsigned unit_shift;
-uintptr_t unit_mask;
-struct range narrow;
+unsigned units_shift;
+uintptr_t units_mask;
+struct range units_narrow;

@@ -4,23 +4,23 @@
 
 #include "common.h"
 
-/* A unit is 1 << unit_shift bytes, and the usual one 1 << USUAL_SHIFT. */
-extern unsigned unit_shift;
-extern uintptr_t unit_mask;
+/* A unit is 1 << units_shift bytes, and the usual one 1 << USUAL_SHIFT. */
+extern unsigned units_shift;
+extern uintptr_t units_mask;
 enum { USUAL_SHIFT = 2 };
 
 /* The bytes of the access at hand, where it doesn't fill all its units; an end of 0 where it does. */
-extern struct range { uintptr_t first, end; } narrow;
+extern struct range { uintptr_t first, end; } units_narrow;
 
 /* A bit for each byte of this unit that the access at hand leaves out. */
 static inline unsigned bytes_left_out(uintptr_t unit) {
-    if (__builtin_expect(narrow.end == 0, 1))
+    if (__builtin_expect(units_narrow.end == 0, 1))
         return 0;
-    unsigned size = (unsigned)unit_mask + 1, bytes = 0;
-    if (narrow.first > unit)
-        bytes |= (1u << (narrow.first - unit)) - 1;
-    if (narrow.end < unit + size)
-        bytes |= (1u << size) - (1u << (narrow.end - unit));
+    unsigned size = (unsigned)units_mask + 1, bytes = 0;
+    if (units_narrow.first > unit)
+        bytes |= (1u << (units_narrow.first - unit)) - 1;
+    if (units_narrow.end < unit + size)
+        bytes |= (1u << size) - (1u << (units_narrow.end - unit));
     return bytes;
 }
 

@@ -69,10 +69,10 @@ static uintptr_t memory_unit(unsigned number) { return (uintptr_t)&memory[number
 static void make_stack(void) {
     stack_memory = mmap(NULL, STACK_BYTES, PROT_READ | PROT_WRITE, MAP_PRIVATE | MAP_ANONYMOUS, -1, 0);
     DEMAND(stack_memory != MAP_FAILED);
-    running_first = stack_first = stacks[0].first = (uintptr_t)stack_memory;
-    running_size = stack_size = STACK_BYTES;
-    stacks[0].end = stack_first + STACK_BYTES;
-    marks_begin(stack_first, stacks[0].end);
+    stacks_running_first = stacks_first = stacks[0].first = (uintptr_t)stack_memory;
+    stacks_running_size = stacks_size = STACK_BYTES;
+    stacks[0].end = stacks_first + STACK_BYTES;
+    marks_begin(stacks_first, stacks[0].end);
     locations_begin();
 }
 
@@ -84,17 +84,17 @@ static struct {
 
 void records_put_strand(void) {
     out.count = 0;
-    for (size_t at = 0; at < strand.used; at++) {
-        out.locations[out.count] = strand.list[at].location;
-        take_units(&strand.list[at], out.masks[out.count]);
+    for (size_t at = 0; at < strands_part.used; at++) {
+        out.locations[out.count] = strands_part.list[at].location;
+        take_units(&strands_part.list[at], out.masks[out.count]);
         out.count += (out.masks[out.count][false] | out.masks[out.count][true]) != 0;
     }
-    strand.used = 0;
-    strand.before++;
+    strands_part.used = 0;
+    strands_part.before++;
     out.parts++;
 }
 
-static uint64_t location_of_block(unsigned block) { return 2 * (memory_unit(block * BLOCK_UNITS) >> unit_shift); }
+static uint64_t location_of_block(unsigned block) { return 2 * (memory_unit(block * BLOCK_UNITS) >> units_shift); }
 
 /* They go out in the order of their first touch, with what was read before it was written and what was written, whether
    that is noted quickly or not; and those beyond the limit are in another part. */
@@ -129,7 +129,7 @@ static void strand_blocks(void) {
     locations_touch(true, memory_unit(0), 4, 0);
     DEMAND(out.parts == parts);
     locations_touch(true, memory_unit(MOST_BLOCKS * BLOCK_UNITS), 4, 0);
-    DEMAND(out.parts == parts + 1 && out.count == MOST_BLOCKS && strand.used == 1);
+    DEMAND(out.parts == parts + 1 && out.count == MOST_BLOCKS && strands_part.used == 1);
 }
 
 static void strand_locations(void) {
@@ -178,7 +178,7 @@ static void strand_left_out(void) {
 
 /* ---- Marks, and the numbers of the stack ---- */
 
-static uintptr_t stack_unit(unsigned number) { return stack_first + STACK_BYTES - 4 * (uintptr_t)(number + 1); }
+static uintptr_t stack_unit(unsigned number) { return stacks_first + STACK_BYTES - 4 * (uintptr_t)(number + 1); }
 
 static unsigned records;
 static uint64_t recorded;
@@ -217,7 +217,7 @@ static void marks_repeats(void) {
 static void marks_own(void) {
     make_stack();
     own[COPIES] = (struct own_memory){memory_unit(3), memory_unit(5)};
-    mark_own(own[COPIES].first, own[COPIES].end);
+    own_add(own[COPIES].first, own[COPIES].end);
     for (int strand = 0; strand < 3 * (int)MOST_STRANDS; strand++) {
         records = 0;
         locations_touch(true, memory_unit(2), 16, 0);
@@ -278,7 +278,7 @@ static void stack_numbers(void) {
         unsigned kept = drawn(UNITS);
         if (drawn(5) != 0)
             continue;
-        clear_marks(stack_mark(lowest), stack_mark(stack_unit(kept)));
+        clear_marks(stack_mark(stacks_lowest), stack_mark(stack_unit(kept)));
         for (unsigned gone = kept + 1; gone < UNITS; gone++) {
             ends[number[gone]] = number[gone] != 0;
             number[gone] = 0;
@@ -321,7 +321,7 @@ static void heap_blocks(void) {
         char *at, filled;
         size_t size;
     } live[LIVE] = {{NULL, 0, 0}};
-    run_thread = __builtin_thread_pointer();
+    stacks_running_thread = __builtin_thread_pointer();
     for (int number = 0; number < 30000; number++) {
         unsigned at = drawn(LIVE);
         size_t alignment = (size_t)1 << drawn(13), size = drawn(20) == 0 ? drawn(100000) : drawn(3000);
@@ -338,7 +338,7 @@ static void heap_blocks(void) {
 }
 
 static void heap_zero(void) {
-    run_thread = __builtin_thread_pointer();
+    stacks_running_thread = __builtin_thread_pointer();
     for (int number = 0; number < 20000; number++) {
         char *block = calloc(100, 10);
         check_block(block, 1000, 0);
@@ -454,8 +454,8 @@ int main(int count, char **words) {
                  {"heap_sizes", heap_sizes},           {"heap_moves", heap_moves},
                  {"formats_print", formats_print},     {"formats_scan", formats_scan},
                  {"formats_narrow", formats_narrow}};
-    unit_shift = USUAL_SHIFT;
-    unit_mask = 3;
+    units_shift = USUAL_SHIFT;
+    units_mask = 3;
     for (size_t at = 0; at < sizeof parts / sizeof *parts; at++)
         if (count == 1)
             puts(parts[at].name);
