@@ -141,7 +141,7 @@ static inline void first_units(bool writes, uintptr_t at, size_t size, uintptr_t
     unsigned unit = unit_in_block(at);
     if (__builtin_expect(may_begin_quick(in.block), 1))
         begin_quick(writes, &in, unit, size >> USUAL_SHIFT);
-    else if (notes_quickly)
+    else if (locations_noted_quickly)
         locations_touch_block(writes, at, at + size, code);
     else
         for (uintptr_t part = at; part < at + size; part += 1 << USUAL_SHIFT, unit++)

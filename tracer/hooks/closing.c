@@ -22,7 +22,7 @@ static void tell_notes(void) {
                     "procedures nest %u deep, so spbags needs --depth %u or more", procedures_most - 1,
                     procedures_most - 1);
     openmp_tell_notes();
-    tell_unknown_functions();
+    unknown_tell();
     places_end();
 }
 
@@ -34,12 +34,12 @@ void closing_end(void) {
     places_tell_course();
     records_put_strand();
     records_put_rest();
-    outcome.most = next_place = places_last_record = UINT64_MAX;
+    outcome.most = look_next_place = places_last_record = UINT64_MAX;
     while (procedures_count > 0)
         procedures_close(0);
     records_put_rest();
     if (doing.looking)
-        put_notes();
+        look_put_notes();
     tell_notes();
     if (detects())
         detector_end(has_had_children() || tell_has_told);

@@ -10,7 +10,7 @@
 enum { COPY_READ, COPY_WRITTEN, COPY_UNSEEN };
 
 __attribute__((used)) void __spbags_copy(uintptr_t at, size_t size, uintptr_t stack_pointer, uintptr_t code, int kind) {
-    if (kind == COPY_READ && is_passed(at, size))
+    if (kind == COPY_READ && spawns_passed(at, size))
         return;
     if (kind != COPY_UNSEEN)
         note_access(kind == COPY_WRITTEN, at, size, NULL, stack_pointer, code);

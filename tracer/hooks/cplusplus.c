@@ -50,6 +50,6 @@ int __wrap___cxa_guard_acquire(void *guard) {
 #define START_THREAD _ZNSt6thread15_M_start_threadESt10unique_ptrINS_6_StateESt14default_deleteIS1_EEPFvvE
 __attribute__((weak)) void REAL(START_THREAD)(void *thread, void *state, void (*depends)(void));
 void WRAP(START_THREAD)(void *thread, void *state, void (*depends)(void)) {
-    refuse_thread();
+    library_refuse_thread();
     REAL(START_THREAD)(thread, state, depends);
 }

@@ -174,7 +174,7 @@ void frames_begin_child(__spbags_function callee, uintptr_t stack_pointer, uintp
     frames_top->callee = callee;
     frames_top->code = 0;
     if (__builtin_expect(frames_initialising > 0, 0))
-        tell_hidden_child();
+        hidden_tell_child();
 }
 
 __spbags_function __spbags_spawn(__spbags_function callee) {

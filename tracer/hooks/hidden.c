@@ -4,7 +4,7 @@
 
 unsigned hidden_updates;
 
-void tell_not_run(const char *text) {
+void hidden_tell_not_run(const char *text) {
     enum { MOST_TEXTS = 1000 };
     static const char *told[MOST_TEXTS];
     static size_t count;
@@ -18,10 +18,10 @@ void tell_not_run(const char *text) {
 
 void __spbags_not_seen(const char *note) {
     if (doing.tracing)
-        tell_not_run(note);
+        hidden_tell_not_run(note);
 }
 
-void hide_updates(unsigned count) {
+void hidden_set(unsigned count) {
     frames_initialising += count - hidden_updates;
     hidden_updates = count;
     if (doing.tracing)
@@ -29,13 +29,13 @@ void hide_updates(unsigned count) {
 }
 
 /* An update of a view that has more memory elsewhere begins and ends. */
-void __spbags_hide(void) { hide_updates(hidden_updates + 1); }
+void __spbags_hide(void) { hidden_set(hidden_updates + 1); }
 void __spbags_show(void) {
     if (hidden_updates > 0)
-        hide_updates(hidden_updates - 1);
+        hidden_set(hidden_updates - 1);
 }
 
-void tell_hidden_child(void) {
+void hidden_tell_child(void) {
     if (hidden_updates > 0)
-        tell_not_run("an update of a reducer spawns, and what its children access isn't seen");
+        hidden_tell_not_run("an update of a reducer spawns, and what its children access isn't seen");
 }

@@ -7,10 +7,10 @@
 /* How many such updates are going on. They count among the initialisations too. */
 extern unsigned hidden_updates;
 
-void hide_updates(unsigned count);
+void hidden_set(unsigned count);
 /* What is spawned in such an update isn't recorded either. */
-void tell_hidden_child(void);
+void hidden_tell_child(void);
 /* A line for what another schedule would do beside, once for each text. */
-void tell_not_run(const char *text);
+void hidden_tell_not_run(const char *text);
 
 #endif

@@ -25,7 +25,7 @@ SETS("__sigsetjmp")
     __attribute__((noreturn)) void __wrap_##NAME(void *at, int value) { \
         if (doing.tracing) \
             NOTE_READ(at, sizeof(jmp_buf), __wrap_##NAME); \
-        hide_updates(0); \
+        hidden_set(0); \
         __real_##NAME(at, value); \
     }
 JUMPS(longjmp)

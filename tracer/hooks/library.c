@@ -5,9 +5,10 @@
 #include "streams.h"
 #include "tell.h"
 
-int state_of_hsearch;
-static int state_of_rand, state_of_drand48, state_of_mblen, state_of_mbtowc, state_of_wctomb, state_of_environment,
-    state_of_locale, state_of_textdomain, state_of_getpwent, state_of_getgrent;
+int library_state_of_hsearch;
+static int library_state_of_rand, library_state_of_drand48, library_state_of_mblen, library_state_of_mbtowc,
+    library_state_of_wctomb, library_state_of_environment, library_state_of_locale, library_state_of_textdomain,
+    library_state_of_getpwent, library_state_of_getgrent;
 
 /* ---- Accesses of several pieces ---- */
 
@@ -34,7 +35,7 @@ enum { KIND_READ = false, KIND_WRITE = true };
 #define NOTE_PIECES(KIND, AT, COUNT, BYTES, SELF) \
     note_pieces(KIND_##KIND, AT, (size_t)(COUNT), BYTES, (__spbags_function)SELF, STACK_POINTER, CODE)
 
-void note_argument(bool writes, uintptr_t at, size_t size, const void *with) {
+void library_note_argument(bool writes, uintptr_t at, size_t size, const void *with) {
     const struct caller *by = with;
     if (writes)
         note_access_by(true, at, size, *by);
@@ -71,18 +72,18 @@ void *__tsan_memset(void *to, int byte, size_t size) {
     return memset(to, byte, size);
 }
 
-void refuse_thread(void) {
+void library_refuse_thread(void) {
     if (doing.tracing)
         fail("the program starts a thread, and only a serial run can be traced");
 }
 
 int __wrap_pthread_create(pthread_t *thread, const pthread_attr_t *attributes, void *(*start)(void *), void *with) {
-    refuse_thread();
+    library_refuse_thread();
     return __real_pthread_create(thread, attributes, start, with);
 }
 
 int __real_thrd_create(thrd_t *, thrd_start_t, void *);
 int __wrap_thrd_create(thrd_t *thread, thrd_start_t start, void *with) {
-    refuse_thread();
+    library_refuse_thread();
     return __real_thrd_create(thread, start, with);
 }

@@ -7,16 +7,16 @@
 #include "noting.h"
 
 /* The inner state of functions, which stands for what they read and write inside. */
-#define state(NAME) (&state_of_##NAME)
-extern int state_of_hsearch;
+#define state(NAME) (&library_state_of_##NAME)
+extern int library_state_of_hsearch;
 
 /* What the formats of printf and scanf say of their arguments. */
-void note_argument(bool writes, uintptr_t at, size_t size, const void *by);
+void library_note_argument(bool writes, uintptr_t at, size_t size, const void *by);
 #define NARROW(FORMAT) formats_narrowed(FORMAT, (char[1000]){0}, 1000)
-#define NOTE_STRINGS(FORMAT, LIST, SELF) formats_printed(FORMAT, &LIST, note_argument, &BY(SELF))
-#define NOTE_FIELDS(FORMAT, LIST, STORED, SELF) formats_scanned(FORMAT, &LIST, STORED, note_argument, &BY(SELF))
+#define NOTE_STRINGS(FORMAT, LIST, SELF) formats_printed(FORMAT, &LIST, library_note_argument, &BY(SELF))
+#define NOTE_FIELDS(FORMAT, LIST, STORED, SELF) formats_scanned(FORMAT, &LIST, STORED, library_note_argument, &BY(SELF))
 
 /* Ends a run that starts a thread. */
-void refuse_thread(void);
+void library_refuse_thread(void);
 
 #endif

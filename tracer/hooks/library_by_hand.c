@@ -10,9 +10,9 @@
     RESULT __wrap_##NAME(__VA_ARGS__)
 
 /* The library's own state of it can't be told from outside, so this stands for it. */
-static char *state_of_strtok;
+static char *library_state_of_strtok;
 char *__wrap_strtok(char *from, const char *set) {
-    char *at = from ? from : state_of_strtok;
+    char *at = from ? from : library_state_of_strtok;
     if (doing.tracing) {
         NOTE_READ(set, all(set), __wrap_strtok);
         NOTE_READ(state(strtok), from ? 0 : sizeof(char *), __wrap_strtok);
@@ -192,18 +192,18 @@ BY_HAND(FILE *, open_wmemstream, wchar_t **to, size_t *size) {
 /* ---- Streams and descriptors ---- */
 
 BY_HAND(int, close, int file) {
-    end_file(file);
+    streams_end_file(file);
     return __real_close(file);
 }
 
 BY_HAND(int, dup2, int from, int to) {
     if (from != to)
-        end_file(to);
+        streams_end_file(to);
     return __real_dup2(from, to);
 }
 
 BY_HAND(int, dup3, int from, int to, int flags) {
-    end_file(to);
+    streams_end_file(to);
     return __real_dup3(from, to, flags);
 }
 
@@ -212,19 +212,19 @@ BY_HAND(int, fclose, FILE *stream) {
     if (doing.tracing && streams_judged && stream)
         NOTE_WRITE(stream, sizeof(uint64_t), __wrap_fclose);
     if (stream)
-        end_file(fileno(stream));
+        streams_end_file(fileno(stream));
     return __real_fclose(stream);
 }
 
 BY_HAND(void, flockfile, FILE *stream) {
     __real_flockfile(stream);
-    enter_guard((uintptr_t)stream, lock_of_stream(stream));
+    enter_guard((uintptr_t)stream, streams_lock_of(stream));
 }
 
 BY_HAND(int, ftrylockfile, FILE *stream) {
     int answer = __real_ftrylockfile(stream);
     if (answer == 0)
-        enter_guard((uintptr_t)stream, lock_of_stream(stream));
+        enter_guard((uintptr_t)stream, streams_lock_of(stream));
     return answer;
 }
 

@@ -7,7 +7,7 @@
 #include "openmp.h"
 
 uint64_t *locations_numbers;
-bool notes_quickly;
+bool locations_noted_quickly;
 
 /* Accesses that don't fill their units, and the bits of their addresses and sizes. */
 static uint64_t narrow_accesses;
@@ -61,9 +61,9 @@ void locations_clear(uintptr_t address, size_t size) {
 }
 
 void locations_follow_views(void) {
-    notes_quickly = doing.plain && !reducers_any;
+    locations_noted_quickly = doing.plain && !reducers_any;
     short_way_leave();
-    for (size_t at = 0; at < strands_part.used && !notes_quickly; at++)
+    for (size_t at = 0; at < strands_part.used && !locations_noted_quickly; at++)
         if (strands_part.list[at].block)
             clear_done(strands_part.list[at].done, UINT64_MAX, QUICK);
     short_way_find();
@@ -92,7 +92,7 @@ static void note_quickly(const struct touched *in) { set_done(in->done, ~in->blo
 __attribute__((noinline)) static void note_units(bool writes, uintptr_t address, struct part_of_block part,
                                                  uintptr_t code) {
     uint64_t units = new_units(writes, part.in.done, part.units);
-    if (units != 0 && notes_quickly && (units & part.in.block->dead) == 0) {
+    if (units != 0 && locations_noted_quickly && (units & part.in.block->dead) == 0) {
         note_in_block(writes, &part.in, units);
         note_quickly(&part.in);
         return;

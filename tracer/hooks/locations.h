@@ -60,7 +60,7 @@ void locations_clear(uintptr_t address, size_t size);
 /* ---- Accesses ---- */
 
 /* Without views of reducers, if the run is plain, a unit of a block is noted quickly. */
-extern bool notes_quickly;
+extern bool locations_noted_quickly;
 /* After a change of either. */
 void locations_follow_views(void);
 
@@ -95,7 +95,7 @@ static inline void begin_quick(bool writes, const struct touched *in, unsigned f
 }
 
 static inline bool may_begin_quick(const struct block *block) {
-    return notes_quickly && block->place == 0 && block->dead == 0 && !block->has_own;
+    return locations_noted_quickly && block->place == 0 && block->dead == 0 && !block->has_own;
 }
 
 /* What this memory touches of the block in which it begins; the end of that. */

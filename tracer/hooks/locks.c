@@ -11,7 +11,7 @@
     int __wrap_##NAME(TYPE *lock) { \
         int answer = __real_##TRY(lock); \
         if (answer == BUSY) { \
-            tell_endless_wait(); \
+            watch_tell_endless(); \
             answer = __real_##NAME(lock); \
         } \
         return enter_lock(answer, lock); \
@@ -48,7 +48,7 @@ UNLOCKS(mtx_unlock, mtx_t)
         int answer = TIMED(lock, &past); \
         if (answer != ETIMEDOUT) \
             return answer; \
-        tell_endless_wait(); \
+        watch_tell_endless(); \
         return __real_##NAME(lock); \
     }
 WAITING_SHARED_LOCKS(pthread_rwlock_rdlock, pthread_rwlock_timedrdlock)

@@ -11,7 +11,7 @@
 #include "stacks.h"
 #include "strands.h"
 
-uint64_t place_now, next_place = UINT64_MAX;
+uint64_t look_place_now, look_next_place = UINT64_MAX;
 
 /* ---- The races ---- */
 
@@ -75,7 +75,7 @@ static char astray[80];
 
 /* ---- The stack ---- */
 
-const char region_name[] = "region";
+const char look_region_name[] = "region";
 
 /* An active function or child, as of the frame with this node. Node 0 is the root's. */
 struct node {
@@ -143,7 +143,7 @@ static void add_node(size_t at) {
 }
 
 /* The node of this frame; those below it get theirs first. */
-uint32_t node_of(size_t frame) {
+uint32_t look_node_of(size_t frame) {
     size_t at = frame;
     while (at > 0 && frames_all[at].node == 0)
         at--;
@@ -181,7 +181,7 @@ static struct owner frame_owner(uintptr_t address, const struct look *look) {
                        *frame = stack == stacks_running ? frames_top : stack->top;
     while (frame > first && (frame->kind != FUNCTION || frame->end <= address))
         frame--;
-    uint32_t node = stack == stacks_running ? node_of((size_t)(frame - first)) : frame->node;
+    uint32_t node = stack == stacks_running ? look_node_of((size_t)(frame - first)) : frame->node;
     return (struct owner){way_to(look, node), (intptr_t)(address - frame->end)};
 }
 
@@ -197,7 +197,7 @@ static struct owner data_owner(uintptr_t address, const struct look *look) {
                 nearest = frame;
     if (nearest == 0)
         return (struct owner){0};
-    return (struct owner){way_to(look, node_of(nearest)), (intptr_t)(address - frames_parts[nearest].data)};
+    return (struct owner){way_to(look, look_node_of(nearest)), (intptr_t)(address - frames_parts[nearest].data)};
 }
 
 /* ---- Blocks of the heap ---- */
@@ -261,7 +261,7 @@ void look_at_block(uintptr_t address, size_t size, uintptr_t stack_pointer, uint
     for (; at > 0 && allocations[at - 1].address > address; at--)
         allocations[at] = allocations[at - 1];
     struct allocation allocation = {
-        .address = address, .size = size, .code = code_in(frame, code), .node = node_of(frame)};
+        .address = address, .size = size, .code = code_in(frame, code), .node = look_node_of(frame)};
     allocation.site = site_of(allocation.code, allocation.node);
     allocations[at] = allocation;
 }
@@ -364,7 +364,7 @@ void look_at_wait(const struct frame *frame, uintptr_t code, bool ends) {
 /* ---- Accesses of races ---- */
 
 static void take_look(struct race *race, struct look *look, uintptr_t address, uintptr_t code) {
-    look->node = node_of(top_at());
+    look->node = look_node_of(top_at());
     look->code = code_in(top_at(), code);
     look->guards = guards_now();
     look->is_narrow = bytes_left_out(address) != 0;
@@ -379,12 +379,12 @@ static void take_look(struct race *race, struct look *look, uintptr_t address, u
 }
 
 /* It may be one of the report, if that has its location and its kind at one of the places that what is pending gets. */
-void note_pending(bool writes, uint64_t location, uintptr_t address, uintptr_t code) {
+void look_note_pending(bool writes, uint64_t location, uintptr_t address, uintptr_t code) {
     struct race *race = may_race(location) ? &races[race_from(location)] : NULL;
     if (!race || race == races + races_count || race->location != location)
         return;
-    struct look *look = race->first.place > place_now ? &race->first : &race->second;
-    if (look->writes != writes || look->place <= place_now || look->part == part_now())
+    struct look *look = race->first.place > look_place_now ? &race->first : &race->second;
+    if (look->writes != writes || look->place <= look_place_now || look->part == part_now())
         return;
     look->part = part_now();
     take_look(race, look, address, code);
@@ -405,7 +405,7 @@ static void leave_meeting(const struct race *race) {
 }
 
 /* All that is pending goes out. */
-void forget_pending(void) {
+void look_forget_pending(void) {
     for (; newest_pending; newest_pending = newest_pending->next_pending)
         leave_meeting(newest_pending);
 }
@@ -428,13 +428,13 @@ __attribute__((format(__printf__, 1, 2))) static void go_astray(const char *form
     va_start(rest, format);
     vsnprintf(astray, sizeof astray, format, rest);
     va_end(rest);
-    next_place = UINT64_MAX;
+    look_next_place = UINT64_MAX;
 }
 
 static void next_stop(void) {
     if (astray[0] == '\0')
-        next_place = ++stops_met < stops_count ? stops[stops_met].place : UINT64_MAX;
-    if (next_place == UINT64_MAX && places_last_record != UINT64_MAX)
+        look_next_place = ++stops_met < stops_count ? stops[stops_met].place : UINT64_MAX;
+    if (look_next_place == UINT64_MAX && places_last_record != UINT64_MAX)
         closing_end_run();
 }
 
@@ -445,7 +445,7 @@ void look_at_structure(void) {
 
 void look_at_access(bool writes, uint64_t location) {
     struct race *race = stops[stops_met].race;
-    struct look *look = race->first.place == place_now ? &race->first : &race->second;
+    struct look *look = race->first.place == look_place_now ? &race->first : &race->second;
     if (look->writes != writes || race->location != location) {
         go_astray("a %s of location %" PRIu64, writes ? "write" : "read", location);
     } else {
@@ -621,7 +621,7 @@ static void put_addresses(void) {
     }
 }
 
-void put_notes(void) {
+void look_put_notes(void) {
     if (stops_met < stops_count) {
         put("astray %" PRIu64 " ", stops[stops_met].place);
         put_text(astray[0] != '\0' ? astray : "nothing, since the run had ended");
@@ -659,10 +659,10 @@ static void read_races(int file) {
     }
     for (struct stop *stop = stops; stop < stops + stops_count; stop++, at += OF_STOP)
         *stop = (struct stop){at[0], &races[at[1]]};
-    next_place = stops[0].place;
+    look_next_place = stops[0].place;
 }
 
-void start_look(int file) {
+void look_begin(int file) {
     read_races(file);
     nodes = memory_reserve(MOST_NODES * sizeof *nodes);
     pairs = memory_reserve(MOST_PAIRS * sizeof *pairs);

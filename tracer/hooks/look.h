@@ -8,23 +8,23 @@
 #include "frames.h"
 
 /* How many records such a run would have written so far, and the place of the next that is looked at. */
-extern uint64_t place_now, next_place;
+extern uint64_t look_place_now, look_next_place;
 
-void start_look(int file);
+void look_begin(int file);
 __attribute__((cold)) void look_at_structure(void);
 __attribute__((cold)) void look_at_access(bool writes, uint64_t location);
 /* This function waits for its children, and maybe ends with that. */
 void look_at_wait(const struct frame *frame, uintptr_t code, bool ends);
 /* An access that goes out later, and all such go out. */
-void note_pending(bool writes, uint64_t location, uintptr_t address, uintptr_t code);
-void forget_pending(void);
+void look_note_pending(bool writes, uint64_t location, uintptr_t address, uintptr_t code);
+void look_forget_pending(void);
 /* A block of the heap begins. */
 void look_at_block(uintptr_t address, size_t size, uintptr_t stack_pointer, uintptr_t code);
-void put_notes(void);
+void look_put_notes(void);
 
 /* What stands for a frame in a stack. */
-extern const char region_name[];
+extern const char look_region_name[];
 static inline size_t top_at(void) { return (size_t)(frames_top - frames_all); }
-uint32_t node_of(size_t frame);
+uint32_t look_node_of(size_t frame);
 
 #endif

@@ -98,7 +98,7 @@ void members_run(struct member *member, uintptr_t stack_end) {
     begin_part(member, team->code);
     frames_push(TASK_PART, stack_end);
     frames_top->code = team->code;
-    note_part((struct part){(uintptr_t)region->data, region_name, (uint64_t)member->scope.thread,
+    note_part((struct part){(uintptr_t)region->data, look_region_name, (uint64_t)member->scope.thread,
                             (uint64_t)member->scope.thread, region->whole != NULL});
     member->base = frames_top;
     silence_follow_body();
@@ -137,8 +137,8 @@ static void make_member(struct team *team, unsigned number, const struct scope *
 }
 
 void members_do_region(struct team *team) {
-    note_part((struct part){.of = region_name, .is_hidden = !team->region.whole});
-    uint32_t node = doing.looking ? node_of(top_at()) : NONE;
+    note_part((struct part){.of = look_region_name, .is_hidden = !team->region.whole});
+    uint32_t node = doing.looking ? look_node_of(top_at()) : NONE;
     unsigned used = turns.stacks_used;
     const struct scope *around = scopes.newest;
     for (unsigned number = 0; number < team->size; number++)

@@ -64,7 +64,7 @@ void teams_begin(unsigned threads, void *data, uintptr_t stack_pointer, uintptr_
     team->loop = loops_of_thread();
     teams.active_levels += !alone;
     parts_open(CALLED, stack_pointer, code);
-    note_part((struct part){.data = (uintptr_t)data, .of = region_name});
+    note_part((struct part){.data = (uintptr_t)data, .of = look_region_name});
 }
 
 void teams_end(uintptr_t stack_pointer, uintptr_t code) {

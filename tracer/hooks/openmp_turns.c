@@ -50,7 +50,7 @@ static void enter_stack(struct stack *stack) {
 
 static void give_turn(struct stack *next) {
     if (doing.looking)
-        node_of(top_at());
+        look_node_of(top_at());
     leave_stack();
     enter_stack(next);
     sem_post(&next->turn);

@@ -235,4 +235,4 @@ void __spbags_hold(const volatile void *guard, const char *name) { enter_guard((
 void __spbags_release(const volatile void *guard) { leave_guard((uintptr_t)guard); }
 
 /* A lock that is held already is held by a task around this, which can't go on. */
-void __spbags_endless_wait(void) { tell_endless_wait(); }
+void __spbags_endless_wait(void) { watch_tell_endless(); }

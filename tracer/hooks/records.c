@@ -90,7 +90,7 @@ static inline void write_access(bool writes, uint64_t location) {
 }
 
 static inline void put_access(bool writes, uint64_t location, uint16_t site) {
-    if (doing.looking && ++place_now == next_place)
+    if (doing.looking && ++look_place_now == look_next_place)
         look_at_access(writes, location);
     if (doing.keeping_places)
         write_place(site);
@@ -234,7 +234,7 @@ void records_put_strand(void) {
     short_way_leave();
     end_records();
     if (doing.looking)
-        forget_pending();
+        look_forget_pending();
     while (at < strands_part.used) {
         __builtin_prefetch(strands_part.list[at + AHEAD].done);
         __builtin_prefetch(strands_part.list[at + AHEAD].block);
@@ -304,7 +304,7 @@ void records_structure(enum spbags_kind kind, uintptr_t code) {
     news++;
     if (doing.keeping_places || doing.looking)
         follow_course(kind, code);
-    if (doing.looking && ++place_now == next_place)
+    if (doing.looking && ++look_place_now == look_next_place)
         look_at_structure();
     if (doing.keeping_places)
         write_place(site_number(code));
@@ -338,7 +338,7 @@ static inline void begin_access(bool writes, const struct touched *in, uint64_t 
     if (in)
         list_block(in);
     if (doing.looking)
-        note_pending(writes, location, address, code);
+        look_note_pending(writes, location, address, code);
     if (in)
         keep_access(writes, in, (location - in->location) / 2, number);
     else

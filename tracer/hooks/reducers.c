@@ -127,7 +127,7 @@ static struct view *add_view(uintptr_t first, size_t size, const char *note) {
     }
     views[at].number = number_at(first);
     if (note)
-        tell_not_run(note);
+        hidden_tell_not_run(note);
     return &views[at];
 }
 

@@ -52,7 +52,7 @@ static void open_ways(void) {
     if (units)
         divided_begin(output_named_file("SPBAGS_DIVIDE", units));
     if (report)
-        start_look(output_named_file("SPBAGS_LOOK", report));
+        look_begin(output_named_file("SPBAGS_LOOK", report));
     if (waits)
         openmp_open_waited(output_named_file("SPBAGS_WAITED", waits));
     settings_forget(SETTING_SAYS);

@@ -12,7 +12,7 @@ static struct { uintptr_t first, end; } passed[MOST_PASSED];
 static unsigned passed_count;
 static uintptr_t passing;
 
-bool is_passed(uintptr_t at, size_t size) {
+bool spawns_passed(uintptr_t at, size_t size) {
     for (unsigned number = 0; number < passed_count && passing == frames_top->end; number++)
         if (at >= passed[number].first && at + size <= passed[number].end)
             return true;

@@ -5,6 +5,6 @@
 #include "common.h"
 
 /* Whether this is an argument that the parent has read. */
-bool is_passed(uintptr_t at, size_t size);
+bool spawns_passed(uintptr_t at, size_t size);
 
 #endif

@@ -14,16 +14,16 @@ static void note_order(uintptr_t at, const char *lock, struct caller by) {
     leave_guard(at);
 }
 
-const char *lock_of_stream(FILE *stream) {
+const char *streams_lock_of(FILE *stream) {
     return stream == stdout   ? "the lock of stdout"
            : stream == stderr ? "the lock of stderr"
            : stream == stdin  ? "the lock of stdin"
                               : "the lock of the stream";
 }
 
-void note_stream(FILE *stream, struct caller by) {
+void streams_use(FILE *stream, struct caller by) {
     if (streams_judged && stream)
-        note_order((uintptr_t)stream, lock_of_stream(stream), by);
+        note_order((uintptr_t)stream, streams_lock_of(stream), by);
 }
 
 /* A descriptor is another one when it was closed and comes again. So from its first use to its end it has a number of
@@ -32,7 +32,7 @@ enum { MOST_FILES = 1 << 16 };
 static uint32_t file_numbers[MOST_FILES], last_file_number;
 static uint64_t files[MOST_FILES];
 
-void note_file(int file, struct caller by) {
+void streams_use_file(int file, struct caller by) {
     if (!streams_judged || file < 0)
         return;
     uint32_t *number = &file_numbers[file % MOST_FILES];
@@ -41,7 +41,7 @@ void note_file(int file, struct caller by) {
     note_order((uintptr_t)&files[*number % MOST_FILES], "the lock of the descriptor", by);
 }
 
-void end_file(int file) {
+void streams_end_file(int file) {
     if (file >= 0)
         file_numbers[file % MOST_FILES] = 0;
 }
@@ -54,12 +54,12 @@ STANDARD(cerr);
 STANDARD(clog);
 
 /* Those that aren't standard ones are objects without a lock. */
-void note_ostream(const struct ostream *stream, struct caller by) {
+void streams_use_ostream(const struct ostream *stream, struct caller by) {
     const char *at = (const char *)stream;
     if (streams_shared && at == standard_cout)
-        note_stream(stdout, by);
+        streams_use(stdout, by);
     else if (streams_shared && (at == standard_cerr || at == standard_clog))
-        note_stream(stderr, by);
+        streams_use(stderr, by);
     else
         note_access_by(true, (uintptr_t)at, sizeof(int), by);
 }

@@ -9,16 +9,16 @@ extern bool streams_judged;
 /* Whether the standard streams of C++ share the lock and the order of C's. */
 extern bool streams_shared;
 
-const char *lock_of_stream(FILE *stream);
+const char *streams_lock_of(FILE *stream);
 
 /* A use of it. */
-void note_stream(FILE *stream, struct caller by);
-void note_file(int file, struct caller by);
-void note_ostream(const struct ostream *stream, struct caller by);
+void streams_use(FILE *stream, struct caller by);
+void streams_use_file(int file, struct caller by);
+void streams_use_ostream(const struct ostream *stream, struct caller by);
 #define NOTE_ORDER(OF, SELF) \
-    _Generic((OF), FILE * : note_stream, int : note_file, struct ostream * : note_ostream)(OF, BY(SELF))
+    _Generic((OF), FILE * : streams_use, int : streams_use_file, struct ostream * : streams_use_ostream)(OF, BY(SELF))
 
 /* The descriptor is closed. */
-void end_file(int file);
+void streams_end_file(int file);
 
 #endif

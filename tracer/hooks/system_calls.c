@@ -17,7 +17,7 @@ static bool is_silent_call(long number, long operation) {
 }
 
 long __wrap_syscall(long number, long a, long b, long c, long d, long e, long f) {
-    system_calls.calls += !is_silent_call(number, b) && procedures_run_beside();
+    unknown_system_calls.calls += !is_silent_call(number, b) && procedures_run_beside();
     if (number != SYS_futex || !waits_for_word(b))
         return __real_syscall(number, a, b, c, d, e, f);
     const volatile uint32_t *word = (const volatile uint32_t *)a;
@@ -27,7 +27,7 @@ long __wrap_syscall(long number, long a, long b, long c, long d, long e, long f)
         NOTE_READ(end, end ? sizeof *end : 0, __wrap_syscall);
     }
     if (!end && *word == (uint32_t)c)
-        tell_endless_wait();
+        watch_tell_endless();
     uint64_t began = watch_time();
     long answer = __real_syscall(number, a, b, c, d, e, f);
     if (end)

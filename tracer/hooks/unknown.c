@@ -9,7 +9,7 @@
 /* Each source that spbags-cc compiles asks for this. */
 const char __spbags_traced = 1;
 
-struct unknown system_calls = {.name = "syscall", .shown = "syscall", .library = "libc.so.6"};
+struct unknown unknown_system_calls = {.name = "syscall", .shown = "syscall", .library = "libc.so.6"};
 
 /* The link's table, if it has one. */
 extern struct unknown unknown_functions[] __asm__("__spbags_unknown") __attribute__((weak));
@@ -22,7 +22,7 @@ __spbags_count_call(struct unknown *function) {
     function->calls += doing.tracing && (function->always || procedures_run_beside());
 }
 
-void tell_unknown_functions(void) {
+void unknown_tell(void) {
     for (struct unknown *function = unknown_functions; function < unknown_end; function++)
         if (*function->library == '\0' && *function->name == '\0')
             tell_incomplete("calls to the virtual functions of %s aren't seen: spbags-cc didn't compile them",
@@ -32,6 +32,7 @@ void tell_unknown_functions(void) {
                             function->shown);
         else if (function->calls > 0)
             tell_unseen(function->name, function->shown, function->library, function->calls);
-    if (system_calls.calls > 0)
-        tell_unseen(system_calls.name, system_calls.shown, system_calls.library, system_calls.calls);
+    if (unknown_system_calls.calls > 0)
+        tell_unseen(unknown_system_calls.name, unknown_system_calls.shown, unknown_system_calls.library,
+                    unknown_system_calls.calls);
 }

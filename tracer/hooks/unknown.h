@@ -13,8 +13,8 @@ struct unknown {
 };
 
 /* The system calls by number of which nothing is known. */
-extern struct unknown system_calls;
+extern struct unknown unknown_system_calls;
 
-void tell_unknown_functions(void);
+void unknown_tell(void);
 
 #endif

@@ -161,7 +161,7 @@ SLEEPS_BY(thrd_sleep, (const struct timespec *time, struct timespec *left), (tim
 SLEEPS_BY(clock_nanosleep, (clockid_t clock, int flags, const struct timespec *time, struct timespec *left),
           (clock, flags, time, left))
 
-void tell_endless_wait(void) {
+void watch_tell_endless(void) {
     static bool told;
     if (!doing.tracing || told)
         return;
@@ -172,7 +172,7 @@ void tell_endless_wait(void) {
 #define WAITS(NAME, PARAMETERS, ARGUMENTS) \
     __attribute__((weak)) int __real_##NAME PARAMETERS; \
     int __wrap_##NAME PARAMETERS { \
-        tell_endless_wait(); \
+        watch_tell_endless(); \
         return __real_##NAME ARGUMENTS; \
     }
 /* clang-format off */
@@ -183,7 +183,7 @@ WAITS(cnd_wait, (cnd_t *condition, mtx_t *lock), (condition, lock))
 /* That of std::condition_variable. */
 __attribute__((weak)) void __real__ZNSt18condition_variable4waitERSt11unique_lockISt5mutexE(void *, void *);
 void __wrap__ZNSt18condition_variable4waitERSt11unique_lockISt5mutexE(void *condition, void *lock) {
-    tell_endless_wait();
+    watch_tell_endless();
     __real__ZNSt18condition_variable4waitERSt11unique_lockISt5mutexE(condition, lock);
 }
 
@@ -193,14 +193,14 @@ void __wrap__ZNSt18condition_variable4waitERSt11unique_lockISt5mutexE(void *cond
 __attribute__((weak)) bool REAL(WAIT_FOR_FUTURE)(void *, unsigned *, unsigned, bool, long, long);
 bool WRAP(WAIT_FOR_FUTURE)(void *future, unsigned *word, unsigned value, bool has_end, long seconds, long rest) {
     if (!has_end && __atomic_load_n(word, __ATOMIC_RELAXED) == value)
-        tell_endless_wait();
+        watch_tell_endless();
     return REAL(WAIT_FOR_FUTURE)(future, word, value, has_end, seconds, rest);
 }
 
 int __wrap_sem_wait(sem_t *semaphore) {
     int free = 0;
     if (sem_getvalue(semaphore, &free) == 0 && free == 0)
-        tell_endless_wait();
+        watch_tell_endless();
     return __real_sem_wait(semaphore);
 }
 
@@ -208,6 +208,6 @@ int __wrap_sem_wait(sem_t *semaphore) {
 __attribute__((weak)) int __real_pthread_barrier_wait(pthread_barrier_t *barrier);
 int __wrap_pthread_barrier_wait(pthread_barrier_t *barrier) {
     if (((const unsigned *)barrier)[2] > 1)
-        tell_endless_wait();
+        watch_tell_endless();
     return __real_pthread_barrier_wait(barrier);
 }

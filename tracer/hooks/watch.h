@@ -18,6 +18,6 @@ void watch_leave_signal(int number);
 uint64_t watch_time(void);
 void watch_end_sleep(uint64_t began);
 
-void tell_endless_wait(void);
+void watch_tell_endless(void);
 
 #endif

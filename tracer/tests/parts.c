@@ -104,7 +104,7 @@ static void strand_blocks(void) {
         uint64_t wanted[10][2] = {{0}}, touched[10] = {0};
         unsigned order[MOST_BLOCKS + 1], used = 0;
         size_t parts = out.parts;
-        notes_quickly = drawn(2) != 0;
+        locations_noted_quickly = drawn(2) != 0;
         for (int access = 0; access < 40; access++) {
             unsigned block = drawn(8), first = drawn(BLOCK_UNITS), count = 1 + drawn(BLOCK_UNITS - first),
                      writes = drawn(2);
@@ -157,7 +157,7 @@ static void strand_left_out(void) {
     make_stack();
     for (int round = 0; round < 20000; round++) {
         unsigned unit = drawn(MOST), first = drawn(MOST), end = first + drawn(MOST - first) + 1;
-        notes_quickly = drawn(2) != 0;
+        locations_noted_quickly = drawn(2) != 0;
         locations_touch(true, memory_unit(unit), 4, 0);
         left[unit / BLOCK_UNITS] |= units_from(unit % BLOCK_UNITS, 1);
         if (drawn(20) == 0) {
