@@ -5,16 +5,16 @@
 
 /* A signal may come between any two instructions, and then the trace is closed by its handler. Not while bytes are on
    their way out, nor between a record of the structure and the count of what is open: there it waits. */
-extern volatile sig_atomic_t changes, waiting_signal;
-void end_by_signal(int number);
+extern volatile sig_atomic_t changes, changes_waiting_signal;
+void signals_end_run(int number);
 
 /* What stands before it in the text is done before what stands behind it, as a handler sees it. */
 static inline void in_order(void) { __atomic_signal_fence(__ATOMIC_SEQ_CST); }
 
 /* A signal that waited, where none has to wait any more. */
 static inline void let_signal_end(void) {
-    if (__builtin_expect(waiting_signal != 0, 0) && changes == 0)
-        end_by_signal(waiting_signal);
+    if (__builtin_expect(changes_waiting_signal != 0, 0) && changes == 0)
+        signals_end_run(changes_waiting_signal);
 }
 
 static inline void begin_change(void) {

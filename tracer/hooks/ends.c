@@ -7,17 +7,17 @@
 
 static pid_t traced_process;
 
-bool is_traced(void) { return doing.tracing && getpid() == traced_process; }
+bool ends_is_traced(void) { return doing.tracing && getpid() == traced_process; }
 
 /* SPBAGS_EXITCODE is the status of a run whose report has races, and makes that of one with none say where something
    wasn't seen or modelled, unless SPBAGS_INCOMPLETE_OK accepts that. Without it the status is the program's. */
 enum { NOT_ALL_SEEN = 3 };
-int racy_status = PROGRAMS_OWN;
+int ends_racy_status = PROGRAMS_OWN;
 static bool is_incomplete_ok;
 
 void ends_read_settings(void) {
     is_incomplete_ok = settings_is(SETTING_INCOMPLETE_OK, "1");
-    racy_status = settings_status(SETTING_EXITCODE);
+    ends_racy_status = settings_status(SETTING_EXITCODE);
 }
 
 /* That with which the program would end by itself, as far as it is known. */
@@ -26,15 +26,15 @@ static int own_status = PROGRAMS_OWN;
 /* The status with which the program is to end, which would end with this one. */
 static int end_trace_of(int status) {
     closing_end();
-    if (racy_status == PROGRAMS_OWN)
+    if (ends_racy_status == PROGRAMS_OWN)
         return status;
     if (detector_has_races)
-        return racy_status;
+        return ends_racy_status;
     return status == 0 && tell_incomplete_lines > 0 && !is_incomplete_ok ? NOT_ALL_SEEN : status;
 }
 
 /* Where the program doesn't end by itself it has no status of its own. */
-void end_racy(void) {
+void ends_racy(void) {
     int status = end_trace_of(PROGRAMS_OWN);
     if (status != PROGRAMS_OWN)
         __real__exit(status);
@@ -42,12 +42,12 @@ void end_racy(void) {
 
 /* ---- Ends without handlers ---- */
 
-void __wrap__exit(int status) { __real__exit(is_traced() ? end_trace_of(status) : status); }
+void __wrap__exit(int status) { __real__exit(ends_is_traced() ? end_trace_of(status) : status); }
 
 void __wrap__Exit(int status) { __wrap__exit(status); }
 
 /* Handlers of exit and quick_exit aren't told the status. */
-static int end_trace_of_own(void) { return is_traced() ? end_trace_of(own_status) : own_status; }
+static int end_trace_of_own(void) { return ends_is_traced() ? end_trace_of(own_status) : own_status; }
 
 static void quick_end(void) {
     int status = end_trace_of_own();
@@ -68,11 +68,11 @@ void __wrap_quick_exit(int status) {
 
 /* Another program takes this one's place, unless that fails. */
 static bool end_before_exec(void) {
-    bool traced = is_traced();
+    bool traced = ends_is_traced();
     if (traced) {
         tell_record("end exec", "the program becomes another one by exec, and the %s has what came before",
                     outcome_name());
-        end_racy();
+        ends_racy();
     }
     return traced;
 }
@@ -127,9 +127,9 @@ EXEC_LIST(execle, execve, WITH_ENVIRONMENT)
 /* Its first process ends in the library. */
 int __real_daemon(int stays, int keeps);
 int __wrap_daemon(int stays, int keeps) {
-    if (is_traced()) {
+    if (ends_is_traced()) {
         tell_record("end daemon", "the program becomes a daemon, and the %s has what came before", outcome_name());
-        end_racy();
+        ends_racy();
     }
     return __real_daemon(stays, keeps);
 }
@@ -137,7 +137,7 @@ int __wrap_daemon(int stays, int keeps) {
 /* ---- Forks ---- */
 
 /* In the way of spbags-run there is no answer where the program forks. */
-void refuse_fork(void) {
+void ends_refuse_fork(void) {
     if (doing.tracing)
         fail("the program forks, and only one process can be traced");
 }
@@ -154,7 +154,7 @@ static void tell_fork(void) {
 pid_t __real__Fork(void);
 pid_t __wrap__Fork(void) {
     if (tells_records())
-        refuse_fork();
+        ends_refuse_fork();
     tell_fork();
     pid_t child = __real__Fork();
     if (child == 0)
@@ -170,9 +170,9 @@ static pthread_key_t thread_end;
 
 static void end_with_thread(void *key) {
     static int rounds;
-    if (is_traced() && ++rounds < PTHREAD_DESTRUCTOR_ITERATIONS)
+    if (ends_is_traced() && ++rounds < PTHREAD_DESTRUCTOR_ITERATIONS)
         pthread_setspecific(thread_end, key);
-    else if (is_traced())
+    else if (ends_is_traced())
         exit(0);
 }
 

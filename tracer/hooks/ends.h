@@ -6,19 +6,19 @@
 
 /* The status of a run whose report has races, or that it is the program's own. */
 enum { PROGRAMS_OWN = -1 };
-extern int racy_status;
+extern int ends_racy_status;
 
 void ends_read_settings(void);
 /* From here on the ends of this process are seen. */
 void ends_begin(void);
-void catch_signals(void);
+void signals_catch(void);
 
 /* Whether this is the process that is traced, and not one that fork or vfork made. */
-bool is_traced(void);
+bool ends_is_traced(void);
 /* The trace or the report ends here, and so does a program that doesn't end by itself, if its status isn't its own. */
-void end_racy(void);
+void ends_racy(void);
 
 /* In the way of spbags-run there is no answer where the program forks. */
-void refuse_fork(void);
+void ends_refuse_fork(void);
 
 #endif

@@ -46,7 +46,7 @@ static void open_ways(void) {
     const char *units = settings_text(SETTING_DIVIDE), *waits = settings_text(SETTING_WAITED);
     if (said) {
         tell_file = output_named_file("SPBAGS_SAYS", said);
-        pthread_atfork(refuse_fork, NULL, NULL);
+        pthread_atfork(ends_refuse_fork, NULL, NULL);
     }
     places_last_record = settings_number_or(SETTING_LAST, UINT64_MAX);
     if (units)
@@ -120,7 +120,7 @@ __attribute__((constructor(101))) static void start(void) {
     settings_help();
     ends_read_settings();
     if (!name && !HAS_DETECTOR) {
-        if (racy_status != PROGRAMS_OWN)
+        if (ends_racy_status != PROGRAMS_OWN)
             fail("SPBAGS_EXITCODE asks for a report, and there is no detector inside: link without --trace");
         tell("SPBAGS_TRACE isn't set, so no trace is written");
         return;
@@ -149,6 +149,6 @@ __attribute__((constructor(101))) static void start(void) {
     locations_follow_views();
     doing.tracing = true;
     short_way_find();
-    catch_signals();
+    signals_catch();
     watch_begin();
 }

@@ -32,12 +32,12 @@ static const char *name_of(int number) {
     return name ? name : "a real-time signal";
 }
 
-void end_by_signal(int number) {
-    waiting_signal = 0;
+void signals_end_run(int number) {
+    changes_waiting_signal = 0;
     tell_record(tell_numbered("end signal", (uint64_t)number).text,
                 "the program ends by signal %d (%s), and the %s has what came before", number, name_of(number),
                 outcome_name());
-    end_racy();
+    ends_racy();
     die_by(number);
 }
 
@@ -46,7 +46,7 @@ void end_by_signal(int number) {
 static void end_after_handler(int number, ucontext_t *context) {
     enum { DIRECTION = 1 << 10 };
     greg_t *registers = context->uc_mcontext.gregs;
-    registers[REG_RIP] = (greg_t)end_by_signal;
+    registers[REG_RIP] = (greg_t)signals_end_run;
     registers[REG_RDI] = number;
     registers[REG_RSP] = (greg_t)(stacks_for_signals + sizeof stacks_for_signals - 8);
     registers[REG_EFL] &= ~DIRECTION;
@@ -69,10 +69,10 @@ static void on_signal(int number, siginfo_t *about, void *context) {
     }
     bool fault = is_fault(number, about);
     came++;
-    if (!is_traced() || came == ENOUGH)
+    if (!ends_is_traced() || came == ENOUGH)
         die_by(number);
     else if ((changes > 0 || detector_stepping) && !fault)
-        waiting_signal = number;
+        changes_waiting_signal = number;
     else {
         if (fault && number == SIGSEGV && is_by_stack(about->si_addr))
             tell("the program needs more stack than its limit, which ulimit -s sets");
@@ -98,7 +98,7 @@ static int catch_signal(int number, struct sigaction *before) {
     return __real_sigaction(number, &caught, before);
 }
 
-void catch_signals(void) {
+void signals_catch(void) {
     struct sigaction before;
     sigaltstack(&(stack_t){.ss_sp = stacks_for_signals, .ss_size = sizeof stacks_for_signals}, NULL);
     for (int number = 1; number <= LAST_SIGNAL; number++)
@@ -108,7 +108,7 @@ void catch_signals(void) {
 
 /* For the program the handler above is the system's own end by a signal, and where it wants that, it gets the handler. */
 int __wrap_sigaction(int number, const struct sigaction *wanted, struct sigaction *before) {
-    bool ends = wanted && wanted->sa_handler == SIG_DFL && is_traced() && !is_harmless(number);
+    bool ends = wanted && wanted->sa_handler == SIG_DFL && ends_is_traced() && !is_harmless(number);
     if (wanted && !ends)
         watch_leave_signal(number);
     int answer = ends ? catch_signal(number, before) : __real_sigaction(number, wanted, before);

@@ -21,8 +21,8 @@
 void __real__exit(int status) { _exit(status); }
 int __real_munmap(void *at, size_t size) { return munmap(at, size); }
 char __start_spbags_hooks[1], __stop_spbags_hooks[1];
-void end_by_signal(int number) { _exit(number); }
-volatile sig_atomic_t changes, waiting_signal, detector_stepping;
+void signals_end_run(int number) { _exit(number); }
+volatile sig_atomic_t changes, changes_waiting_signal, detector_stepping;
 struct doing doing = {.detecting = true};
 static struct frame root;
 struct frame *frames_top = &root, *frames_silent;
