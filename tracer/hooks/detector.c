@@ -30,7 +30,6 @@ static struct {
     uint64_t endings[STEPS_AT_HAND];
 } at_hand __attribute__((aligned(TWO_LINES)));
 
-volatile sig_atomic_t detector_stepping;
 bool detector_has_races;
 
 static void give_bundle(const uint64_t *end) {
@@ -43,10 +42,6 @@ uint64_t *detector_hand_over(const uint64_t *end) {
     wait_for(&free_bundles);
     filling = &bundles[(filling - bundles + 1) % BUNDLES];
     return filling->records;
-}
-
-void detector_refuse_handler(void) {
-    fail("a signal handler of the program interrupted the detector, so the run ends here without a report");
 }
 
 void detector_step_words(uint64_t record, const uint64_t *words, size_t count) {

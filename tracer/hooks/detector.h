@@ -12,8 +12,6 @@
 /* The detector has a thread of its own, which alone calls it. The program's thread hands it the records in bundles, and
    fills one while the detector goes through those before. */
 enum { BUNDLES = 8 };
-/* While a record is put into a bundle, a signal waits. */
-extern volatile sig_atomic_t detector_stepping;
 /* Whether the report, once it is made, is more than the line `races 0`. */
 extern bool detector_has_races;
 
@@ -22,32 +20,14 @@ void detector_begin(void);
 /* Hands over what is left, and waits until the report is made. */
 void detector_end(bool has_more_to_say);
 
-/* A handler of a signal makes a record while one is put. */
-__attribute__((noreturn, cold)) void detector_refuse_handler(void);
-
-static inline void begin_step(void) {
-    if (__builtin_expect(detector_stepping, 0))
-        detector_refuse_handler();
-    detector_stepping = true;
-    in_order();
-}
-
-static inline void end_step(void) {
-    in_order();
-    detector_stepping = false;
-    let_signal_end();
-}
-
 /* The bundle is full up to here; the memory of the next one. */
 uint64_t *detector_hand_over(const uint64_t *end);
-/* Between both of those a record with words behind it. Nothing before it can be left out any more. */
+/* In a step a record with words behind it. Nothing before it can be left out any more. */
 void detector_step_words(uint64_t record, const uint64_t *words, size_t count);
 #else
-enum { detector_stepping = false, detector_has_races = false };
+enum { detector_has_races = false };
 static inline void detector_begin(void) {}
 static inline void detector_end(bool has_more_to_say) { (void)has_more_to_say; }
-static inline void begin_step(void) {}
-static inline void end_step(void) {}
 static inline uint64_t *detector_hand_over(const uint64_t *end) { return (void)end, NULL; }
 static inline void detector_step_words(uint64_t record, const uint64_t *words, size_t count) {
     (void)record, (void)words, (void)count;

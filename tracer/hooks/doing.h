@@ -9,9 +9,7 @@ extern struct doing {
     bool tracing;
     /* Its records go to the detector; or it looks at the places of races. Else it writes a trace. */
     bool detecting, looking;
-    /* A record goes to the detector, and that is all. In a program with the detector few runs do anything else. */
-    bool only_detecting;
-    /* A record goes to the detector or into the trace, and that is all. */
+    /* A record goes to the detector or into the trace, and that is all. Few runs do anything else. */
     bool plain;
     /* Each record's place is kept, as long as there is room, and the course of the run is followed. */
     bool keeping_places;
@@ -27,7 +25,7 @@ enum { HAS_DETECTOR = true };
 enum { HAS_DETECTOR = false };
 #endif
 static inline bool detects(void) { return HAS_DETECTOR && doing.detecting; }
-static inline bool only_detects(void) { return HAS_DETECTOR && doing.only_detecting; }
+static inline bool only_detects(void) { return detects() && doing.plain; }
 /* What it makes. */
 static inline const char *outcome_name(void) { return detects() ? "report" : "trace"; }
 

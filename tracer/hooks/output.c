@@ -3,7 +3,7 @@
 #include "changes.h"
 #include "tell.h"
 
-volatile sig_atomic_t changes, changes_waiting_signal;
+volatile sig_atomic_t changes, changes_stepping, changes_waiting_signal;
 
 struct output outcome = {.file = -1, .room = LONGEST, .most = UINT64_MAX};
 struct output places = {.file = -1, .room = LONGEST, .most = UINT64_MAX};

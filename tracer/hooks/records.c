@@ -35,6 +35,11 @@ static char two_digits[100][2];
 /* The newest records of a plain run that writes a trace. */
 static uint64_t at_hand[STEPS_AT_HAND];
 
+void changes_refuse_handler(void) {
+    fail("a signal handler of the program interrupted the %s, so the run ends here without a %s",
+         only_detects() ? "detector" : "tracer", outcome_name());
+}
+
 void records_begin(void) {
     for (int number = 0; number < 100; number++) {
         two_digits[number][0] = (char)('0' + number / 10);

@@ -17,8 +17,7 @@ static inline void end_at_last(void) {
 
 static inline void begin_record(void) {
     if (__builtin_expect(changes > 0, 0) && doing.tracing)
-        fail("a signal handler of the program interrupted the tracer, so the run ends here without a %s",
-             outcome_name());
+        changes_refuse_handler();
     begin_change();
 }
 
@@ -40,14 +39,14 @@ static inline uintptr_t records_so_far(void) {
 
 /* Between these two records are put, or blocks. */
 static inline void begin_records(void) {
-    if (__builtin_expect(only_detects(), 1))
+    if (__builtin_expect(doing.plain, 1))
         begin_step();
     else
         begin_record();
 }
 
 static inline void finish_records(void) {
-    if (__builtin_expect(only_detects(), 1))
+    if (__builtin_expect(doing.plain, 1))
         end_step();
     else
         end_change();

@@ -145,7 +145,6 @@ __attribute__((constructor(101))) static void start(void) {
     if (name && !doing.looking)
         put_header();
     doing.plain = !doing.looking && !doing.keeping_places && !divided_any && !doing.writing_repeats;
-    doing.only_detecting = detects() && doing.plain;
     locations_follow_views();
     doing.tracing = true;
     short_way_find();

@@ -71,12 +71,12 @@ static void on_signal(int number, siginfo_t *about, void *context) {
     came++;
     if (!ends_is_traced() || came == ENOUGH)
         die_by(number);
-    else if ((changes > 0 || detector_stepping) && !fault)
+    else if ((changes > 0 || changes_stepping) && !fault)
         changes_waiting_signal = number;
     else {
         if (fault && number == SIGSEGV && is_by_stack(about->si_addr))
             tell("the program needs more stack than its limit, which ulimit -s sets");
-        if (detector_stepping)
+        if (changes_stepping && detects())
             die_inside(number);
         else
             end_after_handler(number, context);

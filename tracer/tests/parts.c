@@ -22,7 +22,7 @@ void __real__exit(int status) { _exit(status); }
 int __real_munmap(void *at, size_t size) { return munmap(at, size); }
 char __start_spbags_hooks[1], __stop_spbags_hooks[1];
 void signals_end_run(int number) { _exit(number); }
-volatile sig_atomic_t changes, changes_waiting_signal, detector_stepping;
+volatile sig_atomic_t changes, changes_waiting_signal, changes_stepping;
 struct doing doing = {.detecting = true};
 static struct frame root;
 struct frame *frames_top = &root, *frames_silent;
@@ -42,7 +42,7 @@ enum update reducers_update_of(uintptr_t unit, unsigned shift, bool repeats) {
 
 uint64_t *detector_hand_over(const uint64_t *end) { return (void)end, NULL; }
 uint64_t *records_write_out(const uint64_t *first, const uint64_t *end) { return (void)first, (void)end, NULL; }
-void detector_refuse_handler(void) { abort(); }
+void changes_refuse_handler(void) { abort(); }
 void records_end_life(struct life_end end) { begin_life(end.span); }
 void look_at_block(uintptr_t block, size_t size, uintptr_t stack_pointer, uintptr_t code) {
     (void)block, (void)size, (void)stack_pointer, (void)code;
