@@ -48,8 +48,8 @@ void records_begin(void) {
     steps_begin(at_hand);
 }
 
-/* Lines of accesses whose locations have this number of hundreds, of reads and of writes: as they are where the location
-   ends in 00. */
+/* Lines of accesses whose locations have this number of hundreds, of reads and of writes: as they are where the
+   location ends in 00. */
 static struct hundred {
     uint64_t number;
     size_t length;

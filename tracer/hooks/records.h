@@ -21,8 +21,8 @@ static inline void begin_record(void) {
     begin_change();
 }
 
-/* The newest records in a run that isn't plain, packed as in the others, with the numbers of their sites; how many have gone
-   out, and how many went before. */
+/* The newest records in a run that isn't plain, packed as in the others, with the numbers of their sites; how many
+   have gone out, and how many went before. */
 extern struct recent_records {
     struct recent {
         uint64_t record;
@@ -58,7 +58,8 @@ void records_end_window(void);
 void records_leave_out_dying(uintptr_t before);
 /* Some numbers of the stack have ended. */
 void records_end_numbers(uint64_t location);
-/* A strand ends, or a part of it. Where the run ends meanwhile, as a signal handler may end it, the rest goes out then. */
+/* A strand ends, or a part of it. Where the run ends meanwhile, as a signal handler may end it, the rest goes out
+   then. */
 void records_put_strand(void);
 /* In a plain run what can't be left out any more goes into the trace. */
 void records_put_rest(void);

@@ -1,5 +1,6 @@
-/* The newest records of a run that detects or writes a trace, and that is all: one after another in memory, where a part
-   of them is the window. They are packed as the detector takes them. In a run that detects they lie in its bundles. */
+/* The newest records of a run that detects or writes a trace, and that is all: one after another in memory, where a
+   part of them is the window. They are packed as the detector takes them. In a run that detects they lie in its
+   bundles. */
 #ifndef SPBAGS_STEPS_H
 #define SPBAGS_STEPS_H
 
