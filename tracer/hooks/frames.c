@@ -79,9 +79,9 @@ ALWAYS_INLINE void structure(enum spbags_kind kind, uintptr_t code) {
         begin_records();
         if (strands_part.used > 0)
             records_put_strand();
+        count_procedures(kind);
         step(kind, 0);
         begin_window();
-        count_procedures(kind);
         finish_records();
     } else
         other_structure(kind, code);

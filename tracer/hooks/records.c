@@ -118,9 +118,13 @@ static inline void write_step(uint64_t record) {
     }
 }
 
-uint64_t *records_write_out(const uint64_t *first, const uint64_t *end) {
-    for (; first < end; first++)
-        write_step(*first);
+/* The next one that goes out. Where the run ends meanwhile, as without room on the stack, the rest goes out then. */
+static const uint64_t *volatile next_out = at_hand;
+
+uint64_t *records_write_out(const uint64_t *end) {
+    for (; next_out < end; next_out++)
+        write_step(*next_out);
+    next_out = at_hand;
     return at_hand;
 }
 
@@ -229,7 +233,6 @@ static void put_block(const struct touched *touched) {
         detector_step_words(spbags_record(block_follows, touched->location), masks, 2);
     if (only_detects())
         return;
-    records_put_rest();
     put_accesses(touched, masks[false], false);
     put_accesses(touched, masks[true], true);
 }
@@ -238,6 +241,7 @@ void records_put_strand(void) {
     static size_t at;
     short_way_leave();
     end_records();
+    records_put_rest();
     if (doing.looking)
         look_forget_pending();
     while (at < strands_part.used) {
@@ -294,6 +298,7 @@ static void end_dead_blocks(struct life_end end) {
 void records_end_life(struct life_end end) {
     begin_records();
     end_records();
+    records_put_rest();
     short_way_leave();
     end_span_blocks(end.span);
     end_dead_blocks(end);

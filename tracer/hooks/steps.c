@@ -6,11 +6,13 @@
 uint64_t *steps_next, *steps_window, *steps_window_end, *steps_end;
 uintptr_t steps_origin;
 
-/* Where the memory at hand begins, and up to where steps_have_new has seen it. */
-static const uint64_t *begun, *seen;
+/* Up to where the memory at hand has been looked through, and whether something new was there that steps_have_new
+   hasn't told. */
+static const uint64_t *seen;
+static bool is_new;
 
 void steps_begin(uint64_t *memory) {
-    begun = steps_next = memory;
+    seen = steps_next = memory;
     steps_end = memory + STEPS_AT_HAND;
     pass_steps();
 }
@@ -24,11 +26,22 @@ void steps_end_window(void) {
         steps_pass_on();
 }
 
+/* A handler of the program's timer may look meanwhile. */
+static void look_for_new(void) {
+    const uint64_t *at = seen;
+    seen = steps_next;
+    while (at < seen && ((*at & 7) == numbers_end || ((*at & 7) >= SPBAGS_READ && (*at >> 3) % 2 == 1)))
+        at++;
+    if (at < seen)
+        is_new = true;
+}
+
 /* The program's errno is none of ours. */
 void steps_pass_on(void) {
     int error = errno;
+    look_for_new();
     const uint64_t *kept = steps_window, *end = steps_next;
-    uint64_t *memory = detects() ? detector_hand_over(kept) : records_write_out(begun, kept);
+    uint64_t *memory = detects() ? detector_hand_over(kept) : records_write_out(kept);
     steps_origin += (uintptr_t)memory - (uintptr_t)kept;
     steps_begin(memory);
     while (kept < end)
@@ -52,11 +65,8 @@ void steps_leave_out(uintptr_t before) {
 }
 
 bool steps_have_new(void) {
-    const uint64_t *at = seen;
-    seen = steps_next;
-    if (at < begun || at > seen)
-        at = begun;
-    while (at < seen && ((*at & 7) == numbers_end || ((*at & 7) >= SPBAGS_READ && (*at >> 3) % 2 == 1)))
-        at++;
-    return at < seen;
+    look_for_new();
+    const bool was_new = is_new;
+    is_new = false;
+    return was_new;
 }

@@ -31,8 +31,8 @@ static inline void begin_window(void) {
     window_number = window_last_number;
 }
 
-/* Part of the memory at hand goes into the trace; the memory, which is then free. */
-uint64_t *records_write_out(const uint64_t *first, const uint64_t *end);
+/* The memory at hand goes into the trace, up to here; that memory, which is then free. */
+uint64_t *records_write_out(const uint64_t *end);
 
 /* The window has as many records as it may have, or the memory at hand. */
 void steps_end_window(void);
@@ -50,8 +50,8 @@ static inline uintptr_t steps_so_far(void) { return (uintptr_t)steps_next - step
 
 /* The accesses of the numbers that die are left out; before so many records there are none. */
 void steps_leave_out(uintptr_t before);
-/* Whether the memory at hand has a record, since this was asked last, that isn't an access of the stack's memory, whose
-   locations are odd. */
+/* Whether a record came, since this was asked last, that isn't an access of the stack's memory, whose locations are
+   odd. */
 bool steps_have_new(void);
 
 #endif

@@ -30,6 +30,37 @@ static int nest(int depth) {
     return below + 1;
 }
 
+static void put(int *first, int *last, int depth) {
+    *first = depth;
+    *last = depth;
+}
+
+static int nest_for_ever(int depth, int *above, int *first) {
+    static int of_all[1 << 20];
+    int own[60] = {depth};
+    *above = depth;
+    cilk_spawn put(first, &of_all[depth * 64 % (1 << 20)], depth);
+    cilk_sync;
+    return nest_for_ever(depth + 1, own, first) + own[0];
+}
+
+/* Nearly all of the time is in the child. */
+static void compute(int *to) {
+    unsigned sum = 1;
+    for (int step = 0; step < 1000000; step++)
+        sum = sum * 1664525 + 1013904223;
+    *to = (int)sum;
+}
+
+static void compute_often(int count) {
+    static int sum, own;
+    for (int i = 0; i < count; i++) {
+        cilk_spawn compute(&sum);
+        own = 2;
+        cilk_sync;
+    }
+}
+
 static void nest_often(int count) {
     for (int i = 0; i < count; i++)
         nest(1);
@@ -83,6 +114,10 @@ static void end(const char *way) {
         __builtin_trap();
     if (strcmp(way, "stack") == 0)
         cell = fill(0);
+    if (strcmp(way, "deep") == 0)
+        cell = nest_for_ever(0, &(int){0}, &(int){0});
+    if (strcmp(way, "compute") == 0)
+        compute_often(3000);
     if (strcmp(way, "terminate") == 0)
         raise(SIGTERM);
     if (strcmp(way, "usual") == 0) {

@@ -20,6 +20,7 @@ WAYS = {"fault": (FAULT, f"the program ends by signal 11 (Segmentation fault){BE
         "abort": (ABORT, f"the program ends by signal 6 (Aborted){BEFORE}"),
         "trap": (TRAP, f"the program ends by signal 4 (Illegal instruction){BEFORE}"),
         "stack": (FAULT, "the program needs more stack than its limit"),
+        "deep": (FAULT, "the program needs more stack than its limit"),
         "terminate": (TERMINATE, f"the program ends by signal 15 (Terminated){BEFORE}"),
         "usual": (TERMINATE, f"the program ends by signal 15 (Terminated){BEFORE}"),
         "thread": (0, ""), "daemon": (0, f"the program becomes a daemon{BEFORE}"), "_exit": (3, ""), "_Exit": (3, ""),
@@ -142,14 +143,29 @@ class EndsTest(TraceTest):
                 self.ends_with(status, re.escape(line), "./ends", way, SPBAGS_TRACE="run.trace")
                 self.has_race(*(("--depth", "70003") if way == "nest" else ()))
 
+    def test_ways_of_plain_runs(self):
+        for way, (status, line) in WAYS.items():
+            with self.subTest(way):
+                self.ends_with(status, re.escape(line), "./ends", way, SPBAGS_TRACE="run.trace", SPBAGS_PLACES="")
+                checked = self.check("--depth", "70003", "run.trace")
+                self.assertEqual("races 1", checked.out.partition("\n")[0], checked.errors)
+
     def test_signals(self):
         """Again and again, since one may come at any point."""
         for after in (0, 0.01, 0.02, 0.03, 0.04, 0.05):
-            with self.subTest(after):
-                self.assertEqual(TERMINATE, self.ended_from_outside(signal.SIGTERM, after, "./ends", "late.trace",
-                                                                    SPBAGS_MAX_BYTES="1000000000",
-                                                                    SPBAGS_TRACE="late.trace"))
-                self.assertEqual(1, self.check("late.trace").status)
+            for places in ("late.trace.places", ""):
+                with self.subTest(after, places=places):
+                    self.assertEqual(TERMINATE, self.ended_from_outside(signal.SIGTERM, after, "./ends", "late.trace",
+                                                                        SPBAGS_MAX_BYTES="1000000000",
+                                                                        SPBAGS_TRACE="late.trace",
+                                                                        SPBAGS_PLACES=places))
+                    self.assertEqual(1, self.check("late.trace").status)
+
+    def test_slow_children(self):
+        """In a plain run. The timer finds the program in the same place again and again."""
+        done = self.ends_with(0, "", "./ends", "compute", SPBAGS_TRACE="run.trace", SPBAGS_PLACES="",
+                              SPBAGS_PATIENCE="1")
+        self.assertNotIn("has touched no new memory", done.errors)
 
     def test_signal_among_blocks(self):
         self.ends_among_blocks("./ends", SPBAGS_TRACE="blocks.trace")
