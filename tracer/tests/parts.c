@@ -41,7 +41,7 @@ enum update reducers_update_of(uintptr_t unit, unsigned shift, bool repeats) {
 }
 
 uint64_t *detector_hand_over(const uint64_t *end) { return (void)end, NULL; }
-uint64_t *records_write_out(const uint64_t *first, const uint64_t *end) { return (void)first, (void)end, NULL; }
+uint64_t *records_write_out(const uint64_t *end) { return (void)end, NULL; }
 void changes_refuse_handler(void) { abort(); }
 void records_end_life(struct life_end end) { begin_life(end.span); }
 void look_at_block(uintptr_t block, size_t size, uintptr_t stack_pointer, uintptr_t code) {
