@@ -58,17 +58,10 @@ ALWAYS_INLINE void clear_below(uintptr_t address) {
 
 void frames_forget_below(uintptr_t address) { clear_below(address); }
 
-static inline void count_procedures(enum spbags_kind kind) {
-    if (kind == SPBAGS_RETURN)
-        procedures_count--;
-    else if (kind != SPBAGS_SYNC)
-        procedures_count++;
-}
-
 __attribute__((noinline)) static void other_structure(enum spbags_kind kind, uintptr_t code) {
     begin_record();
     records_structure(kind, code);
-    count_procedures(kind);
+    procedures_count += procedures_opened_by(kind);
     end_change();
     end_at_last();
 }
@@ -76,13 +69,13 @@ __attribute__((noinline)) static void other_structure(enum spbags_kind kind, uin
 /* With each record of the structure a strand ends and another begins. */
 ALWAYS_INLINE void structure(enum spbags_kind kind, uintptr_t code) {
     if (__builtin_expect(doing.plain, 1)) {
-        begin_records();
+        begin_step();
         if (strands_part.used > 0)
             records_put_strand();
-        count_procedures(kind);
+        procedures_count += procedures_opened_by(kind);
         step(kind, 0);
         begin_window();
-        finish_records();
+        end_step();
     } else
         other_structure(kind, code);
     begin_strand();

@@ -139,6 +139,10 @@ __attribute__((cold)) void parallel_leave_groups(uintptr_t code);
    that of the root, which spawns nothing. */
 extern struct frame **procedures_owners;
 extern uint32_t procedures_count, procedures_most;
+/* How many more there are after such a record. */
+static inline uint32_t procedures_opened_by(enum spbags_kind kind) {
+    return kind == SPBAGS_RETURN ? -1u : kind <= SPBAGS_CALL;
+}
 
 void procedures_open(enum spbags_kind kind, uintptr_t code);
 void procedures_sync(uintptr_t code);

@@ -37,7 +37,7 @@ void locations_end_numbers(const uint32_t *marks, unsigned units) {
     const uint64_t *first = locations_numbers + (marks - stack_mark(stacks_first));
     for (; units != 0; units &= units - 1) {
         uint64_t number = first[__builtin_ctz(units)];
-        if (!dies_in_window(number))
+        if (!dies_in_window(number) && HAS_DETECTOR)
             end_number(number);
     }
 }
@@ -67,6 +67,20 @@ void locations_follow_views(void) {
         if (strands_part.list[at].block)
             clear_done(strands_part.list[at].done, UINT64_MAX, QUICK);
     short_way_find();
+}
+
+void locations_note_stack(bool writes, uintptr_t address, uint32_t *mark, unsigned shift, uintptr_t code) {
+    bool marks_write = writes;
+    if (__builtin_expect(reducers_any, 0)) {
+        enum update update = reducers_update_of(address, shift, is_repeat(false, *mark));
+        if (update != NO_UPDATE && is_repeat(false, *mark))
+            return;
+        writes = writes && update == NO_UPDATE;
+        marks_write = update == NO_UPDATE ? writes : update == UPDATES_UNIT;
+    }
+    uint64_t location = stack_location(address, *mark, shift);
+    *mark = new_mark(marks_write);
+    access_record(writes, location, address, code);
 }
 
 void locations_note_unit(bool writes, const struct touched *in, unsigned unit, uintptr_t address, uintptr_t code) {

@@ -40,16 +40,21 @@ static inline unsigned touched_among(const uint32_t *marks) {
     return (unsigned)_mm_movemask_epi8(_mm_packs_epi16(first, last)) ^ ((1u << CLEARED) - 1);
 }
 
-static inline bool counts_ends(void) { return detects() || window_leaves_out; }
+/* Whether the end of a number matters to somebody. */
+static inline bool counts_ends(void) {
+    return detects() || (window_leaves_out && (HAS_DETECTOR || window_last_number > window_number));
+}
 
 /* Down to the lowest of these marks, and so many together that those below may be among them. */
 static inline void clear_marks(const uint32_t *lowest_mark, uint32_t *end) {
     while (end > lowest_mark) {
-        unsigned units = touched_among(end -= CLEARED);
-        if (units == 0)
-            continue;
-        if (counts_ends())
+        end -= CLEARED;
+        if (counts_ends()) {
+            unsigned units = touched_among(end);
+            if (units == 0)
+                continue;
             locations_end_numbers(end, units);
+        }
         __builtin_memset(end, UNTOUCHED, CLEARED * sizeof *end);
     }
 }
@@ -59,28 +64,33 @@ void locations_clear(uintptr_t address, size_t size);
 
 /* ---- Accesses ---- */
 
-/* Without views of reducers, if the run is plain, a unit of a block is noted quickly. */
+/* Without views of reducers, if the run is plain, a unit is noted quickly. */
 extern bool locations_noted_quickly;
 /* After a change of either. */
 void locations_follow_views(void);
 
 /* A unit of the stack that is accessed, by its first address and its mark: it is no repeat. An update of a view counts
    as a read; where another variable has a part of the unit, the mark is that of a read too. */
+void locations_note_stack(bool writes, uintptr_t address, uint32_t *mark, unsigned shift, uintptr_t code);
+
+/* Without calls on the way where there is nothing else to do. */
 static inline void note_stack_unit(bool writes, uintptr_t address, uint32_t *mark, unsigned shift, uintptr_t code) {
-    bool marks_write = writes;
-    if (__builtin_expect(reducers_any, 0)) {
-        enum update update = reducers_update_of(address, shift, is_repeat(false, *mark));
-        if (update != NO_UPDATE && is_repeat(false, *mark))
-            return;
-        writes = writes && update == NO_UPDATE;
-        marks_write = update == NO_UPDATE ? writes : update == UPDATES_UNIT;
+    if (__builtin_expect(!locations_noted_quickly || is_window_full() || !is_of_running(address), 0)) {
+        locations_note_stack(writes, address, mark, shift, code);
+        return;
     }
-    uint64_t location = stack_location(address, *mark, shift);
-    *mark = new_mark(marks_write);
-    access_record(writes, location, address, code);
+    uint64_t *number = &locations_numbers[(address - stacks_first) >> shift];
+    if (*mark == UNTOUCHED) {
+        *number = ++window_last_number;
+        lower_running(address);
+    }
+    *mark = new_mark(writes);
+    begin_step();
+    step(writes ? SPBAGS_WRITE : SPBAGS_READ, 2 * *number + 1);
+    end_step();
 }
 
-/* The same of a unit of a block. That of a heap block that has died is the heap's matter. */
+/* A unit of a block that is accessed. That of a heap block that has died is the heap's matter. */
 void locations_note_unit(bool writes, const struct touched *in, unsigned unit, uintptr_t address, uintptr_t code);
 
 /* Nothing of the block has been accessed, and it is the program's alone. From now on the first accesses to its units are

@@ -12,23 +12,18 @@ struct recent_records records_recent;
 static uint64_t news;
 
 /* A line of the structure has at most eight bytes. So many are copied, since a copy of a fixed size is quick, and the
-   next line goes over those that aren't of this one. */
-struct line {
+   next line goes over those that aren't of this one. What isn't in the trace has no length. */
+static const struct line {
     char bytes[8];
     size_t length;
-};
+} structure_lines[8] = {
 #define LINE(TEXT) \
     { TEXT "\n", sizeof TEXT }
-static const struct line lines[] = {[SPBAGS_SPAWN] = LINE("spawn"),
-                                    [SPBAGS_CALL] = LINE("call"),
-                                    [SPBAGS_RETURN] = LINE("return"),
-                                    [SPBAGS_SYNC] = LINE("sync")};
-
-static inline void write_structure(enum spbags_kind kind) {
-    __builtin_memcpy(room(&outcome), lines[kind].bytes, sizeof lines[kind].bytes);
-    in_order();
-    outcome.used += lines[kind].length;
-}
+    [SPBAGS_SPAWN] = LINE("spawn"),
+    [SPBAGS_CALL] = LINE("call"),
+    [SPBAGS_RETURN] = LINE("return"),
+    [SPBAGS_SYNC] = LINE("sync"),
+};
 
 /* From 00 to 99. */
 static char two_digits[100][2];
@@ -56,42 +51,54 @@ static struct hundred {
     char line[LONGEST];
 } hundreds[2];
 
-/* A line is made from its end. */
+/* A line is made from its end. Where the run ends meanwhile, as without room on the stack, it is of no location. */
 static void make_hundred(struct hundred *made, bool writes, uint64_t number) {
     char *end = made->line + sizeof made->line, *at = end;
-    made->number = number;
+    made->number = 0;
+    in_order();
     *--at = '\n';
-    for (at -= 2; number > 0; number /= 10)
-        *--at = (char)('0' + number % 10);
+    at -= 2;
+    for (uint64_t rest = number; rest > 0; rest /= 10)
+        *--at = (char)('0' + rest % 10);
     at -= 6;
     __builtin_memcpy(at, writes ? "write " : " read ", 6);
     at += !writes;
     made->length = (size_t)(end - at);
     memmove(made->line, at, made->length);
+    in_order();
+    made->number = number;
 }
 
-static void write_below_hundred(bool writes, uint64_t location) {
-    char *line = room(&outcome);
-    size_t length = (size_t)sprintf(line, "%s %u\n", writes ? "write" : "read", (unsigned)location);
+/* The line of an access or of any record goes here; its length. So many bytes of an access are copied that the size is
+   fixed. */
+static inline size_t put_access_line(char *line, bool writes, uint64_t location) {
+    struct hundred *hundred = &hundreds[writes];
+    const uint64_t number = location / 100, rest = location % 100;
+    if (number == 0)
+        return (size_t)sprintf(line, "%s %u\n", writes ? "write" : "read", (unsigned)location);
+    if (number != hundred->number)
+        make_hundred(hundred, writes, number);
+    const size_t length = hundred->length;
+    __builtin_memcpy(line, hundred->line, sizeof hundred->line);
+    __builtin_memcpy(line + length - 3, two_digits[rest], 2);
+    return length;
+}
+
+static inline size_t put_line(char *line, uint64_t record) {
+    const unsigned kind = record & 7;
+    if (kind == SPBAGS_READ || kind == SPBAGS_WRITE)
+        return put_access_line(line, kind == SPBAGS_WRITE, record >> 3);
+    __builtin_memcpy(line, structure_lines[kind].bytes, sizeof structure_lines[kind].bytes);
+    return structure_lines[kind].length;
+}
+
+static inline void end_line(size_t length) {
     in_order();
     outcome.used += length;
 }
 
-/* So many bytes are copied that the size is fixed, since such a copy is quick. */
 static inline void write_access(bool writes, uint64_t location) {
-    struct hundred *hundred = &hundreds[writes];
-    if (location < 100) {
-        write_below_hundred(writes, location);
-        return;
-    }
-    const uint64_t number = location / 100;
-    if (number != hundred->number)
-        make_hundred(hundred, writes, number);
-    char *line = room(&outcome);
-    __builtin_memcpy(line, hundred->line, sizeof hundred->line);
-    __builtin_memcpy(line + hundred->length - 3, two_digits[location - 100 * number], 2);
-    in_order();
-    outcome.used += hundred->length;
+    end_line(put_access_line(room(&outcome), writes, location));
 }
 
 static inline void put_access(bool writes, uint64_t location, uint16_t site) {
@@ -105,25 +112,12 @@ static inline void put_access(bool writes, uint64_t location, uint16_t site) {
 
 /* ---- In a plain run that writes a trace ---- */
 
-/* Of the procedures those that stand open in what has gone out. */
-static uint32_t open_outside = 1;
-
-static inline void write_step(uint64_t record) {
-    unsigned kind = record & 7;
-    if (kind >= SPBAGS_READ && kind != numbers_end)
-        write_access(kind == SPBAGS_WRITE, record >> 3);
-    else if (kind < SPBAGS_READ) {
-        write_structure(kind);
-        open_outside += kind == SPBAGS_RETURN ? -1u : kind != SPBAGS_SYNC;
-    }
-}
-
 /* The next one that goes out. Where the run ends meanwhile, as without room on the stack, the rest goes out then. */
 static const uint64_t *volatile next_out = at_hand;
 
 uint64_t *records_write_out(const uint64_t *end) {
-    for (; next_out < end; next_out++)
-        write_step(*next_out);
+    for (const uint64_t *at = next_out; at < end; next_out = ++at)
+        end_line(put_line(room(&outcome), *at));
     next_out = at_hand;
     return at_hand;
 }
@@ -320,7 +314,7 @@ void records_structure(enum spbags_kind kind, uintptr_t code) {
         write_place(site_number(code));
     step_record(spbags_record(kind, 0));
     if (!detects() && !doing.looking)
-        write_structure(kind);
+        end_line(put_line(room(&outcome), spbags_record(kind, 0)));
 }
 
 static inline uint64_t site_of_access(uintptr_t unit, uintptr_t code) {
@@ -386,7 +380,9 @@ void records_follow_unit(bool writes, uint64_t location, uintptr_t unit, uintptr
 void records_drop(void) {
     strands_part.used = records_recent.used = records_recent.gone = 0;
     if (doing.plain) {
-        procedures_count = open_outside;
+        for (; next_out < steps_next; next_out++)
+            procedures_count -= procedures_opened_by(*next_out & 7);
+        next_out = at_hand;
         steps_begin(at_hand);
     }
 }

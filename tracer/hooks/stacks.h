@@ -57,12 +57,19 @@ static inline struct stack *stack_of(uintptr_t address) {
 /* A unit of a stack that doesn't run has a number from now on. */
 __attribute__((cold)) void stacks_lower(uintptr_t address);
 
-/* A unit of the stack has a number from now on. */
-static inline void lower(uintptr_t address) {
-    if (__builtin_expect(address - stacks_running_first >= stacks_running_size, 0))
-        stacks_lower(address);
-    else if (address < stacks_lowest)
+static inline bool is_of_running(uintptr_t address) { return address - stacks_running_first < stacks_running_size; }
+
+/* A unit of the stack has a number from now on, of the one that runs or of any. */
+static inline void lower_running(uintptr_t address) {
+    if (address < stacks_lowest)
         stacks_lowest = address;
+}
+
+static inline void lower(uintptr_t address) {
+    if (__builtin_expect(is_of_running(address), 1))
+        lower_running(address);
+    else
+        stacks_lower(address);
 }
 
 /* The signals have a stack of their own, since the program's may be used up. */
