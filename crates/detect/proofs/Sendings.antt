@@ -1,5 +1,6 @@
 -- ReadingThread one record, step by step.
-use Rattle.std.proofs.Common.{◌≡◌, ◌+◌, length, List, [], ◌∷◌, ◌++◌, Option, Some, None, refl, sym, subst, ◌∙◌}
+use Rattle.std.proofs.Common.{arith, ◌≡◌, ◌+◌, ◌-◌, ◌<◌, ℕ, length, length-append, List, [], ◌∷◌, ◌++◌, Option, Some, None, refl, sym, subst, ◌∙◌}
+use Rattle.trace.specs.Feeding.{Feeding, HasFed}
 use Rattle.dag.specs.declared.records.Placed.{Placed}
 use Rattle.dag.specs.declared.records.Record.{Record}
 use Rattle.dag.specs.Traces.{placed}
@@ -58,6 +59,10 @@ sent_idle p w (Some q) after r idle h = absurd cc
 pub still_pending : (o : Option Placed) (old new : RouterState) → old.pending ≡ o → (old.pending ≡ None → ⊥) → ((q : Placed) → old.pending ≡ Some q → HasPutNext old new q) → (p : Placed) → new.pending ≡ Some p → old.pending ≡ Some p
 still_pending None old new is some h p e = absurd (some is)
 still_pending (Some q) old new is some h p e = ((h q is).next p e).0
+
+-- with a record more fewer are left
+pub fewer_left : (limit : ℕ) (w : List Record) (x : Record) (came came' : List ℕ) (a b : Feeding) → HasFed w came a → HasFed (w ++ x ∷ []) came' b → b.reading.limit ≡ a.reading.limit → a.reading.limit ≡ limit → limit - b.reading.count < limit - a.reading.count
+fewer_left limit w x came came' a b before after same at = omega (arith, after.has_used.has_read.count_is, after.has_used.has_read.within, before.has_used.has_read.count_is, same, at, length-append w (x ∷ []))
 
 -- a record more of the part, which is the same
 pub sent_more : (old before after : ReadingThread) (w : List Record) (p : Placed) → p.place ≡ length w + 1 → GoesOn old before

@@ -3,7 +3,7 @@ ghost use Rattle.std.specs.Prelude.{◌≡◌, ◌<◌, ◌≤◌, ◌++◌, ℕ
 ghost use Rattle.std.specs.Prelude.{vec_len, length, List, [], IsTrue, IsFalse};
 ghost use Rattle.lane.specs.declared.item.Item.{Item};
 ghost use Rattle.dag.specs.declared.back.Back.{Back};
-ghost use Rattle.dag.specs.declared.back.Back.TheVariants.{NoMemory};
+ghost use Rattle.dag.specs.declared.back.Back.TheVariants as backs;
 ghost use Rattle.trace.specs.declared.faults.Fault.TheVariants as faults;
 ghost use Rattle.collect.specs.Collected.{KeepsBest};
 ghost use Rattle.detect.specs.Gathered.{Gathers, with_items};
@@ -14,7 +14,7 @@ use lane::{BLOCK, Item, Taker};
 use shard::Back;
 use std::sync::Wait;
 use std::time::Clock;
-use trace::Fault;
+use trace::{Fault, NoMemory};
 use waiting::Waiting;
 
 /// The lanes back from the shards, and the races that came over them.
@@ -35,13 +35,24 @@ impl Gathering {
     }
 
     /// Takes from each lane in turn what is there; want of memory if a growth was refused.
-    pub(crate) fn take_backs(&mut self) -> Result<(), Fault>
+    pub(crate) fn take_backs(&mut self) -> Result<(), NoMemory>
         ensures further { IsFurther self.old self.new }
         ensures none_refused { OnOk result (IsFalse self.new.collector.refused) }
-        ensures refused { IfErr result (λ fault. fault ≡ faults.NoMemory) }
     {
         self.take_from_all();
-        self.first_trouble(Ok(()))
+        self.check()
+    }
+
+    /// Want of memory, if a growth was refused here or in a shard.
+    pub(crate) fn check(&self) -> Result<(), NoMemory>
+        ensures none_refused { OnOk result (IsFalse self.now.collector.refused) }
+        ensures refused { IfErr result (λ _. IsTrue self.now.collector.refused) }
+    {
+        if self.collector.is_refused() {
+            Err(NoMemory)
+        } else {
+            Ok(())
+        }
     }
 
     /// Takes from the first `count` lanes until each has given its mark.
@@ -129,7 +140,7 @@ impl Gathering {
         ensures backs { self.new.backs ≡ self.old.backs }
         ensures given { IsFalse self.new.collector.refused → IsFalse self.old.collector.refused
             × ((g : List Back) → KeepsBest g self.old.collector → KeepsBest (g ++ back ∷ []) self.new.collector) }
-        ensures refused { back ≡ NoMemory → IsTrue self.new.collector.refused }
+        ensures refused { back ≡ backs.NoMemory → IsTrue self.new.collector.refused }
     {
         match back {
             Back::NoMemory => self.collector.note_refused(),
@@ -148,10 +159,7 @@ impl Gathering {
         ensures refused { IsTrue self.now.collector.refused → result ≡ Err faults.NoMemory }
         ensures none_refused { IsFalse self.now.collector.refused → result ≡ outcome }
     {
-        if self.collector.is_refused() {
-            Err(Fault::NoMemory)
-        } else {
-            outcome
-        }
+        self.check()?;
+        outcome
     }
 }

@@ -1,10 +1,9 @@
 //! The reading thread: it sends the records of the source to the shards, and at last the marks.
-ghost use Rattle.std.specs.Prelude.{◌≡◌, ◌++◌, ◌∷◌, [], List, IfErr, IsErr, OnOk, IsFalse};
+ghost use Rattle.std.specs.Prelude.{◌≡◌, ◌++◌, ◌∷◌, [], List, IsErr, OnOk, IsFalse};
 ghost use Rattle.std.specs.Option.{option_to_list};
 ghost use Rattle.dag.specs.declared.records.Placed.{Placed};
 ghost use Rattle.dag.specs.Traces.{placed};
 ghost use Rattle.dag.specs.Parts.{records_of};
-ghost use Rattle.trace.specs.declared.faults.Fault.TheVariants.{NoMemory};
 ghost use Rattle.trace.specs.Devices.{◌⇝◌};
 ghost use Rattle.trace.specs.Feeding.{IsNext};
 ghost use Rattle.trace.specs.Endings.{EndsReading, IsWantOfMemory};
@@ -16,7 +15,7 @@ use crate::gathering::Gathering;
 use route::{Full, Progress, Router};
 use std::sync::Wait;
 use std::time::Clock;
-use trace::{Fault, Intake, Limits, Part, Placed, Source};
+use trace::{Fault, Intake, Limits, NoMemory, Part, Placed, Source};
 use waiting::Waiting;
 
 /// The reading thread: it sends a part's records to the shards, and takes the races that come back.
@@ -48,13 +47,21 @@ impl ReadingThread {
         let mut intake = Intake::new(limits);
         'records: loop {
             match intake.next_known() {
-                Some(placed) => self.send(rt, placed)?,
+                Some(placed) => {
+                    if let Err(Full) = self.put(placed) {
+                        self.send_rest(rt, placed.place)?;
+                    }
+                }
                 None => {
                     self.router.flush();
                     self.gathering.take_backs()?;
                     match self.read_on(&mut intake, source)? {
                         None => return Ok(()),
-                        Some(placed) => self.send(rt, placed)?,
+                        Some(placed) => {
+                            if let Err(Full) = self.put(placed) {
+                                self.send_rest(rt, placed.place)?;
+                            }
+                        }
                     }
                 }
             }
@@ -75,41 +82,40 @@ impl ReadingThread {
         intake.next_from(source)
     }
 
-    // Sends what the part has of the record.
+    // Puts what the part has of the record on its lanes. If one of them is full, the record is pending.
     #[inline(always)]
-    fn send<T: Wait + Clock>(&mut self, rt: &T, placed: Placed) -> Result<(), Fault>
+    fn put(&mut self, placed: Placed) -> Result<(), Full>
         requires { MaySend self.old }
-        ensures sent { (w : List Placed) → HasSent (records_of self.old.part w) self.old.router
-            → HasSent (records_of self.old.part (w ++ placed ∷ [])) self.new.router }
+        ensures sent { OnOk result ((w : List Placed) → HasSent (records_of self.old.part w) self.old.router
+            → HasSent (records_of self.old.part (w ++ placed ∷ [])) self.new.router) }
+        ensures lacks { IsErr result → (w : List Placed) → HasSent (records_of self.old.part w) self.old.router
+            → LacksLast (records_of self.old.part (w ++ placed ∷ [])) self.new.router }
         ensures ready { OnOk result (MaySend self.new) }
-        ensures refused { IfErr result (λ fault. fault ≡ NoMemory) }
-        ensures idle { self.new.router.pending ≡ None }
+        ensures unmarked { self.new.router.marked ≡ 0 }
+        ensures stuck { IsErr result → IsStuck self.new.router self.new.router.next }
         ensures goes_on { GoesOn self.old self.new }
     {
-        if let Some(own) = record_of_part(self.part, placed) {
-            if let Err(Full) = self.router.send(own) {
-                return self.send_rest(rt, placed.place);
-            }
+        match record_of_part(self.part, placed) {
+            Some(own) => self.router.send(own),
+            None => Ok(()),
         }
-        Ok(())
     }
 
     // Puts the pending record on the lanes that lack it; the next of them was full.
     #[cold]
     #[inline(never)]
-    fn send_rest<T: Wait + Clock>(&mut self, rt: &T, place: u64) -> Result<(), Fault>
+    fn send_rest<T: Wait + Clock>(&mut self, rt: &T, place: u64) -> Result<(), NoMemory>
         requires unmarked { self.old.router.marked ≡ 0 }
         requires full { IsStuck self.old.router self.old.router.next }
         ensures sent { (w : List Placed) → LacksLast w self.old.router → HasSent w self.new.router }
         ensures ready { OnOk result (MaySend self.new) }
-        ensures refused { IfErr result (λ fault. fault ≡ NoMemory) }
         ensures idle { self.new.router.pending ≡ None }
         ensures goes_on { GoesOn self.old self.new }
     {
         self.wait(rt, place);
         for _ in rt.forever() {
             match self.router.step() {
-                Progress::Idle => return self.gathering.first_trouble(Ok(())),
+                Progress::Idle => return self.gathering.check(),
                 Progress::Moved => {}
                 Progress::Blocked(_) => self.wait(rt, place),
             }

@@ -1,4 +1,4 @@
-use Rattle.std.proofs.Common.{rules, ◌≡◌, ℕ, [], ◌∷◌, ◌++◌, refl, sym, ap, subst, ◌∙◌, arith, length-append}
+use Rattle.std.proofs.Common.{rules, ◌≡◌, ℕ, [], ◌∷◌, ◌++◌, refl, sym, ap, subst, ◌∙◌}
 use Rattle.dag.specs.Traces.{placed}
 use Rattle.dag.specs.Parts.{records_of}
 use Rattle.trace.specs.Devices.{Change, ◌⇝◌}
@@ -7,7 +7,7 @@ use Rattle.trace.specs.Feeding.{Feeding, HasFed, IsWhole}
 use Rattle.trace.proofs.Feedings.{consumes_none, consumes_more, fed_none, at_limits}
 use Rattle.trace.proofs.Endings.{ends_refused, refused_by_fault, given_next, given_end}
 use Rattle.detect.specs.declared.reading_thread.ReadingThread.{ReadingThread}
-use Rattle.detect.proofs.Sendings.{goes_on_refl, goes_on_trans, goes_on_both, sent_more}
+use Rattle.detect.proofs.Sendings.{goes_on_refl, goes_on_trans, goes_on_both, fewer_left, sent_more}
 use Rattle.detect.proofs.reading_thread.ReadingThread.send_all.Goals as goal
 
 pub records-init : goal.records-init
@@ -31,7 +31,7 @@ records-smaller-in-Continue-1 g c =
     let i = c.records.invariant in
     let answer = c.in-Some.ensures.next (g.R.Source.state c.records.source) in
     let next = answer.fed i.trace i.came i.fed in
-    omega (arith, next.2.1.has_used.has_read.count_is, next.2.1.has_used.has_read.within, i.fed.has_used.has_read.count_is, answer.limits.records, i.records, length-append i.trace (c.in-Some.placed.what ∷ []))
+    fewer_left _ i.trace _ _ _ c.records.intake _ i.fed next.2.1 answer.limits.records i.records
 
 pub records-preserved-in-Continue-1 : goal.records-preserved-in-Continue-1
 records-preserved-in-Continue-1 g c =
@@ -43,12 +43,105 @@ records-preserved-in-Continue-1 g c =
       came = i.came ++ next.0;
       gave = consumes_more _ _ _ i.came next.0 i.gave next.1;
       fed = next.2.1;
-      sent = sent_more c.args.self.now c.records.self c.send.new.self i.trace c.in-Some.placed next.2.0 i.goes_on (c.send.ensures.sent (placed i.trace)) i.sent;
-      ready = c.in_ok-send-in-Some.ensures.ready;
-      goes_on = goes_on_trans _ _ _ i.goes_on c.send.ensures.goes_on;
+      sent = sent_more c.args.self.now c.records.self c.send_rest.new.self i.trace c.in-Some.placed next.2.0 i.goes_on (λ h. c.send_rest.ensures.sent _ (c.in-Err.ensures.lacks refl (placed i.trace) h)) i.sent;
+      ready = c.in_ok-send_rest-in-Some.ensures.ready;
+      goes_on = goes_on_trans _ _ _ i.goes_on (goes_on_trans _ _ _ c.put.ensures.goes_on c.send_rest.ensures.goes_on);
       steady = next.2.2 ∙ i.steady;
       records = answer.limits.records ∙ i.records;
       depths = answer.limits.depths ∙ i.depths;
+    }
+
+pub records-smaller-in_default : goal.records-smaller-in_default
+records-smaller-in_default g c =
+    let i = c.records.invariant in
+    let answer = c.in-Some.ensures.next (g.R.Source.state c.records.source) in
+    let next = answer.fed i.trace i.came i.fed in
+    fewer_left _ i.trace _ _ _ c.records.intake _ i.fed next.2.1 answer.limits.records i.records
+
+pub records-preserved-in_default : goal.records-preserved-in_default
+records-preserved-in_default g c =
+    let i = c.records.invariant in
+    let answer = c.in-Some.ensures.next (g.R.Source.state c.records.source) in
+    let next = answer.fed i.trace i.came i.fed in
+    record {
+      trace = i.trace ++ c.in-Some.placed.what ∷ [];
+      came = i.came ++ next.0;
+      gave = consumes_more _ _ _ i.came next.0 i.gave next.1;
+      fed = next.2.1;
+      sent = sent_more c.args.self.now c.records.self c.put.new.self i.trace c.in-Some.placed next.2.0 i.goes_on (c.in_default.ensures.sent (placed i.trace)) i.sent;
+      ready = c.in_default.ensures.ready;
+      goes_on = goes_on_trans _ _ _ i.goes_on c.put.ensures.goes_on;
+      steady = next.2.2 ∙ i.steady;
+      records = answer.limits.records ∙ i.records;
+      depths = answer.limits.depths ∙ i.depths;
+    }
+
+pub records-smaller-in-Continue-branch-5 : goal.records-smaller-in-Continue-branch-5
+records-smaller-in-Continue-branch-5 g c =
+    let i = c.records.invariant in
+    let same : c.next_known.new.self ≡ c.records.intake = search rules in
+    let kept : HasFed i.trace i.came c.next_known.new.self = subst (HasFed i.trace i.came) (sym same) i.fed in
+    let fed = c.in_ok-read_on-in-None.ensures.fed i.trace i.came kept in
+    let change : Change = g.R.Source.state c.records.source ⇝ g.R.Source.state c.read_on.new.source in
+    let next = given_next _ _ _ _ change _ _ _ c.in-Some-2.is fed.2 in
+    fewer_left _ i.trace _ _ _ c.records.intake _ i.fed next.1 (c.read_on.ensures.limits.records ∙ ap (λ (s : Feeding). s.reading.limit) same) i.records
+
+pub records-preserved-in-Continue-branch-5 : goal.records-preserved-in-Continue-branch-5
+records-preserved-in-Continue-branch-5 g c =
+    let i = c.records.invariant in
+    let same : c.next_known.new.self ≡ c.records.intake = search rules in
+    let kept : HasFed i.trace i.came c.next_known.new.self = subst (HasFed i.trace i.came) (sym same) i.fed in
+    let fed = c.in_ok-read_on-in-None.ensures.fed i.trace i.came kept in
+    let change : Change = g.R.Source.state c.records.source ⇝ g.R.Source.state c.read_on.new.source in
+    let next = given_next _ _ _ _ change _ _ _ c.in-Some-2.is fed.2 in
+    let taken : ReadingThread = record c.records.self { router = c.flush.new.self; gathering = c.take_backs.new.self } in
+    let goes_on = goes_on_trans _ _ _ i.goes_on (goes_on_both c.records.self c.flush.new.self c.take_backs.new.self c.flush.ensures.unchanged.on c.take_backs.ensures.further) in
+    let before = c.flush.ensures.unchanged.sent (records_of c.args.self.now.part (placed i.trace)) i.sent in
+    record {
+      trace = i.trace ++ c.in-Some-2.placed.what ∷ [];
+      came = i.came ++ fed.0;
+      gave = consumes_more _ _ _ i.came fed.0 i.gave fed.1;
+      fed = next.1;
+      sent = sent_more c.args.self.now taken c.send_rest-in-Err-put.new.self i.trace c.in-Some-2.placed next.0 goes_on (λ h. c.send_rest-in-Err-put.ensures.sent _ (c.in-Err-put.ensures.lacks refl (placed i.trace) h)) before;
+      ready = c.in_ok-send_rest-in-Some-2.ensures.ready;
+      goes_on = goes_on_trans _ _ _ goes_on (goes_on_trans _ _ _ c.put-in-Some-2.ensures.goes_on c.send_rest-in-Err-put.ensures.goes_on);
+      steady = next.2 ∙ i.steady;
+      records = c.read_on.ensures.limits.records ∙ ap (λ (s : Feeding). s.reading.limit) same ∙ i.records;
+      depths = c.read_on.ensures.limits.depths ∙ ap (λ (s : Feeding). s.nesting.max_depth) same ∙ i.depths;
+    }
+
+pub records-smaller : goal.records-smaller
+records-smaller g c =
+    let i = c.records.invariant in
+    let same : c.next_known.new.self ≡ c.records.intake = search rules in
+    let kept : HasFed i.trace i.came c.next_known.new.self = subst (HasFed i.trace i.came) (sym same) i.fed in
+    let fed = c.in_ok-read_on-in-None.ensures.fed i.trace i.came kept in
+    let change : Change = g.R.Source.state c.records.source ⇝ g.R.Source.state c.read_on.new.source in
+    let next = given_next _ _ _ _ change _ _ _ c.in-Some-2.is fed.2 in
+    fewer_left _ i.trace _ _ _ c.records.intake _ i.fed next.1 (c.read_on.ensures.limits.records ∙ ap (λ (s : Feeding). s.reading.limit) same) i.records
+
+pub records-preserved : goal.records-preserved
+records-preserved g c =
+    let i = c.records.invariant in
+    let same : c.next_known.new.self ≡ c.records.intake = search rules in
+    let kept : HasFed i.trace i.came c.next_known.new.self = subst (HasFed i.trace i.came) (sym same) i.fed in
+    let fed = c.in_ok-read_on-in-None.ensures.fed i.trace i.came kept in
+    let change : Change = g.R.Source.state c.records.source ⇝ g.R.Source.state c.read_on.new.source in
+    let next = given_next _ _ _ _ change _ _ _ c.in-Some-2.is fed.2 in
+    let taken : ReadingThread = record c.records.self { router = c.flush.new.self; gathering = c.take_backs.new.self } in
+    let goes_on = goes_on_trans _ _ _ i.goes_on (goes_on_both c.records.self c.flush.new.self c.take_backs.new.self c.flush.ensures.unchanged.on c.take_backs.ensures.further) in
+    let before = c.flush.ensures.unchanged.sent (records_of c.args.self.now.part (placed i.trace)) i.sent in
+    record {
+      trace = i.trace ++ c.in-Some-2.placed.what ∷ [];
+      came = i.came ++ fed.0;
+      gave = consumes_more _ _ _ i.came fed.0 i.gave fed.1;
+      fed = next.1;
+      sent = sent_more c.args.self.now taken c.put-in-Some-2.new.self i.trace c.in-Some-2.placed next.0 goes_on (c.in_default-put.ensures.sent (placed i.trace)) before;
+      ready = c.in_default-put.ensures.ready;
+      goes_on = goes_on_trans _ _ _ goes_on c.put-in-Some-2.ensures.goes_on;
+      steady = next.2 ∙ i.steady;
+      records = c.read_on.ensures.limits.records ∙ ap (λ (s : Feeding). s.reading.limit) same ∙ i.records;
+      depths = c.read_on.ensures.limits.depths ∙ ap (λ (s : Feeding). s.nesting.max_depth) same ∙ i.depths;
     }
 
 pub returns-in_err-read_on-in-None-clause-sent : goal.returns-in_err-read_on-in-None-clause-sent
@@ -78,39 +171,6 @@ returns-in-None-2-clause-sent g c =
         whole = at_limits P _ _ _ _ (ap (λ (s : Feeding). s.reading.limit) same ∙ i.records) (ap (λ (s : Feeding). s.nesting.max_depth) same ∙ i.depths) end;
       };
       says = c.flush.ensures.unchanged.sent (records_of c.args.self.now.part (placed i.trace)) i.sent;
-    }
-
-pub records-smaller : goal.records-smaller
-records-smaller g c =
-    let i = c.records.invariant in
-    let same : c.next_known.new.self ≡ c.records.intake = search rules in
-    let kept : HasFed i.trace i.came c.next_known.new.self = subst (HasFed i.trace i.came) (sym same) i.fed in
-    let change : Change = g.R.Source.state c.records.source ⇝ g.R.Source.state c.read_on.new.source in
-    let next = given_next _ _ _ _ change _ _ _ c.in-Some-2.is (c.in_ok-read_on-in-None.ensures.fed i.trace i.came kept).2 in
-    omega (arith, next.1.has_used.has_read.count_is, next.1.has_used.has_read.within, i.fed.has_used.has_read.count_is, c.read_on.ensures.limits.records, ap (λ (s : Feeding). s.reading.limit) same, i.records, length-append i.trace (c.in-Some-2.placed.what ∷ []))
-
-pub records-preserved : goal.records-preserved
-records-preserved g c =
-    let i = c.records.invariant in
-    let same : c.next_known.new.self ≡ c.records.intake = search rules in
-    let kept : HasFed i.trace i.came c.next_known.new.self = subst (HasFed i.trace i.came) (sym same) i.fed in
-    let fed = c.in_ok-read_on-in-None.ensures.fed i.trace i.came kept in
-    let change : Change = g.R.Source.state c.records.source ⇝ g.R.Source.state c.read_on.new.source in
-    let next = given_next _ _ _ _ change _ _ _ c.in-Some-2.is fed.2 in
-    let taken : ReadingThread = record c.records.self { router = c.flush.new.self; gathering = c.take_backs.new.self } in
-    let goes_on = goes_on_trans _ _ _ i.goes_on (goes_on_both c.records.self c.flush.new.self c.take_backs.new.self c.flush.ensures.unchanged.on c.take_backs.ensures.further) in
-    let before = c.flush.ensures.unchanged.sent (records_of c.args.self.now.part (placed i.trace)) i.sent in
-    record {
-      trace = i.trace ++ c.in-Some-2.placed.what ∷ [];
-      came = i.came ++ fed.0;
-      gave = consumes_more _ _ _ i.came fed.0 i.gave fed.1;
-      fed = next.1;
-      sent = sent_more c.args.self.now taken c.send-in-Some-2.new.self i.trace c.in-Some-2.placed next.0 goes_on (c.send-in-Some-2.ensures.sent (placed i.trace)) before;
-      ready = c.in_ok-send-in-Some-2.ensures.ready;
-      goes_on = goes_on_trans _ _ _ goes_on c.send-in-Some-2.ensures.goes_on;
-      steady = next.2 ∙ i.steady;
-      records = c.read_on.ensures.limits.records ∙ ap (λ (s : Feeding). s.reading.limit) same ∙ i.records;
-      depths = c.read_on.ensures.limits.depths ∙ ap (λ (s : Feeding). s.nesting.max_depth) same ∙ i.depths;
     }
 
 pub returns-in_err-read_on-in-None-clause-goes_on : goal.returns-in_err-read_on-in-None-clause-goes_on

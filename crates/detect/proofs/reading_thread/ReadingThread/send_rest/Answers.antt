@@ -1,10 +1,9 @@
-use Rattle.std.proofs.Common.{rules, List, Option, Some, refl, sym, subst, ◌∙◌}
+use Rattle.std.proofs.Common.{List, Option, Some, refl, sym, subst, ◌∙◌}
 use Rattle.dag.specs.declared.records.Placed.{Placed}
 use Rattle.route.specs.Sending.{sent_whole}
 use Rattle.route.specs.Routers.{HasSent}
 use Rattle.detect.proofs.LanesBack.{further_refl}
 use Rattle.detect.proofs.Sendings.{goes_on_trans, sent_step, sent_idle, still_pending}
-use Rattle.detect.proofs.Troubles.{if_good, only_memory}
 use Rattle.detect.proofs.reading_thread.ReadingThread.send_rest.Goals as goal
 
 pub loop-init : goal.loop-init
@@ -21,12 +20,6 @@ pub returns-in-Idle-clause-sent : goal.returns-in-Idle-clause-sent
 returns-in-Idle-clause-sent g c w h =
     let P : List Placed → Type 0 = λ u. HasSent u c.step.new.self in
     subst P h.all (sent_idle h.last h.before _ _ c.step.new.self (c.in-Idle.ensures.idle.0 refl) (c.step.ensures.goes_on.sent _ (c.loop.invariant.sent h.before h.last h.pending h.sent)))
-
-pub returns-in-Idle-clause-ready : goal.returns-in-Idle-clause-ready
-returns-in-Idle-clause-ready g c = if_good _ _ _ _ c.first_trouble.ensures.refused c.first_trouble.ensures.none_refused (λ good. record { idle = record { none_pending = search rules; none_marked = search rules }; none_refused = good })
-
-pub returns-in-Idle-clause-refused : goal.returns-in-Idle-clause-refused
-returns-in-Idle-clause-refused g c = only_memory _ _ _ c.first_trouble.ensures.refused c.first_trouble.ensures.none_refused
 
 pub loop-preserved-in-Moved : goal.loop-preserved-in-Moved
 loop-preserved-in-Moved g c =
