@@ -61,7 +61,6 @@ void frames_forget_below(uintptr_t address) { clear_below(address); }
 __attribute__((noinline)) static void other_structure(enum spbags_kind kind, uintptr_t code) {
     begin_record();
     records_structure(kind, code);
-    procedures_count += procedures_opened_by(kind);
     end_change();
     end_at_last();
 }

@@ -37,7 +37,8 @@ void locations_end_numbers(const uint32_t *marks, unsigned units) {
     const uint64_t *first = locations_numbers + (marks - stack_mark(stacks_first));
     for (; units != 0; units &= units - 1) {
         uint64_t number = first[__builtin_ctz(units)];
-        if (!dies_in_window(number) && HAS_DETECTOR)
+        const bool dies = dies_in_window(number);
+        if (HAS_DETECTOR && !dies)
             end_number(number);
     }
 }

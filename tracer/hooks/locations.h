@@ -40,7 +40,8 @@ static inline unsigned touched_among(const uint32_t *marks) {
     return (unsigned)_mm_movemask_epi8(_mm_packs_epi16(first, last)) ^ ((1u << CLEARED) - 1);
 }
 
-/* Whether the end of a number matters to somebody. */
+/* Whether the end of a number matters: to the detector, or since its accesses may be left out. Where there is a detector
+   ends are in the window of any run, since all runs of a program leave out the same. */
 static inline bool counts_ends(void) {
     return detects() || (window_leaves_out && (HAS_DETECTOR || window_last_number > window_number));
 }
@@ -48,13 +49,11 @@ static inline bool counts_ends(void) {
 /* Down to the lowest of these marks, and so many together that those below may be among them. */
 static inline void clear_marks(const uint32_t *lowest_mark, uint32_t *end) {
     while (end > lowest_mark) {
-        end -= CLEARED;
-        if (counts_ends()) {
-            unsigned units = touched_among(end);
-            if (units == 0)
-                continue;
+        unsigned units = touched_among(end -= CLEARED);
+        if (units == 0)
+            continue;
+        if (counts_ends())
             locations_end_numbers(end, units);
-        }
         __builtin_memset(end, UNTOUCHED, CLEARED * sizeof *end);
     }
 }

@@ -69,8 +69,7 @@ static void make_hundred(struct hundred *made, bool writes, uint64_t number) {
     made->number = number;
 }
 
-/* The line of an access or of any record goes here; its length. So many bytes of an access are copied that the size is
-   fixed. */
+/* The line of an access goes here; its length. So many bytes are copied that the size is fixed. */
 static inline size_t put_access_line(char *line, bool writes, uint64_t location) {
     struct hundred *hundred = &hundreds[writes];
     const uint64_t number = location / 100, rest = location % 100;
@@ -84,30 +83,39 @@ static inline size_t put_access_line(char *line, bool writes, uint64_t location)
     return length;
 }
 
-static inline size_t put_line(char *line, uint64_t record) {
-    const unsigned kind = record & 7;
-    if (kind == SPBAGS_READ || kind == SPBAGS_WRITE)
-        return put_access_line(line, kind == SPBAGS_WRITE, record >> 3);
+static inline size_t put_structure_line(char *line, unsigned kind) {
     __builtin_memcpy(line, structure_lines[kind].bytes, sizeof structure_lines[kind].bytes);
     return structure_lines[kind].length;
+}
+
+/* The same of any record. */
+static inline size_t put_line(char *line, uint64_t record) {
+    const unsigned kind = record & 7;
+    return kind == SPBAGS_READ || kind == SPBAGS_WRITE ? put_access_line(line, kind == SPBAGS_WRITE, record >> 3)
+                                                       : put_structure_line(line, kind);
 }
 
 static inline void end_line(size_t length) {
     in_order();
     outcome.used += length;
+    in_order();
 }
 
 static inline void write_access(bool writes, uint64_t location) {
     end_line(put_access_line(room(&outcome), writes, location));
 }
 
+/* Whether records are lines of a trace. */
+static inline bool writes_lines(void) { return !detects() && !doing.looking; }
+
+/* The record's place goes out when its line is there, so that there are as many of both whatever ends the run. */
 static inline void put_access(bool writes, uint64_t location, uint16_t site) {
     if (doing.looking && ++look_place_now == look_next_place)
         look_at_access(writes, location);
+    const size_t length = writes_lines() ? put_access_line(room(&outcome), writes, location) : 0;
     if (doing.keeping_places)
         write_place(site);
-    if (!detects() && !doing.looking)
-        write_access(writes, location);
+    end_line(length);
 }
 
 /* ---- In a plain run that writes a trace ---- */
@@ -132,16 +140,18 @@ static void step_record(uint64_t record) {
     end_step();
 }
 
+/* The detector may wait for room then, and the record has gone out before. */
 static void pass_record(const struct recent *passed) {
-    step_record(passed->record);
     if ((passed->record & 7) != numbers_end)
         put_access((passed->record & 7) == SPBAGS_WRITE, passed->record >> 3, passed->site);
+    records_recent.gone++;
+    step_record(passed->record);
 }
 
 /* What is in the window goes on, and another one begins. */
 static void pass_window(void) {
     while (records_recent.gone < records_recent.used)
-        pass_record(&records_recent.list[records_recent.gone++]);
+        pass_record(&records_recent.list[records_recent.gone]);
     records_recent.before += records_recent.used;
     records_recent.used = records_recent.gone = 0;
     window_number = window_last_number;
@@ -170,8 +180,10 @@ static void leave_out_recent(uintptr_t before) {
 static inline void end_records(void) {
     if (doing.plain)
         begin_window();
-    else
+    else if (records_recent.used > 0)
         pass_window();
+    else
+        window_number = window_last_number;
 }
 
 void records_end_window(void) {
@@ -201,9 +213,18 @@ void records_end_numbers(uint64_t location) {
 
 /* ---- What goes out when the strand has ended ---- */
 
-static void put_accesses(const struct touched *touched, uint64_t units, bool writes) {
+/* The block that goes out or null, whether the detector hasn't got it, and its units whose accesses haven't gone. Where
+   the run ends meanwhile, as without room on the stack, they go out then. */
+static struct {
+    const struct touched *block;
+    bool waits_for_detector;
+    uint64_t units[2];
+} going_out;
+
+static void put_accesses(bool writes) {
+    const struct touched *touched = going_out.block;
     const uint16_t *sites = strands_part.sites[touched - strands_part.list][writes];
-    for (; units != 0; units &= units - 1) {
+    for (uint64_t units = going_out.units[writes]; units != 0; going_out.units[writes] = units &= units - 1) {
         unsigned unit = (unsigned)__builtin_ctzll(units);
         uint64_t location = touched->location + 2 * unit;
         if (__builtin_expect(doing.plain, 1))
@@ -213,31 +234,38 @@ static void put_accesses(const struct touched *touched, uint64_t units, bool wri
     }
 }
 
+static void put_rest_of_block(void) {
+    if (going_out.waits_for_detector)
+        detector_step_words(spbags_record(block_follows, going_out.block->location), going_out.units, 2);
+    going_out.waits_for_detector = false;
+    if (!only_detects()) {
+        put_accesses(false);
+        put_accesses(true);
+    }
+    going_out.block = NULL;
+}
+
 void records_put_rest(void) {
     if (doing.plain && !detects())
         steps_pass_on();
 }
 
 static void put_block(const struct touched *touched) {
-    uint64_t masks[2];
     if (!touched->block)
         return;
-    take_units(touched, masks);
-    if (detects() && (masks[false] | masks[true]) != 0)
-        detector_step_words(spbags_record(block_follows, touched->location), masks, 2);
-    if (only_detects())
+    take_units(touched, going_out.units);
+    if ((going_out.units[false] | going_out.units[true]) == 0)
         return;
-    put_accesses(touched, masks[false], false);
-    put_accesses(touched, masks[true], true);
+    going_out.waits_for_detector = detects();
+    going_out.block = touched;
+    put_rest_of_block();
 }
 
-void records_put_strand(void) {
+static void put_blocks(void) {
     static size_t at;
     short_way_leave();
-    end_records();
-    records_put_rest();
-    if (doing.looking)
-        look_forget_pending();
+    if (going_out.block)
+        put_rest_of_block();
     while (at < strands_part.used) {
         __builtin_prefetch(strands_part.list[at + AHEAD].done);
         __builtin_prefetch(strands_part.list[at + AHEAD].block);
@@ -245,8 +273,17 @@ void records_put_strand(void) {
     }
     at = strands_part.used = 0;
     strands_part.has_gaps = false;
-    strands_part.before++;
     short_way_find();
+}
+
+void records_put_strand(void) {
+    end_records();
+    records_put_rest();
+    if (doing.looking)
+        look_forget_pending();
+    if (strands_part.used > 0)
+        put_blocks();
+    strands_part.before++;
 }
 
 /* ---- The end of a span's life ---- */
@@ -310,11 +347,12 @@ void records_structure(enum spbags_kind kind, uintptr_t code) {
         follow_course(kind, code);
     if (doing.looking && ++look_place_now == look_next_place)
         look_at_structure();
+    const size_t length = writes_lines() ? put_structure_line(room(&outcome), kind) : 0;
     if (doing.keeping_places)
         write_place(site_number(code));
+    procedures_count += procedures_opened_by(kind);
+    end_line(length);
     step_record(spbags_record(kind, 0));
-    if (!detects() && !doing.looking)
-        end_line(put_line(room(&outcome), spbags_record(kind, 0)));
 }
 
 static inline uint64_t site_of_access(uintptr_t unit, uintptr_t code) {
@@ -379,6 +417,7 @@ void records_follow_unit(bool writes, uint64_t location, uintptr_t unit, uintptr
 
 void records_drop(void) {
     strands_part.used = records_recent.used = records_recent.gone = 0;
+    going_out.block = NULL;
     if (doing.plain) {
         for (; next_out < steps_next; next_out++)
             procedures_count -= procedures_opened_by(*next_out & 7);

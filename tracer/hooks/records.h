@@ -63,7 +63,7 @@ void records_end_numbers(uint64_t location);
 void records_put_strand(void);
 /* In a plain run what can't be left out any more goes into the trace. */
 void records_put_rest(void);
-/* What hasn't gone out never does. */
+/* What hasn't gone out never does, and what is open is so in what has. */
 void records_drop(void);
 
 /* The end of a life: the span, how many blocks of locations stand for what died in one strand, and whether such a block

@@ -4,11 +4,15 @@
 #include <pthread.h>
 #include <semaphore.h>
 #include <signal.h>
+#include <stdint.h>
 #include <stdlib.h>
 #include <string.h>
+#include <sys/resource.h>
 #include <sys/syscall.h>
 #include <time.h>
 #include <unistd.h>
+
+enum { CELLS = 1 << 13 };
 
 static volatile int cell;
 static volatile char *volatile nowhere;
@@ -42,6 +46,26 @@ static int nest_for_ever(int depth, int *above, int *first) {
     cilk_spawn put(first, &of_all[depth * 64 % (1 << 20)], depth);
     cilk_sync;
     return nest_for_ever(depth + 1, own, first) + own[0];
+}
+
+/* Each call has more records than go out at once, and nothing needs more stack than they do. */
+static int cells[CELLS];
+static int fill_for_ever(int value) {
+    for (int at = 0; at < CELLS; at++)
+        cells[at] = value;
+    cilk_spawn set();
+    cilk_sync;
+    return fill_for_ever(value + 1) + cells[0];
+}
+
+extern char **environ;
+/* With little of the stack left, which begins behind the settings. */
+static int fill_at_the_end(void) {
+    struct rlimit limit;
+    getrlimit(RLIMIT_STACK, &limit);
+    char taken[limit.rlim_cur - ((uintptr_t)environ - (uintptr_t)__builtin_frame_address(0)) - (1 << 14)];
+    __asm__ volatile("" : : "r"(taken) : "memory");
+    return fill_for_ever(0) + (taken == nowhere);
 }
 
 /* Nearly all of the time is in the child. */
@@ -116,6 +140,8 @@ static void end(const char *way) {
         cell = fill(0);
     if (strcmp(way, "deep") == 0)
         cell = nest_for_ever(0, &(int){0}, &(int){0});
+    if (strcmp(way, "filled") == 0)
+        cell = fill_at_the_end();
     if (strcmp(way, "compute") == 0)
         compute_often(3000);
     if (strcmp(way, "terminate") == 0)

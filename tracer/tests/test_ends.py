@@ -6,6 +6,7 @@ import signal
 import subprocess
 import sys
 import time
+from collections import Counter
 
 sys.dont_write_bytecode = True
 import cases
@@ -27,6 +28,8 @@ WAYS = {"fault": (FAULT, f"the program ends by signal 11 (Segmentation fault){BE
         "quick_exit": (3, ""), "exec": (3, f"the program becomes another one by exec{BEFORE}"),
         "no_exec": (0, "the exec failed, and what comes after it isn't in the trace"),
         "nest": (0, "procedures nest 70003 deep, so spbags needs --depth 70003"), "copy": (0, "")}
+# So many locations it writes equally often in the way `filled`.
+CELLS = 1 << 13
 LIMIT = 100000
 
 
@@ -149,6 +152,21 @@ class EndsTest(TraceTest):
                 self.ends_with(status, re.escape(line), "./ends", way, SPBAGS_TRACE="run.trace", SPBAGS_PLACES="")
                 checked = self.check("--depth", "70003", "run.trace")
                 self.assertEqual("races 1", checked.out.partition("\n")[0], checked.errors)
+
+    def test_last_strand(self):
+        """All of its records go out where there is no stack for that, and as many places."""
+        for places in ("run.trace.places", ""):
+            with self.subTest(places=places):
+                self.ends_with(*WAYS["stack"], "./ends", "filled", SPBAGS_TRACE="run.trace", SPBAGS_PLACES=places)
+                with open("run.trace", encoding="ascii") as trace:
+                    times = Counter(trace)
+                often, cells = Counter(times.values()).most_common(1)[0]
+                self.assertLess(1, often)
+                self.assertLessEqual(CELLS, cells)
+                if places:
+                    with open(places, "rb") as file:
+                        file.seek(-40, os.SEEK_END)
+                        self.assertEqual(times.total() - 1, int.from_bytes(file.read(8), "little"))
 
     def test_signals(self):
         """Again and again, since one may come at any point."""
