@@ -40,11 +40,11 @@ impl Gathering {
         ensures none_refused { OnOk result (IsFalse self.new.collector.refused) }
     {
         self.take_from_all();
-        self.check()
+        self.refusal()
     }
 
     /// Want of memory, if a growth was refused here or in a shard.
-    pub(crate) fn check(&self) -> Result<(), NoMemory>
+    pub(crate) fn refusal(&self) -> Result<(), NoMemory>
         ensures none_refused { OnOk result (IsFalse self.now.collector.refused) }
         ensures refused { IfErr result (λ _. IsTrue self.now.collector.refused) }
     {
@@ -159,7 +159,7 @@ impl Gathering {
         ensures refused { IsTrue self.now.collector.refused → result ≡ Err faults.NoMemory }
         ensures none_refused { IsFalse self.now.collector.refused → result ≡ outcome }
     {
-        self.check()?;
+        self.refusal()?;
         outcome
     }
 }

@@ -115,7 +115,7 @@ impl ReadingThread {
         self.wait(rt, place);
         for _ in rt.forever() {
             match self.router.step() {
-                Progress::Idle => return self.gathering.check(),
+                Progress::Idle => return self.gathering.refusal(),
                 Progress::Moved => {}
                 Progress::Blocked(_) => self.wait(rt, place),
             }
