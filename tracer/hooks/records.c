@@ -43,18 +43,19 @@ void records_begin(void) {
     steps_begin(at_hand);
 }
 
-/* Lines of accesses whose locations have this number of hundreds, of reads and of writes: as they are where the
-   location ends in 00. */
+/* Lines of the accesses to a hundred locations from this one on, of reads and of writes: as they are where the location
+   ends in 00. No location is as great as the first of none. */
+#define NO_HUNDRED ((uint64_t)1 << 63)
 static struct hundred {
-    uint64_t number;
+    uint64_t first;
     size_t length;
     char line[LONGEST];
-} hundreds[2];
+} hundreds[2] = {{.first = NO_HUNDRED}, {.first = NO_HUNDRED}};
 
 /* A line is made from its end. Where the run ends meanwhile, as without room on the stack, it is of no location. */
 static void make_hundred(struct hundred *made, bool writes, uint64_t number) {
     char *end = made->line + sizeof made->line, *at = end;
-    made->number = 0;
+    made->first = NO_HUNDRED;
     in_order();
     *--at = '\n';
     at -= 2;
@@ -66,17 +67,19 @@ static void make_hundred(struct hundred *made, bool writes, uint64_t number) {
     made->length = (size_t)(end - at);
     memmove(made->line, at, made->length);
     in_order();
-    made->number = number;
+    made->first = 100 * number;
 }
 
 /* The line of an access goes here; its length. So many bytes are copied that the size is fixed. */
 static inline size_t put_access_line(char *line, bool writes, uint64_t location) {
     struct hundred *hundred = &hundreds[writes];
-    const uint64_t number = location / 100, rest = location % 100;
-    if (number == 0)
-        return (size_t)sprintf(line, "%s %u\n", writes ? "write" : "read", (unsigned)location);
-    if (number != hundred->number)
-        make_hundred(hundred, writes, number);
+    uint64_t rest = location - hundred->first;
+    if (rest >= 100) {
+        if (location < 100)
+            return (size_t)sprintf(line, "%s %u\n", writes ? "write" : "read", (unsigned)location);
+        make_hundred(hundred, writes, location / 100);
+        rest = location % 100;
+    }
     const size_t length = hundred->length;
     __builtin_memcpy(line, hundred->line, sizeof hundred->line);
     __builtin_memcpy(line + length - 3, two_digits[rest], 2);

@@ -16,8 +16,9 @@ extern uintptr_t steps_origin __asm__("__spbags_records_origin");
 /* Where the window begins, and where it or the memory at hand ends. */
 extern uint64_t *steps_window, *steps_window_end, *steps_end;
 
-/* The memory at hand is this from now on, of so many records, and empty. */
-enum { STEPS_AT_HAND = 1 << 13 };
+/* The memory at hand is this from now on, of so many records, and empty. What nobody else reads stays in the processor's
+   nearest cache. */
+enum { STEPS_AT_HAND = HAS_DETECTOR ? 1 << 13 : 1 << 11 };
 void steps_begin(uint64_t *memory);
 
 /* What went before can't be left out any more. */
