@@ -40,14 +40,21 @@ void ends_racy(void) {
         __real__exit(status);
 }
 
+/* The program ends by itself. A handler of its own may do that while a record is put. */
+static int end_by_itself(int status) {
+    if (changes > 0 || changes_stepping)
+        changes_refuse_handler();
+    return end_trace_of(status);
+}
+
 /* ---- Ends without handlers ---- */
 
-void __wrap__exit(int status) { __real__exit(ends_is_traced() ? end_trace_of(status) : status); }
+void __wrap__exit(int status) { __real__exit(ends_is_traced() ? end_by_itself(status) : status); }
 
 void __wrap__Exit(int status) { __wrap__exit(status); }
 
 /* Handlers of exit and quick_exit aren't told the status. */
-static int end_trace_of_own(void) { return ends_is_traced() ? end_trace_of(own_status) : own_status; }
+static int end_trace_of_own(void) { return ends_is_traced() ? end_by_itself(own_status) : own_status; }
 
 static void quick_end(void) {
     int status = end_trace_of_own();

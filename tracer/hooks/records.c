@@ -269,10 +269,10 @@ static void put_blocks(void) {
     short_way_leave();
     if (going_out.block)
         put_rest_of_block();
-    while (at < strands_part.used) {
+    for (; at < strands_part.used; at++) {
         __builtin_prefetch(strands_part.list[at + AHEAD].done);
         __builtin_prefetch(strands_part.list[at + AHEAD].block);
-        put_block(&strands_part.list[at++]);
+        put_block(&strands_part.list[at]);
     }
     at = strands_part.used = 0;
     strands_part.has_gaps = false;

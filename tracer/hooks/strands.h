@@ -69,7 +69,7 @@ static inline void take_units(const struct touched *touched, uint64_t masks[2]) 
     block->place = 0;
     masks[false] = units_with(touched->done, READ_IT);
     masks[true] = units_with(touched->done, WROTE_IT) & ~own_mask;
-    memset(touched->done, 0, BLOCK_UNITS);
+    __builtin_memset(touched->done, 0, BLOCK_UNITS);
     set_done(touched->done, own_mask, WROTE_IT);
     block->is_divided = false;
     block->has_gone_out |= (masks[false] | masks[true]) != 0;

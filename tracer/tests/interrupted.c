@@ -29,6 +29,8 @@ void arm(int is_armed) {
 }
 #else
 #include <cilk/cilk.h>
+#include <stdbool.h>
+#include <unistd.h>
 
 static union {
     _Alignas(256) int one[128];
@@ -38,7 +40,13 @@ static volatile int sink, seen;
 
 static int add(int left, int right) { return left + right; }
 
-void act(void) { shared.one[7] = add(1, 2); }
+/* With a third word it ends the program. */
+static bool ends;
+void act(void) {
+    if (ends)
+        _exit(7);
+    shared.one[7] = add(1, 2);
+}
 
 static void read_before(void) { seen = shared.one[7]; }
 
@@ -69,6 +77,7 @@ int main(int count, char **words) {
     if (count < 3 || signal(SIGTRAP, on_trap) == SIG_ERR)
         return 2;
     at = atol(words[2]);
+    ends = count > 3;
     cilk_spawn read_before();
     run(words[1]);
     cilk_sync;

@@ -175,8 +175,8 @@ class InterruptedTest(InsideTest):
         self.succeeds(CC, "-O1", "-mno-red-zone", "-DPLAIN", "-c", "-o", "plain.o", source)
         self.build("interrupted", source, "plain.o")
 
-    def run_of(self, word, step):
-        done = self.run_command("./interrupted", word, str(step))
+    def run_of(self, word, step, *more):
+        done = self.run_command("./interrupted", word, str(step), *more)
         return done.status, *re.findall("^races .*", done.errors, re.MULTILINE), self.REFUSED in done.errors
 
     def test_steps(self):
@@ -184,6 +184,12 @@ class InterruptedTest(InsideTest):
             with self.subTest(word), ThreadPoolExecutor(4) as pool:
                 runs = set(pool.map(lambda step: self.run_of(word, step), range(steps)))
                 self.assertEqual({(1, "races 1", False)}, runs - {(0, "races 0", False), (2, True)})
+
+    def test_ends(self):
+        """The handler ends the program, with a report of what came before or without one."""
+        with ThreadPoolExecutor(4) as pool:
+            runs = set(pool.map(lambda step: self.run_of("one", step, "exit"), range(400)))
+            self.assertEqual({(7, "races 0", False), (2, True)}, runs - {(0, "races 0", False)})
 
 
 class LibraryTest(InsideTest):
