@@ -40,10 +40,14 @@ void ends_racy(void) {
         __real__exit(status);
 }
 
-/* The program ends by itself. A handler of its own may do that while a record is put. */
-static int end_by_itself(int status) {
+/* Before the program ends by itself or becomes another one: a handler of its own may do that while a record is put. */
+static void refuse_amid_record(void) {
     if (changes > 0 || changes_stepping)
         changes_refuse_handler();
+}
+
+static int end_by_itself(int status) {
+    refuse_amid_record();
     return end_trace_of(status);
 }
 
@@ -77,6 +81,7 @@ void __wrap_quick_exit(int status) {
 static bool end_before_exec(void) {
     bool traced = ends_is_traced();
     if (traced) {
+        refuse_amid_record();
         tell_record("end exec", "the program becomes another one by exec, and the %s has what came before",
                     outcome_name());
         ends_racy();
@@ -135,6 +140,7 @@ EXEC_LIST(execle, execve, WITH_ENVIRONMENT)
 int __real_daemon(int stays, int keeps);
 int __wrap_daemon(int stays, int keeps) {
     if (ends_is_traced()) {
+        refuse_amid_record();
         tell_record("end daemon", "the program becomes a daemon, and the %s has what came before", outcome_name());
         ends_racy();
     }

@@ -28,7 +28,7 @@ WAYS = {"fault": (FAULT, f"the program ends by signal 11 (Segmentation fault){BE
         "quick_exit": (3, ""), "exec": (3, f"the program becomes another one by exec{BEFORE}"),
         "no_exec": (0, "the exec failed, and what comes after it isn't in the trace"),
         "nest": (0, "procedures nest 70003 deep, so spbags needs --depth 70003"), "copy": (0, "")}
-# So many locations it writes equally often in the way `filled`.
+# So many locations are written equally often in its way `filled`.
 CELLS = 1 << 13
 LIMIT = 100000
 
