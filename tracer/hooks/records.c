@@ -135,7 +135,8 @@ uint64_t *records_write_out(const uint64_t *end) {
 
 /* ---- The window, in a run that isn't plain ---- */
 
-static void step_record(uint64_t record) {
+/* A place may have gone out before. So no call of this one comes between, for which the stack may have no room. */
+ALWAYS_INLINE void step_record(uint64_t record) {
     if (!detects())
         return;
     begin_step();
@@ -237,9 +238,18 @@ static void put_accesses(bool writes) {
     }
 }
 
+/* A record with more words. Where the run isn't plain, it is a step too. */
+static void step_words(unsigned kind, uint64_t location, const uint64_t *words, size_t count) {
+    if (!doing.plain)
+        begin_step();
+    detector_step_words(spbags_record(kind, location), words, count);
+    if (!doing.plain)
+        end_step();
+}
+
 static void put_rest_of_block(void) {
     if (going_out.waits_for_detector)
-        detector_step_words(spbags_record(block_follows, going_out.block->location), going_out.units, 2);
+        step_words(block_follows, going_out.block->location, going_out.units, 2);
     going_out.waits_for_detector = false;
     if (!only_detects()) {
         put_accesses(false);
@@ -312,7 +322,7 @@ static void end_blocks(struct touched first, size_t count) {
         block->dead = 0;
     }
     if (detects() && ended_bits != 0)
-        detector_step_words(spbags_record(numbers_end, first.location), &ended_bits, 1);
+        step_words(numbers_end, first.location, &ended_bits, 1);
 }
 
 static void end_span_blocks(size_t span) {

@@ -85,6 +85,14 @@ class EndsTest(InsideTest):
             self.assertIn("and the report has what came before", done.errors)
             self.assertEqual("races 1", self.read("report").partition("\n")[0])
 
+    def test_used_up_stack_at_wait(self):
+        """The detector has got a bundle then, and the next one isn't there yet."""
+        self.succeeds(CC, "-shared", "-fPIC", "-o", "deep_wait.so", "tracer/tests/deep_wait.c")
+        for places in ("run.places", ""):
+            with self.subTest(places=places):
+                self.has_no_report(FAULT, "inside the detector, so there is no report", "./ends", "filled",
+                                   LD_PRELOAD=os.path.abspath("deep_wait.so"), SPBAGS_PLACES=places)
+
     def test_statuses(self):
         """The race gives the status that SPBAGS_EXITCODE says, however the program ends."""
         for way in ("return", "fault", "abort", "trap", "terminate", "thread", "daemon", "_exit", "_Exit", "quick_exit",
