@@ -12,16 +12,19 @@ void locations_begin(void);
 /* By unit of the stack, from its first address on: a unit that is marked has its number. */
 extern uint64_t *locations_numbers;
 
-/* Of the unit of the stack that begins at this address, and has this mark. */
+/* Of the unit of the stack that begins at this address, and has this mark. A signal's handler that gave a number
+   meanwhile would give the same one. */
 static inline uint64_t stack_location(uintptr_t address, uint32_t mark, unsigned shift) {
-    uintptr_t at = address - stacks_first;
+    uint64_t *number = &locations_numbers[(address - stacks_first) >> shift];
     if (mark == UNTOUCHED) {
         if (__builtin_expect(is_window_full(), 0))
             records_end_window();
-        locations_numbers[at >> shift] = ++window_last_number;
+        begin_records();
+        *number = ++window_last_number;
         lower(address);
+        finish_records();
     }
-    return 2 * locations_numbers[at >> shift] + 1;
+    return 2 * *number + 1;
 }
 
 /* ---- Memory that has no variable any more ---- */
@@ -78,13 +81,13 @@ static inline void note_stack_unit(bool writes, uintptr_t address, uint32_t *mar
         locations_note_stack(writes, address, mark, shift, code);
         return;
     }
+    begin_step();
     uint64_t *number = &locations_numbers[(address - stacks_first) >> shift];
     if (*mark == UNTOUCHED) {
         *number = ++window_last_number;
         lower_running(address);
     }
     *mark = new_mark(writes);
-    begin_step();
     step(writes ? SPBAGS_WRITE : SPBAGS_READ, 2 * *number + 1);
     end_step();
 }

@@ -18,13 +18,14 @@ extern struct dying { uint64_t members[WINDOW_NUMBERS / 64], first, last; } wind
 
 static inline uint64_t in_window(uint64_t number) { return number - window_number - 1; }
 
-static inline bool is_window_full(void) { return window_last_number - window_number == WINDOW_NUMBERS; }
+static inline bool is_window_full(void) { return window_last_number - window_number >= WINDOW_NUMBERS; }
 
-/* Whether the number is of the window, and then it dies. */
+/* Whether the number is of the window, and then it dies. A handler of a signal may have given one more number than the
+   window has. */
 static inline bool dies_in_window(uint64_t number) {
-    if (number <= window_number || !window_leaves_out)
-        return false;
     uint64_t at = in_window(number);
+    if (at >= WINDOW_NUMBERS || !window_leaves_out)
+        return false;
     window_dying.members[at / 64] |= (uint64_t)1 << at % 64;
     window_dying.first = at < window_dying.first ? at : window_dying.first;
     window_dying.last = at > window_dying.last ? at : window_dying.last;
