@@ -10,6 +10,7 @@
 extern volatile sig_atomic_t changes, changes_waiting_signal;
 /* So it is while a record of a plain run is put, of which there are many: a count would take longer. */
 extern volatile sig_atomic_t changes_stepping;
+static inline bool is_amid_record(void) { return changes > 0 || changes_stepping; }
 void signals_end_run(int number);
 
 /* What stands before it in the text is done before what stands behind it, as a handler sees it. */
@@ -17,7 +18,7 @@ static inline void in_order(void) { __atomic_signal_fence(__ATOMIC_SEQ_CST); }
 
 /* A signal that waited, where none has to wait any more. */
 static inline void let_signal_end(void) {
-    if (__builtin_expect(changes_waiting_signal != 0, 0) && changes == 0 && !changes_stepping)
+    if (__builtin_expect(changes_waiting_signal != 0, 0) && !is_amid_record())
         signals_end_run(changes_waiting_signal);
 }
 

@@ -42,7 +42,7 @@ void ends_racy(void) {
 
 /* Before the program ends by itself or becomes another one: a handler of its own may do that while a record is put. */
 static void refuse_amid_record(void) {
-    if (changes > 0 || changes_stepping)
+    if (is_amid_record())
         changes_refuse_handler();
 }
 

@@ -1,7 +1,10 @@
-/* The buffers of setjmp and longjmp. */
+/* The buffers of setjmp and longjmp, and jumps out of a signal's handler. */
 #include "doing.h"
+#include "ends.h"
 #include "hidden.h"
 #include "noting.h"
+#include "source_line.h"
+#include "tell.h"
 
 /* For the stubs below: with the address and the stack pointer of the call. */
 __attribute__((used)) static void write_jump_buffer(void *at, uintptr_t code, uintptr_t stack_pointer) {
@@ -20,11 +23,31 @@ SETS("setjmp")
 SETS("_setjmp")
 SETS("__sigsetjmp")
 
+static _Unwind_Reason_Code find_interrupted(struct _Unwind_Context *context, void *is_interrupted) {
+    int is_next = 0;
+    _Unwind_GetIPInfo(context, &is_next);
+    *(bool *)is_interrupted = is_next;
+    return is_next ? _URC_END_OF_STACK : _URC_NO_REASON;
+}
+
+/* The hook that the signal interrupted doesn't go on, and its access may be marked as one that was noted. */
+static void tell_way_out(uintptr_t code) {
+    bool is_in_handler = false;
+    char line[300];
+    _Unwind_Backtrace(find_interrupted, &is_in_handler);
+    if (is_in_handler && tell_is_first(code))
+        tell_incomplete(
+            "%s: this jump leaves the handler of a signal, and what that interrupted may hide later accesses",
+            source_line(code, line, sizeof line));
+}
+
 #define JUMPS(NAME) \
     __attribute__((noreturn)) void __real_##NAME(void *at, int value); \
     __attribute__((noreturn)) void __wrap_##NAME(void *at, int value) { \
         if (doing.tracing) \
             NOTE_READ(at, sizeof(jmp_buf), __wrap_##NAME); \
+        if (doing.tracing && signals_interrupt) \
+            tell_way_out(CODE); \
         hidden_set(0); \
         __real_##NAME(at, value); \
     }

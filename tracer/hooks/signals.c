@@ -1,4 +1,5 @@
 /* Signals that end the program. */
+#include "caller.h"
 #include "detector.h"
 #include "ends.h"
 #include "stacks.h"
@@ -7,12 +8,16 @@
 
 enum { LAST_SIGNAL = 64 };
 
-/* What the program itself causes: it can't go on, and no hook is about to change anything then. */
-static bool is_fault(int number, const siginfo_t *about) {
-    bool may_be = number == SIGSEGV || number == SIGBUS || number == SIGFPE || number == SIGILL || number == SIGTRAP ||
-                  number == SIGSYS;
-    return may_be && about->si_code > 0;
+static bool is_of_faults(int number) {
+    return number == SIGSEGV || number == SIGBUS || number == SIGFPE || number == SIGILL || number == SIGTRAP ||
+           number == SIGSYS;
 }
+
+/* What the program itself causes, and can't go on. */
+static bool is_fault(int number, const siginfo_t *about) { return is_of_faults(number) && about->si_code > 0; }
+
+/* That of abort, which goes on to its end whatever a handler does. */
+static bool is_abort(int number, const siginfo_t *about) { return number == SIGABRT && about->si_code == SI_TKILL; }
 
 sighandler_t __real_signal(int number, sighandler_t wanted);
 int __real_sigaction(int number, const struct sigaction *wanted, struct sigaction *before);
@@ -59,6 +64,21 @@ static void die_inside(int number) {
     die_by(number);
 }
 
+/* The record in whose midst this is can't go on. It says how far it has come where the hooks have no stack for the rest;
+   for anything else a handler of the program's own is the cause. */
+static void end_now(int number, const siginfo_t *about, ucontext_t *context) {
+    bool needs_stack = number == SIGSEGV && is_fault(number, about) && is_by_stack(about->si_addr);
+    bool is_of_handler = !needs_stack || is_program((uintptr_t)context->uc_mcontext.gregs[REG_RIP]);
+    if (needs_stack)
+        tell("the program needs more stack than its limit, which ulimit -s sets");
+    if (changes_stepping && detects())
+        die_inside(number);
+    else if (is_amid_record() && is_of_handler)
+        changes_refuse_handler();
+    else
+        end_after_handler(number, context);
+}
+
 /* Where the trace can't be closed at once, since its reader doesn't read, signals that come again are of use. */
 static void on_signal(int number, siginfo_t *about, void *context) {
     enum { ENOUGH = 4 };
@@ -67,20 +87,13 @@ static void on_signal(int number, siginfo_t *about, void *context) {
         watch_look();
         return;
     }
-    bool fault = is_fault(number, about);
     came++;
     if (!ends_is_traced() || came == ENOUGH)
         die_by(number);
-    else if ((changes > 0 || changes_stepping) && !fault)
+    else if (!is_amid_record() || is_fault(number, about) || is_abort(number, about))
+        end_now(number, about, context);
+    else
         changes_waiting_signal = number;
-    else {
-        if (fault && number == SIGSEGV && is_by_stack(about->si_addr))
-            tell("the program needs more stack than its limit, which ulimit -s sets");
-        if (changes_stepping && detects())
-            die_inside(number);
-        else
-            end_after_handler(number, context);
-    }
 }
 
 /* Signals that end no program by themselves. */
@@ -106,11 +119,21 @@ void signals_catch(void) {
             catch_signal(number, NULL);
 }
 
+/* ---- The program's own handlers ---- */
+
+bool signals_interrupt;
+
+static void follow_handler(int number, sighandler_t wanted) {
+    watch_leave_signal(number);
+    if (wanted != SIG_DFL && wanted != SIG_IGN && !is_of_faults(number))
+        signals_interrupt = true;
+}
+
 /* For the program the handler above is the system's own end by a signal, and where it wants that, it gets the handler. */
 int __wrap_sigaction(int number, const struct sigaction *wanted, struct sigaction *before) {
     bool ends = wanted && wanted->sa_handler == SIG_DFL && ends_is_traced() && !is_harmless(number);
     if (wanted && !ends)
-        watch_leave_signal(number);
+        follow_handler(number, wanted->sa_handler);
     int answer = ends ? catch_signal(number, before) : __real_sigaction(number, wanted, before);
     if (answer == 0 && before && before->sa_sigaction == on_signal)
         *before = (struct sigaction){.sa_handler = SIG_DFL};
@@ -121,7 +144,7 @@ static sighandler_t set_handler(sighandler_t set(int, sighandler_t), int number,
     struct sigaction usual = {.sa_handler = SIG_DFL}, before;
     if (wanted == SIG_DFL)
         return __wrap_sigaction(number, &usual, &before) == 0 ? before.sa_handler : SIG_ERR;
-    watch_leave_signal(number);
+    follow_handler(number, wanted);
     sighandler_t replaced = set(number, wanted);
     return (void *)replaced == (void *)on_signal ? SIG_DFL : replaced;
 }

@@ -175,7 +175,9 @@ class RefusedTest(InsideTest):
 class InterruptedTest(InsideTest):
     """A handler of a signal after each instruction of an access or of a function's entry: its write has a race, and
     there is no other, or the run says that it ends."""
-    REFUSED = "a signal handler of the program interrupted the detector"
+    REFUSED = re.compile("a signal handler of the program interrupted the (detector|tracer), so the run ends here|"
+                         "inside the detector, so there is no report")
+    PLACES = ("", "/dev/null")
 
     def setUp(self):
         super().setUp()
@@ -183,21 +185,35 @@ class InterruptedTest(InsideTest):
         self.succeeds(CC, "-O1", "-mno-red-zone", "-DPLAIN", "-c", "-o", "plain.o", source)
         self.build("interrupted", source, "plain.o")
 
-    def run_of(self, word, step, *more):
-        done = self.run_command("./interrupted", word, str(step), *more)
-        return done.status, *re.findall("^races .*", done.errors, re.MULTILINE), self.REFUSED in done.errors
+    def runs_of(self, word, steps, *more, places):
+        def run_of(step):
+            done = self.run_command("./interrupted", word, str(step), *more, SPBAGS_PLACES=places)
+            return (done.status, *re.findall("^races .*", done.errors, re.MULTILINE),
+                    bool(self.REFUSED.search(done.errors)))
+        with ThreadPoolExecutor(4) as pool:
+            return set(pool.map(run_of, range(steps)))
 
     def test_steps(self):
-        for word, steps in (("one", 400), ("two", 400), ("end", 60)):
-            with self.subTest(word), ThreadPoolExecutor(4) as pool:
-                runs = set(pool.map(lambda step: self.run_of(word, step), range(steps)))
-                self.assertEqual({(1, "races 1", False)}, runs - {(0, "races 0", False), (2, True)})
+        for word, steps in (("one", 400), ("two", 400), ("local", 400), ("end", 60)):
+            for places in self.PLACES:
+                with self.subTest(word, places=places):
+                    runs = self.runs_of(word, steps, places=places)
+                    self.assertEqual({(1, "races 1", False)}, runs - {(0, "races 0", False), (2, True)})
 
     def test_ends(self):
         """The handler ends the program, with a report of what came before or without one."""
-        with ThreadPoolExecutor(4) as pool:
-            runs = set(pool.map(lambda step: self.run_of("one", step, "exit"), range(400)))
-            self.assertEqual({(7, "races 0", False), (2, True)}, runs - {(0, "races 0", False)})
+        for way, status in (("exit", 7), ("abort", ABORT), ("trap", TRAP), ("stack", FAULT)):
+            for places in self.PLACES:
+                with self.subTest(way, places=places):
+                    runs = self.runs_of("end", 300, way, places=places)
+                    self.assertLessEqual(runs, {(status, "races 0", False), (status, True), (2, True)})
+                    self.assertLess({(status, "races 0", False)}, runs)
+
+    def test_jumps(self):
+        """An access that a jump leaves behind may hide another one, and a line says so."""
+        for step in range(100):
+            done = self.run_command("./interrupted", "any", str(step), "jump")
+            self.assertIn("this jump leaves the handler of a signal", done.errors)
 
 
 class LibraryTest(InsideTest):
