@@ -12,8 +12,8 @@ void ends_read_settings(void);
 /* From here on the ends of this process are seen. */
 void ends_begin(void);
 void signals_catch(void);
-/* Whether the program handles signals that may come between any two instructions. */
-extern bool signals_interrupt;
+/* Whether the program has handled a signal itself. */
+extern bool signals_have_handler;
 
 /* Whether this is the process that is traced, and not one that fork or vfork made. */
 bool ends_is_traced(void);

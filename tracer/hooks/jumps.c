@@ -30,7 +30,8 @@ static _Unwind_Reason_Code find_interrupted(struct _Unwind_Context *context, voi
     return is_next ? _URC_END_OF_STACK : _URC_NO_REASON;
 }
 
-/* The hook that the signal interrupted doesn't go on, and its access may be marked as one that was noted. */
+/* A hook that the signal interrupted doesn't go on, and its access may be marked as one that was noted: so it is too
+   where the hook's call had no stack. */
 static void tell_way_out(uintptr_t code) {
     bool is_in_handler = false;
     char line[300];
@@ -46,7 +47,7 @@ static void tell_way_out(uintptr_t code) {
     __attribute__((noreturn)) void __wrap_##NAME(void *at, int value) { \
         if (doing.tracing) \
             NOTE_READ(at, sizeof(jmp_buf), __wrap_##NAME); \
-        if (doing.tracing && signals_interrupt) \
+        if (doing.tracing && signals_have_handler) \
             tell_way_out(CODE); \
         hidden_set(0); \
         __real_##NAME(at, value); \

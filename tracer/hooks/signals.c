@@ -8,13 +8,12 @@
 
 enum { LAST_SIGNAL = 64 };
 
-static bool is_of_faults(int number) {
-    return number == SIGSEGV || number == SIGBUS || number == SIGFPE || number == SIGILL || number == SIGTRAP ||
-           number == SIGSYS;
-}
-
 /* What the program itself causes, and can't go on. */
-static bool is_fault(int number, const siginfo_t *about) { return is_of_faults(number) && about->si_code > 0; }
+static bool is_fault(int number, const siginfo_t *about) {
+    bool may_be = number == SIGSEGV || number == SIGBUS || number == SIGFPE || number == SIGILL || number == SIGTRAP ||
+                  number == SIGSYS;
+    return may_be && about->si_code > 0;
+}
 
 /* That of abort, which goes on to its end whatever a handler does. */
 static bool is_abort(int number, const siginfo_t *about) { return number == SIGABRT && about->si_code == SI_TKILL; }
@@ -121,12 +120,12 @@ void signals_catch(void) {
 
 /* ---- The program's own handlers ---- */
 
-bool signals_interrupt;
+bool signals_have_handler;
 
 static void follow_handler(int number, sighandler_t wanted) {
     watch_leave_signal(number);
-    if (wanted != SIG_DFL && wanted != SIG_IGN && !is_of_faults(number))
-        signals_interrupt = true;
+    if (wanted != SIG_DFL && wanted != SIG_IGN)
+        signals_have_handler = true;
 }
 
 /* For the program the handler above is the system's own end by a signal, and where it wants that, it gets the handler. */

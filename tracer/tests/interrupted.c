@@ -14,7 +14,6 @@ extern sigjmp_buf back;
 void act(void);
 void arm(int is_armed);
 void on_trap(int number);
-void on_other_signal(int number);
 
 #ifdef PLAIN
 volatile long at, acted;
@@ -39,8 +38,7 @@ static void interrupt(void) {
     case 't':
         __builtin_trap();
     case 'j':
-        raise(SIGUSR1);
-        break;
+        siglongjmp(back, 1);
     default:
         act();
     }
@@ -53,8 +51,6 @@ void on_trap(int number) {
         interrupt();
     }
 }
-
-void on_other_signal(int number) { siglongjmp(back, number); }
 
 void arm(int is_armed) {
     if (is_armed)
@@ -138,8 +134,6 @@ int main(int count, char **words) {
         return 2;
     at = atol(words[2]);
     way = count > 3 ? words[3][0] : '\0';
-    if (way == 'j')
-        signal(SIGUSR1, on_other_signal);
     cilk_spawn read_before();
     if (way == 'j')
         run_with_jump();
