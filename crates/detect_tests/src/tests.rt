@@ -1,5 +1,4 @@
-//! Detection, and the questions, against the definitions on every short list of records; detection on the worked rows;
-//! the workers at work.
+//! Detection on the worked rows; the workers at work.
 
 mod answers;
 mod cuttings;
@@ -10,8 +9,6 @@ mod reported_rows;
 mod rows;
 mod samples;
 mod sharded_rows;
-mod short_lists;
-mod short_questions;
 mod thousand_races;
 mod thousand_runs;
 mod together;

@@ -1,11 +1,11 @@
 //! Every list of at most 7 records over one location, and with calls every list of at most 6: the detected races, and
 //! the answer of a shard at each place, are those of the definitions.
 
-use super::answers::Hasher;
 use collect::Report;
 use detect::detect_plain;
 use shard::Shard;
 use std::alloc::Global;
+use std::hash::{BuildHasherDefault, FoldHasher};
 use std::process::Abort;
 use std::test::Fail;
 use testing::by_definition::{
@@ -15,6 +15,8 @@ use trace::{
     Counted, Fault, Limits, NestKind, Placed, Race, Record, Version, WriteFault, write_header,
     write_record,
 };
+
+type Hasher = BuildHasherDefault<FoldHasher>;
 
 /// The records that the lists are made of. Only version 2 has the last one.
 const LETTERS: [Record; 6] = [

@@ -1,7 +1,7 @@
 //! Every list of at most 7 records over one location, and with calls every list of at most 6: its measure, all its
 //! races, and what is confirmed of any two of its accesses, are those of the definitions.
 
-use super::short_lists::{counts, list_of, write_list};
+use super::lists::{counts, list_of, write_list};
 use audit::{Confirm, Measure, confirm, measure, pairs};
 use collect::{Collector, Report};
 use std::alloc::Global;

@@ -1,0 +1,4 @@
+//! Detection, and the questions, against the definitions.
+
+mod lists;
+mod questions;
