@@ -11,11 +11,3 @@ if IS_INSTALLED:
 else:
     PROGRAM = os.path.join(CRATES, "spbags", "out", "spbags")
     ARCHIVE = os.path.join(CRATES, "inside", "out", "libinside.a")
-
-
-def kept_folder():
-    """Where compiled hooks are kept: in the repository beside the tracer, and else in the user's cache."""
-    if not IS_INSTALLED:
-        return os.path.join(HERE, "out")
-    cache = os.environ.get("XDG_CACHE_HOME") or os.path.join(os.path.expanduser("~"), ".cache")
-    return os.path.join(cache, "spbags")

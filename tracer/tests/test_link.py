@@ -1,10 +1,13 @@
 #!/usr/bin/env python3
 """What is linked: code that spbags-cc didn't compile, and shared libraries; and the compiler's options. The compiler is
 gcc."""
+import glob
 import os
 import re
 import shlex
 import shutil
+import signal
+import subprocess
 import sys
 
 sys.dont_write_bytecode = True
@@ -101,6 +104,14 @@ class LinkTest(TracerTest):
         """Writes a source, and makes an object of it."""
         self.write(name, text)
         self.succeeds(by, *words, "-c", name)
+
+    def tracer_beside(self, build):
+        """A copy of the tracer that builds the detector by this script."""
+        shutil.copytree(TRACER, "there/tracer", ignore=shutil.ignore_patterns("out", "tests", "examples", "measure"))
+        os.mkdir("there/crates")
+        self.write("there/build", f"#!/bin/sh\n{build}\n")
+        os.chmod("there/build", 0o755)
+        return "there/tracer/spbags-cc"
 
     def is_not_linked(self, pattern, *words):
         self.ends_with(1, pattern, *words, "-o", "no_program")
@@ -288,14 +299,6 @@ class DetectorTest(LinkTest):
             self.succeeds(SPBAGS_CC, "-o", "fib", "fib.o")
             self.ends_with(0, "^races 88\n", "./fib")
 
-    def tracer_beside(self, build):
-        """A copy of the tracer that builds the detector by this script."""
-        shutil.copytree(TRACER, "there/tracer", ignore=shutil.ignore_patterns("out", "tests", "examples", "measure"))
-        os.mkdir("there/crates")
-        self.write("there/build", f"#!/bin/sh\n{build}\n")
-        os.chmod("there/build", 0o755)
-        return "there/tracer/spbags-cc"
-
     def test_not_built(self):
         compiler = self.tracer_beside("echo it has no rt >&2; exit 2")
         with self.subTest("the link"):
@@ -304,6 +307,58 @@ class DetectorTest(LinkTest):
             self.succeeds(compiler, "-c", "-o", "other.o", "fib.c")
             self.succeeds(compiler, "--trace", "-o", "fib", "fib.o")
             self.reports(1, "races 88, pairs of lines 1", "--", "./fib")
+
+
+class HooksTest(LinkTest):
+    """The hooks are compiled once. The tracer here has a few, which do for a library."""
+    HOOKS = {"accesses.c", "look.c", "openmp_loops.c"}
+    SETTINGS = {"SPBAGS_CC": "gcc", "SPBAGS_CXX": "g++"}
+
+    def setUp(self):
+        super().setUp()
+        self.compiler = self.tracer_beside("exit 2")
+        for name in glob.glob("there/tracer/hooks/*.c"):
+            if os.path.basename(name) not in self.HOOKS:
+                os.unlink(name)
+        self.succeeds(self.compiler, "-fPIC", "-c", "fib.c")
+        self.link = [self.compiler, "--trace", "-shared", "fib.o", "-o", "libfib.so"]
+
+    def begin(self, *words):
+        """A command that has begun, in a session of its own."""
+        return subprocess.Popen(words, stderr=subprocess.PIPE, text=True, start_new_session=True,
+                                env={**os.environ, **self.SETTINGS})
+
+    def test_at_once(self):
+        links = [self.begin(*self.link[:-1], f"lib{number}.so") for number in range(3)]
+        said = [link.communicate()[1] for link in links]
+        self.assertEqual([0] * 3, [link.returncode for link in links], said)
+        self.assertRegex("".join(said), r"^spbags-cc: compiling the hooks for gcc --trace, in .* processor time, once\n$")
+        with self.subTest("later"):
+            self.assertEqual("", self.succeeds(*self.link, **self.SETTINGS).errors)
+
+    def test_killed(self):
+        link = self.begin(*self.link)
+        self.assertIn("compiling the hooks", link.stderr.readline())
+        os.killpg(link.pid, signal.SIGKILL)
+        link.communicate()
+        self.ends_with(0, "compiling the hooks", "timeout", "60", *self.link, **self.SETTINGS)
+
+    def test_ahead(self):
+        ahead = [self.compiler, "--compile-hooks"]
+        made = self.succeeds(*ahead, **self.SETTINGS)
+        self.assertEqual(4, made.errors.count("compiling the hooks"), made.errors)
+        self.assertEqual([True] * 4, [os.path.exists(name) for name in made.out.splitlines()])
+        for words in (ahead, self.link, [*self.link, "-fopenmp"], ["there/tracer/spbags-c++", *self.link[1:]]):
+            with self.subTest(words):
+                self.assertEqual("", self.succeeds(*words, **self.SETTINGS).errors)
+
+    def test_processors(self):
+        """With one processor no two processes compile."""
+        self.write("gcc", '#!/bin/sh\nmkdir "$0.runs" || echo "$*" >>"$0.twice"\n/usr/bin/gcc "$@"\nstatus=$?\n'
+                          'rmdir "$0.runs"\nexit $status\n')
+        os.chmod("gcc", 0o755)
+        self.succeeds("taskset", "-c", str(min(os.sched_getaffinity(0))), *self.link, SPBAGS_CC=os.path.abspath("gcc"))
+        self.assertFalse(os.path.exists("gcc.twice"))
 
 
 class SharedLibrariesTest(LinkTest):

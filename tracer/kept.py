@@ -1,0 +1,65 @@
+"""The objects that links share: the first link that needs one makes it. Beside an installed tracer stand those that
+`./install` has brought, or that were made ahead for all users; what a link makes goes to its user's cache. In the
+repository all stand beside the tracer, if that folder can be written."""
+import contextlib
+import fcntl
+import os
+import shutil
+
+from installed import HERE, IS_INSTALLED
+
+BESIDE = os.path.join(HERE, "out")
+# Who has no home has no folder of that name in the current one.
+HOME = os.path.join("/", os.path.expanduser("~"))
+CACHE = os.path.join(os.environ.get("XDG_CACHE_HOME") or os.path.join(HOME, ".cache"), "spbags")
+
+
+class Kept:
+    def __init__(self, say, ahead=False):
+        """Ahead of all links it is an error if an object can't be kept."""
+        self.say, self.ahead = say, ahead
+        self.folder = BESIDE if (ahead or not IS_INSTALLED) and os.access(HERE, os.W_OK) else CACHE
+
+    def object(self, kind, made_of, make, doing=""):
+        """The object of this kind and hash. Where none is kept `make` makes one; what takes long has words for it."""
+        name = f"{kind}-{made_of.hexdigest()[:24]}.o"
+        if self.found(name):
+            return self.found(name)
+        try:
+            os.makedirs(self.folder, exist_ok=True)
+            lock = open(os.path.join(self.folder, "lock"), "w")
+        except OSError as error:
+            self.cannot(error, doing)
+            return make()
+        # One process makes it while others wait, up to its end, however that comes. Not every file system has locks.
+        with lock:
+            with contextlib.suppress(OSError):
+                fcntl.flock(lock, fcntl.LOCK_EX)
+            return self.found(name) or self.keep(name, make, doing)
+
+    def found(self, name):
+        names = (os.path.join(folder, name) for folder in (BESIDE, self.folder))
+        return next(filter(os.path.exists, names), None)
+
+    def cannot(self, error, doing):
+        if self.ahead:
+            raise error
+        if doing:
+            self.say(f"{doing}; each link does, since {self.folder} can't be written ({error.strerror}): the environment "
+                     "variable XDG_CACHE_HOME names another folder")
+
+    def keep(self, name, make, doing):
+        """Makes it, and copies it to where others find it whole or not at all."""
+        if doing:
+            self.say(f"{doing}, once")
+        made, kept = make(), os.path.join(self.folder, name)
+        copy = f"{kept}.{os.getpid()}"
+        try:
+            shutil.copyfile(made, copy)
+            os.replace(copy, kept)
+        except OSError as error:
+            with contextlib.suppress(OSError):
+                os.unlink(copy)
+            self.cannot(error, doing)
+            return made
+        return kept
