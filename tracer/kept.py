@@ -15,9 +15,9 @@ CACHE = os.path.join(os.environ.get("XDG_CACHE_HOME") or os.path.join(HOME, ".ca
 
 
 class Kept:
-    def __init__(self, say, ahead=False):
+    def __init__(self, say, fail, ahead=False):
         """Ahead of all links it is an error if an object can't be kept."""
-        self.say, self.ahead = say, ahead
+        self.say, self.fail, self.ahead = say, fail, ahead
         self.folder = BESIDE if (ahead or not IS_INSTALLED) and os.access(HERE, os.W_OK) else CACHE
 
     def object(self, kind, made_of, make, doing=""):
@@ -42,11 +42,12 @@ class Kept:
         return next(filter(os.path.exists, names), None)
 
     def cannot(self, error, doing):
+        why = (f"{self.folder} can't be written ({error.strerror}); the environment variable XDG_CACHE_HOME names another "
+               "folder")
         if self.ahead:
-            raise error
+            self.fail(why)
         if doing:
-            self.say(f"{doing}; each link does, since {self.folder} can't be written ({error.strerror}): the environment "
-                     "variable XDG_CACHE_HOME names another folder")
+            self.say(f"{doing}, as in each link: {why}")
 
     def keep(self, name, make, doing):
         """Makes it, and copies it to where others find it whole or not at all."""
