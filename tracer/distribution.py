@@ -1,12 +1,13 @@
-"""The sources and packages of the distribution, Debian, by apt-get with lists of its own: the machine stays as it is."""
+"""The sources and packages of the distribution, by apt-get with this machine's list of hosts: the machine stays as it
+is."""
 import os
-import platform
 import subprocess
 
 from source import Failure
 
-MIRROR = "http://deb.debian.org/debian"
-KEYRING = "/usr/share/keyrings/debian-archive-keyring.gpg"
+# What an entry of that list is asked for besides packages.
+SOURCES = {"MetaKey": "$(COMPONENT)/source/Sources", "flatMetaKey": "Sources", "ShortDescription": "Sources",
+           "Description": "Sources"}
 
 
 class Distribution:
@@ -14,16 +15,12 @@ class Distribution:
 
     def __init__(self, folder):
         self.folder = os.path.abspath(folder)
-        for name in ("lists/partial", "cache/archives/partial"):
-            os.makedirs(os.path.join(self.folder, name), exist_ok=True)
-        self.command = ["apt-get", "-qq", "-o", "APT::Sandbox::User=root"]
-        for setting, name in (("Dir::Etc::SourceList", "sources.list"), ("Dir::Etc::SourceParts", "none"),
-                              ("Dir::State::Lists", "lists"), ("Dir::Cache", "cache")):
-            self.command += ["-o", f"{setting}={os.path.join(self.folder, name)}"]
-        signed = f"[signed-by={KEYRING}] " if os.path.exists(KEYRING) else ""
-        suite = platform.freedesktop_os_release().get("VERSION_CODENAME", "stable")
-        with open(os.path.join(self.folder, "sources.list"), "w", encoding="utf-8") as file:
-            file.writelines(f"{kind} {signed}{MIRROR} {suite} main\n" for kind in ("deb", "deb-src"))
+        lists, cache = (os.path.join(self.folder, name) for name in ("lists", "cache"))
+        for name in (f"{lists}/partial", f"{cache}/archives/partial"):
+            os.makedirs(name, exist_ok=True)
+        settings = {"APT::Sandbox::User": "root", "Dir::State::Lists": lists, "Dir::Cache": cache}
+        settings |= {f"Acquire::IndexTargets::deb::Sources::{name}": value for name, value in SOURCES.items()}
+        self.command = ["apt-get", "-qq", *(f"-o{name}={value}" for name, value in settings.items())]
         self.apt("update")
 
     def apt(self, *words):
