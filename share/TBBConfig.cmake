@@ -1,0 +1,13 @@
+# oneTBB as the tracer has it: spbags-c++ finds its headers by itself, and no library is linked.
+foreach(part tbb tbbmalloc tbbmalloc_proxy)
+    if(NOT TARGET TBB::${part})
+        add_library(TBB::${part} INTERFACE IMPORTED)
+    endif()
+    set(TBB_${part}_FOUND TRUE)
+endforeach()
+foreach(part IN LISTS TBB_FIND_COMPONENTS)
+    if(TBB_FIND_REQUIRED_${part} AND NOT TBB_${part}_FOUND)
+        set(TBB_FOUND FALSE)
+        set(TBB_NOT_FOUND_MESSAGE "the tracer has no ${part} of oneTBB")
+    endif()
+endforeach()
