@@ -18,7 +18,8 @@ class Kept:
     def __init__(self, say, fail, ahead=False):
         """Ahead of all links it is an error if an object can't be kept."""
         self.say, self.fail, self.ahead = say, fail, ahead
-        self.folder = BESIDE if (ahead or not IS_INSTALLED) and os.access(HERE, os.W_OK) else CACHE
+        is_ours = os.access(BESIDE if os.path.exists(BESIDE) else HERE, os.W_OK)
+        self.folder = BESIDE if is_ours and (ahead or not IS_INSTALLED) else CACHE
 
     def object(self, kind, made_of, make, doing=""):
         """The object of this kind and hash. Where none is kept `make` makes one; what takes long has words for it."""

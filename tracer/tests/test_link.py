@@ -352,6 +352,16 @@ class HooksTest(LinkTest):
             with self.subTest(words):
                 self.assertEqual("", self.succeeds(*words, **self.SETTINGS).errors)
 
+    def test_not_kept(self):
+        """An installed tracer has no crates beside it."""
+        os.rmdir("there/crates")
+        settings = {**self.SETTINGS, "XDG_CACHE_HOME": "/dev/null"}
+        with self.subTest("a cache that can't be written"):
+            self.ends_with(0, "as in each link: /dev/null/spbags can't be written .*XDG_CACHE_HOME", *self.link, **settings)
+        with self.subTest("hooks that are compiled ahead are there for all users"):
+            self.succeeds(self.compiler, "--compile-hooks", **settings)
+            self.assertEqual("", self.succeeds(*self.link, **settings).errors)
+
     def test_processors(self):
         """With one processor no two processes compile."""
         self.write("gcc", '#!/bin/sh\nmkdir "$0.runs" || echo "$*" >>"$0.twice"\n/usr/bin/gcc "$@"\nstatus=$?\n'
