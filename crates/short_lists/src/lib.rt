@@ -1,5 +1,5 @@
-//! Tests of `detect` and `audit` on every short list of records. They are in a crate of their own, since without a proof
-//! they take too long.
+//! Tests of `detect` and `audit` on every short list of records, in a crate of their own: without a proof they take too
+//! long.
 #![tactic(auto)]
 
 #[cfg(test)]
