@@ -1,7 +1,8 @@
 """Adds to gcc's assembly the copies of structs that no hook of the sanitizer's sees: those that a call passes, what a
 call gives, and what a function writes where its caller wants its result. gcc's last dump of a function says whether it
 has any. Then each instruction there that may be of one is followed by what it loads or stores: it does so in truth, and
-what a hook has seen already is a repeat."""
+what a hook has seen already is a repeat. And to a function that has hooks, but none that says where it begins and ends, it
+adds these: gcc leaves them out where all that it has is stores of structs whose loads need no hook."""
 import re
 
 # Names in a dump are the assembly's, and a variable's has a number, which the name of a value doesn't.
@@ -18,7 +19,7 @@ NO_CALLEE = ("__complex__", ".", "__builtin_", "__tsan_", "__spbags_", "__asm__ 
 # The result's own memory; where it is known by a pointer, which has a number, the hooks see all.
 RESULT = re.compile(r"^  [^=\n]*<retval>(?!(?:D\.\d+)?_\d)[^=\n]* = ", re.MULTILINE)
 
-LABEL = re.compile(r"(?!\.L|\d)([\w.$]+):")
+TYPED, RARELY = re.compile(r"\t\.type\t([\w.$]+), @function"), ".cold"
 TARGET = re.compile(r"\.L\d+:")
 INSTRUCTION = re.compile(r"\t(?:rep[a-z]* |lock )?([a-z]\w*)(?:[ \t]+(.*))?")
 JUMP = re.compile(r"jmp\t(\.L\d+)$")
@@ -26,6 +27,11 @@ MEMORY = re.compile(r"(?:%[fg]s:)?[^%$*]*\([^()]*\)|(?:%[fg]s:)?[A-Za-z_.][^%$*(
 WIDE = re.compile("%[yz]mm|%k[0-7]")
 LOCATION = re.compile(r"\t\.loc (\d+) (\d+)")
 FILE = re.compile(r'^\t\.file (\d+) "((?:\\.|[^"\\])*)"(?: "((?:\\.|[^"\\])*)")?', re.MULTILINE)
+
+ACCESS_HOOK, ENTRY_HOOK = re.compile(r"__tsan_\w*(?:read|write)"), "__tsan_func_entry"
+# What makes the frame pointer, and what gives back the caller's.
+FRAME, FRAME_RULE = "\tmovq\t%rsp, %rbp", "\t.cfi_def_cfa_register"
+END_OF_FRAME, FRAME_END = re.compile(r"\t(?:leave|popq\t%rbp)"), "16(%rbp)"
 
 # What ends no stretch: functions that gcc itself calls while it passes arguments.
 WITHIN = ("memcpy", "memmove", "__tls_get_addr")
@@ -168,7 +174,7 @@ class Function:
         self.lines, self.dump, self.first, self.last = assembly.lines, dump, first, last
         self.assembly, self.instructions = assembly, {}
         self.targets = {self.lines[at][:-1]: at for at in range(first, last) if TARGET.fullmatch(self.lines[at])}
-        self.loads, self.stores = set(), set()
+        self.loads, self.stores, self.begins, self.ends = set(), set(), set(), set()
 
     def at(self, number):
         if number not in self.instructions:
@@ -178,6 +184,21 @@ class Function:
     def is_wanted(self, names, callees, name):
         """Whether this is one of the calls of these. If the assembly calls one by another name, all may be."""
         return name in names or not names <= callees
+
+    def is_without_ends(self):
+        """Whether hooks are called here, and none of the function's entry."""
+        called = {self.at(at).callee() for at in range(self.first, self.last)
+                  if "__tsan_" in self.lines[at] and self.at(at).is_call()}
+        return ENTRY_HOOK not in called and any(map(ACCESS_HOOK.match, called))
+
+    def mark_ends(self):
+        for at in self.of_compiler():
+            if self.lines[at] == FRAME:
+                self.begins.add(at + 1 + self.lines[at + 1].startswith(FRAME_RULE))
+            elif END_OF_FRAME.fullmatch(self.lines[at]):
+                self.ends.add(at)
+        if not self.begins:
+            raise Unreadable(f"the assembly doesn't say where {self.lines[self.first].split()[1]} begins")
 
     def mark(self):
         calls = [at for at in range(self.first, self.last) if self.at(at).is_call()
@@ -192,14 +213,19 @@ class Function:
         if self.dump.stores_result:
             self.mark_all()
 
-    def mark_all(self):
-        """All stores but those of the program's own assembly and of this function's own memory."""
+    def of_compiler(self):
+        """The numbers of the lines but for those of the program's own assembly."""
         is_own = False
         for at in range(self.first, self.last):
             if self.lines[at].startswith(("#APP", "#NO_APP")):
                 is_own = self.lines[at].startswith("#APP")
-            elif not is_own and self.at(at).accesses() and self.at(at).writes() and not self.at(at).is_of_frame():
-                self.stores.add(at)
+            elif not is_own:
+                yield at
+
+    def mark_all(self):
+        """All stores but those of this function's own memory."""
+        self.stores.update(at for at in self.of_compiler() if self.at(at).accesses() and self.at(at).writes() and
+                           not self.at(at).is_of_frame())
 
     def ends_stretch(self, at):
         """Whether what runs before this line may not run behind it, or has had its hooks."""
@@ -231,6 +257,8 @@ class Function:
         wide = "_wide" if any(WIDE.search(self.lines[at]) for at in range(self.first, self.last)) else ""
         made = {at: self.hook(at, "read", wide) for at in self.loads}
         made.update((at, made.get(at, "") + self.hook(at, "written", wide)) for at in self.stores)
+        made.update((at, made.get(at, "") + called("left" + wide, FRAME_END, "")) for at in self.ends)
+        made.update((at, called("entered" + wide, FRAME_END, "") + made.get(at, "")) for at in self.begins)
         return made
 
     def hook(self, at, kind, wide):
@@ -273,24 +301,29 @@ class Assembly:
                 return f"{self.files.get(found[1], '?')}:{found[2]}"
         return "?"
 
-    def functions(self, names):
-        """The first and the last line of each of these; some have a part of their own for what is run rarely."""
-        name, first = None, 0
+    def functions(self):
+        """The names of the functions, with their first and last lines; some have a part of their own for what is run
+        rarely."""
+        name = first = None
         for at, line in enumerate(self.lines):
-            found = LABEL.match(line)
-            if found and not name and found[1].removesuffix(".cold") in names:
-                name, first = found[1].removesuffix(".cold"), at
+            typed = TYPED.match(line)
+            if typed:
+                name, first = typed[1], at
             elif line.startswith(("\t.cfi_endproc", "\t.size\t")) and name:
                 yield name, first, at
                 name = None
 
     def rewritten(self, dumps):
         found, left = {}, set(dumps)
-        for name, first, last in self.functions(dumps.keys()):
-            function = Function(self, dumps[name], first, last)
-            function.mark()
+        for name, first, last in self.functions():
+            whole = name.removesuffix(RARELY)
+            function = Function(self, dumps.get(whole), first, last)
+            if function.dump:
+                function.mark()
+                left.discard(whole)
+            if whole == name and function.is_without_ends():
+                function.mark_ends()
             found.update(function.hooks())
-            left.discard(name)
         if left:
             raise Unreadable(f"the assembly lacks {min(left)}, in which a call takes or gives a struct")
         return "".join(found.get(at, "") + line + "\n" for at, line in enumerate(self.lines))
@@ -301,4 +334,4 @@ def rewritten(assembly, dump):
     dumps = dumps_of(dump)
     if dumps and ".intel_syntax" in assembly:
         raise Unreadable("a struct that a call takes or gives can't be traced with -masm=intel")
-    return Assembly(assembly).rewritten(dumps) if dumps else assembly
+    return Assembly(assembly).rewritten(dumps)

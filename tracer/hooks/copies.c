@@ -1,19 +1,24 @@
-/* What copies.py puts before an instruction that copies a struct for a call. No register changes, nor does a flag. The
-   program pushes %rdi and %rsi, and then has there the address and the size, or the place in the source of what isn't
-   seen. In the wide form vectors of more than 16 bytes stay too: by XSAVE, whose form has 2688 bytes for them and a
-   header behind the first 512. */
+/* What copies.py puts before an instruction that copies a struct for a call, and where a function begins and ends that has
+   no other hook of that. No register changes, nor does a flag. The program pushes %rdi and %rsi, and then has there the
+   address and the size, the place in the source of what isn't seen, or the end of the function's frame. In the wide form
+   vectors of more than 16 bytes stay too: by XSAVE, whose form has 2688 bytes for them and a header behind the first
+   512. */
 #include "frames.h"
 #include "noting.h"
 #include "spawns_cplusplus.h"
 #include "tell.h"
 
-enum { COPY_READ, COPY_WRITTEN, COPY_UNSEEN };
+enum { COPY_READ, COPY_WRITTEN, COPY_UNSEEN, COPY_ENTERED, COPY_LEFT };
 
 __attribute__((used)) void __spbags_copy(uintptr_t at, size_t size, uintptr_t stack_pointer, uintptr_t code, int kind) {
     if (kind == COPY_READ && spawns_passed(at, size))
         return;
-    if (kind != COPY_UNSEEN)
+    if (kind <= COPY_WRITTEN)
         note_access(kind == COPY_WRITTEN, at, size, NULL, stack_pointer, code);
+    else if (kind == COPY_ENTERED)
+        frames_enter(at, code);
+    else if (kind == COPY_LEFT)
+        frames_exit(at, code);
     else if (procedures_run_beside() && tell_is_first(at))
         tell_incomplete("%s: a struct that a call takes or gives here isn't seen", (const char *)at);
 }
@@ -42,3 +47,5 @@ __attribute__((used)) void __spbags_copy(uintptr_t at, size_t size, uintptr_t st
 COPIES("__spbags_copy_read", 0)
 COPIES("__spbags_copy_written", 1)
 COPIES("__spbags_copy_unseen", 2)
+COPIES("__spbags_copy_entered", 3)
+COPIES("__spbags_copy_left", 4)

@@ -7,7 +7,7 @@ import sys
 
 sys.dont_write_bytecode = True
 import cases
-from cases import CC, INSIDE, SPBAGS_CC, SPBAGS_RUN, TESTS, TRACER, TracerTest, line_of, lines_of
+from cases import (CC, INSIDE, SPBAGS_CC, SPBAGS_RUN, TESTS, TRACER, TracerTest, by_call, line_of, lines_of, race_of)
 
 ASSEMBLY = r"""#include <cilk/cilk.h>
 int x;
@@ -116,6 +116,27 @@ class TraceTest(TracerTest):
         self.succeeds(SPBAGS_CC, "-w", "-o", "stores", source)
         self.assertEqual(self.run_command("./plain").out,
                          self.run_command("./stores", SPBAGS_TRACE="run.trace", SPBAGS_UNIT="1").out)
+
+
+class ValuesTest(TracerTest):
+    UNIT = {"SPBAGS_UNIT": "1"}
+
+    def check_level(self, level):
+        source = "tracer/tests/values.c"
+        self.succeeds(SPBAGS_CC, level, "-w", "-o", "values", source)
+        self.succeeds("./values", "wanted", SPBAGS_TRACE="run.trace", **self.UNIT)
+        wanted = by_call(source, map(race_of, self.read("wanted").splitlines()))
+        self.assertTrue(wanted)
+        with self.subTest("spbags-lines", level=level):
+            self.assertEqual(wanted, by_call(source, self.traced_races("./values")[0]))
+        with self.subTest("spbags-run", level=level):
+            self.assertEqual(wanted, by_call(source, self.races_of("./values", "again", **self.UNIT)))
+
+    def test_unoptimized(self):
+        self.check_level("-O0")
+
+    def test_optimized(self):
+        self.check_level("-O1")
 
 
 class CompileTest(TracerTest):
