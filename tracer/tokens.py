@@ -1,4 +1,6 @@
-"""The tokens of a preprocessed source in C or C++, and what can be told of statements and calls by them alone."""
+"""The tokens of a preprocessed source in C or C++, and what can be told of statements and calls by them alone; and the
+source without what its strings hold, for steps that read it as a text."""
+import functools
 import re
 
 TOKEN = re.compile(
@@ -13,6 +15,13 @@ TOKEN = re.compile(
     re.MULTILINE)
 LINE_MARKER = re.compile(r'#(?:line)? *([0-9]+) *("(?:\\.|[^"\\])*")?([ 0-9]*)')
 PARTNERS = {")": "(", "]": "[", "}": "{"}
+BRACKET, BRACKET_OR_MARK = re.compile(r"[()\[\]{}]"), re.compile(r"[()\[\]{},:]")
+QUOTE = re.compile("[\"']")
+LITERAL = re.compile(r"\"(?:\\.|[^\"\\\n])*\"|'(?:\\.|[^'\\\n])*'")
+RAW = re.compile(r"\"(?P<delimiter>[^()\\\s]{0,16})\((?s:.*?)\)(?P=delimiter)\"")
+# What stands before the mark of a raw string, and before one inside of a number.
+RAW_PREFIX = re.compile(r"(?<![\w$])(?:u8|[uUL])?R\Z")
+IN_NUMBER = re.compile(r"(?<![\w$.'])\.?[0-9][\w.']*\Z")
 CONTROLS = {"if", "for", "while", "switch", "_Cilk_for"}
 
 
@@ -57,6 +66,47 @@ def tokens_of(text):
             line += found.count("\n")
     match_brackets(tokens)
     return tokens
+
+
+def literal_at(text, at):
+    """The string or character that this mark begins, or None: it may separate digits, or stand in a directive."""
+    if text[at] == "'" and IN_NUMBER.search(text, max(at - 40, 0), at):
+        return None
+    return (RAW if text[at] == '"' and RAW_PREFIX.search(text, max(at - 3, 0), at) else LITERAL).match(text, at)
+
+
+@functools.lru_cache(1)
+def blanked(text):
+    """The text with spaces in place of what strings and characters hold. It has the same places and lines."""
+    made, done, mark = [], 0, QUOTE.search(text)
+    while mark:
+        literal, end = literal_at(text, mark.start()), mark.end()
+        if literal:
+            made += [text[done:end], re.sub(r"[^\n]", " ", literal[0][1:-1])]
+            done, end = literal.end() - 1, literal.end()
+        mark = QUOTE.search(text, end)
+    return "".join(made) + text[done:]
+
+
+def after_bracket(bare, opening):
+    """The place in a blanked text behind the bracket that closes this one, or None."""
+    depth = 0
+    for found in BRACKET.finditer(bare, opening):
+        depth += 1 if found[0] in PARTNERS.values() else -1
+        if depth == 0:
+            return found.end()
+    return None
+
+
+def parts_between(bare, first, end, mark):
+    """Where the parts of a blanked text begin and end between such marks, commas or colons, outside of brackets."""
+    found, depth = [], 0
+    for letter in BRACKET_OR_MARK.finditer(bare, first, end):
+        depth += (letter[0] in PARTNERS.values()) - (letter[0] in PARTNERS)
+        if letter[0] == mark and depth == 0:
+            found.append((first, letter.start()))
+            first = letter.end()
+    return [*found, (first, end)]
 
 
 def match_brackets(tokens):

@@ -9,21 +9,20 @@ sys.dont_write_bytecode = True
 import cases
 from cases import (CC, INSIDE, SPBAGS_CC, SPBAGS_RUN, TESTS, TRACER, TracerTest, by_call, line_of, lines_of, race_of)
 
-ASSEMBLY = r"""#include <cilk/cilk.h>
-int x;
-void whole(void);
-static void f(int *at) {
-    __asm__ volatile("movl $1, (%0)" : : "r"(at) : "memory"); /* [register] */
-    __asm__ volatile("incl x"); /* [name] */
-    __asm__ volatile("rep; nop");
+INTEL = r"""#include <cilk/cilk.h>
+#include <stdio.h>
+int cell;
+static void up(void) {
+    __asm__ volatile("inc DWORD PTR cell" : : : "memory"); /* [unseen] */
+    int own = 1;
+    __asm__ volatile("{incl %0|inc DWORD PTR cell}" : "+r"(own)); /* [unseen] */
+    __asm__ volatile("{incl cell|inc %0}" : "+r"(own)); /* [unseen] */
+    __asm__ volatile("{addl %1, %0|add %0, %1}" : "+r"(own) : "r"(own));
 }
-__attribute__((naked)) static void naked(void) { __asm__("incl x\n\tret"); } /* [naked] */
-__asm__("\t.text\nwhole:\tincl x\n\tret\n"); /* [whole] */
 int main(void) {
-    cilk_spawn f(&x);
-    cilk_spawn naked();
-    whole();
+    cilk_spawn up();
     cilk_sync;
+    printf("%d\n", cell + 1);
 }
 """
 ENDLESS = """#include <cilk/cilk.h>
@@ -169,14 +168,26 @@ class CompileTest(TracerTest):
             if self.run_command(CC, "-w", "-o", "none", "none.c").status != 0:
                 self.ends_with(1, "undefined reference to", SPBAGS_CC, "-w", "-o", "none", "none.c")
 
+    def tells_of_assembly(self, printed, source):
+        """What isn't known there has the tag, and all else is known."""
+        self.assertEqual((3, printed), self.run_command(SPBAGS_RUN, "--output", "report", "--", "./assembly")[:2])
+        found = re.findall(rf"(?m){source}:([0-9]+): the assembly here may access memory", self.read("report"))
+        self.assertEqual(lines_of(source, "[unseen]"), sorted(map(int, found)))
+
     def test_assembly(self):
-        self.write("assembly.c", ASSEMBLY)
-        self.succeeds(SPBAGS_CC, "-o", "assembly", "assembly.c")
-        said = self.run_command(SPBAGS_RUN, "--output", "report", "--", "./assembly")
-        self.assertEqual(3, said.status)
-        found = re.findall("(?m)^assembly.c:([0-9]+): the assembly here may access memory", self.read("report"))
-        self.assertEqual([line_of("assembly.c", f"[{tag}]") for tag in ("register", "name", "naked", "whole")],
-                         sorted(map(int, found)))
+        source = "tracer/tests/assembly.c"
+        for level in ("-O0", "-O1"):
+            self.succeeds(SPBAGS_CC, "-w", level, "-o", "assembly", source)
+            with self.subTest("what isn't known", level=level):
+                self.tells_of_assembly("7 9\n", source)
+            with self.subTest("operands", level=level):
+                self.assertEqual(cases.tagged_races(source),
+                                 self.races_in(source, "./assembly", "races", SPBAGS_UNIT="1"))
+
+    def test_other_syntax(self):
+        self.write("intel.c", INTEL)
+        self.succeeds(SPBAGS_CC, "-masm=intel", "-o", "assembly", "intel.c")
+        self.tells_of_assembly("3\n", "intel.c")
 
 
 @cases.needs_detector

@@ -50,6 +50,24 @@ int main() {
     std::for_each(values.begin(), values.end(), [](int value) { cilk_spawn set(value); });
 }
 """
+# A template of several lines, and one of which a line is like a directive.
+ASSEMBLY = """#include <cilk/cilk.h>
+int count, other;
+static void up() {
+    asm volatile(R"(
+        lock
+        incl %0 # [first]
+    )" : "+m"(count));
+    asm volatile(R"x(
+#pragma omp parallel
+    incl %0)x" : "+r"(::other));
+}
+int main() {
+    cilk_spawn up();
+    count = 1; // [second]
+    other = 1; // [third]
+}
+"""
 UNIT = {"SPBAGS_UNIT": "1"}
 
 
@@ -150,6 +168,13 @@ class CilkTest(CPlusPlusTest):
         with self.subTest("without Cilk's header"):
             self.build("loops", "thrown.cpp", "-Dcilk_for=_Cilk_for")
             self.reports(3, "thrown.cpp:3: an exception leaves a child here", "--", "./loops")
+
+    def test_assembly(self):
+        self.write("assembly.cpp", ASSEMBLY)
+        self.build("assembly", "assembly.cpp")
+        found = {race.split()[2] for race in self.races_in("assembly.cpp", "./assembly")}
+        self.assertEqual({str(line_of("assembly.cpp", f"[{tag}]")) for tag in ("second", "third")}, found)
+        self.reports(1, "races 2, pairs of lines 2", "--", "./assembly")
 
     def test_inlined(self):
         """The library's functions are, into each other, and none of the program's."""
