@@ -2,6 +2,8 @@
 program's is inlined."""
 import re
 
+from tokens import blanked
+
 # A line that says which file begins, or goes on, and whether it is a header of the system.
 MARKER = re.compile(r'^# \d+ "((?:\\.|[^"\\\n])*)" [12]((?: \d)*)\n', re.MULTILINE)
 LIBRARY = re.compile(r"/include/(?:[\w-]+/)?c\+\+/\d")
@@ -11,8 +13,8 @@ BEGIN, END = '#pragma GCC push_options\n#pragma GCC optimize("inline")\n', "#pra
 def rewritten(text):
     """A preprocessed source that says so."""
     made, done, is_library = [], 0, False
-    for marker in MARKER.finditer(text):
-        was_library, is_library = is_library, "3" in marker[2] and bool(LIBRARY.search(marker[1]))
+    for marker in MARKER.finditer(blanked(text)):
+        was_library, is_library = is_library, "3" in marker[2] and bool(LIBRARY.search(text, *marker.span(1)))
         if is_library != was_library:
             made += [text[done:marker.start()], BEGIN if is_library else END]
             done = marker.start()

@@ -3,7 +3,7 @@ but their parameters: `spbags::plain(..)` around each says so to the headers, wh
 import re
 
 from reducers import is_plain, is_scalar
-from tokens import arguments_of, tokens_of
+from tokens import arguments_of, blanked, tokens_of
 
 CALL = re.compile(r"\b(?:parallel_(?:deterministic_)?reduce|parallel_scan|(?:transform_)?reduce|"
                   r"(?:transform_)?(?:in|ex)clusive_scan|remove(?:_copy)?_if|copy_if|(?:stable_)?partition(?:_copy)?|"
@@ -16,10 +16,11 @@ NO_TYPES = {"const", "&", "&&", "std", "::"}
 
 def first_call(text):
     """Where the first part of the program's own begins that calls such an algorithm, or None."""
-    markers = [*MARKER.finditer(text), None]
+    bare = blanked(text)
+    markers = [*MARKER.finditer(bare), None]
     for marker, following in zip(markers, markers[1:]):
         end = following.start() if following else len(text)
-        if "3" not in marker[1].split() and CALL.search(text, marker.end(), end):
+        if "3" not in marker[1].split() and CALL.search(bare, marker.end(), end):
             return marker.start()
     return None
 

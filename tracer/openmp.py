@@ -2,6 +2,9 @@
 each iteration. What can't be traced is refused, with its file and line."""
 import re
 
+from tokens import blanked
+
+LINES = re.compile(r"[^\n]*\n|[^\n]+")
 MARKER = re.compile(r'#(?:line)? *([0-9]+) *("(?:\\.|[^"\\])*")?')
 PRAGMA = re.compile(r"[ \t]*#[ \t]*pragma[ \t]+omp\b(.*)")
 SECTION = re.compile(r"[ \t]*#[ \t]*pragma[ \t]+omp[ \t]+section\b")
@@ -150,28 +153,30 @@ class Source:
             return with_body(text, BODIES[names[-1]], self.file, self.line)
         return f"#pragma omp{text}\n"
 
-    def first_section(self, line):
+    def first_section(self, line, bare):
         """What stands before the rest of a line, with the directive of the first section if that is left out; and the
         rest."""
         before = ""
-        if self.awaits == "brace" and "{" in line and not PRAGMA.match(line):
-            before, brace, line = line.partition("{")
-            before, self.awaits = before + brace, "section"
+        if self.awaits == "brace" and "{" in bare and not PRAGMA.match(bare):
+            behind = bare.index("{") + 1
+            before, line, self.awaits = line[:behind], line[behind:], "section"
         if self.awaits == "section" and line.strip():
             self.awaits = None
             if not SECTION.match(line):
                 before += "\n#pragma omp section\n" + body(SECTION_BODY, self.file, self.line, self.line)
         return before, line
 
-    def rewritten(self, line):
-        marker, pragma = MARKER.match(line), PRAGMA.match(line)
-        if marker:
+    def rewritten(self, line, bare):
+        """What stands for a line, of which the second form has nothing in its strings."""
+        if MARKER.match(bare):
+            marker = MARKER.match(line)
             self.line, self.file = int(marker[1]), marker[2][1:-1] if marker[2] else self.file
             return line
-        before, line = self.first_section(line)
+        pragma = PRAGMA.match(line) if PRAGMA.match(bare) else None
+        before, line = self.first_section(line, bare)
         if pragma:
             line = self.directive(pragma[1])
-        elif ATTRIBUTE.search(line):
+        elif ATTRIBUTE.search(bare):
             self.refuse("attributes of OpenMP can't be traced: write #pragma omp")
         self.line += 1
         return before + line
@@ -180,7 +185,7 @@ class Source:
 def rewritten(text, is_clang=False):
     """The source with its loops rewritten, and a line for each directive that can't be traced."""
     source = Source(is_clang)
-    return "".join(map(source.rewritten, re.findall(r"[^\n]*\n|[^\n]+", text))), source.faults
+    return "".join(map(source.rewritten, LINES.findall(text), LINES.findall(blanked(text)))), source.faults
 
 
 # What the hooks of OpenMP don't have, by its name.

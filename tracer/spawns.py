@@ -12,7 +12,7 @@ import reducers
 import source
 import spawns_cplusplus
 from tokens import (Refused, arguments_of, call_after, is_in_block, is_lvalue, own_constants, piece, statement_start,
-                    tokens_of)
+                    tokens_of, without)
 
 ASSIGNMENTS = {"=", "+=", "-=", "*=", "/=", "%=", "&=", "|=", "^=", "<<=", ">>="}
 LITERALS = {"string", "character", "number"}
@@ -238,7 +238,7 @@ def rewritten(text, language):
     text, refused_reducers = reducers.rewritten(text, language)
     has_loops = "_Cilk_for" in text
     if has_loops:
-        text = IGNORED.sub("", text)
+        text = without(text, IGNORED)
     text, faults = Rewriting(text, language).rewritten()
     faults = sorted(faults + refused_reducers, key=lambda line: int(re.search(r":(\d+): error: ", line)[1]))
     return (text + loops.INSTEAD_OF_TASK if has_loops and language == "gcc" else text), faults

@@ -88,6 +88,15 @@ def blanked(text):
     return "".join(made) + text[done:]
 
 
+def without(text, pattern):
+    """The text without what this matches outside of strings."""
+    made, done = [], 0
+    for found in pattern.finditer(blanked(text)):
+        made.append(text[done:found.start()])
+        done = found.end()
+    return "".join(made) + text[done:]
+
+
 def after_bracket(bare, opening):
     """The place in a blanked text behind the bracket that closes this one, or None."""
     depth = 0

@@ -4,8 +4,10 @@ these."""
 import re
 from collections import namedtuple
 
-BUILTIN = re.compile(r"\b__builtin_ia32_(\w+)\s*\(")
-BRACKET = re.compile(r"[()\"',\[\]{}]")
+from tokens import after_bracket, blanked, parts_between
+
+PREFIX = "__builtin_ia32_"
+BUILTIN = re.compile(rf"\b{PREFIX}(\w+)\s*\(")
 # What surely is no pointer: a number, or what is cast to no pointer.
 NO_POINTER = re.compile(r"\s*(?:\((?:\s|\b(?:__\w+|unsigned|signed|int|char|short|long|float|double)\b)+\)\s*[\w(].*|"
                         r"-?\d\w*\s*)", re.DOTALL)
@@ -57,33 +59,6 @@ CHOSEN = [Chosen(re.compile(names), *rest) for names, *rest in (
 INDEX, SCALE = 2, 4
 # These access nothing.
 NOTHING = re.compile(r"(?:gather|scatter)pf\w+|prefetch\w*|clflush(?:opt)?|clwb|cldemote|u?monitorx?|mwaitx?|llwpcb")
-
-
-def arguments_of(text, first):
-    """The arguments behind this place, and the place of the bracket behind them."""
-    found, depth, at = [], 0, first
-    while True:
-        mark = BRACKET.search(text, at)
-        if not mark:
-            return None, None
-        at = mark.end()
-        if mark[0] in "\"'":
-            at = end_of_quotation(text, at, mark[0])
-        elif mark[0] in "([{":
-            depth += 1
-        elif mark[0] == "," and depth == 0:
-            found.append(text[first:at - 1])
-            first = at
-        elif mark[0] != "," and depth == 0:
-            return [*found, text[first:at - 1]], at - 1
-        elif mark[0] != ",":
-            depth -= 1
-
-
-def end_of_quotation(text, at, quote):
-    while at < len(text) and text[at] != quote:
-        at += 2 if text[at] == "\\" else 1
-    return at + 1
 
 
 class Use:
@@ -140,11 +115,14 @@ class Use:
 
 def rewritten(text):
     """The source with what such instructions access."""
-    made, done = [], 0
-    for match in BUILTIN.finditer(text):
-        arguments, end = arguments_of(text, match.end()) if match.start() >= done else (None, None)
-        if arguments is None:
+    if PREFIX not in text:
+        return text
+    made, done, bare = [], 0, blanked(text)
+    for match in BUILTIN.finditer(bare):
+        end = after_bracket(bare, match.end() - 1) if match.start() >= done else None
+        if end is None:
             continue
-        made += [text[done:match.start()], Use(match[1], [rewritten(given) for given in arguments]).rewritten()]
-        done = end + 1
-    return "".join(made) + text[done:] if made else text
+        arguments = [rewritten(text[first:last]) for first, last in parts_between(bare, match.end(), end - 1, ",")]
+        made += [text[done:match.start()], Use(match[1], arguments).rewritten()]
+        done = end
+    return "".join(made) + text[done:]

@@ -199,6 +199,13 @@ class TracerTest(unittest.TestCase):
         self.assertIn(text, " ".join(said.split()))
         return said
 
+    def prints_its_texts(self, compiler, plain, *options):
+        """A program's strings are what another compiler makes of them."""
+        source = os.path.join(TESTS, "texts.c")
+        self.succeeds(plain, "-w", "-D_Cilk_for=for", f"-I{TRACER}/include", "-o", "plain", source, *options)
+        self.succeeds(compiler, "-w", "-o", "texts", source, *options)
+        self.assertEqual(self.run_command("./plain"), self.run_command("./texts", SPBAGS_TRACE="run.trace"))
+
     def build_once(self, name, source, *words):
         """A program that other tests of the file have too, under this name."""
         kept = os.path.join(kept_programs().name, "".join([os.path.basename(source), *words]))

@@ -168,6 +168,9 @@ class CompileTest(TracerTest):
             if self.run_command(CC, "-w", "-o", "none", "none.c").status != 0:
                 self.ends_with(1, "undefined reference to", SPBAGS_CC, "-w", "-o", "none", "none.c")
 
+    def test_strings(self):
+        self.prints_its_texts(SPBAGS_CC, CC)
+
     def tells_of_assembly(self, printed, source):
         """What isn't known there has the tag, and all else is known."""
         self.assertEqual((3, printed), self.run_command(SPBAGS_RUN, "--output", "report", "--", "./assembly")[:2])

@@ -105,6 +105,9 @@ class OpenMPTest(CPlusPlusTest):
         said = self.run_command(SPBAGS_RUN, "--json", "--", "./shared").out
         self.assertEqual(['"guard": "atomic"'], sorted(set(re.findall('"guard": [^,]*', said))))
 
+    def test_strings(self):
+        self.prints_its_texts(SPBAGS_CPLUSPLUS, os.environ.get("SPBAGS_CXX", "g++"), "-fopenmp", "-DOPENMP")
+
     def test_refused(self):
         with self.subTest("a delete of its own"):
             self.write("own_delete.cpp", "void operator delete(void *block) noexcept { }\n"
@@ -168,6 +171,9 @@ class CilkTest(CPlusPlusTest):
         with self.subTest("without Cilk's header"):
             self.build("loops", "thrown.cpp", "-Dcilk_for=_Cilk_for")
             self.reports(3, "thrown.cpp:3: an exception leaves a child here", "--", "./loops")
+
+    def test_strings(self):
+        self.prints_its_texts(SPBAGS_CPLUSPLUS, "g++")
 
     def test_assembly(self):
         self.write("assembly.cpp", ASSEMBLY)
