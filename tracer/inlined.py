@@ -1,13 +1,14 @@
 #!/usr/bin/env python3
 """What compilers put into the program in place of a call, such as `__builtin_memcpy` of a known size, becomes a call of
 the library's function again, which the tracer sees: by macros in spbags_builtins.h, which spbags-cc includes before
-each source, and which this prints."""
+each source, and which this prints. A macro sees no name in brackets, so these go."""
 import os
 import re
 import sys
 
 sys.path.insert(0, os.path.dirname(os.path.realpath(__file__)))
 import library
+from tokens import blanked
 
 # Those of the table's functions that gcc or clang may put into the program. What is pure may be a constant in C.
 PURE = """strlen strnlen strcmp strncmp strcasecmp strncasecmp memcmp bcmp memchr strchr strrchr index rindex strstr strspn
@@ -24,6 +25,9 @@ WRITING = """memcpy memmove mempcpy memset memccpy bcopy bzero strcpy stpcpy str
 # The header knows no other names of types than the compiler's.
 TYPES = {"size_t": "__SIZE_TYPE__", "wchar_t": "__WCHAR_TYPE__", "wint_t": "__WINT_TYPE__", "FILE": "void",
          "va_list": "__builtin_va_list", "struct tm": "void"}
+
+# Not a type in brackets, by which something is cast.
+BRACKETED = re.compile(r"((?:\(\s*)+)__builtin_(?!\w*va_list)(\w+)((?:\s*\))+)(?=\s*\()")
 
 HEADER = """\
 /* inlined.py makes this of library.table: calls of library functions in place of what the compiler puts there itself. */
@@ -72,6 +76,17 @@ def header(table):
     functions = {name: function for function in table.functions() for name in function.names}
     known = [name for name in PURE + WRITING if name in functions]
     return HEADER % ("\n".join(declared(functions[name], name) for name in known), "\n".join(map(macro, known)))
+
+
+def unbracketed(text):
+    """A preprocessed source that calls each builtin by its name alone."""
+    made, done = [], 0
+    for found in BRACKETED.finditer(blanked(text)) if BRACKETED.search(text) else ():
+        others = found[1].count("(") - found[3].count(")")
+        prefix = "__spbags_to_" if found[2] in PURE + WRITING else "__builtin_"
+        made += [text[done:found.start()], "(" * others, prefix, found[2], ")" * -others]
+        done = found.end()
+    return "".join(made) + text[done:]
 
 
 if __name__ == "__main__":

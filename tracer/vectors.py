@@ -18,12 +18,13 @@ READ, WRITE = 0, 1
 # So many bytes at the pointer with this number: of a number, or of the argument with a number.
 Whole = namedtuple("Whole", "names pointer size writes")
 WHOLE = [Whole(re.compile(names), *rest) for names, *rest in (
-    (r"movnt(?:i|i64|q|dq|pd|ps)(?:256|512)?|directstoreu?_u(?:32|64)", 0, "sizeof({1})", WRITE),
-    (r"movntsd|store[hl]ps", 0, "8", WRITE),
-    (r"movntss|rdtscp|rdrand32_step|rdseed(?:32|_si)_step", 0, "4", WRITE),
+    (r"movnt(?:q|dq|pd|ps)(?:256|512)?", 0, "sizeof({1})", WRITE),
+    (r"movnti64|directstoreu?_u64|movntsd|store[hl]ps", 0, "8", WRITE),
+    (r"movnti|directstoreu?_u32|movntss|rdtscp|rdrand32_step|rdseed(?:32|_si)_step", 0, "4", WRITE),
     (r"rdrand64_step|rdseed(?:64|_di)_step", 0, "8", WRITE),
     (r"rdrand16_step|rdseed(?:16|_hi)_step", 0, "2", WRITE),
-    (r"(?:addcarryx?|sbb|subborrow)_u(?:32|64)", 3, "sizeof({1})", WRITE),
+    (r"(?:addcarryx?|sbb|subborrow)_u32", 3, "4", WRITE),
+    (r"(?:addcarryx?|sbb|subborrow)_u64", 3, "8", WRITE),
     (r"lddqu|movntdqa|vbroadcastf128_p[sd]256", 0, "16", READ),
     (r"lddqu256|movntdqa256", 0, "32", READ),
     (r"movntdqa512", 0, "64", READ),

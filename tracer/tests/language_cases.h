@@ -123,6 +123,10 @@ CASE(__builtin_strcpy(a, "four"), W(a, 0, 5)) CASE(sink = __builtin_memcmp(big, 
 CASE(sink = (int)__builtin_strlen(b), R(b, 0, 11)) CASE(__builtin_strcat(a, "four"), R(a, 0, 6), W(a, 5, 5))
 CASE(__builtin___memcpy_chk(big, other, 8, 64), R(other, 0, 8), W(big, 0, 8)) CASE(__builtin_sprintf(a, "four"), W(a, 0, 5))
 CASE(NUMBER(__builtin_frexp(2.5, AS(int, big))), W(big, 0, 4)) CASE(__builtin_bzero(big, 4), W(big, 0, 4))
+CASE((__builtin_memcpy)(big, other, 40), R(other, 0, 40), W(big, 0, 40)) CASE(((__builtin_memset) (big, 0, 24)), W(big, 0, 24))
+#ifndef __clang__
+CASE((__builtin_ia32_movnti)(AS(int, big), 3), W(big, 0, 4)) CASE((( __builtin_ia32_movnti64 ))(AS(long long, big), 3), W(big, 0, 8))
+#endif
 
 /* ---- Assembly ---- */
 CASE(__asm__("movl $5, %0" : "=m"(*AS(int, big))), W(big, 0, 4)) CASE(__asm__("incl %0" : "+m"(*AS(int, big)) : : "cc"), W(big, 0, 4))
