@@ -3,9 +3,13 @@ of other widths than 1, 2, 4, 8 and 16 bytes, and the read of a struct that is p
 import re
 
 ACCESS = re.compile(r"^ +(?:\S+ = )?(load|store) (?:volatile )?(?!atomic)(.*)$", re.MULTILINE)
-# An argument that the call copies: a pointer, and the type behind it.
-PASSED = re.compile(r"((?:ptr|[^ ,()]+\*)) (?:\w+ |align \d+ )*byval\(([^()]*)\) (?:\w+ |align \d+ )*(%[\w.$-]+|%\"[^\"]*\"|@[\w.$-]+)")
-CALL = re.compile(r"^ +(?:\S+ = )?(?:tail |notail )?(?:call|invoke) .*\bbyval\(.*$", re.MULTILINE)
+# An argument that the call copies: a pointer's type, and the type behind it. What comes then is the pointer: a name, or an
+# expression.
+EXPRESSION = "getelementptr|bitcast|inttoptr|addrspacecast"
+PASSED = re.compile(r"((?:ptr|[^ ,()]+\*)) (?:\w+ |align \d+ )*byval\(([^()]*)\) "
+                    rf"(?:(?!{EXPRESSION})\w+ |align \d+ )*(?=[%@]|{EXPRESSION})")
+POINTER = re.compile(rf'[%@](?:[\w.$-]+|"[^"]*")|(?:{EXPRESSION})[^(]*\(')
+CALL = re.compile(r"^ +(?:\S+ = )?(?:tail |notail |musttail )?(?:call|invoke) .*\bbyval\(.*$", re.MULTILINE)
 NAMED = re.compile(r"^(%\S+) = type (.*)$", re.MULTILINE)
 SIMPLE = {"half": 2, "bfloat": 2, "float": 4, "double": 8, "x86_fp80": 16, "fp128": 16, "x86_mmx": 8, "ptr": 8}
 WORD = re.compile(r'i\d+|\w+|%"[^"]*"|%[\w.$-]+')
@@ -147,8 +151,13 @@ class Module:
         return self.notes.note(match[1] == "store", pointer, size, match[0]) + match[0]
 
     def call(self, match):
-        return "".join(self.notes.note(False, f"{pointer} {name}", self.types.size(passed), match[0])
-                       for pointer, passed, name in PASSED.findall(match[0])) + match[0]
+        made = []
+        for found in PASSED.finditer(match[0]):
+            pointer = POINTER.match(match[0], found.end())
+            end = closing(match[0], pointer.end()) if pointer[0].endswith("(") else pointer.end()
+            made.append(self.notes.note(False, f"{found[1]} {match[0][pointer.start():end]}", self.types.size(found[2]),
+                                        match[0]))
+        return "".join(made) + match[0]
 
     def function(self, match):
         """A function, which says where it begins and ends if a hook is called there."""

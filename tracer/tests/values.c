@@ -1,6 +1,6 @@
-/* Structs by value: a child stores one that it gets, or that a call gives, and the parent touches all bytes of that beside
-   it. All of them race. Each case stands on one line, and the program writes into the file of
-   this name the line and how many bytes race. */
+/* Structs by value: a child stores one that it gets or that a call gives, or passes one to a call, and the parent touches all
+   bytes of that beside it. All of them race. Each case stands on one line, and the program writes into the file of this
+   name the line and how many bytes race. */
 #include <cilk/cilk.h>
 #include <stdio.h>
 
@@ -14,6 +14,7 @@ struct Forty { double x[5]; };
 struct Forty8 { struct Three both[2]; };
 struct Odd { char many[77]; };
 struct Large { long many[100]; };
+struct Constant { const long a; long b[3]; };
 union Both { int whole[4]; double real; };
 struct Queue { int count; struct Thirty2 items[3]; };
 
@@ -31,6 +32,7 @@ static union {
     struct Forty8 forty8;
     struct Odd odd;
     struct Large large;
+    struct Constant constant;
     union Both both;
     struct Queue queue;
 } rooms[100];
@@ -38,7 +40,29 @@ static union {
 static volatile long sink, zero;
 static volatile char seen;
 
+#define TAKER(TYPE, NAME) \
+    static int take_##NAME(TYPE one) { return (int)sink + (sizeof one > MOST); }
+TAKER(struct Four, four)
+TAKER(struct Floats, floats)
+TAKER(struct Twelve, twelve)
+TAKER(struct Sixteen, sixteen)
+TAKER(struct Three, three)
+TAKER(struct Thirty2, thirty2)
+TAKER(struct Forty, forty)
+TAKER(struct Forty8, forty8)
+TAKER(struct Odd, odd)
+TAKER(struct Large, large)
+TAKER(union Both, both)
+TAKER(struct Constant, constant)
+
 static struct Three pass(struct Three one) { return one; }
+static int take_old(one, n) struct Three one; int n; { return (int)(sink + one.a) + n; }
+static int take_rest(int count, ...) { return (int)sink + count; }
+static int take_pair(int n, struct Three one, double x, struct Four other) { return (int)(sink + one.a + x) + other.a + n; }
+typedef int taking(struct Three);
+static taking *get(void) { return take_three; }
+static taking *table[2][2] = {{0, 0}, {take_three, 0}};
+static struct { taking *call; } both_ways = {take_three};
 static struct Three *at(struct Three *first) { return first; }
 
 static struct test {
@@ -82,6 +106,7 @@ static void touch(char *from, int bytes, int writes) {
 #define GETS_TOO(BYTES, TYPE, PARAMETERS, ARGUMENTS, FROM, ...) \
     CASE(__COUNTER__, __LINE__, BYTES, 0, TYPE, PARAMETERS, ARGUMENTS, FROM, __VA_ARGS__)
 #define MAKES(BYTES, TYPE, ...) CASE(__COUNTER__, __LINE__, BYTES, 0, TYPE, (void), (), &room, __VA_ARGS__)
+#define READS(BYTES, ...) CASE(__COUNTER__, __LINE__, BYTES, 1, struct Four, (void), (), &room, __VA_ARGS__)
 
 /* ---- The child stores what it got ---- */
 GETS(4, struct Four, room.four = s)
@@ -125,6 +150,35 @@ MAKES(24, struct Three, struct Three own = make(); room.three = own)
 MAKES(24, struct Three, if (zero) sink = 1; else room.three = make())
 MAKES(24, struct Three, for (room.three = make(); sink; ) break)
 MAKES(24, struct Three, ({ room.three = make(); }))
+
+/* ---- The child passes one ---- */
+READS(4, take_four(room.four))
+READS(8, take_floats(room.floats))
+READS(12, take_twelve(room.twelve))
+READS(16, take_sixteen(room.sixteen))
+READS(24, take_three(room.three))
+READS(32, take_thirty2(room.thirty2))
+READS(40, take_forty(room.forty))
+READS(48, take_forty8(room.forty8))
+READS(77, take_odd(room.odd))
+READS(800, take_large(room.large))
+READS(32, take_constant(room.constant))
+READS(16, take_both(room.both))
+READS(24, take_three(room.threes[zero]))
+READS(24, take_three(*at(&room.three)))
+READS(24, take_rest(1, room.threes[0]))
+READS(8, take_rest(2, 1.5, room.floats))
+READS(77, take_rest(3, 'c', room.odd))
+READS(24, take_old(room.three, 2))
+READS(28, take_pair(1, room.threes[0], 2.5, *(struct Four *)&room.bytes[24]))
+READS(24, get()(room.threes[0]))
+READS(24, table[1][0](room.three))
+READS(24, (*both_ways.call)(room.three))
+READS(24, (zero ? 0 : take_three)(room.three))
+READS(24, _Generic(room.three, struct Three: take_three)(room.three))
+READS(24, take_three(zero ? pass(room.threes[1]) : room.threes[0]))
+READS(24, take_three(pass(pass(room.three))))
+READS(24, take_three((sink, room.three)))
 
 int main(int words, char **word) {
     FILE *wanted = fopen(words > 1 ? word[1] : "/dev/stdout", "w");
