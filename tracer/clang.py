@@ -10,8 +10,8 @@ import re
 FUNCTION = re.compile(r"^define .*?^}$", re.MULTILINE | re.DOTALL)
 HOOK = re.compile(r"  call void @__(?:sanitizer_cov_(?:load|store)[0-9]+|tsan_(?:read|write)_range)\(\S+ (%[\w.]+)[,)]")
 # And what clang calls to copy or to fill memory.
-DECLARED_HOOK = re.compile(r"^declare .*@(?:__(?:sanitizer_cov_(?:load|store)[0-9]|tsan_atomic[0-9]|tsan_(?:read|write)_range)|"
-                           r"(?:__tsan_)?mem(?:cpy|move|set)\().*$", re.MULTILINE)
+DECLARED_HOOK = re.compile(r"^declare .*@(?:__(?:sanitizer_cov_(?:load|store)[0-9]|tsan_atomic[0-9]|tsan_(?:read|write)_range|"
+                           r"spbags_atomic_update)|(?:__tsan_)?mem(?:cpy|move|set)\().*$", re.MULTILINE)
 VALUE = re.compile(r'%(?:[\w.$-]+|"[^"]*")')
 # One variable, and not as many as a number says.
 VARIABLE = re.compile(r"  (%[\w.]+) = alloca (?!.*, i[0-9]+ [%\w.]+, align).*, align [0-9]+")

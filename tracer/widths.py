@@ -1,5 +1,5 @@
-"""Adds to clang's intermediate code the accesses that the hooks of its coverage leave out, by calls of another hook: those
-of other widths than 1, 2, 4, 8 and 16 bytes, and the read of a struct that is passed in memory."""
+"""Adds to clang's intermediate code the accesses that its hooks leave out, by calls of others: those of other widths than 1,
+2, 4, 8 and 16 bytes, the read of a struct that is passed in memory, and atomic updates by a maximum and the like."""
 import re
 
 ACCESS = re.compile(r"^ +(?:\S+ = )?(load|store) (?:volatile )?(?!atomic)(.*)$", re.MULTILINE)
@@ -16,7 +16,8 @@ WORD = re.compile(r'i\d+|\w+|%"[^"]*"|%[\w.$-]+')
 SEEN = {1, 2, 4, 8, 16}
 # It fills 10 of its 16 bytes, which is another width.
 LONG_DOUBLE = re.compile(r"x86_fp80(?! ?[(*])")
-HOOKS = "@__tsan_read_range", "@__tsan_write_range"
+UPDATE = re.compile(r"^ +(?:\S+ = )?atomicrmw (?:volatile )?\w+ (.*)$", re.MULTILINE)
+HOOKS = READ_HOOK, WRITE_HOOK, UPDATE_HOOK = "@__tsan_read_range", "@__tsan_write_range", "@__spbags_atomic_update"
 # clang has no call of these in a function that makes no other call.
 ENTRY, EXIT = "@__tsan_func_entry", "@__tsan_func_exit"
 FUNCTION = re.compile(r"^define .*?^}", re.MULTILINE | re.DOTALL)
@@ -117,12 +118,12 @@ def parts_of(text):
 
 
 class Notes:
-    """The calls of the hook."""
+    """The calls of these hooks."""
 
     def __init__(self):
         self.count = 0
 
-    def note(self, writes, pointer, size, line):
+    def note(self, hook, pointer, size, line):
         """POINTER with its type. The call stands at the line's place in the source."""
         place = re.search(r", !dbg !\d+", line)
         place, before = place[0] if place else "", ""
@@ -130,7 +131,7 @@ class Notes:
             self.count += 1
             before = f"  %__spbags.{self.count} = bitcast {pointer} to i8*{place}\n"
             pointer = f"i8* %__spbags.{self.count}"
-        return f"{before}  call void {HOOKS[writes]}({pointer}, i64 {size}){place}\n"
+        return f"{before}  call void {hook}({pointer}, i64 {size}){place}\n"
 
 
 class Module:
@@ -148,20 +149,24 @@ class Module:
         pointer = parts_of(match[2])[1]
         if "addrspace(" in pointer:
             return match[0]
-        return self.notes.note(match[1] == "store", pointer, size, match[0]) + match[0]
+        return self.notes.note(WRITE_HOOK if match[1] == "store" else READ_HOOK, pointer, size, match[0]) + match[0]
+
+    def update(self, match):
+        pointer, value = parts_of(match[1])[:2]
+        return self.notes.note(UPDATE_HOOK, pointer, self.types.size(value), match[0]) + match[0]
 
     def call(self, match):
         made = []
         for found in PASSED.finditer(match[0]):
             pointer = POINTER.match(match[0], found.end())
             end = closing(match[0], pointer.end()) if pointer[0].endswith("(") else pointer.end()
-            made.append(self.notes.note(False, f"{found[1]} {match[0][pointer.start():end]}", self.types.size(found[2]),
+            made.append(self.notes.note(READ_HOOK, f"{found[1]} {match[0][pointer.start():end]}", self.types.size(found[2]),
                                         match[0]))
         return "".join(made) + match[0]
 
     def function(self, match):
         """A function, which says where it begins and ends if a hook is called there."""
-        made = CALL.sub(self.call, ACCESS.sub(self.access, match[0]))
+        made = UPDATE.sub(self.update, CALL.sub(self.call, ACCESS.sub(self.access, match[0])))
         if made == match[0] or ENTRY in made:
             return made
         made = START.sub(lambda start: f"{start[0]}  call void {ENTRY}({self.pointer} null)\n", made, count=1)

@@ -201,6 +201,8 @@ void __tsan_init(void) {}
         is_atomic = false; \
         leave_guard(ATOMIC); \
     } while (false)
+/* What widths.py puts before an update that has no other hook. */
+void __spbags_atomic_update(void *at, size_t size) { ATOMICALLY(READ(at, size); WRITE(at, size)); }
 #define UPDATE(BITS, TYPE, NAME, NEW) \
     TYPE __tsan_atomic##BITS##_##NAME(volatile TYPE *at, TYPE value, int order) { \
         (void)order; \

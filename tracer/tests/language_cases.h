@@ -115,6 +115,11 @@ CASE(__atomic_store_n(AS(int, big), 3, __ATOMIC_RELAXED), W(big, 0, 4)) CASE(sin
 CASE(__atomic_fetch_add(AS(long, big), 3, __ATOMIC_SEQ_CST), W(big, 0, 8)) CASE(__sync_fetch_and_or(AS(short, big), 3), W(big, 0, 2))
 CASE(__sync_bool_compare_and_swap(AS(int, big), 0, 3), W(big, 0, 4)) CASE(__sync_lock_test_and_set(AS(int, big), 3), W(big, 0, 4))
 CASE(__atomic_exchange_n(AS(char, big), 3, __ATOMIC_SEQ_CST), W(big, 0, 1)) CASE(__sync_lock_release(AS(int, big)), W(big, 0, 4))
+#ifdef __clang__
+CASE(__atomic_fetch_max(AS(int, big), 3, __ATOMIC_RELAXED), W(big, 0, 4)) CASE(__atomic_fetch_min(AS(long, big), 3, __ATOMIC_SEQ_CST), W(big, 0, 8))
+CASE(__atomic_max_fetch(AS(unsigned short, big), 3, __ATOMIC_RELAXED), W(big, 0, 2)) CASE(__sync_fetch_and_umin(AS(unsigned, big), 3), W(big, 0, 4))
+CASE(__c11_atomic_fetch_max(ATOMIC_INT, 3, __ATOMIC_RELAXED), W(big, 0, 4)) CASE(__atomic_fetch_min(big, 3, __ATOMIC_RELAXED), W(big, 0, 1))
+#endif
 
 /* ---- Builtins, of sizes that the compiler knows ---- */
 CASE(__builtin_memcpy(big, other, 8), R(other, 0, 8), W(big, 0, 8)) CASE(__builtin_memset(big, 0, 8), W(big, 0, 8))
