@@ -11,8 +11,8 @@ import loops
 import reducers
 import source
 import spawns_cplusplus
-from tokens import (Refused, arguments_of, call_after, is_in_block, is_lvalue, own_constants, piece, statement_start,
-                    tokens_of, without)
+from tokens import (Refused, arguments_of, blanked, call_after, is_in_block, is_lvalue, own_constants, piece,
+                    statement_start, tokens_of, without)
 
 ASSIGNMENTS = {"=", "+=", "-=", "*=", "/=", "%=", "&=", "|=", "^=", "<<=", ">>="}
 LITERALS = {"string", "character", "number"}
@@ -23,6 +23,11 @@ INLINED = {"always_inline", "__always_inline__"}
 # By these a function's accesses would have no hooks. The tracer's own headers have functions that need none.
 UNSEEN = {f"{sign}{name}{sign}" for sign in ("", "__")
           for name in ("no_sanitize", "no_sanitize_thread", "disable_sanitizer_instrumentation")}
+
+# clang has a pragma that gives such an attribute to functions elsewhere.
+PRAGMA = re.compile(r"^[ \t]*#[ \t]*pragma[ \t]+clang[ \t]+attribute\b.*", re.MULTILINE)
+FROM_PRAGMA = re.compile(rf"(\b(?:gnu|clang)\s*::\s*)?\b(?:{'|'.join(sorted(INLINED | UNSEEN))})\b"
+                         r"(?:\s*\((?:[^()]|\([^()]*\))*\))?")
 
 # A source without any of these stays as it is.
 TOUCHED = re.compile("_Cilk_|_Hyperobject|always_inline|no_sanitize|disable_sanitizer|cilk_(?:spawn|sync|for|scope)")
@@ -119,6 +124,16 @@ class Spawn:
             f"__auto_type __spbags_result = {result};", *stored,
             f"__spbags_return({HELD}, sizeof __spbags_result); }}"]
         return self.here + declared + " ".join(made) + self.tokens[self.last].marker()
+
+
+def without_pragmas(text):
+    """The source in which no pragma gives such an attribute, but one that does nothing."""
+    made, done = [], 0
+    for found in PRAGMA.finditer(blanked(text)):
+        pragma = FROM_PRAGMA.sub(lambda name: ("clang::" if name[1] else "") + 'annotate("")', text[slice(*found.span())])
+        made += [text[done:found.start()], pragma]
+        done = found.end()
+    return "".join(made) + text[done:]
 
 
 def refused(text, why):
@@ -235,7 +250,7 @@ def rewritten(text, language):
     with the stores of what calls give."""
     if language != "gcc" and not TOUCHED.search(text):
         return text, []
-    text, refused_reducers = reducers.rewritten(text, language)
+    text, refused_reducers = reducers.rewritten(without_pragmas(text), language)
     has_loops = "_Cilk_for" in text
     if has_loops:
         text = without(text, IGNORED)

@@ -107,6 +107,16 @@ static void unsanitized(int *at); /* on one line with its store */
 CASE(unsanitized(AS(int, big)), W(big, 0, 4)) __attribute__((noinline, no_sanitize_thread)) static void unsanitized(int *at) { *at = 5; }
 static void without_sanitizers(int *at);
 CASE(without_sanitizers(AS(int, big)), W(big, 0, 4)) __attribute__((no_sanitize("thread", "address"))) static void without_sanitizers(int *at) { *at = 5; }
+#ifdef __clang__
+#pragma clang attribute push(__attribute__((no_sanitize("coverage", "thread"))), apply_to = function)
+CASE(*AS(int, big) = 6, W(big, 0, 4))
+#pragma clang attribute pop
+#pragma clang attribute push
+#pragma clang attribute (__attribute__((__always_inline__)), apply_to = function)
+#pragma clang attribute (__attribute__((disable_sanitizer_instrumentation)), apply_to = any(function))
+CASE(*AS(int, big) = 6, W(big, 0, 4))
+#pragma clang attribute pop
+#endif
 
 /* ---- Atomic ---- */
 #define ATOMIC_INT AS(_Atomic int, big)
