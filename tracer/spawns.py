@@ -1,4 +1,4 @@
-"""Rewrites the spawns and syncs of a preprocessed source into calls of the hooks, and stores that no hook would see.
+"""Rewrites the spawns and syncs of a preprocessed source into calls of the hooks.
 
 In C a spawn is a statement `f(..)`, `x = f(..)` or `x += f(..)` with the keyword before the call. What the parent
 evaluates comes first, into temporaries: the function, its arguments, the address of the result. Then the child is
@@ -142,35 +142,6 @@ def refused(text, why):
     return [f"{token.place()}: error: {why}" for token in tokens if token.text.startswith("_Cilk_")]
 
 
-def is_atomic(text, tokens, first):
-    """Whether the statement that begins here, or the block in which it stands, is OpenMP's `atomic`, which is no place
-    for anything else."""
-    starts = {first, tokens[first].around}
-    return any(re.search(r"pragma\s+omp\s+atomic\b", text[tokens[start - 1].end:tokens[start].start])
-               for start in starts if start)
-
-
-def rewritten_store(text, tokens, sign):
-    """The statement `x = f(..);` around this sign, and what stands for it: with gcc no hook sees the store of a struct
-    that a call gives, but it sees that of a variable. None for any other statement."""
-    opening = call_after(tokens, sign) if is_in_block(tokens, sign) else None
-    if opening is None:
-        return None
-    first, last = statement_start(tokens, sign), tokens[opening].partner + 1
-    if not is_one_target(tokens, first, sign) or not is_lvalue(tokens, first, sign):
-        return None
-    if any(token.text.startswith("_Cilk_") or token.text in REFUSED for token in tokens[first:last]):
-        return None
-    if is_atomic(text, tokens, first):
-        return None
-    if [token.text for token in tokens[last + 1:last + 3]] == ["}", ")"]:
-        return None  # the value of `({ .. })`
-    call = tokens[sign + 1].marker() + text[tokens[sign + 1].start:tokens[last].start]
-    target = tokens[first].marker() + text[tokens[first].start:tokens[sign].start]
-    store = tokens[sign].marker() + "= __spbags_t; }" + tokens[last].marker()
-    return first, last, f"{{ __auto_type __spbags_t = ({call});{target}{store}"
-
-
 def is_in_attribute(tokens, at):
     """Whether this stands in `__attribute__((..))` or `[[..]]`."""
     opening = tokens[at].around
@@ -178,7 +149,7 @@ def is_in_attribute(tokens, at):
         tokens[opening].text == "[" or tokens[opening - 2].text in ("__attribute__", "__attribute"))
 
 
-def edits_of(text, tokens, at, stores, language, waiting):
+def edits_of(text, tokens, at, language, waiting):
     """What has to be rewritten here: the indexes of the first and the last token, and their new text; and later edits,
     each of this form, or the index of a token and what comes behind it. Or None."""
     token = tokens[at]
@@ -205,23 +176,21 @@ def edits_of(text, tokens, at, stores, language, waiting):
         return (at, at, "__unused__"), []
     if token.text in UNSEEN and is_in_attribute(tokens, at) and not source.is_own(token.file[1:-1]):
         return (at, tokens[at + 1].partner if tokens[at + 1].text == "(" else at, "__unused__"), []
-    found = rewritten_store(text, tokens, at) if stores and token.text == "=" and not token.system else None
-    return (found, []) if found else None
+    return None
 
 
 class Rewriting:
     """A source that is rewritten from its first token to its last."""
 
     def __init__(self, text, language):
-        self.text, self.language, self.stores = text, language, language == "gcc"
+        self.text, self.language = text, language
         self.tokens = tokens_of(text)
         self.waiting = spawns_cplusplus.waiting_in(text, self.tokens) if language == "c++" else set()
         self.made, self.done, self.faults, self.behind, self.planned = [], 0, [], {}, {}
 
     def rewrite(self, at):
         try:
-            edits = self.planned.pop(at, None) or edits_of(self.text, self.tokens, at, self.stores, self.language,
-                                                           self.waiting)
+            edits = self.planned.pop(at, None) or edits_of(self.text, self.tokens, at, self.language, self.waiting)
         except Refused as refused:
             self.faults.append(f"{refused.token.place()}: error: {refused}")
             return
@@ -246,9 +215,8 @@ class Rewriting:
 
 
 def rewritten(text, language):
-    """The source with its spawns, loops, scopes and syncs rewritten, and a line for each that can't be; and with gcc
-    with the stores of what calls give."""
-    if language != "gcc" and not TOUCHED.search(text):
+    """The source with its spawns, loops, scopes and syncs rewritten, and a line for each that can't be."""
+    if not TOUCHED.search(text):
         return text, []
     text, refused_reducers = reducers.rewritten(without_pragmas(text), language)
     has_loops = "_Cilk_for" in text

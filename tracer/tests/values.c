@@ -13,6 +13,13 @@ struct Thirty2 { long a[4]; };
 struct Forty { double x[5]; };
 struct Forty8 { struct Three both[2]; };
 struct Odd { char many[77]; };
+struct Small { char many[3]; };
+struct Seven { char many[7]; };
+struct Fifteen { char many[15]; };
+struct Doubles { double x, y; };
+struct Bits { unsigned low : 3, high : 29; };
+typedef int Vector __attribute__((vector_size(16)));
+struct Wide { Vector both[2]; };
 struct Large { long many[100]; };
 struct Constant { const long a; long b[3]; };
 union Both { int whole[4]; double real; };
@@ -31,11 +38,20 @@ static union {
     struct Forty forty;
     struct Forty8 forty8;
     struct Odd odd;
+    struct Small small;
+    struct Seven seven;
+    struct Fifteen fifteen;
+    struct Doubles doubles;
+    struct Bits bits;
+    struct Wide wide;
+    Vector vector;
+    _Complex double complex;
+    __int128 integer;
     struct Large large;
     struct Constant constant;
     union Both both;
     struct Queue queue;
-} rooms[100];
+} rooms[200];
 #define room rooms[here]
 static volatile long sink, zero;
 static volatile char seen;
@@ -52,6 +68,12 @@ TAKER(struct Forty, forty)
 TAKER(struct Forty8, forty8)
 TAKER(struct Odd, odd)
 TAKER(struct Large, large)
+TAKER(struct Small, small)
+TAKER(struct Seven, seven)
+TAKER(struct Fifteen, fifteen)
+TAKER(struct Doubles, doubles)
+TAKER(struct Bits, bits)
+TAKER(struct Wide, wide)
 TAKER(union Both, both)
 TAKER(struct Constant, constant)
 
@@ -68,7 +90,7 @@ static struct Three *at(struct Three *first) { return first; }
 static struct test {
     void (*run)(void);
     int line, bytes;
-} tests[100];
+} tests[200];
 static int count;
 
 static void touch(char *from, int bytes, int writes) {
@@ -120,6 +142,15 @@ GETS(48, struct Forty8, room.forty8 = s)
 GETS(77, struct Odd, room.odd = s)
 GETS(800, struct Large, room.large = s)
 GETS(16, union Both, room.both = s)
+GETS(3, struct Small, room.small = s)
+GETS(7, struct Seven, room.seven = s)
+GETS(15, struct Fifteen, room.fifteen = s)
+GETS(16, struct Doubles, room.doubles = s)
+GETS(4, struct Bits, room.bits = s)
+GETS(32, struct Wide, room.wide = s)
+GETS(16, Vector, room.vector = s)
+GETS(16, _Complex double, room.complex = s)
+GETS(16, __int128, room.integer = s)
 GETS(48, struct Three, room.threes[0] = s; room.threes[1] = s)
 GETS(24, struct Three, if (s.a == 0) room.three = s)
 GETS(72, struct Three, for (int n = 0; n < 3; n++) room.threes[n] = s)
@@ -142,8 +173,17 @@ MAKES(40, struct Forty, room.forty = make())
 MAKES(77, struct Odd, room.odd = make())
 MAKES(800, struct Large, room.large = make())
 MAKES(16, union Both, room.both = make())
+MAKES(3, struct Small, room.small = make())
+MAKES(7, struct Seven, room.seven = make())
+MAKES(15, struct Fifteen, room.fifteen = make())
+MAKES(16, struct Doubles, room.doubles = make())
+MAKES(4, struct Bits, room.bits = make())
+MAKES(32, struct Wide, room.wide = make())
+MAKES(16, Vector, room.vector = make())
+MAKES(16, _Complex double, room.complex = make())
+MAKES(16, __int128, room.integer = make())
 MAKES(24, struct Three, struct Three *to = &room.three; *to++ = make())
-MAKES(24, struct Three, room.threes[zero] = pass(make()))
+MAKES(24, struct Three, room.threes[zero] = make())
 MAKES(8, struct Floats, *(struct Floats *)&room.bytes[zero] = make())
 MAKES(24, struct Three, sink = (*at(&room.three) = make()).b)
 MAKES(24, struct Three, struct Three own = make(); room.three = own)
@@ -162,6 +202,12 @@ READS(40, take_forty(room.forty))
 READS(48, take_forty8(room.forty8))
 READS(77, take_odd(room.odd))
 READS(800, take_large(room.large))
+READS(3, take_small(room.small))
+READS(7, take_seven(room.seven))
+READS(15, take_fifteen(room.fifteen))
+READS(16, take_doubles(room.doubles))
+READS(4, take_bits(room.bits))
+READS(32, take_wide(room.wide))
 READS(32, take_constant(room.constant))
 READS(16, take_both(room.both))
 READS(24, take_three(room.threes[zero]))
