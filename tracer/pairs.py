@@ -116,13 +116,19 @@ class Pair:
         names = {self.variable[name] for name in ("name", "expression") if self.variable.get(name)}
         return names | {f"{self.variable['function']}::{name}" for name in names if "function" in self.variable}
 
+    def lines(self):
+        return sorted((side.lead().file, side.lead().line) for side in self.sides)
+
     def suppression(self):
-        """The line that leaves this pair out, and others as little as may be; None where nothing has a name."""
-        variable = self.variable
-        if "name" in variable:
-            return f"variable:^{variable['function'] + '::' if 'function' in variable else ''}{variable['name']}$"
-        known = (side.lead().function for side in self.sides if not side.lead().function.startswith("?"))
-        return next((f"race:^{function}$" for function in known), None)
+        """The line that leaves out this pair alone; None where a line isn't known."""
+        (file, line), (other, other_line) = self.lines()
+        named = self.called()
+        return f"pair:{file}:{line} {other}:{other_line}{' ' + named if named else ''}" if line and other_line else None
+
+    def called(self):
+        """The variable's name, a local's by its function, or None."""
+        name = self.variable.get("name")
+        return f"{self.variable['function']}::{name}" if name and "function" in self.variable else name
 
     def is_guarded(self):
         """Whether it is known that it is no data race."""
@@ -499,11 +505,13 @@ Used = namedtuple("Used", "line pairs races")
 class Suppressions:
     """The lines `race:PATTERN` of a file, as ThreadSanitizer has them: what matches a part of a function's name or of a
     file's name on either stack is left out. `variable:PATTERN` is for a part of the variable's name. `*` matches
-    anything, `^` and `$` the name's beginning and end. ThreadSanitizer's other kinds of lines are passed over."""
+    anything, `^` and `$` the name's beginning and end. `pair:FILE:LINE FILE:LINE NAME` leaves out one pair, by the name
+    of its variable if it has one. ThreadSanitizer's other kinds of lines are passed over."""
     OTHERS = {"thread", "mutex", "signal", "deadlock", "called_from_lib", "race_top"}
+    PAIR = re.compile("(.+):([0-9]+) (.+):([0-9]+)(?: (.+))?")
 
     def __init__(self, name):
-        self.patterns, self.used = [], {}
+        self.tests, self.used = {}, {}
         with open(name, encoding="utf-8", errors="surrogateescape") as file:
             for number, line in enumerate(file.read().splitlines(), 1):
                 self.take(line.strip(), f"{name}:{number}")
@@ -512,21 +520,43 @@ class Suppressions:
         kind, colon, pattern = line.partition(":")
         if not line or line.startswith("#") or (colon and kind in self.OTHERS):
             return
-        if kind not in ("race", "variable") or not pattern:
-            raise Failure(f"{where}: expected race:FUNCTION, race:FILE or variable:NAME")
-        inner = pattern[pattern.startswith("^"):len(pattern) - pattern.endswith("$")]
-        expression = re.compile(("^" if pattern.startswith("^") else "") + source.pattern(inner) +
-                                ("$" if pattern.endswith("$") else ""))
-        self.patterns.append((line, kind, expression))
+        test = {"race": race_test, "variable": variable_test, "pair": pair_test}.get(kind, lambda _: None)(pattern)
+        if not test:
+            raise Failure(f"{where}: expected race:FUNCTION, race:FILE, variable:NAME or pair:FILE:LINE FILE:LINE NAME")
+        self.tests[line] = test
         self.used[line] = Used(line, 0, 0)
 
     def match(self, pair):
         """Whether a line leaves this out; each that does counts it."""
-        names = {"variable": pair.variable_names(),
-                 "race": {name for side in pair.sides for frame in side.stack
-                          for name in (frame.position.function, frame.position.file)}}
-        lines = {line for line, kind, expression in self.patterns if any(map(expression.search, names[kind]))}
+        lines = [line for line, test in self.tests.items() if test(pair)]
         for line in lines:
             used = self.used[line]
             self.used[line] = Used(line, used.pairs + 1, used.races + pair.races)
         return bool(lines)
+
+
+def expression_of(pattern):
+    """What finds a suppression's pattern in a name; None for no pattern."""
+    inner = pattern[pattern.startswith("^"):len(pattern) - pattern.endswith("$")]
+    return re.compile(("^" if pattern.startswith("^") else "") + source.pattern(inner) +
+                      ("$" if pattern.endswith("$") else "")).search if pattern else None
+
+
+def race_test(pattern):
+    finds = expression_of(pattern)
+    return finds and (lambda pair: any(map(finds, {name for side in pair.sides for frame in side.stack for name in
+                                                   (frame.position.function, frame.position.file)})))
+
+
+def variable_test(pattern):
+    finds = expression_of(pattern)
+    return finds and (lambda pair: any(map(finds, pair.variable_names())))
+
+
+def pair_test(pattern):
+    found = Suppressions.PAIR.fullmatch(pattern)
+    if not found:
+        return None
+    file, line, other, other_line, named = found.groups()
+    lines = sorted([(file, int(line)), (other, int(other_line))])
+    return lambda pair: (pair.lines(), pair.called()) == (lines, named)

@@ -130,9 +130,10 @@ def without_spawns(function):
 
 @functools.lru_cache
 def lines_of(file):
+    """As a compiler counts them: a form feed, say, ends none."""
     try:
-        with open(file, errors="replace") as source:
-            return source.read().splitlines()
+        with open(file, errors="replace", newline="\n") as source:
+            return source.read().split("\n")
     except OSError:
         return []
 

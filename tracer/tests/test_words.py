@@ -12,8 +12,9 @@ import cases
 from cases import SPBAGS_RUN, TESTS, TracerTest
 
 MISSING = ["private", "reduction", "atomic", "critical"]
-GENERATED = {"two": ["variable:^file$", "variable:^line$"], "own": ["variable:^of_an_own_member::own$"],
-             "heap": ["race:^add$"], "array": ["race:^set$"]}
+# Of a word's pairs the line, and the names of their variables.
+GENERATED = {"two": ("note", [" file", " line"]), "own": ("set", [" of_an_own_member::own"]), "heap": ("add", [""]),
+             "array": ("set", [""])}
 
 
 def blocks_of(text):
@@ -147,6 +148,16 @@ class TextTest(WordsTest):
         self.assertEqual(["10 locations: write races with write", "5 locations: write races with write",
                           "races 40, pairs of lines 3"], [block.splitlines()[0] for block in blocks[1:]])
 
+    def test_line_ends(self):
+        """A form feed ends no line of a source, nor does what else ends lines for Python."""
+        self.write("feeds.c", "int n;\n\f\v\nvoid up(void) {\n    n++; /* \x1c */\n}\n\nint main(void) {\n"
+                              "    _Cilk_spawn up();\n    up();\n}\n")
+        self.succeeds(cases.compiler_of("feeds.c"), "-w", "-o", "feeds", "feeds.c")
+        [pair] = self.pairs_of(program="./feeds")
+        self.assertEqual([(4, "n++; /* \x1c */")] * 2,
+                         [(pair[side]["user_frame"]["line"], pair[side]["user_frame"]["text"])
+                          for side in ("first", "second")])
+
     def test_equal_tails(self):
         """What both stacks have at their end is shown once."""
         rows = [re.split("  +", row.strip())[:2] for row in blocks_of(self.text_of("pairs"))[1].splitlines()[1:6]]
@@ -172,15 +183,18 @@ class TextTest(WordsTest):
 
 class SuppressionsTest(WordsTest):
     def test_generated(self):
-        """Each pair is left out by the lines that are printed for it, and no other."""
-        for word, wanted in GENERATED.items():
+        """Each pair is left out by the line that is printed for it, and no other."""
+        for word, (tag, names) in GENERATED.items():
             with self.subTest(word):
                 done = self.run_command(SPBAGS_RUN, "--gen-suppressions", "--output", "known", "--", "./words", word)
-                lines = [line for line in self.read("known").splitlines() if not line.startswith("#")]
-                self.assertEqual((1, wanted), (done.status, sorted(lines)))
-                other = "member" if word != "array" else "heap"
-                self.assertEqual([0, 1], [self.report_of("./words", name, options=("--suppress", "known"))[0]
-                                          for name in (word, other)])
+                lines = sorted(line for line in self.read("known").splitlines() if not line.startswith("#"))
+                place = f"{self.SOURCE}:{self.line_of(tag)}"
+                self.assertEqual((1, [f"pair:{place} {place}{name}" for name in names]), (done.status, lines))
+                self.assertEqual(0, self.report_of("./words", word, options=("--suppress", "known"))[0])
+                self.write("known", lines[0] + "\n")
+                left = self.pairs_of(word, options=("--suppress", "known"))
+                self.assertEqual(names[1:], [" " + pair["variable"]["name"] for pair in left])
+        self.assertEqual(1, self.report_of("./words", "heap", options=("--suppress", "known"))[0])
 
     def test_used(self):
         """Each line of the file says how often it matched."""

@@ -91,7 +91,7 @@ static void of_a_thread(void) {
     mine = 2;
 }
 
-static void add(double *at) { *at += 1; }
+static void add(double *at) { *at += 1; } /* [add] */
 
 static void of_the_heap(void) {
     double *numbers = calloc(20, sizeof *numbers); /* [numbers] */
