@@ -59,8 +59,11 @@ __attribute__((__always_inline__)) inline constexpr bool __spbags_compiles() {
 
 
 def declared(function, name):
-    """The function under a name of its own, which no header declares otherwise."""
+    """The function under a name of its own, which no header declares otherwise. A macro of the program's may have a
+    parameter's name."""
     prototype = function.declared("__spbags_to_" + name)
+    for parameter in filter(str.isidentifier, function.arguments()):
+        prototype = re.sub(rf"\b{parameter}(?=[,)])", "__" + parameter, prototype)
     for known, spelled in TYPES.items():
         prototype = re.sub(rf"\b{known}\b", spelled, prototype)
     return f'{prototype} __asm__("{name}") __attribute__((__nothrow__));'

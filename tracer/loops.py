@@ -282,7 +282,7 @@ class Loop:
             run = "__spbags_body(); __spbags_return(&__spbags_body, sizeof __spbags_body);"
             if self.at in self.waiting:
                 run = (f"try {{ {run} }} catch (...) {{ __spbags_ending __spbags_ended{{\"\", &__spbags_body, "
-                       "sizeof __spbags_body}; __spbags_here.keep(__spbags_ended); }")
+                       "sizeof __spbags_body}; __spbags_here.__keep(__spbags_ended); }")
             end = f"while (0); }}; __spbags_iteration(0, __spbags_shown({self.name}, __spbags_number)); {run} }} }}"
         return self.here + end + self.tokens[self.last].marker()
 

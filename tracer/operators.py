@@ -56,7 +56,8 @@ def pointer_sign(tokens, opening):
 
 def signature(name):
     """What gives the type of an object's member of this name, if it has one."""
-    taken = f"__spbags_signature_of(__spbags_any<decltype(&__spbags_referent<decltype(*__spbags_o)>::type::{name})>())"
+    member = f"__spbags_referent<decltype(*__spbags_o)>::__type::{name}"
+    taken = f"__spbags_signature_of(__spbags_any<decltype(&{member})>())"
     return f"[&](__spbags_spawned, auto *__spbags_o) -> decltype({taken}) {{ return {{}}; }}"
 
 

@@ -112,7 +112,7 @@ def sync(tokens, at, waiting):
     while start is not None and start not in waiting:
         is_last = tokens[start].text == ")" or begins_function(tokens, start)
         start = None if is_last else waits_at(tokens, start)
-    return "__spbags_sync()" if start is None else "(__spbags_sync(), __spbags_here.throw_again())"
+    return "__spbags_sync()" if start is None else "(__spbags_sync(), __spbags_here.__throw_again())"
 
 
 def end_of_expression(tokens, first):
@@ -274,7 +274,7 @@ class Spawn:
         declared = self.piece(self.first, sign - 2, own_constants(self.tokens, self.first, sign - 1))
         if "auto" in texts:
             return "return ", "", f"{'volatile ' if 'volatile' in texts else ''}decltype({self.function(True)}({{}}))"
-        plain = f"typename __spbags_plain<{self.piece(self.first, sign - 2)}>::type"
+        plain = f"typename __spbags_plain<{self.piece(self.first, sign - 2)}>::__type"
         return f"return {plain + '{' if self.is_braced else ''}", f" -> {plain}", declared
 
     def function(self, declares):
@@ -296,13 +296,13 @@ class Spawn:
         result, room = f"{made}({{}})", ""
         if self.keeps and self.may_be_reference(name):
             room = f"__spbags_room<decltype({result})> __spbags_room_{number}; "
-            result = f"__spbags_room_{number}.of({made}, __spbags_ended_{number}, __spbags_here)"
+            result = f"__spbags_room_{number}.__of({made}, __spbags_ended_{number}, __spbags_here)"
         elif self.keeps:
-            result = f"__spbags_result<decltype({result})>::of({made}, __spbags_ended_{number}, __spbags_here)"
+            result = f"__spbags_result<decltype({result})>::__of({made}, __spbags_ended_{number}, __spbags_here)"
         declared = f"__spbags_in_room<{kind}>" if room else kind
         return (f"{room}{declared} {self.piece(self.spawn - 2, self.spawn - 2)} = {result}; "
                 f"__spbags_check_local<{kind}>(); "
-                f"__spbags_ended_{number}.end(__builtin_addressof({name}), sizeof {name});")
+                f"__spbags_ended_{number}.__end(__builtin_addressof({name}), sizeof {name});")
 
     def edits(self):
         """What is put in place of tokens, and later edits: in place of others, or behind one."""
@@ -316,10 +316,10 @@ class Spawn:
         if declared:
             ends += self.declares(declared)
         elif self.keeps:
-            ends += (f"try {{ {made}({{}}); __spbags_ended.end(0, 0); }} "
-                     "catch (...) { __spbags_here.keep(__spbags_ended); } }")
+            ends += (f"try {{ {made}({{}}); __spbags_ended.__end(0, 0); }} "
+                     "catch (...) { __spbags_here.__keep(__spbags_ended); } }")
         else:
-            ends += f"{made}({{}}); __spbags_ended.end(0, 0); }}"
+            ends += f"{made}({{}}); __spbags_ended.__end(0, 0); }}"
         if self.is_braced and not kind:
             later.append((self.end, self.end, ""))
         later.append((self.last, self.here + ends + self.tokens[self.last].marker()))

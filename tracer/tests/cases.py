@@ -199,6 +199,12 @@ class TracerTest(unittest.TestCase):
         self.assertIn(text, " ".join(said.split()))
         return said
 
+    def compiles_with_macros(self, compiler, name, text, words):
+        """What comes before the source has no name that a macro of its own may have."""
+        self.write(name, text)
+        self.succeeds(compiler, *(f"-D{word}=1 +" for word in words.split()), "-o", "macros", name)
+        self.succeeds("./macros", SPBAGS_TRACE="run.trace")
+
     def prints_its_texts(self, compiler, plain, *options):
         """A program's strings are what another compiler makes of them."""
         source = os.path.join(TESTS, "texts.c")

@@ -25,6 +25,10 @@ int main(void) {
     printf("%d\n", cell + 1);
 }
 """
+# Names that the tracer's own headers once had.
+MACROS = """T a at b bits builtin byte call callee count each element file flag format from function index kind line list locked
+    mask n note number object piece place result room scale set shown sign size stream to type value view views whole
+    wide writes"""
 ENDLESS = """#include <cilk/cilk.h>
 #include <stdlib.h>
 int cell;
@@ -167,6 +171,10 @@ class CompileTest(TracerTest):
             self.write("none.c", NONE)
             if self.run_command(CC, "-w", "-o", "none", "none.c").status != 0:
                 self.ends_with(1, "undefined reference to", SPBAGS_CC, "-w", "-o", "none", "none.c")
+
+    def test_macros(self):
+        text = "#include <cilk/cilk.h>\nstatic void f(void) {}\nint main(void) { cilk_spawn f(); cilk_sync; return 0; }\n"
+        self.compiles_with_macros(SPBAGS_CC, "macros.c", text, MACROS)
 
     def test_strings(self):
         self.prints_its_texts(SPBAGS_CC, CC)

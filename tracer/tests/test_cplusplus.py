@@ -68,6 +68,10 @@ int main() {
     other = 1; // [third]
 }
 """
+# Names that the tracer's own headers once had, and the library's hasn't.
+MACROS = """A C COUNT Call Child Declared F Function Left Member More O Object One P R Right Seen Signature Statement T TYPE
+    Taken Text Unseen argument arguments callee code ended exists has_default has_empty is_copied is_made_ leaves locked
+    n passed place result_size scale shown statement taken throw_again thrown unseen unwinds views whole writes"""
 UNIT = {"SPBAGS_UNIT": "1"}
 
 
@@ -171,6 +175,11 @@ class CilkTest(CPlusPlusTest):
         with self.subTest("without Cilk's header"):
             self.build("loops", "thrown.cpp", "-Dcilk_for=_Cilk_for")
             self.reports(3, "thrown.cpp:3: an exception leaves a child here", "--", "./loops")
+
+    def test_macros(self):
+        text = "#include <cilk/cilk.h>\nstatic int f() { return 0; }\n" \
+               "int main() { try { int x = cilk_spawn f(); cilk_sync; return x; } catch (int) {} }\n"
+        self.compiles_with_macros(SPBAGS_CPLUSPLUS, "macros.cpp", text, MACROS)
 
     def test_strings(self):
         self.prints_its_texts(SPBAGS_CPLUSPLUS, "g++")

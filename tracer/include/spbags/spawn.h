@@ -1,49 +1,51 @@
 /* What a rewritten spawn of C++ calls; spawns_cplusplus.py has the text around it. A spawn's statement becomes a
    function, in which first the parent evaluates what is called and the arguments. What stands here then opens the
    child, and calls: from there on all that is left of the statement is the child's. What is handed over by value, the
-   type says of that which is called, if it has one. Overloaded functions and templates get references. */
+   type says of that which is called, if it has one. Overloaded functions and templates get references. All names are
+   reserved, as in spbags_cilk.h. */
 #ifndef SPBAGS_SPAWN_H
 #define SPBAGS_SPAWN_H
 
 extern "C" {
 /* The function that called the caller of this is a child from here on. Its code is there, as in the others. */
-void __spbags_detach(const void *code);
+void __spbags_detach(const void *__code);
 /* The parent reads an argument. */
-void __spbags_passed(const volatile void *at, unsigned long size, const void *code);
+void __spbags_passed(const volatile void *__at, unsigned long __size, const void *__code);
 /* The child of a statement has ended, if it was opened, and its function is of no use any more. It has stored its
    result here, if it has one; or an exception leaves it, at this place of the source. */
-void __spbags_end_child(const volatile void *function, unsigned long size, const void *code);
-void __spbags_stored_by(const volatile void *at, unsigned long size, const void *code);
-void __spbags_leave_child(const volatile void *function, unsigned long size, const char *place, const void *code);
+void __spbags_end_child(const volatile void *__function, unsigned long __size, const void *__code);
+void __spbags_stored_by(const volatile void *__at, unsigned long __size, const void *__code);
+void __spbags_leave_child(const volatile void *__function, unsigned long __size, const char *__place,
+                          const void *__code);
 /* The same of an exception that is kept, and so is no reason for a line; gives 0 if there was no child yet. */
-int __spbags_left_child(const volatile void *function, unsigned long size, const void *code);
+int __spbags_left_child(const volatile void *__function, unsigned long __size, const void *__code);
 }
 
 #if __cplusplus >= 201103L
 /* What such a function does isn't in the trace. */
-#define __SPBAGS_OUTSIDE __attribute__((no_sanitize_thread, noinline))
+#define __SPBAGS_OUTSIDE __attribute__((__no_sanitize_thread__, __noinline__))
 #define __SPBAGS_CODE __builtin_return_address(0)
 
 /* The end of a child, also by an exception. */
 struct __spbags_ending {
-    const char *place;
-    const volatile void *function;
-    unsigned long size;
+    const char *__place;
+    const volatile void *__function;
+    unsigned long __size;
     __SPBAGS_OUTSIDE ~__spbags_ending() {
-        if (place)
-            __spbags_leave_child(function, size, place, __SPBAGS_CODE);
+        if (__place)
+            __spbags_leave_child(__function, __size, __place, __SPBAGS_CODE);
     }
-    __SPBAGS_OUTSIDE void end(const volatile void *result, unsigned long result_size) {
-        if (!place)
+    __SPBAGS_OUTSIDE void __end(const volatile void *__result, unsigned long __result_size) {
+        if (!__place)
             return;
-        place = nullptr;
-        if (result_size > 0)
-            __spbags_stored_by(result, result_size, __SPBAGS_CODE);
-        __spbags_end_child(function, size, __SPBAGS_CODE);
+        __place = nullptr;
+        if (__result_size > 0)
+            __spbags_stored_by(__result, __result_size, __SPBAGS_CODE);
+        __spbags_end_child(__function, __size, __SPBAGS_CODE);
     }
-    __SPBAGS_OUTSIDE bool leaves() {
-        place = nullptr;
-        return __spbags_left_child(function, size, __SPBAGS_CODE);
+    __SPBAGS_OUTSIDE bool __leaves() {
+        __place = nullptr;
+        return __spbags_left_child(__function, __size, __SPBAGS_CODE);
     }
 };
 #endif
@@ -52,314 +54,321 @@ struct __spbags_ending {
 /* A parameter of the functions that a spawn is made of, by which reports know them. */
 struct __spbags_spawned {};
 
-template <class T> struct __spbags_referent { typedef T type; };
-template <class T> struct __spbags_referent<T &> : __spbags_referent<T> {};
-template <class T> struct __spbags_referent<T &&> : __spbags_referent<T> {};
-template <class T> struct __spbags_plain : __spbags_referent<T> {};
-template <class T> struct __spbags_plain<const T> : __spbags_referent<T> {};
-template <class T> struct __spbags_plain<volatile T> : __spbags_referent<T> {};
-template <class T> struct __spbags_plain<const volatile T> : __spbags_referent<T> {};
-template <class T> struct __spbags_plain<T &> : __spbags_plain<T> {};
-template <class T> struct __spbags_plain<T &&> : __spbags_plain<T> {};
-template <class T> T &&__spbags_any();
+template <class __T> struct __spbags_referent { typedef __T __type; };
+template <class __T> struct __spbags_referent<__T &> : __spbags_referent<__T> {};
+template <class __T> struct __spbags_referent<__T &&> : __spbags_referent<__T> {};
+template <class __T> struct __spbags_plain : __spbags_referent<__T> {};
+template <class __T> struct __spbags_plain<const __T> : __spbags_referent<__T> {};
+template <class __T> struct __spbags_plain<volatile __T> : __spbags_referent<__T> {};
+template <class __T> struct __spbags_plain<const volatile __T> : __spbags_referent<__T> {};
+template <class __T> struct __spbags_plain<__T &> : __spbags_plain<__T> {};
+template <class __T> struct __spbags_plain<__T &&> : __spbags_plain<__T> {};
+template <class __T> __T &&__spbags_any();
 
-template <class T> constexpr bool __spbags_is_struct() { return __is_class(T) || __is_union(T); }
-template <class T> constexpr bool __spbags_is_copied() {
-    return __is_trivially_copyable(T) && __is_constructible(T, const T &);
+template <class __T> constexpr bool __spbags_is_struct() { return __is_class(__T) || __is_union(__T); }
+template <class __T> constexpr bool __spbags_is_copied() {
+    return __is_trivially_copyable(__T) && __is_constructible(__T, const __T &);
 }
 
 /* ---- The result ---- */
 
 /* No hook sees the read of a constant, and a reference is no variable that gets a result. */
-template <class T> struct __spbags_is_local { enum { value = true }; };
-template <class T> struct __spbags_is_local<const T> { enum { value = false }; };
-template <class T> struct __spbags_is_local<T &> { enum { value = false }; };
-template <class T> struct __spbags_is_local<T &&> { enum { value = false }; };
-template <class T> constexpr void __spbags_check_local() {
-    static_assert(__spbags_is_local<T>::value,
+template <class __T> struct __spbags_is_local { enum { __value = true }; };
+template <class __T> struct __spbags_is_local<const __T> { enum { __value = false }; };
+template <class __T> struct __spbags_is_local<__T &> { enum { __value = false }; };
+template <class __T> struct __spbags_is_local<__T &&> { enum { __value = false }; };
+template <class __T> constexpr void __spbags_check_local() {
+    static_assert(__spbags_is_local<__T>::__value,
                   "a spawn can't be traced in this declaration: declare the variable before it");
 }
 
 /* ---- The parameters of what is called ---- */
 
-template <class R, class... P> struct __spbags_signature {};
+template <class __R, class... __P> struct __spbags_signature {};
 struct __spbags_no_signature {};
 
-template <class R, class... P> __spbags_signature<R, P...> __spbags_signature_of(R (*)(P...));
-#define __SPBAGS_MEMBER(QUALIFIERS) \
-    template <class R, class C, class... P> \
-    __spbags_signature<R, P...> __spbags_signature_of(R (C::*)(P...) QUALIFIERS);
-#define __SPBAGS_MEMBERS(QUALIFIERS) __SPBAGS_MEMBER(QUALIFIERS)
+template <class __R, class... __P> __spbags_signature<__R, __P...> __spbags_signature_of(__R (*)(__P...));
+#define __SPBAGS_MEMBER(__QUALIFIERS) \
+    template <class __R, class __C, class... __P> \
+    __spbags_signature<__R, __P...> __spbags_signature_of(__R (__C::*)(__P...) __QUALIFIERS);
+#define __SPBAGS_MEMBERS(__QUALIFIERS) __SPBAGS_MEMBER(__QUALIFIERS)
 #if __cpp_noexcept_function_type
 #undef __SPBAGS_MEMBERS
-#define __SPBAGS_MEMBERS(QUALIFIERS) __SPBAGS_MEMBER(QUALIFIERS) __SPBAGS_MEMBER(QUALIFIERS noexcept)
+#define __SPBAGS_MEMBERS(__QUALIFIERS) __SPBAGS_MEMBER(__QUALIFIERS) __SPBAGS_MEMBER(__QUALIFIERS noexcept)
 #endif
 __SPBAGS_MEMBERS() __SPBAGS_MEMBERS(const) __SPBAGS_MEMBERS(volatile) __SPBAGS_MEMBERS(const volatile)
 __SPBAGS_MEMBERS(&) __SPBAGS_MEMBERS(const &) __SPBAGS_MEMBERS(volatile &) __SPBAGS_MEMBERS(const volatile &)
 __SPBAGS_MEMBERS(&&) __SPBAGS_MEMBERS(const &&) __SPBAGS_MEMBERS(volatile &&) __SPBAGS_MEMBERS(const volatile &&)
 
 /* Those of a function, or of an object that can be called in one way alone. */
-template <class F> auto __spbags_taken(F *function, int) -> decltype(__spbags_signature_of(function));
-template <class C>
-auto __spbags_taken(C &&, int) -> decltype(__spbags_signature_of(&__spbags_plain<C>::type::operator()));
-template <class F> __spbags_no_signature __spbags_taken(F &&, long);
+template <class __F> auto __spbags_taken(__F *__function, int) -> decltype(__spbags_signature_of(__function));
+template <class __C>
+auto __spbags_taken(__C &&, int) -> decltype(__spbags_signature_of(&__spbags_plain<__C>::__type::operator()));
+template <class __F> __spbags_no_signature __spbags_taken(__F &&, long);
 
 /* Those of a member that is an object itself. */
-template <class T, class C>
-auto __spbags_signature_of(T C::*) -> decltype(__spbags_taken(__spbags_any<T &>(), 0));
+template <class __T, class __C>
+auto __spbags_signature_of(__T __C::*) -> decltype(__spbags_taken(__spbags_any<__T &>(), 0));
 
 /* The first n, as the others have defaults. */
 enum : unsigned { __spbags_all = ~0u };
-template <unsigned n, class Taken, class Left> struct __spbags_first { typedef Taken type; };
-template <unsigned n, class R, class... Taken, class P, class... Left>
-struct __spbags_first<n, __spbags_signature<R, Taken...>, __spbags_signature<R, P, Left...>>
-    : __spbags_first<n - 1, __spbags_signature<R, Taken..., P>, __spbags_signature<R, Left...>> {};
-template <class R, class... Taken, class P, class... Left>
-struct __spbags_first<0, __spbags_signature<R, Taken...>, __spbags_signature<R, P, Left...>> {
-    typedef __spbags_signature<R, Taken...> type;
+template <unsigned __n, class __Taken, class __Left> struct __spbags_first { typedef __Taken __type; };
+template <unsigned __n, class __R, class... __Taken, class __P, class... __Left>
+struct __spbags_first<__n, __spbags_signature<__R, __Taken...>, __spbags_signature<__R, __P, __Left...>>
+    : __spbags_first<__n - 1, __spbags_signature<__R, __Taken..., __P>, __spbags_signature<__R, __Left...>> {};
+template <class __R, class... __Taken, class __P, class... __Left>
+struct __spbags_first<0, __spbags_signature<__R, __Taken...>, __spbags_signature<__R, __P, __Left...>> {
+    typedef __spbags_signature<__R, __Taken...> __type;
 };
-template <unsigned n, class Signature> struct __spbags_cut { typedef Signature type; };
-template <unsigned n, class R, class... P>
-struct __spbags_cut<n, __spbags_signature<R, P...>>
-    : __spbags_first<n, __spbags_signature<R>, __spbags_signature<R, P...>> {};
+template <unsigned __n, class __Signature> struct __spbags_cut { typedef __Signature __type; };
+template <unsigned __n, class __R, class... __P>
+struct __spbags_cut<__n, __spbags_signature<__R, __P...>>
+    : __spbags_first<__n, __spbags_signature<__R>, __spbags_signature<__R, __P...>> {};
 
 /* ---- How arguments are handed over ---- */
 
 /* Where no type says it, what is small may be handed over by value. A read of it by the parent is none too many, as
    long as the child uses it. */
-template <class T, bool is_copied = __spbags_is_copied<T>()> struct __spbags_small {
-    template <class A> static void pass(const A &, const void *) {}
+template <class __T, bool __is_copied = __spbags_is_copied<__T>()> struct __spbags_small {
+    template <class __A> static void __pass(const __A &, const void *) {}
 };
-template <class T> struct __spbags_small<T, true> {
-    __SPBAGS_OUTSIDE static void pass(const volatile T &argument, const void *code) {
-        if (sizeof(T) <= 16)
-            __spbags_passed(&reinterpret_cast<const volatile char &>(argument), sizeof(T), code);
+template <class __T> struct __spbags_small<__T, true> {
+    __SPBAGS_OUTSIDE static void __pass(const volatile __T &__argument, const void *__code) {
+        if (sizeof(__T) <= 16)
+            __spbags_passed(&reinterpret_cast<const volatile char &>(__argument), sizeof(__T), __code);
     }
 };
 
 /* ---- The child, which is called with the arguments ---- */
 
-template <class Call, class Signature> struct __spbags_child;
+template <class __Call, class __Signature> struct __spbags_child;
 
-template <class Call, class R, class... P> struct __spbags_child<Call, __spbags_signature<R, P...>> {
-    Call call;
-    __SPBAGS_OUTSIDE R operator()(P... arguments) {
+template <class __Call, class __R, class... __P> struct __spbags_child<__Call, __spbags_signature<__R, __P...>> {
+    __Call __call;
+    __SPBAGS_OUTSIDE __R operator()(__P... __arguments) {
         __spbags_detach(__SPBAGS_CODE);
-        return call(static_cast<P &&>(arguments)...);
+        return __call(static_cast<__P &&>(__arguments)...);
     }
 };
 
 /* The parent reads these arguments, and of an object the table of virtual functions. */
-template <class... A> __SPBAGS_OUTSIDE void __spbags_pass(const void *code, const A &...arguments) {
-    const int passed[] = {0, (__spbags_small<A>::pass(arguments, code), 0)...};
-    (void)passed, (void)code;
+template <class... __A> __SPBAGS_OUTSIDE void __spbags_pass(const void *__code, const __A &...__arguments) {
+    const int __passed[] = {0, (__spbags_small<__A>::__pass(__arguments, __code), 0)...};
+    (void)__passed, (void)__code;
 }
-template <class O> __SPBAGS_OUTSIDE void __spbags_pass_table(const void *code, const O &object) {
-    if (__is_polymorphic(O))
-        __spbags_passed(&reinterpret_cast<const volatile char &>(object), sizeof(void *), code);
+template <class __O> __SPBAGS_OUTSIDE void __spbags_pass_table(const void *__code, const __O &__object) {
+    if (__is_polymorphic(__O))
+        __spbags_passed(&reinterpret_cast<const volatile char &>(__object), sizeof(void *), __code);
 }
 
 /* A call by an address or a reference; by the program's text, and by its text behind an object; by an operator, and
    whether that is a member; and by a pointer to a member. */
-#define __SPBAGS_CALL(CALL) \
-    template <class... A> __SPBAGS_OUTSIDE decltype(auto) operator()(A &&...arguments) { return CALL; }
-template <class F> struct __spbags_direct {
-    F function;
-    __SPBAGS_CALL(static_cast<F &&>(function)(static_cast<A &&>(arguments)...))
+#define __SPBAGS_CALL(__CALL) \
+    template <class... __A> __SPBAGS_OUTSIDE decltype(auto) operator()(__A &&...__arguments) { return __CALL; }
+template <class __F> struct __spbags_direct {
+    __F __function;
+    __SPBAGS_CALL(static_cast<__F &&>(__function)(static_cast<__A &&>(__arguments)...))
 };
-template <class Text> struct __spbags_by_text {
-    Text text;
-    __SPBAGS_CALL(text(__spbags_spawned(), static_cast<A &&>(arguments)...))
+template <class __Text> struct __spbags_by_text {
+    __Text __text;
+    __SPBAGS_CALL(__text(__spbags_spawned(), static_cast<__A &&>(__arguments)...))
 };
-template <class O, class Text> struct __spbags_of_object {
-    O object;
-    Text text;
-    __SPBAGS_CALL(text(__spbags_spawned(), static_cast<O &&>(object), static_cast<A &&>(arguments)...))
+template <class __O, class __Text> struct __spbags_of_object {
+    __O __object;
+    __Text __text;
+    __SPBAGS_CALL(__text(__spbags_spawned(), static_cast<__O &&>(__object), static_cast<__A &&>(__arguments)...))
 };
-template <class O, class Text, class Member> struct __spbags_by_operator {
-    __spbags_of_object<O, Text> of;
-    Member member;
-    __SPBAGS_CALL(of(static_cast<A &&>(arguments)...))
+template <class __O, class __Text, class __Member> struct __spbags_by_operator {
+    __spbags_of_object<__O, __Text> __of;
+    __Member __member;
+    __SPBAGS_CALL(__of(static_cast<__A &&>(__arguments)...))
 };
-template <class O, class F> struct __spbags_by_pointer {
-    O object;
-    F pointer;
-    __SPBAGS_CALL((static_cast<O &&>(object).*pointer)(static_cast<A &&>(arguments)...))
+template <class __O, class __F> struct __spbags_by_pointer {
+    __O __object;
+    __F __pointer;
+    __SPBAGS_CALL((static_cast<__O &&>(__object).*__pointer)(static_cast<__A &&>(__arguments)...))
 };
 #undef __SPBAGS_CALL
 
 /* The left operand is an argument too, unless the operator is its member. */
-template <class O, class Member, class... A>
+template <class __O, class __Member, class... __A>
 constexpr auto __spbags_is_member(int)
-    -> decltype(__spbags_any<const Member &>()(__spbags_spawned(), __spbags_any<O>(), __spbags_any<A>()...), true) {
+    -> decltype(__spbags_any<const __Member &>()(__spbags_spawned(), __spbags_any<__O>(), __spbags_any<__A>()...),
+                true) {
     return true;
 }
-template <class O, class Member, class... A> constexpr bool __spbags_is_member(long) { return false; }
-template <class... A, class Call> __SPBAGS_OUTSIDE void __spbags_pass_left(const void *, const Call &) {}
-template <class... A, class O, class Text, class Member>
-__SPBAGS_OUTSIDE void __spbags_pass_left(const void *code, const __spbags_by_operator<O, Text, Member> &call) {
-    if (!__spbags_is_member<O, Member, A...>(0))
-        __spbags_pass(code, call.of.object);
+template <class __O, class __Member, class... __A> constexpr bool __spbags_is_member(long) { return false; }
+template <class... __A, class __Call> __SPBAGS_OUTSIDE void __spbags_pass_left(const void *, const __Call &) {}
+template <class... __A, class __O, class __Text, class __Member>
+__SPBAGS_OUTSIDE void __spbags_pass_left(const void *__code,
+                                         const __spbags_by_operator<__O, __Text, __Member> &__call) {
+    if (!__spbags_is_member<__O, __Member, __A...>(0))
+        __spbags_pass(__code, __call.__of.__object);
 }
 
-template <class Call> struct __spbags_child<Call, __spbags_no_signature> {
-    Call call;
+template <class __Call> struct __spbags_child<__Call, __spbags_no_signature> {
+    __Call __call;
 
-    template <class... A> __SPBAGS_OUTSIDE decltype(auto) operator()(A &&...arguments) {
-        __spbags_pass_left<A &&...>(__SPBAGS_CODE, call);
-        __spbags_pass(__SPBAGS_CODE, arguments...);
+    template <class... __A> __SPBAGS_OUTSIDE decltype(auto) operator()(__A &&...__arguments) {
+        __spbags_pass_left<__A &&...>(__SPBAGS_CODE, __call);
+        __spbags_pass(__SPBAGS_CODE, __arguments...);
         __spbags_detach(__SPBAGS_CODE);
-        return call(static_cast<A &&>(arguments)...);
+        return __call(static_cast<__A &&>(__arguments)...);
     }
 };
 
 /* The same by an operator that assigns. */
-template <class Child> struct __spbags_assigning;
-template <class Call, class R, class P> struct __spbags_assigning<__spbags_child<Call, __spbags_signature<R, P>>> {
-    __spbags_child<Call, __spbags_signature<R, P>> child;
-    __SPBAGS_OUTSIDE R operator+=(P argument) {
+template <class __Child> struct __spbags_assigning;
+template <class __Call, class __R, class __P>
+struct __spbags_assigning<__spbags_child<__Call, __spbags_signature<__R, __P>>> {
+    __spbags_child<__Call, __spbags_signature<__R, __P>> __child;
+    __SPBAGS_OUTSIDE __R operator+=(__P __argument) {
         __spbags_detach(__SPBAGS_CODE);
-        return child.call(static_cast<P &&>(argument));
+        return __child.__call(static_cast<__P &&>(__argument));
     }
 };
-template <class Call> struct __spbags_assigning<__spbags_child<Call, __spbags_no_signature>> {
-    __spbags_child<Call, __spbags_no_signature> child;
-    template <class A> __SPBAGS_OUTSIDE decltype(auto) operator+=(A &&argument) {
-        __spbags_pass_left<A &&>(__SPBAGS_CODE, child.call);
-        __spbags_pass(__SPBAGS_CODE, argument);
+template <class __Call> struct __spbags_assigning<__spbags_child<__Call, __spbags_no_signature>> {
+    __spbags_child<__Call, __spbags_no_signature> __child;
+    template <class __A> __SPBAGS_OUTSIDE decltype(auto) operator+=(__A &&__argument) {
+        __spbags_pass_left<__A &&>(__SPBAGS_CODE, __child.__call);
+        __spbags_pass(__SPBAGS_CODE, __argument);
         __spbags_detach(__SPBAGS_CODE);
-        return child.call(static_cast<A &&>(argument));
+        return __child.__call(static_cast<__A &&>(__argument));
     }
 };
-template <class Child> __SPBAGS_OUTSIDE auto __spbags_assigned(const Child &child) {
-    return __spbags_assigning<Child>{child};
+template <class __Child> __SPBAGS_OUTSIDE auto __spbags_assigned(const __Child &__child) {
+    return __spbags_assigning<__Child>{__child};
 }
 
 /* ---- What a statement calls, with n arguments or with any number behind ---- */
 
 /* A function's address, or an object. */
-template <unsigned n, class F> __SPBAGS_OUTSIDE auto __spbags_expression(F *function) {
-    typedef decltype(__spbags_taken(function, 0)) signature;
-    return __spbags_child<__spbags_direct<F *>, typename __spbags_cut<n, signature>::type>{{function}};
+template <unsigned __n, class __F> __SPBAGS_OUTSIDE auto __spbags_expression(__F *__function) {
+    typedef decltype(__spbags_taken(__function, 0)) __signature;
+    return __spbags_child<__spbags_direct<__F *>, typename __spbags_cut<__n, __signature>::__type>{{__function}};
 }
-template <unsigned n, class C> __SPBAGS_OUTSIDE auto __spbags_expression(C &&object) {
-    typedef decltype(__spbags_taken(object, 0)) signature;
-    typedef __spbags_child<__spbags_direct<C &&>, typename __spbags_cut<n, signature>::type> child;
-    return child{{static_cast<C &&>(object)}};
+template <unsigned __n, class __C> __SPBAGS_OUTSIDE auto __spbags_expression(__C &&__object) {
+    typedef decltype(__spbags_taken(__object, 0)) __signature;
+    typedef __spbags_child<__spbags_direct<__C &&>, typename __spbags_cut<__n, __signature>::__type> __child;
+    return __child{{static_cast<__C &&>(__object)}};
 }
 
 /* What a name names, where that has one type: a function, a variable that has one's address, or an object. */
-template <class R, class... P> __SPBAGS_OUTSIDE auto __spbags_one(R (&function)(P...), int) -> R (&)(P...) {
-    return function;
+template <class __R, class... __P>
+__SPBAGS_OUTSIDE auto __spbags_one(__R (&__function)(__P...), int) -> __R (&)(__P...) {
+    return __function;
 }
-template <class F>
-__SPBAGS_OUTSIDE auto __spbags_one(F *function, long)
-    -> decltype(__spbags_signature_of(function), static_cast<F *>(function)) {
-    return function;
+template <class __F>
+__SPBAGS_OUTSIDE auto __spbags_one(__F *__function, long)
+    -> decltype(__spbags_signature_of(__function), static_cast<__F *>(__function)) {
+    return __function;
 }
-template <class C> __SPBAGS_OUTSIDE auto __spbags_one(C &object, long) -> decltype(&C::operator(), object) {
-    return object;
-}
-
-template <unsigned n, class R, class... P, class Seen>
-__SPBAGS_OUTSIDE auto __spbags_name_call(R (&)(P...), const Seen &seen) {
-    typedef typename __spbags_cut<n, __spbags_signature<R, P...>>::type signature;
-    return __spbags_child<__spbags_by_text<Seen>, signature>{{seen}};
-}
-template <unsigned n, class F, class Seen>
-__SPBAGS_OUTSIDE auto __spbags_name_call(F *&&function, const Seen &) {
-    return __spbags_expression<n>(function);
-}
-template <unsigned n, class C, class Seen>
-__SPBAGS_OUTSIDE auto __spbags_name_call(C &object, const Seen &seen) {
-    typedef typename __spbags_cut<n, decltype(__spbags_taken(object, 0))>::type signature;
-    return __spbags_child<__spbags_by_text<Seen>, signature>{{seen}};
+template <class __C> __SPBAGS_OUTSIDE auto __spbags_one(__C &__object, long) -> decltype(&__C::operator(), __object) {
+    return __object;
 }
 
-template <unsigned n, class One, class Seen, class Unseen>
-__SPBAGS_OUTSIDE auto __spbags_name(const One &one, const Seen &seen, const Unseen &, int)
-    -> decltype(__spbags_name_call<n>(one(__spbags_spawned(), 0), seen)) {
-    return __spbags_name_call<n>(one(__spbags_spawned(), 0), seen);
+template <unsigned __n, class __R, class... __P, class __Seen>
+__SPBAGS_OUTSIDE auto __spbags_name_call(__R (&)(__P...), const __Seen &__seen) {
+    typedef typename __spbags_cut<__n, __spbags_signature<__R, __P...>>::__type __signature;
+    return __spbags_child<__spbags_by_text<__Seen>, __signature>{{__seen}};
 }
-template <unsigned n, class One, class Seen, class Unseen>
-__SPBAGS_OUTSIDE auto __spbags_name(const One &, const Seen &, const Unseen &unseen, long) {
-    return __spbags_child<__spbags_by_text<Unseen>, __spbags_no_signature>{{unseen}};
+template <unsigned __n, class __F, class __Seen>
+__SPBAGS_OUTSIDE auto __spbags_name_call(__F *&&__function, const __Seen &) {
+    return __spbags_expression<__n>(__function);
+}
+template <unsigned __n, class __C, class __Seen>
+__SPBAGS_OUTSIDE auto __spbags_name_call(__C &__object, const __Seen &__seen) {
+    typedef typename __spbags_cut<__n, decltype(__spbags_taken(__object, 0))>::__type __signature;
+    return __spbags_child<__spbags_by_text<__Seen>, __signature>{{__seen}};
+}
+
+template <unsigned __n, class __One, class __Seen, class __Unseen>
+__SPBAGS_OUTSIDE auto __spbags_name(const __One &__one, const __Seen &__seen, const __Unseen &, int)
+    -> decltype(__spbags_name_call<__n>(__one(__spbags_spawned(), 0), __seen)) {
+    return __spbags_name_call<__n>(__one(__spbags_spawned(), 0), __seen);
+}
+template <unsigned __n, class __One, class __Seen, class __Unseen>
+__SPBAGS_OUTSIDE auto __spbags_name(const __One &, const __Seen &, const __Unseen &__unseen, long) {
+    return __spbags_child<__spbags_by_text<__Unseen>, __spbags_no_signature>{{__unseen}};
 }
 
 /* A member of an object. */
-template <class T> __SPBAGS_OUTSIDE T *__spbags_pointed(T *object) { return object; }
-template <class T> __SPBAGS_OUTSIDE auto __spbags_pointed(T &&object) {
-    return __spbags_pointed(object.operator->());
+template <class __T> __SPBAGS_OUTSIDE __T *__spbags_pointed(__T *__object) { return __object; }
+template <class __T> __SPBAGS_OUTSIDE auto __spbags_pointed(__T &&__object) {
+    return __spbags_pointed(__object.operator->());
 }
 
-template <unsigned n, class O, class Seen, class Unseen, class R, class... P>
-__SPBAGS_OUTSIDE auto __spbags_member_call(const void *, O &&object, const Seen &seen, const Unseen &,
-                                           __spbags_signature<R, P...>) {
-    typedef typename __spbags_cut<n, __spbags_signature<R, P...>>::type signature;
-    return __spbags_child<__spbags_of_object<O &&, Seen>, signature>{{static_cast<O &&>(object), seen}};
+template <unsigned __n, class __O, class __Seen, class __Unseen, class __R, class... __P>
+__SPBAGS_OUTSIDE auto __spbags_member_call(const void *, __O &&__object, const __Seen &__seen, const __Unseen &,
+                                           __spbags_signature<__R, __P...>) {
+    typedef typename __spbags_cut<__n, __spbags_signature<__R, __P...>>::__type __signature;
+    return __spbags_child<__spbags_of_object<__O &&, __Seen>, __signature>{{static_cast<__O &&>(__object), __seen}};
 }
-template <unsigned n, class O, class Seen, class Unseen>
-__SPBAGS_OUTSIDE auto __spbags_member_call(const void *code, O &&object, const Seen &, const Unseen &unseen,
+template <unsigned __n, class __O, class __Seen, class __Unseen>
+__SPBAGS_OUTSIDE auto __spbags_member_call(const void *__code, __O &&__object, const __Seen &, const __Unseen &__unseen,
                                            __spbags_no_signature) {
-    __spbags_pass_table(code, object);
-    typedef __spbags_child<__spbags_of_object<O &&, Unseen>, __spbags_no_signature> child;
-    return child{{static_cast<O &&>(object), unseen}};
+    __spbags_pass_table(__code, __object);
+    typedef __spbags_child<__spbags_of_object<__O &&, __Unseen>, __spbags_no_signature> __child;
+    return __child{{static_cast<__O &&>(__object), __unseen}};
 }
 
-template <class O> constexpr typename __spbags_referent<O>::type *__spbags_pointer() { return nullptr; }
-template <unsigned n, class O, class Seen, class Unseen, class Taken>
-__SPBAGS_OUTSIDE auto __spbags_member(O &&object, const Seen &seen, const Unseen &unseen, const Taken &taken, int)
-    -> decltype(__spbags_member_call<n>(nullptr, static_cast<O &&>(object), seen, unseen,
-                                        taken(__spbags_spawned(), __spbags_pointer<O>()))) {
-    return __spbags_member_call<n>(__SPBAGS_CODE, static_cast<O &&>(object), seen, unseen,
-                                   taken(__spbags_spawned(), __spbags_pointer<O>()));
+template <class __O> constexpr typename __spbags_referent<__O>::__type *__spbags_pointer() { return nullptr; }
+template <unsigned __n, class __O, class __Seen, class __Unseen, class __Taken>
+__SPBAGS_OUTSIDE auto __spbags_member(__O &&__object, const __Seen &__seen, const __Unseen &__unseen,
+                                      const __Taken &__taken, int)
+    -> decltype(__spbags_member_call<__n>(nullptr, static_cast<__O &&>(__object), __seen, __unseen,
+                                        __taken(__spbags_spawned(), __spbags_pointer<__O>()))) {
+    return __spbags_member_call<__n>(__SPBAGS_CODE, static_cast<__O &&>(__object), __seen, __unseen,
+                                   __taken(__spbags_spawned(), __spbags_pointer<__O>()));
 }
-template <unsigned n, class O, class Seen, class Unseen, class Taken>
-__SPBAGS_OUTSIDE auto __spbags_member(O &&object, const Seen &seen, const Unseen &unseen, const Taken &, long) {
-    return __spbags_member_call<n>(__SPBAGS_CODE, static_cast<O &&>(object), seen, unseen, __spbags_no_signature());
+template <unsigned __n, class __O, class __Seen, class __Unseen, class __Taken>
+__SPBAGS_OUTSIDE auto __spbags_member(__O &&__object, const __Seen &__seen, const __Unseen &__unseen, const __Taken &,
+                                      long) {
+    return __spbags_member_call<__n>(__SPBAGS_CODE, static_cast<__O &&>(__object), __seen, __unseen,
+                                     __spbags_no_signature());
 }
 
 /* An operator, of which the n-th and last operand isn't there yet. */
-template <class T> constexpr bool __spbags_is_own() { return __spbags_is_struct<T>() || __is_enum(T); }
-template <class Left, class Right = int> constexpr bool __spbags_may_overload() {
-    return __spbags_is_own<typename __spbags_referent<Left>::type>() ||
-           __spbags_is_own<typename __spbags_referent<Right>::type>();
+template <class __T> constexpr bool __spbags_is_own() { return __spbags_is_struct<__T>() || __is_enum(__T); }
+template <class __Left, class __Right = int> constexpr bool __spbags_may_overload() {
+    return __spbags_is_own<typename __spbags_referent<__Left>::__type>() ||
+           __spbags_is_own<typename __spbags_referent<__Right>::__type>();
 }
-template <unsigned n, class O, class Seen, class Unseen, class Taken, class Member>
-__SPBAGS_OUTSIDE auto __spbags_operator(O &&object, const Seen &seen, const Unseen &unseen, const Taken &taken,
-                                        const Member &, int)
-    -> decltype(__spbags_member_call<n>(nullptr, static_cast<O &&>(object), seen, unseen,
-                                        taken(__spbags_spawned(), __spbags_pointer<O>()))) {
-    return __spbags_member_call<n>(nullptr, static_cast<O &&>(object), seen, unseen,
-                                   taken(__spbags_spawned(), __spbags_pointer<O>()));
+template <unsigned __n, class __O, class __Seen, class __Unseen, class __Taken, class __Member>
+__SPBAGS_OUTSIDE auto __spbags_operator(__O &&__object, const __Seen &__seen, const __Unseen &__unseen,
+                                        const __Taken &__taken, const __Member &, int)
+    -> decltype(__spbags_member_call<__n>(nullptr, static_cast<__O &&>(__object), __seen, __unseen,
+                                        __taken(__spbags_spawned(), __spbags_pointer<__O>()))) {
+    return __spbags_member_call<__n>(nullptr, static_cast<__O &&>(__object), __seen, __unseen,
+                                   __taken(__spbags_spawned(), __spbags_pointer<__O>()));
 }
-template <unsigned n, class O, class Seen, class Unseen, class Taken, class Member>
-__SPBAGS_OUTSIDE auto __spbags_operator(O &&object, const Seen &, const Unseen &unseen, const Taken &,
-                                        const Member &member, long) {
-    __spbags_pass_table(__SPBAGS_CODE, object);
-    typedef __spbags_child<__spbags_by_operator<O &&, Unseen, Member>, __spbags_no_signature> child;
-    return child{{{static_cast<O &&>(object), unseen}, member}};
+template <unsigned __n, class __O, class __Seen, class __Unseen, class __Taken, class __Member>
+__SPBAGS_OUTSIDE auto __spbags_operator(__O &&__object, const __Seen &, const __Unseen &__unseen, const __Taken &,
+                                        const __Member &__member, long) {
+    __spbags_pass_table(__SPBAGS_CODE, __object);
+    typedef __spbags_child<__spbags_by_operator<__O &&, __Unseen, __Member>, __spbags_no_signature> __child;
+    return __child{{{static_cast<__O &&>(__object), __unseen}, __member}};
 }
 
 /* A member that a pointer names. */
-template <class T> __SPBAGS_OUTSIDE T *__spbags_address(T *object) { return object; }
-template <unsigned n, class O> struct __spbags_of {
-    O object;
+template <class __T> __SPBAGS_OUTSIDE __T *__spbags_address(__T *__object) { return __object; }
+template <unsigned __n, class __O> struct __spbags_of {
+    __O __object;
 
-    template <class F> __SPBAGS_OUTSIDE auto operator->*(F pointer) {
-        __spbags_pass_table(__SPBAGS_CODE, object);
-        read(pointer, __SPBAGS_CODE);
-        typedef typename __spbags_cut<n, decltype(__spbags_signature_of(pointer))>::type signature;
-        return __spbags_child<__spbags_by_pointer<O, F>, signature>{{static_cast<O &&>(object), pointer}};
+    template <class __F> __SPBAGS_OUTSIDE auto operator->*(__F __pointer) {
+        __spbags_pass_table(__SPBAGS_CODE, __object);
+        __read(__pointer, __SPBAGS_CODE);
+        typedef typename __spbags_cut<__n, decltype(__spbags_signature_of(__pointer))>::__type __signature;
+        return __spbags_child<__spbags_by_pointer<__O, __F>, __signature>{{static_cast<__O &&>(__object), __pointer}};
     }
     /* The member may be a pointer to a function. */
-    template <class F, class C> __SPBAGS_OUTSIDE void read(F *C::*pointer, const void *code) {
-        __spbags_pass(code, object.*pointer);
+    template <class __F, class __C> __SPBAGS_OUTSIDE void __read(__F *__C::*__pointer, const void *__code) {
+        __spbags_pass(__code, __object.*__pointer);
     }
-    __SPBAGS_OUTSIDE void read(...) {}
+    __SPBAGS_OUTSIDE void __read(...) {}
 };
-template <unsigned n, class O> __SPBAGS_OUTSIDE auto __spbags_object(O &&object) {
-    return __spbags_of<n, O &&>{static_cast<O &&>(object)};
+template <unsigned __n, class __O> __SPBAGS_OUTSIDE auto __spbags_object(__O &&__object) {
+    return __spbags_of<__n, __O &&>{static_cast<__O &&>(__object)};
 }
 #endif
 #endif
