@@ -1,8 +1,9 @@
 """What files of tests share: commands, the lines that tags name, the races of a program, and the count. Each test runs
 in a folder of its own with the examples in it. Each `subTest` counts; one that fails is named with its last command.
-SPBAGS names the checker, CC the compiler, LEVEL its level of optimization, and INSIDE is set if the library of the
-detector is there."""
+SPBAGS names the checker, CC the compiler, LEVEL its level of optimization, INSIDE is set if the library of the
+detector is there, and PROGRAMS names a folder for programs that several lists of tests have."""
 import collections
+import contextlib
 import functools
 import glob
 import json
@@ -30,6 +31,11 @@ SPBAGS_CC, SPBAGS_CPLUSPLUS, SPBAGS_RUN, SPBAGS_LINES = (
 Done = collections.namedtuple("Done", "status out errors")
 # The even locations of a block.
 BLOCK = 64
+PEAK = """import resource, subprocess, sys
+subprocess.run(sys.argv[1:], stdout=subprocess.DEVNULL, stderr=subprocess.DEVNULL, check=True)
+print(resource.getrusage(resource.RUSAGE_CHILDREN).ru_maxrss)"""
+# So many seconds pass only where something hangs, however busy the machine is.
+LONG = 600
 
 
 @functools.cache
@@ -44,9 +50,15 @@ def schema():
 
 
 @functools.cache
-def kept_programs():
-    """The folder of the programs that are compiled once for all tests of a file."""
+def own_programs():
     return tempfile.TemporaryDirectory()
+
+
+def kept_program(*command):
+    """Where a program is, or is to be, that is compiled so."""
+    made_by = [os.environ.get(name, "") for name in ("CC", "SPBAGS_CXX")]
+    name = " ".join([*made_by, *DETECTOR, *command]).replace("/", "|")
+    return os.path.join(os.environ.get("PROGRAMS") or own_programs().name, name)
 
 
 def size_of(name):
@@ -212,12 +224,20 @@ class TracerTest(unittest.TestCase):
         self.succeeds(compiler, "-w", "-o", "texts", source, *options)
         self.assertEqual(self.run_command("./plain"), self.run_command("./texts", SPBAGS_TRACE="run.trace"))
 
-    def build_once(self, name, source, *words):
-        """A program that other tests of the file have too, under this name."""
-        kept = os.path.join(kept_programs().name, "".join([os.path.basename(source), *words]))
-        if not os.path.exists(kept):
-            self.succeeds(compiler_of(source), *words, "-o", kept, source)
-        os.link(kept, name)
+    def build(self, name, source, *words):
+        """A program under this name, which is compiled once for all tests that have it; or a new one, where the source
+        is of this folder, since its debug information names that."""
+        command = (compiler_of(source), *words, source)
+        kept = kept_program(*command)
+        is_kept = os.path.isabs(source)
+        if is_kept and os.path.exists(kept):
+            os.link(kept, name)
+            return
+        self.succeeds(*command, "-o", name)
+        if is_kept:
+            # Another process may have been faster.
+            with contextlib.suppress(FileExistsError):
+                os.link(name, kept)
 
     def report_of(self, *words, options=(), **settings):
         """The status and the report of spbags-run with the program of these words."""
@@ -245,6 +265,10 @@ class TracerTest(unittest.TestCase):
         self.assertEqual({source} if races else set(), {file for _, *lines in races for file, _ in lines})
         return as_races((many, one, other) for many, (_, one), (_, other) in races)
 
+    def peak(self, *words, **settings):
+        """The most memory that a run has, in KB. What starts it counts too, so that is a small process."""
+        return int(self.succeeds(sys.executable, "-S", "-c", PEAK, *words, **settings).out)
+
     def check(self, *words):
         return self.run_command(os.environ["SPBAGS"], "check", *words)
 
@@ -263,7 +287,7 @@ class TracerTest(unittest.TestCase):
         if os.path.exists(grows):
             os.unlink(grows)
         with subprocess.Popen([program, "never"], stderr=subprocess.DEVNULL, env={**os.environ, **settings}) as run:
-            end = time.monotonic() + 60
+            end = time.monotonic() + LONG
             # The header alone comes with the first record.
             while size_of(grows) <= 1000 and time.monotonic() < end:
                 time.sleep(0.01)
@@ -272,15 +296,14 @@ class TracerTest(unittest.TestCase):
         return run.returncode
 
     def ends_among_blocks(self, program, **settings):
-        """A signal comes while the program takes memory, whose heap may be locked then. A run that goes on for three
-        seconds hangs."""
+        """A signal comes while the program takes memory, whose heap may be locked then."""
         for _ in range(20):
             with subprocess.Popen([program, "blocks"], stderr=subprocess.DEVNULL,
                                   env={**os.environ, **settings}) as run:
                 time.sleep(0.03)
                 run.terminate()
                 try:
-                    run.wait(3)
+                    run.wait(LONG)
                 except subprocess.TimeoutExpired:
                     run.kill()
             self.assertEqual(-signal.SIGTERM, run.returncode)

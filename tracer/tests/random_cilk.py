@@ -5,11 +5,11 @@ that `spbags check` reports of the trace, with repeats and without, and both rep
 if memory doesn't come again; if it does, what dies in its strand isn't in the trace, and the names are the same.
 With --c++ they are of C++, and spawn members, lambdas, templates, what is handed over by reference and what throws.
 
-    random_cilk.py [--count 200] [--seed 1] [--seconds 60] [--c++]
+    random_cilk.py [--count 200] [--seed 1] [--c++]
 
 CC names the compiler of C and SPBAGS the checker. INSIDE is set if the programs have the detector inside; then its
-report of each run has to be the checker's. It stops after so many seconds, and its last line says how many
-programs it tried and how many of them were wrong."""
+report of each run has to be the checker's. The last line says how many programs it tried and how many of them were
+wrong."""
 import argparse
 import collections
 import os
@@ -17,8 +17,6 @@ import random
 import subprocess
 import sys
 import tempfile
-import time
-from concurrent.futures import ThreadPoolExecutor
 
 HERE = os.path.dirname(os.path.realpath(__file__))
 TRACER = os.path.dirname(HERE)
@@ -446,7 +444,7 @@ class Batch:
 
     def build(self):
         batch = self.numbers[0] // BATCH
-        ways = ("-O0", "-O1")[batch % 2], *[[], ["--no-inline-checks"]][batch // 2 % 2]
+        ways = ("-O1", "-O0")[batch % 2], *[[], ["--no-inline-checks"]][batch // 2 % 2]
         limits = " -DFREE_SPANS=0" + ("", " -DMOST_BLOCKS=3")[batch // 4 % 2]
         self.run(os.path.join(TRACER, self.compiler), *DETECTOR, *ways, "-w", "-o", self.name,
                  self.name + self.ending, CC=os.environ.get("CC", "gcc") + limits)
@@ -509,22 +507,17 @@ class Batch:
 
 def main():
     parser = argparse.ArgumentParser(description=__doc__, formatter_class=argparse.RawDescriptionHelpFormatter)
-    for name, value in (("count", 200), ("seed", 1), ("seconds", 60)):
+    for name, value in (("count", 200), ("seed", 1)):
         parser.add_argument("--" + name, type=int, default=value)
     parser.add_argument("--c++", action="store_true", dest="is_cplusplus")
     words = parser.parse_args()
-    end, tried, wrong, racy = time.monotonic() + words.seconds, 0, 0, 0
-    with tempfile.TemporaryDirectory(prefix="spbags-random-") as folder, ThreadPoolExecutor(2) as pool:
-        batches = [Batch(folder, first, min(BATCH, words.count - first), words.seed, words.is_cplusplus)
-                   for first in range(0, words.count, BATCH)]
-        results = [(batch, pool.submit(lambda batch=batch: batch.wrong() if time.monotonic() < end else None))
-                   for batch in batches]
-        for batch, result in results:
-            if result.result() is not None:
-                tried += len(batch.numbers)
-                wrong += len(result.result())
-                racy += sum(bool(names) for names in batch.wanted.values())
-    print(f"{tried} programs, {racy} with races, {wrong} wrong")
+    wrong, racy = 0, 0
+    with tempfile.TemporaryDirectory(prefix="spbags-random-") as folder:
+        for first in range(0, words.count, BATCH):
+            batch = Batch(folder, first, min(BATCH, words.count - first), words.seed, words.is_cplusplus)
+            wrong += len(batch.wrong())
+            racy += sum(bool(names) for names in batch.wanted.values())
+    print(f"{words.count} programs, {racy} with races, {wrong} wrong")
     return 1 if wrong or not racy else 0
 
 

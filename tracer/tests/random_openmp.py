@@ -7,11 +7,10 @@ variable are of two under one of these, or none is, then `spbags-run` has to say
 twice, by SPBAGS_DEPEND=order and =ignore, and what the program itself has must be between both. Where tasks outlive a
 taskwait the run after the first must find the rest.
 
-    random_openmp.py [--count 200] [--seed 1] [--seconds 60]
+    random_openmp.py [--count 200] [--seed 1]
 
 SPBAGS names the checker. INSIDE is set if the programs have the detector inside; then its report of each run has to be
-the checker's. It stops after so many seconds, and its last line says how many programs it tried and how many of them
-were wrong."""
+the checker's. The last line says how many programs it tried and how many of them were wrong."""
 import argparse
 import json
 import os
@@ -19,8 +18,6 @@ import random
 import subprocess
 import sys
 import tempfile
-import time
-from concurrent.futures import ThreadPoolExecutor
 
 HERE = os.path.dirname(os.path.realpath(__file__))
 TRACER = os.path.dirname(HERE)
@@ -491,7 +488,7 @@ class Batch:
         return done.stdout
 
     def build(self):
-        level = ("-O0", "-O1")[self.writers[0].number // BATCH % 2]
+        level = ("-O1", "-O0")[self.writers[0].number // BATCH % 2]
         self.run(os.path.join(TRACER, "spbags-cc"), *DETECTOR, "-fopenmp", level, "-w", "-o", self.name,
                  self.name + ".c")
         symbols = map(str.split, self.run("nm", self.name).splitlines())
@@ -584,22 +581,17 @@ class Batch:
 
 def main():
     parser = argparse.ArgumentParser(description=__doc__, formatter_class=argparse.RawDescriptionHelpFormatter)
-    for name, value in (("count", 200), ("seed", 1), ("seconds", 60)):
+    for name, value in (("count", 200), ("seed", 1)):
         parser.add_argument("--" + name, type=int, default=value)
     words = parser.parse_args()
-    end, tried, wrong, racy, again = time.monotonic() + words.seconds, 0, 0, 0, 0
-    with tempfile.TemporaryDirectory(prefix="spbags-random-") as folder, ThreadPoolExecutor(2) as pool:
-        batches = [Batch(folder, first, min(BATCH, words.count - first), words.seed)
-                   for first in range(0, words.count, BATCH)]
-        results = [(batch, pool.submit(lambda batch=batch: batch.wrong() if time.monotonic() < end else None))
-                   for batch in batches]
-        for batch, result in results:
-            if result.result() is not None:
-                tried += len(batch.writers)
-                wrong += len(result.result())
-                racy += batch.racy
-                again += batch.again
-    print(f"{tried} programs, {racy} with races, {again} with a run behind taskwaits, {wrong} wrong")
+    wrong, racy, again = 0, 0, 0
+    with tempfile.TemporaryDirectory(prefix="spbags-random-") as folder:
+        for first in range(0, words.count, BATCH):
+            batch = Batch(folder, first, min(BATCH, words.count - first), words.seed)
+            wrong += len(batch.wrong())
+            racy += batch.racy
+            again += batch.again
+    print(f"{words.count} programs, {racy} with races, {again} with a run behind taskwaits, {wrong} wrong")
     return 1 if wrong or not racy else 0
 
 

@@ -9,10 +9,10 @@ import time
 
 sys.dont_write_bytecode = True
 import cases
-from cases import (INSIDE, LEVEL, SPBAGS_CPLUSPLUS, SPBAGS_RUN, TRACER, TracerTest, by_call, line_of, lines_of,
+from cases import (INSIDE, LEVEL, SPBAGS_CPLUSPLUS, SPBAGS_RUN, TESTS, TRACER, TracerTest, by_call, line_of, lines_of,
                    tagged_races)
 
-CLASSES, SHARED, LOOPS, SPAWNS, COPIES, CONTAINERS, REFUSED = (f"tracer/tests/{name}.cpp" for name in (
+CLASSES, SHARED, LOOPS, SPAWNS, COPIES, CONTAINERS, REFUSED = (os.path.join(TESTS, name + ".cpp") for name in (
     "openmp", "cplusplus", "loops", "spawns", "copies", "containers", "refused"))
 IS_CLANG = os.environ.get("SPBAGS_CXX") == "clang++"
 SERIAL = ("-D_Cilk_spawn=", "-D_Cilk_sync=", "-D_Cilk_scope=", f"-I{TRACER}/include")
@@ -77,7 +77,7 @@ UNIT = {"SPBAGS_UNIT": "1"}
 
 class CPlusPlusTest(TracerTest):
     def build(self, name, source, *flags):
-        self.succeeds(SPBAGS_CPLUSPLUS, LEVEL, *flags, "-o", name, source)
+        super().build(name, source, LEVEL, *flags)
 
     def has_tagged_races(self, source, program, **settings):
         self.assertEqual(tagged_races(source), self.races_in(source, program, "racy", **UNIT, **settings))
@@ -128,7 +128,7 @@ class OpenMPTest(CPlusPlusTest):
         self.succeeds(SPBAGS_CPLUSPLUS, "-fopenmp", "-o", "future", "future.cpp")
         with open("errors", "w", encoding="utf-8") as errors, subprocess.Popen(
                 ["./future"], stderr=errors, env={**os.environ, "SPBAGS_TRACE": "run.trace"}) as run:
-            end = time.monotonic() + 60
+            end = time.monotonic() + cases.LONG
             while "and so for ever" not in self.read("errors") and time.monotonic() < end:
                 time.sleep(0.01)
             run.send_signal(signal.SIGTERM)
@@ -138,21 +138,15 @@ class OpenMPTest(CPlusPlusTest):
 class ClassesTest(CPlusPlusTest):
     """Those that OpenMP copies, and exceptions. What a program prints doesn't depend on the number of threads."""
 
-    def check_level(self, level):
+    def test_classes(self):
         options = ["-fopenmp", "-std=c++17"]
         self.succeeds("g++", "-w", *options, "-o", "plain", CLASSES)
         options += ["-fopenmp-version=51"] if IS_CLANG else []
-        self.succeeds(SPBAGS_CPLUSPLUS, level, "-Wall", "-Wextra", "-Werror", *options, "-o", "classes", CLASSES)
+        self.build("classes", CLASSES, "-Wall", "-Wextra", "-Werror", *options)
         with self.subTest("clean"):
             self.has_no_race(self.run_command("./plain", "clean").out, "./classes")
         with self.subTest("racy"):
             self.has_tagged_races(CLASSES, "./classes")
-
-    def test_unoptimized(self):
-        self.check_level("-O0")
-
-    def test_optimized(self):
-        self.check_level("-O1")
 
 
 class CilkTest(CPlusPlusTest):

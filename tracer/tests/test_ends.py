@@ -10,9 +10,9 @@ from collections import Counter
 
 sys.dont_write_bytecode = True
 import cases
-from cases import CC, SPBAGS_CC, SPBAGS_LINES, TRACER, TracerTest, line_of, size_of
+from cases import CC, SPBAGS_LINES, TESTS, TRACER, TracerTest, line_of, size_of
 
-ENDS, WAYS_OUT = "tracer/tests/ends.c", "tracer/tests/ways_out.c"
+ENDS, WAYS_OUT, MANY = (os.path.join(TESTS, name + ".c") for name in ("ends", "ways_out", "many"))
 BEFORE = ", and the trace has what came before"
 FAULT, ABORT, TRAP, TERMINATE = (-number for number in (signal.SIGSEGV, signal.SIGABRT, signal.SIGILL, signal.SIGTERM))
 # The ways of tests/ends.c to end: the status, and a line. Main calls run, which spawns end, which calls nest, and that
@@ -50,7 +50,7 @@ class TraceTest(TracerTest):
 class OutputsTest(TraceTest):
     def setUp(self):
         super().setUp()
-        self.succeeds(SPBAGS_CC, "-o", "many", "tracer/tests/many.c")
+        self.build("many", MANY, "-w")
 
     def test_failing(self):
         for pattern, settings in (
@@ -94,7 +94,7 @@ class OutputsTest(TraceTest):
             wanted = re.findall(r"^\| `(SPBAGS_\w+)`.*\| (.*) \|$", "".join(rows), re.MULTILINE)
             said = re.findall("^(SPBAGS_\\w+): (.*)$", self.run_command("./many", SPBAGS_HELP="1").out, re.MULTILINE)
             self.assertEqual(wanted, said)
-        self.succeeds(SPBAGS_CC, "--trace", "-o", "traced", "tracer/tests/many.c")
+        self.build("traced", MANY, "-w", "--trace")
         with self.subTest("no trace"):
             self.ends_with(0, "SPBAGS_TRACE isn't set", "./traced")
         with self.subTest("no trace and no report"):
@@ -106,7 +106,7 @@ class OutputsTest(TraceTest):
 class WaysOutTest(TraceTest):
     def setUp(self):
         super().setUp()
-        self.succeeds(SPBAGS_CC, "-w", "-o", "ways_out", WAYS_OUT)
+        self.build("ways_out", WAYS_OUT, "-w")
 
     def test_source_lines(self):
         """Those of a trace that went through a pipe."""
@@ -130,7 +130,7 @@ class WaysOutTest(TraceTest):
 class EndsTest(TraceTest):
     def setUp(self):
         super().setUp()
-        self.succeeds(SPBAGS_CC, "-o", "ends", ENDS)
+        self.build("ends", ENDS, "-w")
 
     def has_race(self, *words):
         checked = self.check(*words, "run.trace")
@@ -199,7 +199,7 @@ class EndsTest(TraceTest):
         line = re.compile("for ever, since the run is serial. It is here: (.*)\n")
         with open("errors", "w", encoding="utf-8") as errors, \
                 subprocess.Popen(["./ends", way], stderr=errors, env=env) as run:
-            end = time.monotonic() + 60
+            end = time.monotonic() + cases.LONG
             while not (found := line.search(self.read("errors"))):
                 self.assertLess(time.monotonic(), end)
                 time.sleep(0.01)

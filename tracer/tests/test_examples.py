@@ -17,7 +17,7 @@ PRINTED = {"queens_for.cpp": "10 boards, the first 0 2", "search_for.cpp": "6 af
 
 
 class ExampleTest(TracerTest):
-    def build(self, example, *flags):
+    def build_example(self, example, *flags):
         self.flags = (LEVEL, *flags)
         self.settings = {"SPBAGS_UNIT": example.unit}
         self.wanted = example.races() if "-DRACY" in flags else []
@@ -53,7 +53,7 @@ class ExampleTest(TracerTest):
 class CilkTest(ExampleTest):
     def check_example(self, source, *flags):
         example = Example(source)
-        self.build(example, *flags)
+        self.build_example(example, *flags)
         self.succeeds(CC, LEVEL, *flags, *SERIAL, "-o", "plain", source)
         printed = self.run_command("./plain").out
         for version in "12":
@@ -70,7 +70,7 @@ class CilkTest(ExampleTest):
 class OpenMPTest(ExampleTest):
     def check_example(self, source, *flags):
         example = Example(source)
-        self.build(example, "-fopenmp", *flags)
+        self.build_example(example, "-fopenmp", *flags)
         with self.subTest("run"):
             self.succeeds("./program", SPBAGS_TRACE="run.trace", **self.settings)
         with self.subTest("races"):
@@ -81,7 +81,7 @@ class OpenMPTest(ExampleTest):
 class CPlusPlusTest(ExampleTest):
     def check_example(self, source, *flags):
         example = Example(source)
-        self.build(example, "-Wall", "-Wextra", *flags)
+        self.build_example(example, "-Wall", "-Wextra", *flags)
         with self.subTest("races"):
             self.assertEqual(self.wanted, self.races_in(source, "./program"))
         if not flags:

@@ -6,7 +6,7 @@ import sys
 
 sys.dont_write_bytecode = True
 import cases
-from cases import SPBAGS_CC, SPBAGS_RUN, TESTS, TracerTest, line_of, needs_detector
+from cases import SPBAGS_RUN, TESTS, TracerTest, line_of, needs_detector
 
 SOURCE = os.path.join(TESTS, "heap.c")
 # The pairs of tags whose lines race.
@@ -33,10 +33,10 @@ MOST = {"strands": 40000, "vast": 40000, "outlive": 20000, "large": 40000}
 class HeapTest(TracerTest):
     def setUp(self):
         super().setUp()
-        self.succeeds(SPBAGS_CC, "-Wall", "-Wextra", "-Werror", "-o", "heap", SOURCE)
+        self.build("heap", SOURCE, "-Wall", "-Wextra", "-Werror")
 
     def lines(self, word, **settings):
-        races = self.races_of("./heap", word, **settings)
+        races = self.races_of("./heap", "part", word, **settings)
         return sorted(tuple(sorted(line for _, line in lines)) for _, *lines in races)
 
     def test_races(self):
@@ -49,7 +49,7 @@ class HeapTest(TracerTest):
 
     def block_of(self, word):
         """The block that a pair names: the offset of the race, the size, and the line of the allocation."""
-        done = self.run_command(SPBAGS_RUN, "--json", "--", "./heap", word)
+        done = self.run_command(SPBAGS_RUN, "--json", "--", "./heap", "part", word)
         self.assertEqual(1, done.status, done.errors)
         block, = (pair["variable"] for pair in json.loads(done.out)["pairs"] if pair["variable"]["kind"] == "heap")
         return block["offset"], block["size"], block["stack"][0]["line"]
@@ -62,32 +62,23 @@ class HeapTest(TracerTest):
                 self.assertEqual((offset, size, line_of(SOURCE, tag)), self.block_of(word))
 
     def test_promises(self):
-        self.assertEqual(0, self.run_command("./heap", "promises", SPBAGS_TRACE="/dev/null").status)
+        self.assertEqual(0, self.run_command("./heap", "part", "promises", SPBAGS_TRACE="/dev/null").status)
 
     @needs_detector
     def test_reports(self):
         for word in RACES:
             for reuse in "10":
                 with self.subTest(word, reuse=reuse):
-                    self.has_same_report("./heap", word, SPBAGS_REUSE=reuse)
+                    self.has_same_report("./heap", "part", word, SPBAGS_REUSE=reuse)
 
     @needs_detector
     def test_memory(self):
         """The most that is resident, with and without memory that comes again."""
         for word, most in MOST.items():
             with self.subTest(word):
-                used = [self.peak(word, reuse) for reuse in "10"]
+                used = [self.peak("./heap", word, SPBAGS_REPORT="report", SPBAGS_REUSE=reuse) for reuse in "10"]
                 self.assertLess(used[0], most)
                 self.assertGreater(used[1], most)
-
-    def peak(self, word, reuse):
-        self.command = f"SPBAGS_REUSE={reuse} ./heap {word}"
-        settings = {**os.environ, "SPBAGS_REPORT": "report", "SPBAGS_REUSE": reuse}
-        process = os.posix_spawn("./heap", ["./heap", word], settings,
-                                 file_actions=[(os.POSIX_SPAWN_OPEN, 2, os.devnull, os.O_WRONLY, 0)])
-        _, status, usage = os.wait4(process, 0)
-        self.assertEqual(0, status)
-        return usage.ru_maxrss
 
 
 if __name__ == "__main__":

@@ -5,11 +5,10 @@ import os
 import re
 import signal
 import sys
-from concurrent.futures import ThreadPoolExecutor
 
 sys.dont_write_bytecode = True
 import cases
-from cases import CC, SPBAGS_CC, TRACER, TracerTest, needs_detector, size_of
+from cases import CC, TESTS, TRACER, TracerTest, needs_detector, size_of
 
 BEFORE = ", and the report has what came before"
 FAULT, ABORT, TRAP, TERMINATE, KILL = (-number for number in (signal.SIGSEGV, signal.SIGABRT, signal.SIGILL,
@@ -43,9 +42,6 @@ race 130 write 4 write 8
 
 @needs_detector
 class InsideTest(TracerTest):
-    def build(self, name, source, *words):
-        self.succeeds(SPBAGS_CC, *words, "-o", name, source)
-
     def is_trace_report(self, program, way, status, line):
         """The run ends so with a trace and with a report, which is that of the trace."""
         traced = self.run_command(program, way, SPBAGS_TRACE="run.trace", SPBAGS_PLACES="", SPBAGS_REPORT="")
@@ -64,8 +60,8 @@ class InsideTest(TracerTest):
 class EndsTest(InsideTest):
     def setUp(self):
         super().setUp()
-        self.build("ends", "tracer/tests/ends.c")
-        self.build("ways", "tracer/tests/ways_out.c", "-w")
+        self.build("ends", os.path.join(TESTS, "ends.c"), "-w")
+        self.build("ways", os.path.join(TESTS, "ways_out.c"), "-w")
 
     def test_ends(self):
         for program, ways in (("./ends", ENDS), ("./ways", WAYS)):
@@ -181,17 +177,17 @@ class InterruptedTest(InsideTest):
 
     def setUp(self):
         super().setUp()
-        source = "tracer/tests/interrupted.c"
+        source = os.path.join(TESTS, "interrupted.c")
         self.succeeds(CC, "-O1", "-mno-red-zone", "-DPLAIN", "-c", "-o", "plain.o", source)
         self.build("interrupted", source, "plain.o")
 
     def runs_of(self, word, steps, *more, places):
-        def run_of(step):
+        found = set()
+        for step in range(steps):
             done = self.run_command("./interrupted", word, str(step), *more, SPBAGS_PLACES=places)
-            return (done.status, *re.findall("^races .*", done.errors, re.MULTILINE),
-                    bool(self.REFUSED.search(done.errors)))
-        with ThreadPoolExecutor(4) as pool:
-            return set(pool.map(run_of, range(steps)))
+            found.add((done.status, *re.findall("^races .*", done.errors, re.MULTILINE),
+                       bool(self.REFUSED.search(done.errors))))
+        return found
 
     def test_steps(self):
         for word, steps in (("one", 400), ("two", 400), ("local", 400), ("end", 60)):
@@ -225,11 +221,7 @@ class LibraryTest(InsideTest):
     def test_memory_of_locals(self):
         """The locals of a million calls have had their turn, and few at once: the run has less than 24 MB."""
         self.build("locals", "fib.c", "-DN=30")
-        self.write("most.py", """import resource, subprocess
-subprocess.run(["./locals"], stdout=subprocess.DEVNULL, check=True)
-print(resource.getrusage(resource.RUSAGE_CHILDREN).ru_maxrss)
-""")
-        self.assertLess(int(self.succeeds(sys.executable, "most.py", SPBAGS_REPORT="/dev/null").out), 24000)
+        self.assertLess(self.peak("./locals", SPBAGS_REPORT="/dev/null"), 24000)
 
 
 class OutputsTest(InsideTest):

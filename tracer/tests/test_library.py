@@ -1,15 +1,16 @@
 #!/usr/bin/env python3
 """What calls of the C library and single instructions access, for each compiler and level; and what is made of
 library.table and of the settings."""
+import os
 import re
 import subprocess
 import sys
 
 sys.dont_write_bytecode = True
 import cases
-from cases import INSIDE, LEVEL, SPBAGS_CC, TRACER, TracerTest, by_call, race_of
+from cases import INSIDE, LEVEL, SPBAGS_CC, TESTS, TRACER, TracerTest, by_call, race_of
 
-LIBRARY, VECTORS = "tracer/tests/library.c", "tracer/tests/vectors.c"
+LIBRARY, VECTORS = (os.path.join(TESTS, name + ".c") for name in ("library", "vectors"))
 VECTOR_OPTIONS = ("avx512f", "avx512vl", "avx512bw", "avx512dq", "xsave")
 # Newer libraries have those of C23 and these two. test_streams.py tries those of C++.
 WITHOUT_A_CASE = re.compile("strlcpy|strlcat|_Z.*|.*isoc23.*")
@@ -28,10 +29,10 @@ class LibraryTest(CallsTest):
 
     def setUp(self):
         super().setUp()
-        self.succeeds(SPBAGS_CC, LEVEL, "-w", "-c", "-o", "library.o", LIBRARY)
-        self.succeeds(SPBAGS_CC, "-o", "library", "library.o", "-lm")
+        self.build("library.o", LIBRARY, LEVEL, "-w", "-c")
 
     def test_races(self):
+        self.succeeds(SPBAGS_CC, "-o", "library", "library.o", "-lm")
         self.succeeds("./library", "wanted", SPBAGS_TRACE="run.trace", **self.SETTINGS)
         wanted = self.wanted(LIBRARY, "wanted")
         with self.subTest("spbags-lines"):
@@ -58,7 +59,7 @@ class VectorsTest(CallsTest):
         if not set(VECTOR_OPTIONS) <= set(has):
             self.skipTest("the processor lacks such instructions")
         options = [f"-m{option}" for option in VECTOR_OPTIONS]
-        self.succeeds(SPBAGS_CC, LEVEL, *options, "-o", "vectors", VECTORS)
+        self.build("vectors", VECTORS, LEVEL, *options)
 
     def test_races(self):
         found = self.races_of("./vectors", "wanted", SPBAGS_UNIT="1")

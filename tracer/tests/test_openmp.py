@@ -1,5 +1,5 @@
 #!/usr/bin/env python3
-"""OpenMP, for gcc and clang: what a report says of the ways of tests/openmp.c and the members of a team of
+"""OpenMP, for gcc and clang: what a report says of the ways of tests/openmp.c, for each level the members of a team of
 tests/teams.c, and what is refused. The examples are in test_examples.py, and classes in test_cplusplus.py."""
 import json
 import os
@@ -9,9 +9,9 @@ import sys
 sys.dont_write_bytecode = True
 import cases
 import answers
-from cases import CC, SPBAGS_CC, SPBAGS_RUN, TESTS, Example, TracerTest, line_of, lines_of
+from cases import CC, LEVEL, SPBAGS_CC, SPBAGS_RUN, TESTS, Example, TracerTest, line_of, lines_of
 
-WAYS, TEAMS = "tracer/tests/openmp.c", "tracer/tests/teams.c"
+WAYS, TEAMS = (os.path.join(TESTS, name + ".c") for name in ("openmp", "teams"))
 IS_CLANG = CC == "clang"
 # clang has `masked` in a later version of OpenMP than its usual one.
 OPENMP = ["-fopenmp", *(["-fopenmp-version=51"] if IS_CLANG else [])]
@@ -41,12 +41,12 @@ int main(void) {
 
 def at(tag):
     """The line of tests/openmp.c with this tag, as reports name it."""
-    return f"openmp.c:{line_of(os.path.join(TESTS, 'openmp.c'), f'[{tag}]')}"
+    return f"openmp.c:{line_of(WAYS, f'[{tag}]')}"
 
 
 class OpenMPTest(TracerTest):
     def build(self, name, source, *flags):
-        self.succeeds(SPBAGS_CC, *OPENMP, "-Wall", "-Werror", *flags, "-o", name, source)
+        super().build(name, source, *OPENMP, "-Wall", "-Werror", *flags)
 
     def pair(self, one, other, many=1):
         return [f"{many} {line_of(WAYS, f'[{one}]')} {line_of(WAYS, f'[{other}]')}"] if one else []
@@ -153,7 +153,7 @@ ANSWERS = [
     ("no_barrier", 0, "", "", "", {}),
     ("outlives_twice", 1, "1 pair of lines came of one more run", "left", "behind both", {}),
     ("goes_astray", 3, "this wait doesn't wait for 1 tasks", "", "", {}),
-    ("ordered_tasks", 3, f"wait for 4 tasks, iterations or other parts, the first from tracer/tests/{at('beside ordered')}",
+    ("ordered_tasks", 3, f"wait for 4 tasks, iterations or other parts, the first from {TESTS}/{at('beside ordered')}",
      "", "", {}),
     ("alike", 3, f"each of 2 {BLOCKS}, since with schedule", "", "", {}),
     ("lanes", 0, f"{at('lanes')}: a loop with simd alone", "", "", {}),
@@ -208,12 +208,12 @@ class AnswersTest(OpenMPTest):
 
 
 class TeamsTest(OpenMPTest):
-    def build_teams(self, level):
-        self.build("teams", TEAMS, level)
+    def setUp(self):
+        super().setUp()
+        self.build("teams", TEAMS, LEVEL)
 
-    def check_ways(self, level):
+    def test_ways(self):
         """A program aborts if a thread sees what it mustn't."""
-        self.build_teams(level)
         ways = [row.split() for row in self.succeeds("./teams").out.splitlines()]
         self.assertTrue(ways)
         for threads in "23":
@@ -222,14 +222,7 @@ class TeamsTest(OpenMPTest):
                     self.succeeds("timeout", "60", "./teams", way, SPBAGS_TEAM=threads, SPBAGS_TRACE="run.trace")
                     self.assertEqual(race != "none", self.check("run.trace").status)
 
-    def test_unoptimized(self):
-        self.check_ways("-O0")
-
-    def test_optimized(self):
-        self.check_ways("-O1")
-
     def test_answers(self):
-        self.build_teams("-O1")
         with self.subTest("threads of a region in the report"):
             said = self.reports(1, "", "--", "./teams", "every_thread", SPBAGS_TEAM="2")
             self.assertRegex(" ".join(said.split()), "threads of the region at .* may do this at once")

@@ -1,13 +1,14 @@
 #!/usr/bin/env python3
 """oneTBB and the parallel algorithms of C++, for each level."""
+import os
 import re
 import sys
 
 sys.dont_write_bytecode = True
 import cases
-from cases import LEVEL, SPBAGS_CPLUSPLUS, SPBAGS_RUN, TracerTest, line_of, lines_of, tagged_races
+from cases import LEVEL, SPBAGS_CPLUSPLUS, SPBAGS_RUN, TESTS, TracerTest, line_of, lines_of, tagged_races
 
-TBB, CONTAINERS, EXECUTION = (f"tracer/tests/{name}.cpp" for name in ("tbb", "tbb_containers", "execution"))
+TBB, CONTAINERS, EXECUTION = (os.path.join(TESTS, name + ".cpp") for name in ("tbb", "tbb_containers", "execution"))
 QUEUE = """#include <tbb/concurrent_queue.h>
 int main() { tbb::concurrent_bounded_queue<int> q; int i; q.pop(i); }
 """
@@ -16,7 +17,7 @@ int main() { tbb::concurrent_bounded_queue<int> q; int i; q.pop(i); }
 class ParallelTest(TracerTest):
     def check_program(self, source):
         """Its tags say what races, and where a line says what isn't run. It prints the same with races and without."""
-        self.succeeds(SPBAGS_CPLUSPLUS, LEVEL, "-o", "program", source)
+        self.build("program", source, LEVEL)
         with self.subTest("races"):
             self.assertEqual(tagged_races(source), self.races_in(source, "./program", "racy", SPBAGS_UNIT="1"))
         run = self.run_command(SPBAGS_RUN, "--output", "report", "--", "./program", "clean", COLUMNS="200")
@@ -55,7 +56,7 @@ class TBBTest(ParallelTest):
 class GroupsTest(ParallelTest):
     def test_groups(self):
         """What the trace can't say."""
-        self.succeeds(SPBAGS_CPLUSPLUS, "-o", "program", TBB)
+        self.build("program", TBB, LEVEL)
         for tag, line in (("mixed", "a task begins in one group while"),
                           ("outlives", "tasks outlive the child here")):
             with self.subTest(line):
@@ -78,7 +79,7 @@ class GroupsTest(ParallelTest):
         """A serial run waits for ever there."""
         self.write("waits.cpp", QUEUE)
         self.succeeds(SPBAGS_CPLUSPLUS, "-o", "waits", "waits.cpp")
-        self.reports(2, "waits for another task or thread, and so for ever", "--timeout", "2", "--", "./waits")
+        self.reports(2, "waits for another task or thread, and so for ever", "--timeout", "5", "--", "./waits")
 
     def test_standard(self):
         """That which a program asks for."""

@@ -1,12 +1,13 @@
 #!/usr/bin/env python3
 """Reducers, for each level: in C for each compiler, and in C++."""
+import os
 import sys
 
 sys.dont_write_bytecode = True
 import cases
-from cases import INSIDE, LEVEL, SPBAGS_CC, SPBAGS_CPLUSPLUS, TracerTest, line_of, lines_of
+from cases import INSIDE, LEVEL, SPBAGS_CC, TESTS, TracerTest, line_of, lines_of
 
-C, CPLUSPLUS = "tracer/tests/reducers.c", "tracer/tests/reducers.cpp"
+C, CPLUSPLUS = (os.path.join(TESTS, name) for name in ("reducers.c", "reducers.cpp"))
 PRINTED = """out 7 12 3 4 26 10
 10 15 10 4 10
 21 20 12 20
@@ -34,7 +35,7 @@ def twice(number):
 class CTest(ReducersTest):
     def setUp(self):
         super().setUp()
-        self.succeeds(SPBAGS_CC, LEVEL, "-Wall", "-Wextra", "-Werror", "-o", "reducers", C)
+        self.build("reducers", C, LEVEL, "-Wall", "-Wextra", "-Werror")
 
     def racy_lines(self):
         """The line of the value is two above that of the update."""
@@ -84,7 +85,7 @@ class CTest(ReducersTest):
 
 class CPlusPlusTest(ReducersTest):
     def test_reducers(self):
-        self.succeeds(SPBAGS_CPLUSPLUS, LEVEL, "-Wall", "-Wextra", "-Werror", "-o", "reducers", CPLUSPLUS)
+        self.build("reducers", CPLUSPLUS, LEVEL, "-Wall", "-Wextra", "-Werror")
         with self.subTest("clean"):
             self.says(PRINTED.splitlines(), "--unseen-ok", "std::allocator*", "--", "./reducers", "clean")
         with self.subTest("racy"):

@@ -14,7 +14,7 @@ class StreamsTest(TracerTest):
 
     def setUp(self):
         super().setUp()
-        self.build_once("streams", self.SOURCE, *self.OPTIONS)
+        self.build("streams", self.SOURCE, *self.OPTIONS)
 
     def found(self, *words, options=()):
         """The status; of each pair what both hold, the kind and the name of its variable, and the tags of its lines;

@@ -83,7 +83,7 @@ class NoteTest(TracerTest):
     def setUp(self):
         super().setUp()
         version = ["-fopenmp-version=51"] if CC == "clang" else []
-        self.succeeds(SPBAGS_CC, "-fopenmp", *version, "-o", "ways", SOURCE)
+        self.build("ways", SOURCE, "-fopenmp", *version, "-Wall", "-Werror")
 
     def test_team_of_one(self):
         """What the other threads do isn't run, and one thread that asks for its number may do less than they would."""

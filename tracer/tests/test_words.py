@@ -35,10 +35,7 @@ class WordsTest(TracerTest):
 
     def setUp(self):
         super().setUp()
-        self.build("words", *self.OPTIONS)
-
-    def build(self, name, *options):
-        self.build_once(name, self.SOURCE, "-w", *options)
+        self.build("words", self.SOURCE, "-w", *self.OPTIONS)
 
     def line_of(self, tag):
         return cases.lines_of(self.SOURCE, f"[{tag}]")[0]
@@ -85,7 +82,7 @@ class NamesTest(WordsTest):
         for option in ("-gdwarf-4", "-gdwarf-5", "-O0"):
             with self.subTest(option):
                 name = "with" + option
-                self.build(name, option)
+                self.build(name, self.SOURCE, "-w", option)
                 own, member, bits = ([pair["variable"] for pair in self.pairs_of(word, program="./" + name)][0]
                                      for word in ("own", "member", "bits"))
                 self.assertEqual("own[1].inner.rows[0][1]", own["expression"])
