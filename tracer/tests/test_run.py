@@ -554,7 +554,8 @@ class SuppressedTest(RunTest):
             self.assertEqual("races 2, pairs of lines 2; suppressed: 1000 races of 1 pair", text.splitlines()[-1])
         with self.subTest("another line"):
             self.write("suppressed", "races:main\n")
-            self.fails_with("suppressed:1: expected race:FUNCTION, race:FILE or variable:NAME", "--suppress",
+            self.fails_with("suppressed:1: expected race:FUNCTION, race:FILE, variable:NAME or pair:FILE:LINE FILE:LINE NAME",
+                            "--suppress",
                             "suppressed", "--", "./run")
 
     def test_guards(self):
