@@ -172,6 +172,13 @@ class CompileTest(TracerTest):
             if self.run_command(CC, "-w", "-o", "none", "none.c").status != 0:
                 self.ends_with(1, "undefined reference to", SPBAGS_CC, "-w", "-o", "none", "none.c")
 
+    def test_library_of_mathematics(self):
+        """A program links without it if a compiler needs no call."""
+        self.write("math.c", "#include <math.h>\nint main(int n, char **words) { return fabsf(n - 3) != 2 || !words; }\n")
+        self.succeeds(CC, "-o", "plain", "math.c")
+        self.succeeds(SPBAGS_CC, "-o", "math", "math.c")
+        self.succeeds("./math")
+
     def test_macros(self):
         text = "#include <cilk/cilk.h>\nstatic void f(void) {}\nint main(void) { cilk_spawn f(); cilk_sync; return 0; }\n"
         self.compiles_with_macros(SPBAGS_CC, "macros.c", text, MACROS)
