@@ -22,6 +22,8 @@ WRITING = """memcpy memmove mempcpy memset memccpy bcopy bzero strcpy stpcpy str
     __strcat_chk __strncat_chk __sprintf_chk __snprintf_chk __vsprintf_chk __vsnprintf_chk __printf_chk __fprintf_chk
     __vprintf_chk __vfprintf_chk""".split()
 
+INLINE = "memcpy", "memset"
+
 # The header knows no other names of types than the compiler's.
 TYPES = {"size_t": "__SIZE_TYPE__", "wchar_t": "__WCHAR_TYPE__", "wint_t": "__WINT_TYPE__", "FILE": "void",
          "va_list": "__builtin_va_list", "struct tm": "void"}
@@ -74,11 +76,17 @@ def macro(name):
     return f"#define __builtin_{name}(...) {kind}(__builtin_{name}(__VA_ARGS__), __spbags_to_{name}(__VA_ARGS__))"
 
 
+def inline(name):
+    """clang's form of one that never calls the library."""
+    return f"#define __builtin_{name}_inline(...) __builtin_{name}(__VA_ARGS__)"
+
+
 def header(table):
     """The text of the header."""
     functions = {name: function for function in table.functions() for name in function.names}
     known = [name for name in PURE + WRITING if name in functions]
-    return HEADER % ("\n".join(declared(functions[name], name) for name in known), "\n".join(map(macro, known)))
+    return HEADER % ("\n".join(declared(functions[name], name) for name in known),
+                     "\n".join([*map(macro, known), *map(inline, INLINE)]))
 
 
 def unbracketed(text):
@@ -86,8 +94,9 @@ def unbracketed(text):
     made, done = [], 0
     for found in BRACKETED.finditer(blanked(text)) if BRACKETED.search(text) else ():
         others = found[1].count("(") - found[3].count(")")
-        prefix = "__spbags_to_" if found[2] in PURE + WRITING else "__builtin_"
-        made += [text[done:found.start()], "(" * others, prefix, found[2], ")" * -others]
+        name = found[2].removesuffix("_inline")
+        prefix = "__spbags_to_" if name in PURE + WRITING else "__builtin_"
+        made += [text[done:found.start()], "(" * others, prefix, name, ")" * -others]
         done = found.end()
     return "".join(made) + text[done:]
 

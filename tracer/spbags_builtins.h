@@ -220,4 +220,6 @@ __attribute__((__always_inline__)) inline constexpr bool __spbags_compiles() {
 #define __builtin___fprintf_chk(...) __spbags_call(__builtin___fprintf_chk(__VA_ARGS__), __spbags_to___fprintf_chk(__VA_ARGS__))
 #define __builtin___vprintf_chk(...) __spbags_call(__builtin___vprintf_chk(__VA_ARGS__), __spbags_to___vprintf_chk(__VA_ARGS__))
 #define __builtin___vfprintf_chk(...) __spbags_call(__builtin___vfprintf_chk(__VA_ARGS__), __spbags_to___vfprintf_chk(__VA_ARGS__))
+#define __builtin_memcpy_inline(...) __builtin_memcpy(__VA_ARGS__)
+#define __builtin_memset_inline(...) __builtin_memset(__VA_ARGS__)
 #endif

@@ -139,7 +139,9 @@ CASE(sink = (int)__builtin_strlen(b), R(b, 0, 11)) CASE(__builtin_strcat(a, "fou
 CASE(__builtin___memcpy_chk(big, other, 8, 64), R(other, 0, 8), W(big, 0, 8)) CASE(__builtin_sprintf(a, "four"), W(a, 0, 5))
 CASE(NUMBER(__builtin_frexp(2.5, AS(int, big))), W(big, 0, 4)) CASE(__builtin_bzero(big, 4), W(big, 0, 4))
 CASE((__builtin_memcpy)(big, other, 40), R(other, 0, 40), W(big, 0, 40)) CASE(((__builtin_memset) (big, 0, 24)), W(big, 0, 24))
-#ifndef __clang__
+#ifdef __clang__
+CASE(__builtin_memcpy_inline(big, other, 16), R(other, 0, 16), W(big, 0, 16)) CASE((__builtin_memcpy_inline)(big, other, 8), R(other, 0, 8), W(big, 0, 8))
+#else
 CASE((__builtin_ia32_movnti)(AS(int, big), 3), W(big, 0, 4)) CASE((( __builtin_ia32_movnti64 ))(AS(long long, big), 3), W(big, 0, 8))
 #endif
 
