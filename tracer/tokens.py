@@ -11,12 +11,13 @@ TOKEN = re.compile(
     r"|(?P<character>'(?:\\.|[^'\\\n])*')"
     r"|(?P<number>\.?[0-9](?:[eEpP][+-]|'(?=\w)|[0-9A-Za-z_.])*)"
     r"|(?P<word>[A-Za-z_$\x80-\uffff][A-Za-z0-9_$\x80-\uffff]*)"
-    r"|(?P<mark>\.\.\.|<<=|>>=|->|\+\+|--|<<|>>|[-+*/%&|^=!<>]=|&&|::|\|\||.)",
+    r"|(?P<mark><%|%>|<:(?!:[^:>])|:>|\.\.\.|<<=|>>=|->|\+\+|--|<<|>>|[-+*/%&|^=!<>]=|&&|::|\|\||.)",
     re.MULTILINE)
 LINE_MARKER = re.compile(r'#(?:line)? *([0-9]+) *("(?:\\.|[^"\\])*")?([ 0-9]*)')
 PARTNERS = {")": "(", "]": "[", "}": "{"}
+DIGRAPHS = {"<%": "{", "%>": "}", "<:": "[", ":>": "]"}
 BRACKET, BRACKET_OR_MARK = re.compile(r"[()\[\]{}]"), re.compile(r"[()\[\]{},:]")
-QUOTE = re.compile("[\"']")
+QUOTE_OR_DIGRAPH = re.compile(r"[\"']|<%|%>|<:(?!:[^:>])|:>")
 LITERAL = re.compile(r"\"(?:\\.|[^\"\\\n])*\"|'(?:\\.|[^'\\\n])*'")
 RAW = re.compile(r"\"(?P<delimiter>[^()\\\s]{0,16})\((?s:.*?)\)(?P=delimiter)\"")
 # What stands before the mark of a raw string, and before one inside of a number.
@@ -35,7 +36,7 @@ class Refused(Exception):
 
 class Token:
     def __init__(self, kind, text, start, file, line, system):
-        self.kind, self.text, self.start, self.file, self.line = kind, text, start, file, line
+        self.kind, self.text, self.start, self.file, self.line = kind, DIGRAPHS.get(text, text), start, file, line
         self.system = system  # whether it stands in a header of the system
         self.end = start + len(text)
         self.partner = None   # of a bracket: the index of the other one
@@ -77,14 +78,20 @@ def literal_at(text, at):
 
 @functools.lru_cache(1)
 def blanked(text):
-    """The text with spaces in place of what strings and characters hold. It has the same places and lines."""
-    made, done, mark = [], 0, QUOTE.search(text)
+    """The text with spaces in place of what strings and characters hold, and with brackets in place of digraphs. It has
+    the same places and lines."""
+    made, done, mark = [], 0, QUOTE_OR_DIGRAPH.search(text)
     while mark:
-        literal, end = literal_at(text, mark.start()), mark.end()
+        bracket, literal, end = DIGRAPHS.get(mark[0]), None, mark.end()
+        if bracket:
+            made += [text[done:mark.start()], bracket + " "]
+            done = end
+        else:
+            literal = literal_at(text, mark.start())
         if literal:
             made += [text[done:end], re.sub(r"[^\n]", " ", literal[0][1:-1])]
             done, end = literal.end() - 1, literal.end()
-        mark = QUOTE.search(text, end)
+        mark = QUOTE_OR_DIGRAPH.search(text, end)
     return "".join(made) + text[done:]
 
 
