@@ -555,8 +555,7 @@ class SuppressedTest(RunTest):
         with self.subTest("another line"):
             self.write("suppressed", "races:main\n")
             self.fails_with("suppressed:1: expected race:FUNCTION, race:FILE, variable:NAME or pair:FILE:LINE FILE:LINE NAME",
-                            "--suppress",
-                            "suppressed", "--", "./run")
+                            "--suppress", "suppressed", "--", "./run")
 
     def test_guards(self):
         status, report = self.found("guards", "global")
