@@ -125,7 +125,7 @@ int main(int words, char **word) {
     }
     FILE *wanted = fopen(words > 1 ? word[1] : "/dev/stdout", "w");
     for (int at = 0; at < count; at++)
-        fprintf(wanted, "%d tracer/tests/vectors.c:%d\n", races_of(&tests[at], true) + races_of(&tests[at], false),
+        fprintf(wanted, "%d " __FILE__ ":%d\n", races_of(&tests[at], true) + races_of(&tests[at], false),
                 tests[at].line);
     fclose(wanted);
 }
