@@ -17,6 +17,8 @@ MARKER = re.compile(r'^#(?:line)? *([0-9]+) *"((?:\\.|[^"\\])*)"[^\n]*$', re.MUL
 SIDE_EFFECTS = re.compile(r"\+\+|--|(?<![=!<>])=(?!=)|\w\s*\(|\[\s*\]")
 # What a statement follows; and the words before a bracket that one follows.
 BEFORE_STATEMENT = re.compile(r"(?:^|[;{}:]|\b(?:else|do|__extension__)|\]\s*\])\Z")
+# The same of a whole source, where a line that names a file may stand between.
+BEGINS = re.compile(r"(?:\A|[;{}])\s*(?:#[^\n]*\n\s*)*\Z")
 WORD_BEFORE = re.compile(r"(\w*)\s*\Z")
 # How far back something is looked for.
 NEAR = 5000
@@ -229,6 +231,21 @@ def rewritten(text, is_cplusplus, is_intel):
             made += [text[done:match.start()], instead]
             done = end
     return "".join(made) + text[done:] + "".join(map(told, range(len(outside)), outside))
+
+
+def outside(text, is_cplusplus, is_intel):
+    """The source with what tells of its assembly outside of functions, and of functions whose whole code is assembly. What
+    statements do the compiler says itself."""
+    if not any(BEGINS.search(text, max(match.start() - NEAR, 0), match.start()) for match in ASM.finditer(text)):
+        return text
+    source, where = Source(text, is_cplusplus, is_intel), []
+    for match in ASM.finditer(source.bare):
+        end = after_bracket(source.bare, match.end() - 1)
+        statement = end is not None and Statement(source, match, end)
+        if statement and not statement.has_operands and not statement.is_understood() and statement.is_statement() and \
+                not source.is_in_function(match.start()):
+            where.append(statement.where())
+    return text + "".join(map(told, range(len(where)), where))
 
 
 def told(number, where):

@@ -7,6 +7,11 @@ import bisect
 import os
 import re
 
+import assembly
+import inlined
+import vectors
+import widths
+
 FUNCTION = re.compile(r"^define .*?^}$", re.MULTILINE | re.DOTALL)
 HOOK = re.compile(r"  call void @__(?:sanitizer_cov_(?:load|store)[0-9]+|tsan_(?:read|write)_range)\(\S+ (%[\w.]+)[,)]")
 # And what clang calls to copy or to fill memory.
@@ -41,6 +46,16 @@ CALLS = re.compile(r"^define internal \w+ @(\.omp_task_entry\.[.\d]*|"
 CALLER = "__spbags_outlined"
 # How the names of what clang makes of OpenMP begin.
 MADE = (".omp", ".red_")
+
+
+def source(text, is_cplusplus, is_intel):
+    """A preprocessed source with what no hook would see."""
+    return vectors.rewritten(assembly.rewritten(inlined.unbracketed(text), is_cplusplus, is_intel))
+
+
+def code(text):
+    """Hooked code with the hooks that it needs."""
+    return named(hooked(widths.rewritten(text)))
 
 
 def with_bodies(text):

@@ -39,10 +39,10 @@ SHAPES = "write `cilk_spawn f(..);', `x = cilk_spawn f(..);' or `x += cilk_spawn
 # The result's memory, but for what a call gives in a register: no number and no pointer has any on the way.
 HELD = "__builtin_choose_expr(sizeof __spbags_result <= 8 && __builtin_classify_type(__spbags_result) < 12, " \
        "(const volatile void *)0, (const volatile void *)&__spbags_result)"
-REFUSED = {
-    **{word: f"{word} is no keyword here: write `#include <cilk/cilk.h>' above"
-       for word in ("cilk_spawn", "cilk_sync", "cilk_for", "cilk_scope")},
-}
+REFUSED = {word: f"{word} is no keyword here: write `#include <cilk/cilk.h>' above"
+           for word in ("cilk_spawn", "cilk_sync", "cilk_for", "cilk_scope")}
+# What may have to be rewritten, beside where another edit says so.
+MEANT = {"_Cilk_spawn", "_Cilk_for", "_Cilk_scope", "_Cilk_sync", "try", *INLINED, *UNSEEN, *REFUSED}
 
 
 def is_one_target(tokens, first, sign):
@@ -206,7 +206,7 @@ class Rewriting:
 
     def rewritten(self):
         for at, token in enumerate(self.tokens):
-            if token.start >= self.done:
+            if (token.text in MEANT or at in self.planned or at in self.waiting) and token.start >= self.done:
                 self.rewrite(at)
             for instead in self.behind.pop(at, ()):
                 self.made += [self.text[self.done:token.end], instead]

@@ -43,7 +43,7 @@ ALIGNS = re.compile(rb"\x55\x48\x89\xe5((?:\x41?[\x50-\x57])*)\x48(?:\x83\xe4(.)
 LONGEST_START, PUSH = 48, re.compile(rb"\x41?[\x50-\x57]")
 OWN = re.compile("__spbags_")
 # The hooks of accesses, by their width in bytes or, where they are atomic, in bits.
-ACCESS = re.compile("__(?:tsan|sanitizer_cov|spbags_first|spbags_stack)_(?:unaligned_)?(?:read|write|load|store)([0-9]+)|"
+ACCESS = re.compile("__(?:tsan|sanitizer_cov|spbags_(?:first|stack|long))_(?:unaligned_)?(?:read|write|load|store)([0-9]+)|"
                     "__tsan_atomic([0-9]+)_")
 CALL, CALL_SIZE = 0xe8, 5
 OUTLINED = re.compile(r"\._omp_(?:cpy)?fn\.[0-9]+$")

@@ -62,6 +62,49 @@ INDEX, SCALE = 2, 4
 NOTHING = re.compile(r"(?:gather|scatter)pf\w+|prefetch\w*|clflush(?:opt)?|clwb|cldemote|u?monitorx?|mwaitx?|llwpcb")
 
 
+# For gcc's plugin, which asks the compiler for what stands in a text here.
+ROWS = """\
+/* Of vectors.py. */
+static const whole_row whole_rows[] = {{
+{whole}
+    {{nullptr, 0, 0, 0, false}}}};
+static const chosen_row chosen_rows[] = {{
+{chosen}
+    {{nullptr, nullptr, 0, 0, 0, false, 0, 0, 0}}}};
+static const letters_row letters_rows[] = {{
+{letters}
+    {{nullptr, 0}}}};
+static const char nothing_row[] = "{nothing}";
+"""
+
+
+def posix(pattern):
+    """The pattern without what POSIX lacks, and the number of each part that has a name."""
+    numbers = {}
+    for number, named in enumerate(re.findall(r"\((?:\?:|\?P<(\w+)>)?", pattern.pattern), 2):
+        numbers[named] = number
+    text = re.sub(r"\((?:\?:|\?P<\w+>)", "(", pattern.pattern)
+    return text.replace(r"\w", "[a-z0-9_]").replace(r"\d", "[0-9]"), numbers
+
+
+def rows():
+    """The tables in C++."""
+    whole, chosen = [], []
+    for row in WHOLE:
+        like = re.search(r"{(\d)}", row.size)
+        bytes_of = "0, " + like[1] if like else row.size + ", -1"
+        whole.append(f'    {{"{posix(row.names)[0]}", {row.pointer}, {bytes_of}, {["false", "true"][row.writes]}}},')
+    for row in CHOSEN:
+        names, numbers = posix(row.names)
+        parts = ", ".join(str(numbers.get(part, 0)) for part in ("element", "each", "index"))
+        value = -1 if row.value is None else row.value
+        chosen.append(f'    {{"{names}", "__spbags_{row.hook}", {row.pointer}, {row.mask}, {value}, '
+                      f'{["false", "true"][row.writes]}, {parts}}},')
+    letters = [f'    {{"{letter}", {size}}},' for letter, size in BYTES.items()]
+    return ROWS.format(whole="\n".join(whole), chosen="\n".join(chosen), letters="\n".join(letters),
+                       nothing=posix(NOTHING)[0])
+
+
 class Use:
     """A use of a builtin. What the hooks get too is evaluated once, into a variable."""
 

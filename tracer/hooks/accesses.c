@@ -118,8 +118,9 @@ void note_write(uintptr_t at, size_t size, __spbags_function self, uintptr_t sta
 }
 
 #define OFTEN(WRITES, AT, SIZE) usual_access(WRITES, (uintptr_t)(AT), SIZE, STACK_POINTER, CODE)
-#define READ(AT, SIZE) any_access(false, (uintptr_t)(AT), SIZE, NULL, STACK_POINTER, CODE)
-#define WRITE(AT, SIZE) any_access(true, (uintptr_t)(AT), SIZE, NULL, STACK_POINTER, CODE)
+#define ACCESS(WRITES, AT, SIZE) any_access(WRITES, (uintptr_t)(AT), SIZE, NULL, STACK_POINTER, CODE)
+#define READ(AT, SIZE) ACCESS(false, AT, SIZE)
+#define WRITE(AT, SIZE) ACCESS(true, AT, SIZE)
 
 /* With clang those of coverage stand beside the accesses instead of the sanitizer's. */
 #define ACCESSES(SIZE) \
@@ -149,37 +150,22 @@ static inline void first_units(bool writes, uintptr_t at, size_t size, uintptr_t
                 locations_note_unit(writes, &in, unit, part, code);
 }
 
-/* What the text in inline_checks.s calls for such an access that isn't noted quickly, with the byte of its first unit; and
-   of the stack, where it is no repeat, with the mark. There the byte of a single unit says already that this is done. */
-__attribute__((noinline)) static void note_first(bool writes, uintptr_t at, uint8_t *done, uintptr_t code) {
+/* What the text in inline_checks.s calls for such an access that isn't noted quickly, with the byte of the first unit that
+   isn't; of the stack, where it is no repeat, with the mark; and for the rest. That byte says already that this is done. */
+__attribute__((noinline)) static void note_first(bool writes, uintptr_t at, size_t size, uint8_t *done,
+                                                 uintptr_t code) {
     clear_bit(done, writes ? WROTE_IT : READ_IT);
-    first_units(writes, at, 1 << USUAL_SHIFT, code);
+    first_units(writes, at, size, code);
 }
 
-/* The same of two. */
-static inline void note_two(bool writes, uintptr_t at, uint8_t *done, uintptr_t code) {
-    const uint8_t bit = writes ? WROTE_IT : READ_IT;
-    const bool first = !was_done(writes, done[0]), second = !was_done(writes, done[1]);
-    if (first)
-        set_bit(&done[0], bit);
-    if (second)
-        set_bit(&done[1], bit);
-    if (__builtin_expect((done[0] & done[1] & QUICK) != 0, 1))
-        return;
-    if (second)
-        clear_bit(&done[1], bit);
-    if (first)
-        clear_bit(&done[0], bit);
-    first_units(writes, at, 2 << USUAL_SHIFT, code);
-}
-
-#define FIRST(KIND, WRITES) \
-    void __spbags_first_##KIND##4(uintptr_t at, uint8_t * done) { note_first(WRITES, at, done, CODE); } \
-    void __spbags_first_##KIND##8(uintptr_t at, uint8_t * done) { note_two(WRITES, at, done, CODE); } \
-    void __spbags_stack_##KIND##4(uintptr_t at, uint32_t * mark) { note_usual_marks(WRITES, at, 4, mark, CODE); } \
-    void __spbags_stack_##KIND##8(uintptr_t at, uint32_t * mark) { note_usual_marks(WRITES, at, 8, mark, CODE); }
-FIRST(read, false)
-FIRST(write, true)
+#define BEHIND_TEST(KIND, WRITES, SIZE) \
+    void __spbags_first_##KIND##SIZE(uintptr_t at, uint8_t *done) { note_first(WRITES, at, SIZE, done, CODE); } \
+    void __spbags_stack_##KIND##SIZE(uintptr_t at, uint32_t *mark) { note_usual_marks(WRITES, at, SIZE, mark, CODE); } \
+    void __spbags_long_##KIND##SIZE(void *at) { OFTEN(WRITES, at, SIZE); }
+BEHIND_TEST(read, false, 4)
+BEHIND_TEST(read, false, 8)
+BEHIND_TEST(write, true, 4)
+BEHIND_TEST(write, true, 8)
 
 /* An object's table of virtual functions is named as it begins and as it ends. */
 void __tsan_vptr_update(void *at, void *table) {
@@ -261,6 +247,19 @@ ATOMICS(16, uint16_t)
 ATOMICS(32, uint32_t)
 ATOMICS(64, uint64_t)
 ATOMICS(128, unsigned __int128)
+
+/* Of gcc's plugin, beside an operation that the program makes itself: an access; or what the operation writes if it finds
+   what it expects there, and else perhaps where that was. */
+void __spbags_atomic(const volatile void *at, unsigned long size, long writes) {
+    ATOMICALLY(ACCESS(writes != 0, at, size));
+}
+void __spbags_compare(const volatile void *at, const void *expected, unsigned long size, long is_stored) {
+    ATOMICALLY(READ(at, size));
+    if (memcmp((const void *)at, expected, size) == 0)
+        ATOMICALLY(WRITE(at, size));
+    else if (is_stored)
+        WRITE(expected, size);
+}
 
 void __tsan_atomic_thread_fence(int order) { (void)order; }
 void __tsan_atomic_signal_fence(int order) { (void)order; }

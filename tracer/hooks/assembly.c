@@ -25,3 +25,9 @@ void __spbags_asm_unseen(const char *place) {
     if (procedures_run_beside() && tell_is_first((uintptr_t)place))
         tell_incomplete("%s: the assembly here may access memory that none of its operands names", place);
 }
+
+/* A statement of the program that accesses memory in a way that has no hook. */
+void __spbags_unseen(const char *place) {
+    if (procedures_run_beside() && tell_is_first((uintptr_t)place))
+        tell_incomplete("%s: an access of memory here isn't seen", place);
+}

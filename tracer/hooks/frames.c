@@ -198,45 +198,37 @@ void __spbags_sync(void) {
     sync_children(frames_top, CODE);
 }
 
-ALWAYS_INLINE void enter_function(uintptr_t end, uintptr_t code) {
+void __tsan_func_entry(void *caller) {
+    (void)caller;
     if (!doing.tracing)
         return;
+    uintptr_t end = FRAME_END;
     if (end - stacks_first > stacks_size)
         fail("the program runs on a stack of its own, or on more than %zu bytes of stack", (size_t)stacks_size);
-    leave_jumped(end, code);
+    leave_jumped(end, CODE);
     clear_below(end);
     push_frame_at(FUNCTION, end, records_so_far());
 }
-
-void __tsan_func_entry(void *caller) {
-    (void)caller;
-    enter_function(FRAME_END, CODE);
-}
-
-void frames_enter(uintptr_t end, uintptr_t code) { enter_function(end, code); }
 
 /* Whether no record comes of a frame's end. A function is of kind 0. */
 static inline bool ends_quietly(const struct frame *frame) {
     return (frame->kind | frame->called | frame->children | frame->node) == 0;
 }
 
-__attribute__((noinline)) static void leave_to(uintptr_t end, uintptr_t code) {
+__attribute__((noinline)) static void leave_function(uintptr_t end, uintptr_t code) {
     leave_below(end, code);
     clear_below(end);
 }
 
-ALWAYS_INLINE void leave_function(uintptr_t end, uintptr_t code) {
+void __tsan_func_exit(void) {
     if (!doing.tracing)
         return;
+    uintptr_t end = FRAME_END;
     if (end != frames_top->end || !ends_quietly(frames_top)) {
-        leave_to(end, code);
+        leave_function(end, CODE);
         return;
     }
     clear_below(end);
     frames_top--;
     follow_top();
 }
-
-void __tsan_func_exit(void) { leave_function(FRAME_END, CODE); }
-
-void frames_exit(uintptr_t end, uintptr_t code) { leave_function(end, code); }

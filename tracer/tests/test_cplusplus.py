@@ -218,16 +218,12 @@ class CilkTest(CPlusPlusTest):
 class CopiesTest(CPlusPlusTest):
     def test_copies(self):
         """Structs that calls take or give, by the line of each."""
-        for options in ([], ["-march=native"]):
+        for options in ([], ["-march=native"], ["-masm=intel"], ["-fPIC"]):
             with self.subTest(options):
                 self.build("copies", COPIES, "-fopenmp", *options)
                 wanted = by_call(COPIES, map(cases.race_of, self.run_command("./copies").out.splitlines()))
                 self.assertTrue(wanted)
                 self.assertEqual(wanted, by_call(COPIES, self.races_of("./copies", **UNIT)))
-        with self.subTest("the other syntax of the assembler"):
-            self.write("intel.cpp", "struct S { int a, b; } x;\nint f(S);\nint g() { return f(x); }\n")
-            self.ends_with(1, "can.t be traced with -masm=intel", SPBAGS_CPLUSPLUS, LEVEL, "-masm=intel", "-c",
-                           "intel.cpp")
 
 
 class ContainersTest(CPlusPlusTest):
