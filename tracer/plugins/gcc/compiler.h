@@ -2,6 +2,7 @@
 #ifndef SPBAGS_COMPILER_H
 #define SPBAGS_COMPILER_H
 
+#include <algorithm>
 #include <cstdlib>
 #include <fstream>
 #include <initializer_list>

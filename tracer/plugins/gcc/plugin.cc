@@ -2,11 +2,13 @@
    each function's entry and exit. gcc loads it by -fplugin, and -fplugin-arg-spbags-checks=FILE names the
    assembler's macros of the tests that stand inline; without these hooks are called.
 
-   Each function goes through four passes of it: frames.h marks the ways out; accesses.h puts the hooks of accesses before
-   any optimization; checks.h drops what turns out to be the function's alone, and at last puts the tests. */
+   Each function goes through passes of it: frames.h marks the ways out; accesses.h puts the hooks of accesses before any
+   optimization; checks.h drops those of what turns out to be the function's alone; at last ranges.h makes one of those of
+   a loop, and checks.h puts tests in place of calls. */
 #include "accesses.h"
 #include "checks.h"
 #include "frames.h"
+#include "ranges.h"
 
 int plugin_is_GPL_compatible;
 
@@ -34,8 +36,10 @@ static unsigned drop_own(function *fun) {
 }
 
 static unsigned put_checks(function *fun) {
-    if (optimize)
+    if (optimize) {
         checks_drop_own(fun);
+        ranges_put(fun);
+    }
     checks_put(fun);
     frames_put(fun);
     return TODO_update_ssa | TODO_cleanup_cfg;
