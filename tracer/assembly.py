@@ -10,7 +10,7 @@ from tokens import BRACKET, CONTROLS, Token, after_bracket, blanked, match_brack
 ASM = re.compile(r"\b(?:asm|__asm__|__asm)\s*"
                  r"((?:(?:volatile|__volatile__|__volatile|inline|__inline__|__inline|goto)\s*)*)\(")
 DIRECTIVE = re.compile(r"^#[^\n]*", re.MULTILINE)
-OPERAND = re.compile(r'\s*(?:\[\s*(?P<name>\w+)\s*\]\s*)?(?P<constraint>(?:R?"[^"]*"\s*)+)\((?P<expression>.*)\)\s*',
+OPERAND = re.compile(r'\s*(?:\[\s*\w+\s*\]\s*)?(?P<constraint>(?:R?"[^"]*"\s*)+)\((?P<expression>.*)\)\s*',
                      re.DOTALL)
 MARKER = re.compile(r'^#(?:line)? *([0-9]+) *"((?:\\.|[^"\\])*)"[^\n]*$', re.MULTILINE)
 # Also an array whose size isn't known.
@@ -29,7 +29,6 @@ MEMORY, ANYTHING, ADDRESS = set("moV<>"), set("gX"), set("pT")
 class Operand:
     def __init__(self, source, first, end):
         found = OPERAND.fullmatch(source.bare, first, end)
-        self.name = found["name"] if found else None
         self.constraint = templates.text_of(source.text[slice(*found.span("constraint"))]) if found else None
         # Where the expression stands.
         self.place = found.span("expression") if found else (first, first)
@@ -69,7 +68,8 @@ class Source:
     def before(self, at):
         """The index of the last bracket before this place, or -1."""
         if not self.brackets:
-            self.brackets = [Token("mark", found[0], found.start(), "", 0, False) for found in BRACKET.finditer(self.bare)]
+            self.brackets = [Token("mark", found[0], found.start(), "", 0, False)
+                             for found in BRACKET.finditer(self.bare)]
             match_brackets(self.brackets)
             self.places = [bracket.start for bracket in self.brackets]
         return bisect_left(self.places, at) - 1
@@ -124,7 +124,7 @@ class Source:
         if not around and re.search(r"\b(?:asm|__asm__|__asm)\b", declared[0]):
             return at, len(self.bare)
         behind = after_bracket(self.bare, around.start) if around else declared.end()
-        opening = re.compile(r"[^{}]*\{").match(self.bare, behind or at)
+        opening = re.compile(r"[^;{}]*\{" if around else r"[^{}]*\{").match(self.bare, behind or at)
         return at, opening and after_bracket(self.bare, opening.end() - 1) or at
 
     def where(self, at):
@@ -147,6 +147,8 @@ class Statement:
         self.has_operands = len(self.sections) > 1
         self.template = templates.text_of(source.text[slice(*self.sections[0])])
         self.outputs, self.inputs = self.operands(1), self.operands(2)
+        self.has_memory = any(operand.may_be_in_memory() for operand in self.outputs + self.inputs)
+        self.vector = templates.vector_of(self.template or "")
         self.locked = int(bool(re.search(r"\block\b|\bxchg", self.template or "", re.IGNORECASE)))
 
     def operands(self, number):
@@ -156,10 +158,8 @@ class Statement:
         return [Operand(self.source, *part) for part in parts_between(self.source.bare, *self.sections[number], ",")]
 
     def is_understood(self):
-        operands = self.outputs + self.inputs
-        return templates.is_understood(self.template, self.has_operands,
-                                       any(operand.may_be_in_memory() for operand in operands), self.source.is_intel) and \
-            not any(operand.is_address() for operand in operands)
+        return templates.is_understood(self.template, self.has_operands, self.has_memory, self.source.is_intel) and \
+            not any(operand.is_address() for operand in self.outputs + self.inputs)
 
     def is_statement(self):
         return self.is_qualified or self.has_operands or self.source.begins_statement(self.first)
@@ -167,9 +167,14 @@ class Statement:
     def where(self):
         return self.source.where(self.first)
 
+    def unseen(self):
+        return f'__spbags_asm_unseen("{self.where()}");'
+
     def note(self, operand, writes):
-        place = f"{self.source.address}({operand.expression}), sizeof({operand.expression})"
-        return f"__spbags_asm({place}, {int(writes)}, {self.locked});"
+        size = f"sizeof({operand.expression})"
+        narrow = f"if ({size} < {self.vector}) {self.unseen()} " if self.vector else ""
+        place = f"{self.source.address}({operand.expression})"
+        return f"{narrow}__spbags_asm({place}, {size}, {int(writes)}, {self.locked});"
 
     def is_in_register(self, operand):
         """Whether the output is a variable that the program has in a register."""
@@ -198,7 +203,7 @@ class Statement:
                 before += [self.note(operand, False)] * bool(operand.is_simple())
                 unseen = unseen or not operand.is_simple()
         if unseen:
-            before.insert(0, f'__spbags_asm_unseen("{self.where()}");')
+            before.insert(0, self.unseen())
         if not before:
             return None
         made, at = [], self.first
@@ -221,8 +226,8 @@ def rewritten(text, is_cplusplus, is_intel):
         statement = Statement(source, match, end)
         if not statement.has_operands and (statement.is_understood() or not statement.is_statement()):
             continue
-        if not statement.has_operands and not source.is_in_function(match.start()):
-            outside.append(statement.where())
+        if (not statement.has_operands or "naked" in text) and not source.is_in_function(match.start()):
+            outside += [statement.where()] * (statement.has_memory or not statement.is_understood())
             continue
         instead = statement.rewritten()
         if instead:

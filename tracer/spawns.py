@@ -130,7 +130,8 @@ def without_pragmas(text):
     """The source in which no pragma gives such an attribute, but one that does nothing."""
     made, done = [], 0
     for found in PRAGMA.finditer(blanked(text)):
-        pragma = FROM_PRAGMA.sub(lambda name: ("clang::" if name[1] else "") + 'annotate("")', text[slice(*found.span())])
+        pragma = FROM_PRAGMA.sub(lambda name: ("clang::" if name[1] else "") + 'annotate("")',
+                                 text[found.start():found.end()])
         made += [text[done:found.start()], pragma]
         done = found.end()
     return "".join(made) + text[done:]

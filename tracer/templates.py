@@ -1,8 +1,9 @@
-"""Whether an assembler's template goes to no memory but that of its operands in C: so it is where each instruction has only
-registers, constants and such operands, and is none that goes elsewhere without an operand."""
+"""Whether an assembler's template goes to no memory but that of its operands in C: so it is where each instruction has
+only registers, constants and such operands, and is none that goes elsewhere without an operand."""
 import re
 
-STRING = re.compile(r'R"(?P<delimiter>[^()\\\s]{0,16})\((?P<raw>(?s:.*?))\)(?P=delimiter)"|"(?P<plain>(?:\\.|[^"\\\n])*)"')
+STRING = re.compile(r'R"(?P<delimiter>[^()\\\s]{0,16})\((?P<raw>(?s:.*?))\)(?P=delimiter)"|'
+                    r'"(?P<plain>(?:\\.|[^"\\\n])*)"')
 DIRECTIVE = re.compile(r"^#[^\n]*", re.MULTILINE)
 ESCAPE = re.compile(r"\\(?:([0-7]{1,3})|x([0-9a-fA-F]+)|(.))")
 ESCAPED = {"n": "\n", "t": "\t", "r": "\r", "f": "\f", "v": "\v"}
@@ -27,19 +28,25 @@ JUMP = re.compile(r"j[a-z]+|loop\w*|xbegin")
 # Those that go to memory by registers that they don't name, to more than an operand says, or to other code.
 ELSEWHERE = re.compile(
     r"xlatb?|v?maskmov(?:q|dqu)|movdir64b|enqcmds?|clzero|(?:ins|outs|stos|lods|scas)[bwlqd]?|[fg]s|[sl]lwpcb|"
-    r"f?x(?:save|rstor)\w*|fn?(?:save|stenv)|f(?:rstor|ldenv)|(?:ld|st)tilecfg|encl[suv]|x(?:store|crypt|sha)\w*|montmul|"
-    r"leave[wlq]?|enter[wlq]?|l?call\w*|ljmp\w*|lret\w*|iret\w*|int\w*|sys\w+|bound\w*")
+    r"f?x(?:save|rstor)\w*|fn?(?:save|stenv)|f(?:rstor|ldenv)|(?:ld|st)tilecfg|encl[suv]|x(?:store|crypt|sha)\w*|"
+    r"montmul|leave[wlq]?|enter[wlq]?|l?call\w*|ljmp\w*|lret\w*|iret\w*|int\w*|sys\w+|bound\w*")
 # They go elsewhere too, unless they have operands.
 STRINGS = re.compile(r"(?:cmps|movs)[bwlqd]?")
 # The bit of an operand in memory may lie behind it.
 BIT = re.compile(r"bt[src]?[wlq]?")
 
+# Those that access a whole vector, which an operand's type may be a part of.
+NAME = re.compile(r"(?:^|[;:\n])\s*([A-Za-z]\w*)")
+PACKED = re.compile(r"v?(?:mov(?:dq[au]|ntdq|ntq)\w*|lddqu|(?!mov[lh]p|cvt)\w+p[sd]|"
+                    r"p(?!refetch|op|ush|ause|ext|dep|insr|mov|broadcast)\w+)")
+VECTORS = ("zmm", 64), ("ymm", 32), ("xmm", 16), ("%mm", 8), ("", 16)
+
 QUIET = re.compile(r"\.(?:globa?l|weak|hidden|protected|internal|local|symver|type|size|file|loc|ident|cfi_\w+|p2align|"
                    r"b?align|set|equ)")
 SECTION = re.compile(r"\.(?:(?:push)?section\b|data\b|bss\b|text\b|popsection\b|previous\b)")
 CODE = re.compile(r"\.text|\.popsection|\.previous|\.(?:push)?section\s+(?:\.text|[^,]*,\s*\"[^\"]*x)")
-DATA = re.compile(r"\.(?:[248]?byte|short|word|value|int|long|quad|octa|float|double|string|asci[iz]|zero|space|skip|fill|"
-                  r"incbin)")
+DATA = re.compile(r"\.(?:[248]?byte|short|word|value|int|long|quad|octa|float|double|string|asci[iz]|zero|space|skip|"
+                  r"fill|incbin)")
 
 
 def text_of(strings):
@@ -53,6 +60,13 @@ def unescaped(escape):
     if escape[3]:
         return ESCAPED.get(escape[3], escape[3])
     return chr(int(escape[1], 8) if escape[1] else int(escape[2], 16) % 256)
+
+
+def vector_of(template):
+    """The bytes of a vector that is accessed whole, or 0."""
+    if not any(PACKED.fullmatch(name.lower()) for name in NAME.findall(COMMENT.sub(" ", template))):
+        return 0
+    return next(size for letters, size in VECTORS if letters in template)
 
 
 def is_understood(template, has_operands, is_beyond, is_intel):

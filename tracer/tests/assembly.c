@@ -47,10 +47,12 @@ static void go_beyond_operands(void) {
     __asm__ volatile("incl %c0" : : "i"(&cell) : "memory");                        /* [unseen] */
     __asm__ volatile("movl 4+%0, %%eax" : : "m"(cells[0]) : "eax");                /* [unseen] */
     __asm__ volatile("lock; btsl %1, %0" : "+m"(own[0]) : "r"(40));                /* [unseen] */
+    __asm__ volatile("movups %0, %%xmm1" : : "m"(own[0]) : "xmm1");                /* [unseen] */
     __asm__ volatile(".byte 0x90");                                                /* [unseen] */
 }
 
 __attribute__((naked)) static void naked(void) { __asm__("incl cell\n\tret"); }    /* [unseen] */
+__attribute__((naked)) static void naked_too(void) { __asm__("incl %c0\n\tret" : : "i"(&cell)); } /* [unseen] */
 __asm__("\t.text\nwhole:\n\tincl\tcell\n\tret\n");                                 /* [unseen] */
 __asm__(".macro bump\nincl cell\n.endm");                                          /* [unseen] */
 
@@ -65,6 +67,7 @@ static long is_known(void) {
     long n = 3, more = 0;
     double x = 4;
     register long bound __asm__("r12") = 5;
+    _Alignas(16) int wide_enough[4] = {0};
     __asm__ volatile("");
     __asm__ volatile("" : : : "memory");
     __asm__ volatile("rep; nop");
@@ -80,6 +83,8 @@ static long is_known(void) {
     __asm__ volatile("leaq (%1,%1,2), %0\n\tprefetcht0 (%2)" : "=r"(n) : "r"(n), "r"(own));
     __asm__ volatile("movsbl %b2, %0\n\tmovq %%rsp, %1" : "=&r"(a), "=&r"(more) : "q"(b));
     __asm__ volatile("sqrtsd %1, %0\n\tmovsd %0, %1" : "+x"(x), "+x"(x));
+    __asm__ volatile("movups %0, %%xmm1\n\tpaddd %0, %%xmm1" : : "m"(wide_enough) : "xmm1");
+    __asm__ volatile("movhps %0, %%xmm1\n\tmovlps %%xmm1, %0" : "+m"(x) : : "xmm1");
     __asm__ volatile("fsqrt\n\tfldz\n\tfaddp %%st, %%st(1)" : "+t"(x));
     __asm__ volatile("btl $3, %1\n\tsbbl %0, %0" : "=r"(a) : "m"(own[3]) : "cc");
     __asm__ volatile("bt %1, %0" : : "r"(a), "r"(b) : "cc");
@@ -94,6 +99,7 @@ out:
 /* ---- Races ---- */
 
 /* Other variables with the names of these stand in registers. */
+int declared(register int n, register int kept);
 static int other(void) {
     register int counted = 3;
     return counted;
@@ -133,6 +139,7 @@ int main(int words, char **word) {
     cilk_spawn go_by_names();
     cilk_spawn go_beyond_operands();
     cilk_spawn naked();
+    naked_too();
     whole();
     printf("%ld %d\n", is_known(), other() + takes(1, 2) + takes_too(1, 2));
     cilk_sync;
