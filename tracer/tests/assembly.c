@@ -7,6 +7,7 @@
 
 int cell, cells[4], counted, updated, updated_too, kept, set, barred, shown, taken, both[2];
 long wide;
+static volatile int sink;
 unsigned char table[256];
 void whole(void);
 
@@ -99,13 +100,13 @@ out:
 /* ---- Races ---- */
 
 /* Other variables with the names of these stand in registers. */
-int declared(register int n, register int kept);
 static int other(void) {
     register int counted = 3;
     return counted;
 }
 static int takes(register int n, register int updated) { return n + updated; }
 static int takes_too(n, updated_too) register int n, updated_too; { return n + updated_too; }
+int declared(register int n, register int set);
 
 static void update(void) {
     __asm__ volatile("lock; incl %0" : "+m"(counted));              /* [4 counted first] */
@@ -122,15 +123,15 @@ static void update(void) {
 int main(int words, char **word) {
     if (words > 1 && strcmp(word[1], "races") == 0) {
         cilk_spawn update();
-        counted = 1;     /* [4 counted second] */
-        updated = 1;     /* [4 updated second] */
-        updated_too = 1; /* [4 updated_too second] */
-        kept = 1;        /* [4 kept second] */
-        set = 1;         /* [4 set second] */
+        sink = counted;     /* [4 counted second] */
+        sink = updated;     /* [4 updated second] */
+        sink = updated_too; /* [4 updated_too second] */
+        sink = kept;        /* [4 kept second] */
+        sink = set;         /* [4 set second] */
         barred = 1;
-        shown = 1;       /* [4 shown second] */
-        table[1] = 1;    /* [1 table second] */
-        taken = 1;       /* [4 taken second] */
+        sink = shown;       /* [4 shown second] */
+        sink = table[1];    /* [1 table second] */
+        taken = 1;          /* [4 taken second] */
         both[0] = 1, both[1] = 1; /* [8 both second] */
         cilk_sync;
         return 0;
