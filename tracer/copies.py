@@ -1,8 +1,8 @@
 """Adds to gcc's assembly the copies of structs that no hook of the sanitizer's sees: those that a call passes, what a
 call gives, and what a function writes where its caller wants its result. gcc's last dump of a function says whether it
 has any. Then each instruction there that may be of one is followed by what it loads or stores: it does so in truth, and
-what a hook has seen already is a repeat. And to a function that has hooks, but none that says where it begins and ends, it
-adds these: gcc leaves them out where all that it has is stores of structs whose loads need no hook."""
+what a hook has seen already is a repeat. And to a function that has hooks, but none that says where it begins and ends,
+it adds these: gcc leaves them out where all that it has is stores of structs whose loads need no hook."""
 import re
 
 # Names in a dump are the assembly's, and a variable's has a number, which the name of a value doesn't.
@@ -28,7 +28,7 @@ WIDE = re.compile("%[yz]mm|%k[0-7]")
 LOCATION = re.compile(r"\t\.loc (\d+) (\d+)")
 FILE = re.compile(r'^\t\.file (\d+) "((?:\\.|[^"\\])*)"(?: "((?:\\.|[^"\\])*)")?', re.MULTILINE)
 
-ACCESS_HOOK, ENTRY_HOOK = re.compile(r"__tsan_\w*(?:read|write)"), "__tsan_func_entry"
+HOOK, ACCESS_HOOK, ENTRY_HOOK = re.compile(r"__tsan_\w+"), re.compile(r"__tsan_\w*(?:read|write)"), "__tsan_func_entry"
 # What makes the frame pointer, and what gives back the caller's.
 FRAME, FRAME_RULE = "\tmovq\t%rsp, %rbp", "\t.cfi_def_cfa_register"
 END_OF_FRAME, FRAME_END = re.compile(r"\t(?:leave|popq\t%rbp)"), "16(%rbp)"
@@ -186,10 +186,9 @@ class Function:
         return name in names or not names <= callees
 
     def is_without_ends(self):
-        """Whether hooks are called here, and none of the function's entry."""
-        called = {self.at(at).callee() for at in range(self.first, self.last)
-                  if "__tsan_" in self.lines[at] and self.at(at).is_call()}
-        return ENTRY_HOOK not in called and any(map(ACCESS_HOOK.match, called))
+        """Whether there are hooks here, and none of the function's entry."""
+        hooks = {name for line in self.lines[self.first:self.last] if "__tsan_" in line for name in HOOK.findall(line)}
+        return ENTRY_HOOK not in hooks and any(map(ACCESS_HOOK.match, hooks))
 
     def mark_ends(self):
         for at in self.of_compiler():
