@@ -1,4 +1,5 @@
 """Answers of `spbags`, and the code addresses of a trace's places."""
+import bisect
 import mmap
 import os
 import re
@@ -6,7 +7,7 @@ import struct
 from collections import namedtuple
 from itertools import accumulate
 
-from source import Failure
+from failure import Failure
 
 HEAD = re.compile(r"(races|pairs) ([0-9]+)\n")
 RACE = re.compile(r"(?:race ([0-9]+)|pair) (read|write) ([0-9]+) (read|write) ([0-9]+)\n")
@@ -62,10 +63,11 @@ def guard_of(text):
 
 
 class Places:
-    """A run's file of places: the number of each record's site, 2 bytes, then the sites, the lists of guards, the lines
-    of the report, how many those are, and a mark."""
-    END = struct.Struct("<QQQQ8s")
-    MARK = b"spbplace"
+    """A run's file of places: numbers of 2 bytes, each of the next record's site, or that of the same site come more
+    records; marks, each how many records and how many numbers came before; the sites, the lists of guards, the lines of
+    the report; and how many of all these there are."""
+    END = struct.Struct("<QQQQQQ8s")
+    MARK, REPEAT = b"spbplace", 0xfffe
 
     def __init__(self, file, name):
         self.name = name
@@ -73,14 +75,17 @@ class Places:
         self.bytes = mmap.mmap(file.fileno(), 0, access=mmap.ACCESS_READ) if size > 0 else b""
         if size < self.END.size or self.bytes[-8:] != self.MARK:
             raise Failure(f"{name} is incomplete: did the run end early?")
-        self.count, sites, lists, notes, _ = self.END.unpack_from(self.bytes, size - self.END.size)
-        starts = list(accumulate((2 * self.count, 8 * sites, lists, notes)))
+        self.count, numbers, marks, sites, lists, notes, _ = self.END.unpack_from(self.bytes, size - self.END.size)
+        starts = list(accumulate((2 * numbers, 16 * marks, 8 * sites, lists, notes)))
         if starts[-1] != size - self.END.size:
             raise Failure(f"{name}: this isn't a file of places")
-        words = struct.unpack_from(f"<{sites}Q", self.bytes, starts[0])
-        lists = [(), *(tuple(map(guard_of, line.split("\t"))) for line in self.text(*starts[1:3]))]
+        self.marks = [(0, 0), *struct.iter_unpack("<QQ", self.bytes[starts[0]:starts[1]]), (self.count, numbers)]
+        words = struct.unpack_from(f"<{sites}Q", self.bytes, starts[1])
+        lists = [(), *(tuple(map(guard_of, line.split("\t"))) for line in self.text(*starts[2:4]))]
         self.sites = [Site(word & CODE, word >> 63 == 1, self.held(lists, word >> 48 & NO_LIST)) for word in words]
-        self.notes = self.text(*starts[2:4])
+        self.notes = self.text(*starts[3:5])
+        # The newest part that was read, and which that is; and the numbers of records that were looked up.
+        self.part, self.ends, self.numbers, self.found = None, [], [], {}
 
     def text(self, start, end):
         return self.bytes[start:end].decode(errors="replace").splitlines()
@@ -90,16 +95,37 @@ class Places:
         return lists[number] if number != NO_LIST else None
 
     def need(self, wanted):
-        """All these places are of this trace."""
-        for place in wanted:
+        """All these places are of this trace. They are looked up together, in their order."""
+        for place in sorted(wanted):
             if not 0 < place <= self.count:
                 raise Failure(f"{self.name} has no place {place}: does the report belong to another trace?")
+            self.found[place] = self.number(place)
+
+    def read_part(self, part):
+        """Of the records between two marks: where those of each site end, one behind the other."""
+        (at, first), (_, end) = self.marks[part:part + 2]
+        self.part, self.ends, self.numbers = part, [], []
+        numbers = iter(memoryview(self.bytes)[2 * first:2 * end].cast("H"))
+        for number in numbers:
+            if number == self.REPEAT:
+                at += next(numbers)
+                self.ends[-1] = at
+            else:
+                at += 1
+                self.ends.append(at)
+                self.numbers.append(number)
+
+    def number(self, place):
+        part = bisect.bisect_left(self.marks, (place,)) - 1
+        if part != self.part:
+            self.read_part(part)
+        return self.numbers[bisect.bisect_left(self.ends, place)]
 
     def site(self, place):
         """None where it isn't known."""
         if not 0 < place <= self.count:
             return None
-        number = struct.unpack_from("<H", self.bytes, 2 * (place - 1))[0]
+        number = self.found[place] if place in self.found else self.number(place)
         return self.sites[number] if number != NO_SITE else None
 
 

@@ -1,9 +1,10 @@
 """The sources and packages of the distribution, by apt-get with this machine's list of hosts: the machine stays as it
 is."""
 import os
+import random
 import subprocess
 
-from source import Failure
+from failure import Failure
 
 # What an entry of that list is asked for besides packages.
 SOURCES = {"MetaKey": "$(COMPONENT)/source/Sources", "flatMetaKey": "Sources", "ShortDescription": "Sources",
@@ -35,12 +36,12 @@ class Distribution:
         return [os.path.join(self.folder, name) for name in sorted(os.listdir(self.folder))
                 if name.startswith(start) and name.endswith(end)]
 
-    def source(self, package, *patterns):
+    def source(self, package, *patterns, into=None):
         """The folder with what its authors released, or the files of these patterns; packages within it stay packed."""
         self.apt("source", "--download-only", "--tar-only", package)
         [archive] = [name for end in (".orig.tar.gz", ".orig.tar.xz", ".orig.tar.bz2")
                      for name in self.files(package + "_", end)]
-        folder = os.path.join(self.folder, package)
+        folder = os.path.join(self.folder, into or package)
         os.makedirs(folder, exist_ok=True)
         self.run("tar", "xf", archive, "-C", folder, "--strip-components=1", *(("--wildcards", *patterns) if patterns
                                                                              else ()))
@@ -53,3 +54,33 @@ class Distribution:
             self.apt("download", package)
             self.run("dpkg", "-x", self.files(package + "_", ".deb")[-1], folder)
         return folder
+
+
+def make(folder, *words, **settings):
+    done = subprocess.run(words, cwd=folder, env={**os.environ, **settings}, stdout=subprocess.PIPE,
+                          stderr=subprocess.STDOUT, text=True, errors="replace")
+    if done.returncode != 0:
+        raise Failure(f"{' '.join(words)}: " + " | ".join(done.stdout.strip().splitlines()[-3:]))
+
+
+def clustalo(distribution, folder, cc, cxx, flags="-g -O2", libraries=""):
+    """Clustal Omega, compiled in this folder; the program."""
+    folder = distribution.source("clustalo", into=folder)
+    beside = os.path.join(distribution.installed("libargtable2-dev", "libargtable2-0"), "usr")
+    make(folder, "./configure", f"CC={cc}", f"CXX={cxx}", f"CFLAGS={flags}", f"CXXFLAGS={flags}", f"LIBS={libraries}",
+         f"CPPFLAGS=-I{beside}/include", f"LDFLAGS=-L{beside}/lib/x86_64-linux-gnu -L{beside}/lib")
+    make(folder, "make", "-j4")
+    return os.path.join(folder, "src", "clustalo")
+
+
+LETTERS = "ACDEFGHIKLMNPQRSTVWY"
+
+
+def sequences(families, members, length):
+    """Families of sequences of proteins that differ in some letters, as FASTA: the same in each run."""
+    chance = random.Random(1)
+    for family in range(families):
+        first = chance.choices(LETTERS, k=length)
+        for member in range(members):
+            letters = (chance.choice(LETTERS) if chance.random() < 0.1 * member else letter for letter in first)
+            yield f">family{family}_{member}\n{''.join(letters)}\n"

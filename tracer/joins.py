@@ -2,8 +2,7 @@
 but their parameters: `spbags::plain(..)` around each says so to the headers, which name other functions in a report."""
 import re
 
-from reducers import is_plain, is_scalar
-from tokens import arguments_of, blanked, tokens_of
+from tokens import arguments_of, blanked, is_in_block, statement_start, tokens_of
 
 CALL = re.compile(r"\b(?:parallel_(?:deterministic_)?reduce|parallel_scan|(?:transform_)?reduce|"
                   r"(?:transform_)?(?:in|ex)clusive_scan|remove(?:_copy)?_if|copy_if|(?:stable_)?partition(?:_copy)?|"
@@ -12,6 +11,12 @@ HEADER = re.compile(r'^# 1 "[^"\n]*/spbags/parallel\.h"', re.MULTILINE)
 # A line that says which file follows, and whether it is a header of the system.
 MARKER = re.compile(r'^# \d+ "(?:\\.|[^"\\\n])*"([ 0-9]*)\n', re.MULTILINE)
 NO_TYPES = {"const", "&", "&&", "std", "::"}
+SCALARS = set("int long short char unsigned signed float double _Bool bool wchar_t size_t ssize_t ptrdiff_t "
+              "__int128".split())
+SCALAR = re.compile(r"u?int(?:_fast|_least)?(?:8|16|32|64|ptr|max)_t|__spbags_\w+")
+STATEMENTS = {"if", "while", "for", "switch", "return", "static_cast", "const_cast", "reinterpret_cast", "sizeof"}
+# What a function may be made of that touches its parameters alone.
+PLAIN_WORDS = SCALARS | {"const", "void", "if", "else", "return", "static_cast", "reinterpret_cast", "auto"}
 
 
 def first_call(text):
@@ -25,10 +30,67 @@ def first_call(text):
     return None
 
 
+def is_scalar(words):
+    return bool(words) and all(word in SCALARS or SCALAR.fullmatch(word) for word in words)
+
+
 def is_number(tokens, first, last):
     """Whether this parameter, with or without a name, is one."""
     words = [token.text for token in tokens[first:last] if token.text not in NO_TYPES]
     return words == ["auto"] or is_scalar(words)
+
+
+def is_plain(tokens, first, last):
+    """Whether this names a function, or is one, that touches nothing but its parameters: it calls none, and names no
+    other variable."""
+    if tokens[first].text == "&" and first < last:
+        first += 1
+    if tokens[first].text == "[":
+        opening = tokens[first].partner + 1
+        return tokens[first + 1].text == "]" and tokens[opening].text == "(" and is_plain_body(tokens, opening)
+    if tokens[first].kind == "number":
+        return True  # a null pointer, which no one calls
+    name = tokens[first].text
+    return any(token.text == name and tokens[at + 1].text == "(" and tokens[at + 1].partner is not None and
+               tokens[tokens[at + 1].partner + 1].text == "{" and is_plain_body(tokens, at + 1)
+               for at, token in enumerate(tokens[:-1]) if token.kind == "word")
+
+
+def is_of_library(tokens, at):
+    """Whether this is `std::max` or `std::min`, or a part of that."""
+    if tokens[at].text == "std":
+        return tokens[at + 1].text == "::"
+    return tokens[at].text in ("max", "min") and [token.text for token in tokens[at - 2:at]] == ["std", "::"]
+
+
+def is_plain_body(tokens, opening):
+    """Of the function whose parameters these brackets hold."""
+    body = tokens[opening].partner + 1
+    if tokens[body].text == "->":
+        body += 1
+        while tokens[body].text in SCALARS:
+            body += 1
+    if tokens[body].text != "{":
+        return False
+    known = {tokens[last].text for _, last in arguments_of(tokens, opening)} | PLAIN_WORDS
+    for at in range(body, tokens[body].partner):
+        token = tokens[at]
+        if token.kind in ("string", "raw"):
+            return False
+        if token.kind != "word" or tokens[at - 1].text in (".", "->") or is_of_library(tokens, at):
+            continue
+        if tokens[at + 1].text == "(" and token.text not in STATEMENTS:
+            return False
+        if token.text not in known and not SCALAR.fullmatch(token.text):
+            before = at - 1
+            while tokens[before].text in ("*", "const"):
+                before -= 1
+            if tokens[before].text == "," and is_in_block(tokens, at):
+                before = statement_start(tokens, at)  # one more variable of the same declaration
+            if not is_scalar([tokens[before].text]) and tokens[before].text != "auto":
+                return False
+            known.add(token.text)
+    return True
 
 
 def takes_address(tokens, at):

@@ -1,6 +1,6 @@
-"""The objects that links share: the first link that needs one makes it. Beside an installed tracer stand those that
-`./install` has brought, or that were made ahead for all users; what a link makes goes to its user's cache. In the
-repository all stand beside the tracer, if that folder can be written."""
+"""The objects that links share, and the compilers' plugins: the first command that needs one makes it. Beside an
+installed tracer stand those that `./install` has brought, or that were made ahead for all users; what a command makes
+goes to its user's cache. In the repository all stand beside the tracer, if that folder can be written."""
 import contextlib
 import fcntl
 import os
@@ -14,16 +14,20 @@ HOME = os.path.join("/", os.path.expanduser("~"))
 CACHE = os.path.join(os.environ.get("XDG_CACHE_HOME") or os.path.join(HOME, ".cache"), "spbags")
 
 
+def folder(ahead=False):
+    """Where what is made is kept, ahead for all users or by the way."""
+    is_ours = os.access(BESIDE if os.path.exists(BESIDE) else HERE, os.W_OK)
+    return BESIDE if is_ours and (ahead or not IS_INSTALLED) else CACHE
+
+
 class Kept:
     def __init__(self, say, fail, ahead=False):
         """Ahead of all links it is an error if an object can't be kept."""
-        self.say, self.fail, self.ahead = say, fail, ahead
-        is_ours = os.access(BESIDE if os.path.exists(BESIDE) else HERE, os.W_OK)
-        self.folder = BESIDE if is_ours and (ahead or not IS_INSTALLED) else CACHE
+        self.say, self.fail, self.ahead, self.folder = say, fail, ahead, folder(ahead)
 
-    def object(self, kind, made_of, make, doing=""):
-        """The object of this kind and hash. Where none is kept `make` makes one; what takes long has words for it."""
-        name = f"{kind}-{made_of.hexdigest()[:24]}.o"
+    def file(self, form, made_of, make, doing=""):
+        """The file of this form and hash. Where none is kept `make` makes one; what takes long has words for it."""
+        name = form.format(made_of.hexdigest()[:24])
         if self.found(name):
             return self.found(name)
         try:

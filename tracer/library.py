@@ -7,6 +7,7 @@ import sys
 import textwrap
 
 HERE = os.path.dirname(os.path.realpath(__file__))
+WORD = re.compile(r"([^\s()]+)(?:\(([^)]*)\))?")
 PROTOTYPE = re.compile(r"(?P<result>.*?)(?P<name>\w+)\((?P<parameters>.*)\)")
 
 LOCK = "lock of "
@@ -40,6 +41,7 @@ bytes behind the one before. The other words are numbers of bytes, or addresses:
   and `linked` the neighbour of a list's entry.
 - `state(f)` is what functions such as f keep inside: a variable of the tracer stands for it. `lock of f` is held then.
 - `order of s` is a write of s under its own lock, with `SPBAGS_STREAMS`.
+- `Shares` has what the manual page says of state that calls share.
 
 The [tracer](README.md) sees the reads of a comparison function of `qsort` or `bsearch` when they happen. It doesn't
 record constants, which nothing writes. Every other function of a library that a program calls is one that nothing is
@@ -51,12 +53,14 @@ class Function:
     """A row of the table."""
 
     def __init__(self, line):
-        prototype, reads, writes, others = (field.strip() for field in line.split("|"))
+        prototype, reads, writes, others, *shared = (field.strip() for field in line.split("|"))
         found = PROTOTYPE.fullmatch(prototype)
         self.prototype, self.result, self.name = prototype, found["result"].strip(), found["name"]
         self.parameters = found["parameters"]
         self.reads, self.writes = items_of(reads), items_of(writes)
         self.names = [self.name, *others.split()]
+        # By its manual page.
+        self.shared = shared[0].split() if shared else []
         # What the function holds inside while it touches these.
         self.lock = next((item[0].removeprefix(LOCK) for item in self.reads if item[0].startswith(LOCK)), None)
 
@@ -87,6 +91,7 @@ class Function:
     def wrapper(self, name):
         """The function that is called instead of the one of that name."""
         arguments, real, begin, end = self.arguments(), name, [], []
+        takes_over = arguments[-1:] == ["list"]
         if arguments[-1:] == ["..."]:
             real = re.sub("^(__isoc[0-9]+_|__)?", lambda prefix: prefix[0] + "v", name, count=1)
             begin = ["    va_list list;", f"    va_start(list, {arguments[-2]});"]
@@ -95,6 +100,8 @@ class Function:
         if self.takes_list():
             begin += ["    va_list copy;", "    va_copy(copy, list);"]
             end += ["    va_end(copy);"]
+        if takes_over:
+            begin.append(f"    note_list(list, (__spbags_function)__wrap_{name}, STACK_POINTER, CODE);")
         call, answer = f"__real_{real}({', '.join(arguments)});", []
         if self.result != "void":
             call, answer = f"{self.result} result = {call}", ["    return result;"]
@@ -153,19 +160,22 @@ class Section:
     """What stands below a heading of the table: rows, or words behind a sign."""
 
     def __init__(self, title):
-        self.title, self.functions, self.words = title, [], {"=": [], "+": []}
+        self.title, self.functions, self.words, self.shared = title, [], {"=": [], "+": []}, {}
 
     def add(self, line):
         if line[:2] in ("= ", "+ "):
-            self.words[line[0]] += line[2:].split()
+            for word, shared in WORD.findall(line[2:]):
+                self.words[line[0]].append(word)
+                self.shared |= {word: shared.split(",")} if shared else {}
         else:
             self.functions.append(Function(line))
 
     def page(self):
         lines = [f"## {self.title}", ""]
         if self.functions:
-            lines += ["| Function | Reads | Writes |", "|---|---|---|", *map(row, self.functions), ""]
-        words = ", ".join(f"`{word}`" for sign in "=+" for word in sorted(self.words[sign]))
+            lines += ["| Function | Reads | Writes | Shares |", "|---|---|---|---|", *map(row, self.functions), ""]
+        words = ", ".join(f"`{word}`" + "".join(f" ({shared})" for shared in self.shared.get(word, ()))
+                          for sign in "=+" for word in sorted(self.words[sign]))
         return "\n".join([*lines, *textwrap.wrap(words, 120)]).rstrip() + "\n"
 
 
@@ -184,6 +194,11 @@ class Table:
 
     def words(self, sign):
         return [word for section in self.sections for word in section.words[sign]]
+
+    def shared(self):
+        """What each function shares by its manual page."""
+        found = {word: shared for section in self.sections for word, shared in section.shared.items()}
+        return found | {name: function.shared for function in self.functions() for name in function.names if function.shared}
 
     def functions(self):
         return [function for section in self.sections for function in section.functions]
@@ -212,7 +227,8 @@ def row(function):
     names = ", ".join(f"`{name}`" for name in function.names[1:])
     cells = ("; ".join(f"`{', '.join(item)}`" for item in items) for items in (function.reads, function.writes))
     others = "; also " + names if names else ""
-    return f"| `{function.prototype}`{others} | {' | '.join(cells)} |".replace("|  |", "| |")
+    whole = f"| `{function.prototype}`{others} | {' | '.join(cells)} | {' '.join(function.shared)} |"
+    return re.sub(r"\|  (?=\|)", "| ", whole)
 
 
 if __name__ == "__main__":

@@ -23,10 +23,6 @@ OBJECT, SHARED = 1, 3
 LTO = b".gnu.lto_"
 MEMBER = re.compile(r"\((.+)\)([^()]+)")
 
-# By nm: what gcc calls a function that stands within another one. clang has none, but makes functions of loops' bodies
-# and for globals.
-NESTED = re.compile(r"^(.*): (?!__captured_stmt|__cxx_global_)(\w+)\.[0-9]+ t(?: .*)?$", re.MULTILINE)
-
 # A function, its name in the source, the file that has it, and whether each call counts; the others count where something
 # may run beside them.
 Unknown = namedtuple("Unknown", "name shown library always")
@@ -210,16 +206,6 @@ class Linked:
                   for name in asked & part.defined.keys()}
         return [name.removeprefix("vtable for ") for name in demangled(sorted(tables))]
 
-    def nested(self):
-        """The functions within others: gcc shows no hook what they access of the variables around them."""
-        traced = {(part.file, part.member) for part in self.traced}
-        files = sorted({file for file, _ in traced})
-        if not files:
-            return []
-        read = subprocess.run(["nm", "-P", "-A", *files], capture_output=True, text=True,
-                              errors="surrogateescape").stdout
-        return sorted({name for where, name in NESTED.findall(read) if key_of(where) in traced})
-
 
 def demangled(names):
     if not names:
@@ -255,14 +241,13 @@ __wrap_{name}:
 """
 
 
-def stubs(unknown, virtual, nested):
+def stubs(unknown, virtual):
     """In the assembler's language: what is called in place of each, which counts the call and goes on to it, so that
     the function finds its words and returns as without this; and the table of all, which the hooks read. Behind them
-    stand the classes of virtual functions, and the nested functions."""
+    stand the classes of virtual functions."""
     size = 40
     text = [STUB.format(name=function.name, offset=at * size) for at, function in enumerate(unknown)]
-    table = [*unknown, *(Unknown("", name, "", False) for name in virtual),
-             *(Unknown(name, name, "", False) for name in nested)]
+    table = [*unknown, *(Unknown("", name, "", False) for name in virtual)]
     rows = [f"\t.quad .Lname{at}, .Lshown{at}, .Llibrary{at}, {int(row.always)}, 0\n" for at, row in enumerate(table)]
     names = [f'.Lname{at}: .string "{row.name}"\n.Lshown{at}: .string "{quoted(row.shown)}"\n'
              f'.Llibrary{at}: .string "{quoted(row.library)}"\n' for at, row in enumerate(table)]

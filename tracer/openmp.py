@@ -2,6 +2,7 @@
 each iteration. What can't be traced is refused, with its file and line."""
 import re
 
+from source import SYSTEM
 from tokens import blanked
 
 LINES = re.compile(r"[^\n]*\n|[^\n]+")
@@ -11,7 +12,11 @@ SECTION = re.compile(r"[ \t]*#[ \t]*pragma[ \t]+omp[ \t]+section\b")
 ATTRIBUTE = re.compile(r"\[\[\s*(?:using\s+)?omp\b")
 WORD = re.compile(r"[A-Za-z_]\w*")
 PIECE = re.compile(r"\"(?:\\.|[^\"\\\n])*\"|'(?:\\.|[^'\\\n])*'|[(){}\[\];]|[A-Za-z_]\w*|.", re.DOTALL)
+# Of a loop: what stands before its first semicolon, and what stands between this one and the second.
+HEADER = re.compile(r"\bfor\s*\(([^;]*);([^;]*);")
 STATIC = re.compile(r"schedule\s*\((?:[\w\s,]*:)?\s*static\b")
+# So many lines the loops of one directive stand in.
+LOOPS_LINES = 30
 CLOSING = {"(": ")", "[": "]", "{": "}"}
 
 # The words that a directive begins with; those that have more here can't be traced, and are called so.
@@ -23,7 +28,8 @@ DIRECTIVES = {
     "metadirective": "metadirective", "dispatch": "dispatch", "interop": "interop"}
 # The number of a body's kind in the hooks, by the last word of its directive.
 BODIES = {"parallel": 0, "single": 1, "master": 2, "masked": 2}
-SIMD_BODY, SECTION_BODY, LAST_BODY = 3, 4, 5
+SIMD_BODY, SECTION_BODY, LAST_BODY, SCOPE_BODY, SCOPE_NOWAIT_BODY, SCOPED_BODY = range(3, 9)
+MAKES_PARALLEL = {"parallel", "task", "taskloop"}
 PRIVATE = {"private", "firstprivate", "lastprivate", "reduction"}
 REFUSED_CLAUSES = {"detach": "detach", "allocate": "allocate"}
 
@@ -103,6 +109,13 @@ def rescheduled(text):
     return text.rstrip(" ,") + f" schedule(dynamic,{size + 16 * bool(PRIVATE & names)})"
 
 
+def sums_in_scope(text):
+    """Whether a directive is a scope whose threads combine variables of their own behind it."""
+    return text.split()[:1] == ["scope"] and any(
+        name == "reduction" and not re.match(r"reduction\s*\(\s*task\b", text[start:end])
+        for name, start, end in clauses_of(text))
+
+
 def body(kind, file, line, next_line):
     """What stands before a body, and says to the hooks where it begins and ends."""
     return f'# {line} "{file}"\nfor (__spbags_body({kind}); __spbags_goes_on();)\n# {next_line} "{file}"\n'
@@ -116,7 +129,9 @@ def with_body(text, kind, file, line):
 class Source:
     """A preprocessed source that is read line by line."""
 
-    def __init__(self, is_clang):
+    def __init__(self, bare, is_clang):
+        # Its lines without what is in strings.
+        self.bare = bare
         self.file, self.line, self.faults, self.is_clang = "?", 1, [], is_clang
         # What comes next of clang's sections: the brace around them, or the first of them.
         self.awaits = None
@@ -124,15 +139,17 @@ class Source:
     def refuse(self, why):
         self.faults.append(f"{self.file}:{self.line}: error: {why}")
 
-    def directive(self, text):
-        """What stands for a directive."""
-        why = refusal(text)
+    def directive(self, text, number):
+        """What stands for a directive in the line of this number."""
+        why = refusal(text) or self.refused_nest(text, number)
         if why:
             self.refuse(f"OpenMP's {why} can't be traced: #pragma omp{text}")
         clauses = clauses_of(text)
         names = leading(clauses)
         if names[:1] == ["cancel"]:
             return f"#pragma omp{text}\n"
+        if sums_in_scope(text):
+            return self.scope(text)
         if "for" in names:
             return f"#pragma omp{rescheduled(text)}\n"
         text = filtered(text)
@@ -153,6 +170,29 @@ class Source:
             return with_body(text, BODIES[names[-1]], self.file, self.line)
         return f"#pragma omp{text}\n"
 
+    def refused_nest(self, text, number):
+        """gcc knows no schedule for it."""
+        is_known = self.is_clang or "for" not in leading(clauses_of(text)) or self.is_rectangular(text, number)
+        return None if is_known else "collapse by gcc of loops that aren't rectangular"
+
+    def is_rectangular(self, text, number):
+        """Whether no loop that the directive in this line collapses names the variable of one around it."""
+        collapsed = next((text[start:end] for name, start, end in clauses_of(text) if name == "collapse"), "")
+        count, variables = int("".join(re.findall("[0-9]+", collapsed)) or 1), set()
+        headers = HEADER.findall("".join(self.bare[number + 1:number + LOOPS_LINES])) if count > 1 else ()
+        for begin, condition in headers[:count]:
+            variable, _, value = begin.partition("=")
+            if variables & set(WORD.findall(value + condition)):
+                return False
+            variables |= set(WORD.findall(variable)[-1:])
+        return True
+
+    def scope(self, text):
+        """The hooks wait in place of the scope, where its threads have combined their variables."""
+        text, nowait = without(text, "nowait")
+        around = body(SCOPE_NOWAIT_BODY if nowait else SCOPE_BODY, self.file, self.line, self.line)
+        return around + with_body(text.rstrip(" ,") + " nowait", SCOPED_BODY, self.file, self.line)
+
     def first_section(self, line, bare):
         """What stands before the rest of a line, with the directive of the first section if that is left out; and the
         rest."""
@@ -166,8 +206,9 @@ class Source:
                 before += "\n#pragma omp section\n" + body(SECTION_BODY, self.file, self.line, self.line)
         return before, line
 
-    def rewritten(self, line, bare):
-        """What stands for a line, of which the second form has nothing in its strings."""
+    def rewritten(self, number, line):
+        """What stands for the line of this number."""
+        bare = self.bare[number]
         if MARKER.match(bare):
             marker = MARKER.match(line)
             self.line, self.file = int(marker[1]), marker[2][1:-1] if marker[2] else self.file
@@ -175,7 +216,7 @@ class Source:
         pragma = PRAGMA.match(line) if PRAGMA.match(bare) else None
         before, line = self.first_section(line, bare)
         if pragma:
-            line = self.directive(pragma[1])
+            line = self.directive(pragma[1], number)
         elif ATTRIBUTE.search(bare):
             self.refuse("attributes of OpenMP can't be traced: write #pragma omp")
         self.line += 1
@@ -184,8 +225,22 @@ class Source:
 
 def rewritten(text, is_clang=False):
     """The source with its loops rewritten, and a line for each directive that can't be traced."""
-    source = Source(is_clang)
-    return "".join(map(source.rewritten, LINES.findall(text), LINES.findall(blanked(text)))), source.faults
+    source = Source(LINES.findall(blanked(text)), is_clang)
+    return "".join(map(source.rewritten, range(len(source.bare)), LINES.findall(text))), source.faults
+
+
+def ignored(text):
+    """The places of directives by which something would be parallel, but for those of the system's headers."""
+    file, number, found = "?", 1, []
+    for line, bare in zip(LINES.findall(text), LINES.findall(blanked(text))) if "omp" in text else ():
+        marker, pragma = (pattern.match(line) if pattern.match(bare) else None for pattern in (MARKER, PRAGMA))
+        if marker:
+            number, file = int(marker[1]), marker[2][1:-1] if marker[2] else file
+            continue
+        if pragma and not file.startswith(SYSTEM) and MAKES_PARALLEL & set(leading(clauses_of(pragma[1]))):
+            found.append(f"{file}:{number}")
+        number += 1
+    return found
 
 
 # What the hooks of OpenMP don't have, by its name.

@@ -1,5 +1,5 @@
 """Races by their pairs of source positions, from the notes of a run that looked or from a trace's places."""
-import math
+import os
 import re
 from collections import namedtuple
 from dataclasses import dataclass, field
@@ -7,13 +7,12 @@ from dataclasses import dataclass, field
 import answers
 import source
 import variables
-from source import UNKNOWN, Failure, Position
+from failure import Failure
+from report import NO_OPENMP, THREAD_LOCAL, UNKNOWN_GUARD
+from source import UNKNOWN, Position
 
-# Of Cilk, of oneTBB and of C++: what a child is one of, where a report suggests nothing of OpenMP.
-NO_OPENMP = {"cilk_for", "parallel_for", "parallel_for_each", "parallel_reduce", "parallel_scan", "parallel_invoke",
-             "parallel_sort", "task_group", "algorithm"}
-# The number of the guard that all atomic accesses hold; and the name of the one that isn't known.
-ATOMIC, UNKNOWN_GUARD = 1, "unknown"
+# The number of the guard that all atomic accesses hold.
+ATOMIC = 1
 # What the guard of a stream's uses is called, and the bytes there that stand for the stream.
 STREAM_GUARD = re.compile("the lock of (stdin|stdout|stderr|the stream|the descriptor)")
 STREAM_BYTES = 8
@@ -146,7 +145,7 @@ class Notes:
     """What a run noted that looked at the places of a report."""
 
     def __init__(self, lines):
-        self.pairs, self.astray, self.left, self.thread = [], None, 0, 0
+        self.pairs, self.ordered, self.narrow, self.astray, self.left, self.thread = [], [], set(), None, 0, 0
         for line in lines[:-1]:
             name, *words = line.split(" ")
             getattr(self, "take_" + name)(*words)
@@ -194,15 +193,28 @@ class Notes:
     def take_astray(self, place, *found):
         self.astray = (int(place), " ".join(found))
 
+    def take_narrow(self, location):
+        self.narrow.add(int(location))
+
     def take_left(self, races):
         self.left = int(races)
 
-    def end(self):
-        """All races whose accesses come before this place were noted."""
-        return self.astray[0] if self.astray else math.inf
+    def has(self, race):
+        """Whether it was noted: both accesses come before the place where the run went astray."""
+        return not self.astray or max(place for _, place in race[1:]) < self.astray[0]
+
+    def leave_out_order(self):
+        """Pairs of which only the order of a stream isn't determined are apart."""
+        self.ordered = [noted for noted in self.pairs if noted.is_of_order()]
+        self.pairs = [noted for noted in self.pairs if not noted.is_of_order()]
+
+    def forget_guards(self):
+        """It isn't known what was held in the run that had these races."""
+        for noted in self.pairs:
+            noted.guard = noted.guard and (0, UNKNOWN_GUARD)
 
     def codes(self):
-        for noted in self.pairs:
+        for noted in (*self.pairs, *self.ordered):
             for stack in (*(stack for *_, stack in noted.sides), *(noted.block or ())[2:]):
                 yield from (int(word, 16) for word in stack if word != "spawn")
             yield from (noted.waits or ())[:1]
@@ -272,11 +284,12 @@ class Program:
         """One pair for each variable, with the stacks of the first race."""
         sides = [Side(kind, atomic, self.stack(kind, stack)) for kind, atomic, stack in noted.sides]
         siblings = self.siblings(noted)
+        barrier = missing_barrier(siblings, sides)
+        siblings = None if barrier else siblings
         for location, races, variable, borrowed in self.pieces(noted):
-            yield Pair(races, location, sides, named_by(noted.guard, variable), self.missing_sync(noted, sides),
-                       self.guard(noted.guard),
-                       siblings, self.suggested(noted, siblings, variable), noted.is_narrow, borrowed,
-                       noted.reducer)
+            yield Pair(races, location, sides, named_by(noted.guard, variable),
+                       barrier or self.missing_sync(noted, sides), self.guard(noted.guard, variable), siblings,
+                       self.suggested(noted, siblings, variable), noted.is_narrow, borrowed, noted.reducer)
 
     def pieces(self, noted):
         """Of each variable the location of the first race, the number of races, and whether the stacks are borrowed."""
@@ -336,10 +349,10 @@ class Program:
             variable["rest"] = part and part.rest
         return pair
 
-    def guard(self, guard):
-        """The name of what both accesses hold; a lock is named by its variable."""
+    def guard(self, guard, variable):
+        """The name of what both accesses of this variable hold; a lock is named by its variable."""
         if guard is None:
-            return None
+            return THREAD_LOCAL if variable.get("thread_local") else None
         number, name = guard
         if not name.endswith(" "):
             return name
@@ -388,6 +401,24 @@ class Program:
         clauses = {"sections": (), "task": ("reduction",)}.get(siblings["construct"], ("private", "reduction"))
         return (clauses if "name" in variable else ()) + (() if noted.guard else ("atomic", "critical")) + (
             ("single",) if siblings["construct"] == "region" else ())
+
+
+def missing_barrier(siblings, sides):
+    """Of threads of one region, each in a child of its own: the places where both begin, if these are two."""
+    if not siblings or siblings["construct"] != "region":
+        return None
+    first, second = (spawn_inside(side, siblings["position"]) for side in sides)
+    if not first or not second or first == second:
+        return None
+    return {"function": first.function, "construct": "part", "spawn": first, "continues_at": second, "next_sync": None,
+            "syncs_at_return": False}
+
+
+def spawn_inside(side, region):
+    """The outermost spawn of a stack inside a region, or None."""
+    spawns = [frame.position for frame in side.stack if frame.role == "spawn"]
+    inside = spawns[:-1 - spawns[::-1].index(region)] if region in spawns else []
+    return inside[-1] if inside else None
 
 
 def named_by(guard, variable):
@@ -440,7 +471,7 @@ class Sites:
             address = answers.address_of(location, program.unit)
             pieces.add(unit, 1, {"kind": "stack"} if unit % 2 == 1 else program.named(address))
         for location, races, variable in pieces.found():
-            yield Pair(races, location, sides, named_by(self.guard, variable), None, program.guard(self.guard),
+            yield Pair(races, location, sides, named_by(self.guard, variable), None, program.guard(self.guard, variable),
                        neighbours=self.is_narrow)
 
 
@@ -486,16 +517,34 @@ def by_lines(name, races, places):
     return sorted(merged(found), key=Pair.key)
 
 
-def pairs_of(name, unit, notes, races, places):
-    """The pairs of what a run noted, and without stacks those of these races by their places."""
-    groups = by_sites(races, places)
-    codes = [code for group in groups for code, _ in group.codes]
-    program = Program(name, [*(notes.codes() if notes else ()), *codes], unit, notes.thread if notes else 0)
-    whole = (pair for noted in (notes.pairs if notes else ()) for pair in program.pairs(noted))
-    bare = (pair for group in groups for pair in group.pairs(program))
-    # Those of a variable whose stacks are its own come first.
-    found = sorted([*whole, *bare], key=lambda pair: pair.borrowed)
-    return list(map(program.complete, in_order(merged(found))))
+class Known:
+    """What is known of a program's races: the notes of a run that looked, or None, and races with the places of the run
+    that had them, or with None."""
+
+    def __init__(self, name, unit, notes, *others):
+        self.notes = notes
+        self.groups = [by_sites(races, places) for races, places in others]
+        codes = [code for groups in self.groups for group in groups for code, _ in group.codes]
+        self.program = Program(name, [*(notes.codes() if notes else ()), *codes], unit, notes.thread if notes else 0)
+
+    def noted(self):
+        return self.whole(self.notes.pairs if self.notes else [])
+
+    def ordered(self):
+        """Those of the order of streams."""
+        return self.whole(self.notes.ordered if self.notes else [])
+
+    def whole(self, noted):
+        # Those of a variable whose stacks are its own come first.
+        found = sorted((pair for one in noted for pair in self.program.pairs(one)), key=lambda pair: pair.borrowed)
+        return self.as_pairs(found)
+
+    def others(self, number):
+        """Those of the races that were given with such a number, without stacks."""
+        return self.as_pairs([pair for group in self.groups[number] for pair in group.pairs(self.program)])
+
+    def as_pairs(self, found):
+        return list(map(self.program.complete, in_order(merged(found))))
 
 
 # A line of a file with suppressions, and what it leaves out.
@@ -510,11 +559,24 @@ class Suppressions:
     OTHERS = {"thread", "mutex", "signal", "deadlock", "called_from_lib", "race_top"}
     PAIR = re.compile("(.+):([0-9]+) (.+):([0-9]+)(?: (.+))?")
 
-    def __init__(self, name):
+    # What each run leaves out, and reports if it does.
+    OWN = os.path.join(os.path.dirname(os.path.realpath(__file__)), "libstdc++.suppressions")
+
+    def __init__(self, name=None):
         self.tests, self.used = {}, {}
+        self.read(self.OWN)
+        self.own = set(self.used)
+        if name:
+            self.read(name)
+
+    def read(self, name):
         with open(name, encoding="utf-8", errors="surrogateescape") as file:
             for number, line in enumerate(file.read().splitlines(), 1):
                 self.take(line.strip(), f"{name}:{number}")
+
+    def told(self):
+        """What the report says of each line."""
+        return [used for line, used in self.used.items() if used.pairs > 0 or line not in self.own]
 
     def take(self, line, where):
         kind, colon, pattern = line.partition(":")

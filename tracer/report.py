@@ -4,10 +4,18 @@ from collections import namedtuple
 import source
 
 VERSION = 2
+# Of Cilk, of oneTBB and of C++: what a child is one of, where a report suggests nothing of OpenMP.
+NO_OPENMP = {"cilk_for", "parallel_for", "parallel_for_each", "parallel_reduce", "parallel_scan", "parallel_invoke",
+             "parallel_sort", "task_group", "algorithm"}
+# The name of what both accesses hold, where that isn't known.
+UNKNOWN_GUARD = "unknown"
+# What stands for a guard where each thread has the variable for itself.
+THREAD_LOCAL = "thread-local"
 
 # What a run of a program came to: the pairs that are shown, and how many more there are, each with its races.
-Report = namedtuple("Report", "words unit ended races pairs not_shown suppressed guarded without_stacks notes "
-                              "incomplete unseen suppressions")
+# How many spawns and accesses there were isn't known of a run without the detector inside.
+Report = namedtuple("Report", "words unit ended spawns accesses races pairs not_shown suppressed guarded without_stacks "
+                              "notes incomplete unseen suppressions")
 Count = namedtuple("Count", "pairs races")
 
 
@@ -46,6 +54,7 @@ def pair_object(pair):
 def as_object(report):
     left = {name: getattr(report, name)._asdict() for name in ("not_shown", "suppressed", "guarded")}
     return {"version": VERSION, "command": report.words, "unit": report.unit, "ended": report.ended,
+            "spawns": report.spawns, "accesses": report.accesses,
             "races": report.races, "pairs": [pair_object(pair) for pair in report.pairs], **left,
             "stacks": report.races > report.without_stacks, "without_stacks": report.without_stacks,
             "notes": report.notes, "incomplete": report.incomplete,

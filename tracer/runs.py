@@ -7,15 +7,14 @@ import signal
 import stat
 import struct
 import subprocess
-import tempfile
 import threading
 import time
 from collections import namedtuple
 
 import installed
 import source
+from failure import Failure
 from said import Said, texts_of, with_lines
-from source import Failure
 
 # What the hooks of a program have in them that says such records, and those with the detector inside.
 MARK, INSIDE = b"SPBAGS_RECORDS", b"SPBAGS_INSIDE"
@@ -65,7 +64,7 @@ class Input:
             self.file = 0
         self.start = os.lseek(0, 0, os.SEEK_CUR) if stat.S_ISREG(kind) else None
         if stat.S_ISFIFO(kind) or stat.S_ISSOCK(kind) or os.isatty(self.file):
-            self.kept = tempfile.TemporaryFile(buffering=0)
+            self.kept = disk_file()
             self.file, self.start, self.ended = self.kept.fileno(), 0, not os.isatty(self.file) and self.keep()
 
     def keep(self):
@@ -178,12 +177,14 @@ class Run:
         # Why there is no answer; and the same where nobody read the trace any more.
         self.closed = [record.text for record in records if record.name == "fault" and record.words == ["closed"]]
         self.faults = with_lines(program, texts_of(records, "fault"))
-        # What the report has to say beside the races; what wasn't seen or modelled, in sentences and functions; and of
-        # which races some may be none.
-        self.reported, self.incomplete, self.waits, self.seeming = (with_lines(program, texts_of(records, name))
-                                                                    for name in ("report", "incomplete", "waits",
-                                                                                 "seeming"))
+        # What wasn't seen or modelled, in sentences and functions; and of which races some may be none.
+        self.incomplete, self.waits, self.seeming = (with_lines(program, texts_of(records, name))
+                                                     for name in ("incomplete", "waits", "seeming"))
         self.unseen = [unseen_of(record) for record in records if record.name == "unseen"]
+
+    def has_races(self):
+        self.answer.seek(0)
+        return self.answer.readline() != b"races 0\n"
 
     def words(self, name):
         """Those of the record with this name, or None."""
@@ -201,9 +202,20 @@ class Run:
         return self.named["end"].text
 
 
+def disk_file():
+    """A file without a name."""
+    import tempfile
+    return tempfile.TemporaryFile(buffering=0)
+
+
+def memory_file():
+    """A file that is on no disk."""
+    return open(os.memfd_create("spbags"), "w+b")
+
+
 def file_of(numbers):
     """A file with these, of 8 bytes each."""
-    file = tempfile.TemporaryFile()
+    file = memory_file()
     file.write(struct.pack(f"<{len(numbers)}Q", *numbers))
     file.flush()
     return file
@@ -295,7 +307,7 @@ class Runner:
 
     def reported(self, silent, files, **settings):
         """A run whose detector is inside, and its report."""
-        said, answer = Said(self.tell), tempfile.TemporaryFile()
+        said, answer = Said(self.tell), memory_file()
         self.execute(said, {"SPBAGS_REPORT": answer.fileno(), **files}, silent, **settings)
         run = Run(*self.wait(said), answer, self.words[0])
         self.refuse_broken(run)
@@ -307,7 +319,7 @@ class Runner:
     def check(self, trace, source):
         """`spbags check` of a trace, and the files of its report and of its faults."""
         command = [checker(), "check", "--depth", MOST_DEPTH, *self.checking, trace]
-        answer, faults = tempfile.TemporaryFile(), tempfile.TemporaryFile()
+        answer, faults = memory_file(), memory_file()
         return subprocess.Popen(command, stdin=source, stdout=answer, stderr=faults), answer, faults
 
     def kept(self, trace, silent, **settings):
@@ -367,8 +379,8 @@ class Runner:
 
     def looked(self, races, files, **settings):
         """A run that looks at the places of these races, and its notes."""
-        said, notes = Said(self.tell), tempfile.TemporaryFile()
+        said, notes = Said(self.tell), memory_file()
         with stops_of(races) as stops:
             self.execute(said, {"SPBAGS_TRACE": notes.fileno(), "SPBAGS_LOOK": stops.fileno(), **files}, True,
-                         SPBAGS_MAX_BYTES="", **settings)
+                         SPBAGS_MAX_BYTES=str(1 << 62), **settings)
         return Run(*self.wait(said), notes, self.words[0])

@@ -10,14 +10,15 @@ source that has this code.
     end daemon            or since the program became a daemon
     unit BYTES            accesses don't fill their units, and this unit tells neighbours apart
     depth NUMBER          procedures nest deeper than `spbags` takes by default
-    course RECORDS DIGEST what the run did, without a text: another run of the same course did the same
+    course RECORDS DIGEST GUARDS
+                          what the run did, and what it held, without a text: another run with these did the same
+    ran SPAWNS ACCESSES   what the detector inside has taken, without a text
     stuck CODE ..         the program may wait for ever, and the stack; it doesn't wait for the report
     unseen CALLS LIBRARY  a function of which nothing is known, whose name is the text
     incomplete            something wasn't seen or modelled
     waits                 the same, but another run may model it, by the file that SPBAGS_WAITED names
     seeming               some of the races may be none
-    report                what else the report says
-    note                  what it doesn't say
+    note                  what the report doesn't say
 """
 import contextlib
 import os
@@ -26,6 +27,7 @@ import threading
 from collections import namedtuple
 
 import source
+from failure import Failure
 
 Record = namedtuple("Record", "name words text")
 CODE = re.compile("<code (0x[0-9a-f]+)>")
@@ -46,7 +48,7 @@ def with_lines(program, texts):
     codes = {int(code, 16) + 1 for text in texts for code in CODE.findall(text)}
     try:
         positions = source.positions_of(program, codes) if codes else {}
-    except source.Failure:
+    except Failure:
         positions = {}
 
     def line_of(match):

@@ -6,6 +6,7 @@ import re
 import subprocess
 from collections import namedtuple
 
+from failure import Failure
 
 
 class Position(namedtuple("Position", "file line function")):
@@ -24,17 +25,13 @@ OUTLINED = re.compile(r"(?:\._omp_(?:cpy)?fn\.[0-9]+| \[clone [^]]*\])+$")
 CAPTURED = re.compile(r"__captured_stmt(?:\.[0-9]+)?")
 # The lock of a critical region of OpenMP: gcc's, and clang's, which has one too if the region has no name.
 CRITICAL = re.compile(r"\.gomp_critical_user_(.*?)(?:\.var)?")
-# What clang.py calls functions that call others that OpenMP is made into.
+# What the plugin calls functions that call others that OpenMP is made into.
 CALLER = "__spbags_outlined"
 SYSTEM = ("/usr/include/", "/usr/local/include/", "/usr/lib")
 # The headers of the tracer itself.
 OWN = os.path.join(os.path.dirname(os.path.realpath(__file__)), "include", "")
 # The functions that a spawn of C++ is made of, by their first parameter; and those of the headers.
 SPAWNED, ON_THE_WAY = "::{lambda(__spbags_spawned", "__spbags_"
-
-
-class Failure(Exception):
-    """Why there is no answer, in one line."""
 
 
 def asked(*command, given=""):

@@ -8,7 +8,6 @@ child by a text alone, so every other spawn is refused.
 import re
 
 import loops
-import reducers
 import source
 import spawns_cplusplus
 from tokens import (Refused, arguments_of, blanked, call_after, is_in_block, is_lvalue, own_constants, piece,
@@ -30,7 +29,7 @@ FROM_PRAGMA = re.compile(rf"(\b(?:gnu|clang)\s*::\s*)?\b(?:{'|'.join(sorted(INLI
                          r"(?:\s*\((?:[^()]|\([^()]*\))*\))?")
 
 # A source without any of these stays as it is.
-TOUCHED = re.compile("_Cilk_|_Hyperobject|always_inline|no_sanitize|disable_sanitizer|cilk_(?:spawn|sync|for|scope)")
+TOUCHED = re.compile("_Cilk_|always_inline|no_sanitize|disable_sanitizer|cilk_(?:spawn|sync|for|scope)")
 
 # The program's pragmas of OpenMP, which its compiler would ignore, and those of Cilk, of a loop's grain size.
 IGNORED = re.compile(r"^[ \t]*#[ \t]*pragma[ \t]+(?:omp|cilk)\b.*", re.MULTILINE)
@@ -39,10 +38,10 @@ SHAPES = "write `cilk_spawn f(..);', `x = cilk_spawn f(..);' or `x += cilk_spawn
 # The result's memory, but for what a call gives in a register: no number and no pointer has any on the way.
 HELD = "__builtin_choose_expr(sizeof __spbags_result <= 8 && __builtin_classify_type(__spbags_result) < 12, " \
        "(const volatile void *)0, (const volatile void *)&__spbags_result)"
-REFUSED = {
-    **{word: f"{word} is no keyword here: write `#include <cilk/cilk.h>' above"
-       for word in ("cilk_spawn", "cilk_sync", "cilk_for", "cilk_scope")},
-}
+REFUSED = {word: f"{word} is no keyword here: write `#include <cilk/cilk.h>' above"
+           for word in ("cilk_spawn", "cilk_sync", "cilk_for", "cilk_scope")}
+# What may have to be rewritten, beside where another edit says so.
+MEANT = {"_Cilk_spawn", "_Cilk_for", "_Cilk_scope", "_Cilk_sync", "try", *INLINED, *UNSEEN, *REFUSED}
 
 
 def is_one_target(tokens, first, sign):
@@ -130,7 +129,8 @@ def without_pragmas(text):
     """The source in which no pragma gives such an attribute, but one that does nothing."""
     made, done = [], 0
     for found in PRAGMA.finditer(blanked(text)):
-        pragma = FROM_PRAGMA.sub(lambda name: ("clang::" if name[1] else "") + 'annotate("")', text[slice(*found.span())])
+        pragma = FROM_PRAGMA.sub(lambda name: ("clang::" if name[1] else "") + 'annotate("")',
+                                 text[found.start():found.end()])
         made += [text[done:found.start()], pragma]
         done = found.end()
     return "".join(made) + text[done:]
@@ -206,7 +206,7 @@ class Rewriting:
 
     def rewritten(self):
         for at, token in enumerate(self.tokens):
-            if token.start >= self.done:
+            if (token.text in MEANT or at in self.planned or at in self.waiting) and token.start >= self.done:
                 self.rewrite(at)
             for instead in self.behind.pop(at, ()):
                 self.made += [self.text[self.done:token.end], instead]
@@ -218,10 +218,9 @@ def rewritten(text, language):
     """The source with its spawns, loops, scopes and syncs rewritten, and a line for each that can't be."""
     if not TOUCHED.search(text):
         return text, []
-    text, refused_reducers = reducers.rewritten(without_pragmas(text), language)
+    text = without_pragmas(text)
     has_loops = "_Cilk_for" in text
     if has_loops:
         text = without(text, IGNORED)
     text, faults = Rewriting(text, language).rewritten()
-    faults = sorted(faults + refused_reducers, key=lambda line: int(re.search(r":(\d+): error: ", line)[1]))
     return (text + loops.INSTEAD_OF_TASK if has_loops and language == "gcc" else text), faults

@@ -258,7 +258,9 @@ class Spawn:
             self.refuse(LARGER)
         if not self.is_braced and self.is_lvalue(sign):
             at = self.piece(self.first, sign - 1)
-            return f"auto &&__spbags_at = ({at}); __spbags_at {before[-1]} ", "", None
+            # `auto' would lose the type of a reducer.
+            kind = f"decltype(({at}))" if "spbags_reducer" in self.text else "auto"
+            return f"{kind} &&__spbags_at = ({at}); __spbags_at {before[-1]} ", "", None
         return self.declaration(sign)
 
     def is_lvalue(self, sign):

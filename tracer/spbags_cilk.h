@@ -39,35 +39,12 @@ void __spbags_reducers(const volatile void *__views, unsigned long __size, unsig
 void *__spbags_update(const volatile void *__view, unsigned long __size, const char *__note);
 void *__spbags_value(const volatile void *__view, unsigned long __size, const char *__note);
 void __spbags_reducer_end(const volatile void *__view);
-/* The note of a member that is no reducer. */
-extern const char __spbags_no_reducer[];
-/* The same of a global view, or one of several that have so many bytes, unless the address is another variable's. */
-void *__spbags_update_of(const volatile void *__at, unsigned long __size, const char *__note, const void *__view,
-                         unsigned long __whole);
-void *__spbags_value_of(const volatile void *__at, unsigned long __size, const char *__note, const void *__view,
-                        unsigned long __whole);
 void __spbags_not_seen(const char *__note);
 void __spbags_hide(void);
 void __spbags_show(void);
 
-/* A statement of the assembler is about to access so much memory here, perhaps as one atomic instruction; or memory that
-   isn't known, at this place of the source. */
-void __spbags_asm(const volatile void *__at, unsigned long __size, int __writes, int __locked);
-void __spbags_asm_unseen(const char *__place);
+/* Assembly outside of functions, or that is a whole function, stands at this place of the source. */
 void __spbags_asm_outside(const char *__place);
-
-/* An instruction of the compiler's is about to access memory by a pointer: so many bytes; those elements whose bits the
-   mask has, at their places or one behind the other; those at the places of an index, whose numbers have so many bytes;
-   or memory that isn't known. The mask's bits are its value's, or the first ones of a vector's elements. */
-void __spbags_vector(const volatile void *__at, unsigned long __size, int __writes);
-unsigned long __spbags_bits(const void *__mask, unsigned long __size, unsigned long __element);
-void __spbags_masked(const volatile void *__at, unsigned long __element, unsigned long __count, unsigned long __bits,
-                     int __writes);
-void __spbags_packed(const volatile void *__at, unsigned long __element, unsigned long __count, unsigned long __bits,
-                     int __writes);
-void __spbags_indexed(const volatile void *__at, unsigned long __element, unsigned long __count, const void *__index,
-                      unsigned long __size, unsigned long __each, int __scale, unsigned long __bits, int __writes);
-void __spbags_vector_unseen(const char *__function, const char *__file, int __line);
 
 /* What stands before the body of a parallel, single or master region of OpenMP, and before a loop with simd: `for (__spbags_body(KIND);
    __spbags_goes_on();)`. */
@@ -86,44 +63,19 @@ __SPBAGS_SHOWN(int) __SPBAGS_SHOWN(unsigned) __SPBAGS_SHOWN(long) __SPBAGS_SHOWN
 __SPBAGS_SHOWN(long long) __SPBAGS_SHOWN(unsigned long long) __SPBAGS_SHOWN(short) __SPBAGS_SHOWN(unsigned short)
 #undef __SPBAGS_SHOWN
 
+/* What a reducer gets; nothing calls this. */
+void __spbags_functions(void (*__identity)(void *), void (*__reduce)(void *, void *));
+
 /* A part of the program in which a view that has more memory elsewhere is updated. */
 struct __spbags_hidden {
     __spbags_hidden() { __spbags_hide(); }
     ~__spbags_hidden() { __spbags_show(); }
 };
 
-#if __cplusplus >= 201402L
-/* The note of a member, which a function of its class gives. */
-template <class __Function, class __Object>
-static inline auto __spbags_note(__Function __function, __Object *__object, int) -> decltype(__function(__object)) {
-    return __function(__object);
-}
-template <class __Function, class __Object> static inline const char *__spbags_note(__Function, __Object *, long) {
-    return __spbags_no_reducer;
-}
-#endif
-
-#if __cplusplus >= 201103L
-/* An argument that is evaluated before the call: what isn't of a class is read then. */
-template <class __T> struct __spbags_bare {
-    enum { __IS_SCALAR = !__is_class(__T) && !__is_union(__T) };
-};
-template <class __T> struct __spbags_bare<__T &> : __spbags_bare<__T> {};
-template <class __T, bool __IS_SCALAR> struct __spbags_held { typedef __T __type; };
-template <class __T> struct __spbags_held<__T &, true> { typedef __T __type; };
-template <class __T, __SIZE_TYPE__ __COUNT> struct __spbags_held<__T (&)[__COUNT], true> {
-    typedef __T (&__type)[__COUNT];
-};
-template <class __T, class... __More> struct __spbags_held<__T (&)(__More...), true> {
-    typedef __T (&__type)(__More...);
-};
-template <class __T>
-static inline typename __spbags_held<__T, __spbags_bare<__T>::__IS_SCALAR>::__type __spbags_given(__T &&__value) {
-    return static_cast<__T &&>(__value);
-}
-#endif
-
 #include "include/spbags/spawn.h"
+#elif !defined __clang__
+/* The reducer itself, and not its view. */
+#define __builtin_addressof(__REDUCER) (&(__REDUCER))
 #endif
 
 #endif

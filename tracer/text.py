@@ -5,7 +5,7 @@ from collections import namedtuple
 from itertools import groupby
 
 import source
-from pairs import NO_OPENMP, UNKNOWN_GUARD
+from report import NO_OPENMP, THREAD_LOCAL, UNKNOWN_GUARD
 
 INDENT = " " * 4
 LABELS = {"spawn": "  spawned at", "call": "  called at", "allocation": "  allocated at"}
@@ -24,6 +24,10 @@ Row = namedtuple("Row", "label place function text behind", defaults=("", "", ""
 
 def many(number, name):
     return f"{number} {name}{'' if number == 1 else 's'}"
+
+
+def spelled(number, name):
+    return f"{number:,} {name}{'' if number == 1 else 'es' if name.endswith('s') else 's'}"
 
 
 def place(position):
@@ -114,6 +118,8 @@ class Text:
         report = self.report
         shown = len(report.pairs) + report.not_shown.pairs
         parts = [f"races {report.races - report.suppressed.races - report.guarded.races}, pairs of lines {shown}"]
+        if report.spawns is not None:
+            parts[0] += f", {spelled(report.spawns, 'spawn')}, {spelled(report.accesses, 'access')}"
         for what, left in (("not shown", report.not_shown), ("suppressed", report.suppressed),
                            ("no data race", report.guarded)):
             if left.pairs > 0:
@@ -177,17 +183,18 @@ class Text:
         first = Row(LABELS["allocation"], place(lead), lead.function, source.text_of(lead))
         if inside == 0:
             return self.rows(stack)
-        return [first, *self.rows([stack[0]._replace(role="header"), *stack[1:inside]]), *self.rows(stack[inside + 1:])]
+        return [first, *self.rows([stack[0]._replace(role="header"), *stack[1:inside]], False),
+                *self.rows(stack[inside + 1:])]
 
     @staticmethod
-    def rows(stack):
+    def rows(stack, shows_innermost=True):
         """A row for each frame, with one for those that are alike and follow one another, and one for those of headers
-        of the system."""
+        of the system, but for the innermost."""
         rows = []
         for is_system, frames in groupby(stack, key=lambda frame: source.is_system(frame.position)):
             frames = list(frames)
             if is_system and len(frames) > 1:
-                rows.append(system_row(frames))
+                rows += system_rows(frames, shows_innermost and not rows)
             else:
                 rows += (alike_row(key, len(list(alike)))
                          for key, alike in groupby(frames, key=lambda frame: (frame.role, frame.position)))
@@ -205,11 +212,13 @@ def alike_row(key, times):
                f"{times} times" if times > 1 else "")
 
 
-def system_row(frames):
-    """The outermost function of the library, which other code calls."""
-    outer = frames[-1].position
-    return Row(label_of(frames[0].role), short_place(outer), outer.function, "",
-               f"and {len(frames) - 1} more")
+def system_rows(frames, is_innermost):
+    """The function of the library that does the access, if it is the stack's innermost, and the one that other code
+    calls."""
+    rows = [alike_row((frames[0].role, frames[0].position), 1)] if is_innermost else []
+    outer, left = frames[-1], len(frames) - 1 - len(rows)
+    label = label_of(outer.role if rows else frames[0].role)
+    return [*rows, Row(label, short_place(outer.position), outer.position.function, "", f"and {left} more" if left else "")]
 
 
 # ---- What is said of a pair ----
@@ -230,6 +239,8 @@ def guarded(guard):
         return ""
     if guard == UNKNOWN_GUARD:
         return "; what both hold isn't known, so it may be no data race"
+    if guard == THREAD_LOCAL:
+        return "; each thread has its own, so it is no data race, unless by a pointer to another thread's"
     held = "both are atomic" if guard == "atomic" else f"both hold {guard}"
     return f"; {held}, so it is no data race, but either may come first"
 
@@ -326,11 +337,11 @@ def missing_sync_line(missing_sync):
 
 
 def stack_rows(program, codes):
-    """A row for each function on a stack, as far as it isn't of the system's headers."""
+    """A row for each function on a stack, as far as it isn't of the system's headers, and for the innermost in any case."""
     found = source.positions_of(program, [code + 1 for code in codes])
     known = [position for code in codes for position in found[code + 1] if position.line > 0]
-    own = [position for position in known if not source.is_system(position)]
-    rows = [(place(position), position.function, source.text_of(position)) for position in own or known]
+    shown = [position for number, position in enumerate(known) if number == 0 or not source.is_system(position)]
+    rows = [(place(position), position.function, source.text_of(position)) for position in shown]
     widths = [max((len(row[column]) for row in rows), default=0) for column in range(2)]
     return ["    " + "  ".join(f"{cell:{width}}" for cell, width in zip(row, [*widths, 0])).rstrip() for row in rows]
 

@@ -35,6 +35,8 @@ class Refused(Exception):
 
 
 class Token:
+    __slots__ = ("kind", "text", "start", "file", "line", "system", "end", "partner", "around")
+
     def __init__(self, kind, text, start, file, line, system):
         self.kind, self.text, self.start, self.file, self.line = kind, DIGRAPHS.get(text, text), start, file, line
         self.system = system  # whether it stands in a header of the system

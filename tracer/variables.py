@@ -42,9 +42,8 @@ ALIGNS = re.compile(rb"\x55\x48\x89\xe5((?:\x41?[\x50-\x57])*)\x48(?:\x83\xe4(.)
                     rb"\x48(?:\x83\xec(.)|\x81\xec(.{4}))\x48\x89\xe3", re.DOTALL)
 LONGEST_START, PUSH = 48, re.compile(rb"\x41?[\x50-\x57]")
 OWN = re.compile("__spbags_")
-# The hooks of accesses, by their width in bytes or, where they are atomic, in bits.
-ACCESS = re.compile("__(?:tsan|sanitizer_cov|spbags_first|spbags_stack)_(?:unaligned_)?(?:read|write|load|store)([0-9]+)|"
-                    "__tsan_atomic([0-9]+)_")
+# The hooks of accesses, by their width in bytes.
+ACCESS = re.compile("__(?:tsan|spbags_(?:first|stack|long))_(?:read|write)([0-9]+)")
 CALL, CALL_SIZE = 0xe8, 5
 OUTLINED = re.compile(r"\._omp_(?:cpy)?fn\.[0-9]+$")
 
@@ -96,7 +95,7 @@ class Names:
         elf, call = self.dwarf.elf, self.dwarf.elf.code_at(code - CALL_SIZE, CALL_SIZE)
         hook = call and call[0] == CALL and elf.function_at(code + struct.unpack("<i", call[1:])[0])
         found = hook and ACCESS.match(hook[1])
-        return found and (int(found[1]) if found[1] else int(found[2]) // 8)
+        return found and int(found[1])
 
     def local(self, code, kind, offset):
         """Where two variables may be meant, none is."""

@@ -118,29 +118,42 @@ void note_write(uintptr_t at, size_t size, __spbags_function self, uintptr_t sta
 }
 
 #define OFTEN(WRITES, AT, SIZE) usual_access(WRITES, (uintptr_t)(AT), SIZE, STACK_POINTER, CODE)
-#define READ(AT, SIZE) any_access(false, (uintptr_t)(AT), SIZE, NULL, STACK_POINTER, CODE)
-#define WRITE(AT, SIZE) any_access(true, (uintptr_t)(AT), SIZE, NULL, STACK_POINTER, CODE)
+#define ACCESS(WRITES, AT, SIZE) any_access(WRITES, (uintptr_t)(AT), SIZE, NULL, STACK_POINTER, CODE)
+#define READ(AT, SIZE) ACCESS(false, AT, SIZE)
+#define WRITE(AT, SIZE) ACCESS(true, AT, SIZE)
 
-/* With clang those of coverage stand beside the accesses instead of the sanitizer's. */
 #define ACCESSES(SIZE) \
     void __tsan_read##SIZE(void *at) { OFTEN(false, at, SIZE); } \
-    void __tsan_write##SIZE(void *at) { OFTEN(true, at, SIZE); } \
-    void __tsan_unaligned_read##SIZE(void *at) { READ(at, SIZE); } \
-    void __tsan_unaligned_write##SIZE(void *at) { WRITE(at, SIZE); } \
-    void __sanitizer_cov_load##SIZE(void *at) { OFTEN(false, at, SIZE); } \
-    void __sanitizer_cov_store##SIZE(void *at) { OFTEN(true, at, SIZE); }
+    void __tsan_write##SIZE(void *at) { OFTEN(true, at, SIZE); }
 ACCESSES(1)
 ACCESSES(2)
 ACCESSES(4)
 ACCESSES(8)
 ACCESSES(16)
 
+/* In a run that keeps places. */
+static inline void first_with_site(bool writes, const struct touched *in, unsigned unit, size_t count, uintptr_t code) {
+    const uint64_t site = site_word(false, code);
+    begin_records();
+    list_block(in);
+    for (const unsigned end = unit + (unsigned)count; unit < end; unit++)
+        if (!was_done(writes, in->done[unit])) {
+            note_sites(writes, in, (uint64_t)1 << unit, site);
+            set_bit(&in->done[unit], writes ? WROTE_IT : READ_IT);
+        }
+    *quick_sites_of(writes, in->done) =
+        (struct quick_sites){key_of_sites(writes, in->done), &strands_part.sites[in->block->place - 1][writes]};
+    finish_records();
+}
+
 /* The first of some units that aren't noted quickly. */
 static inline void first_units(bool writes, uintptr_t at, size_t size, uintptr_t code) {
     struct touched in = block_at(at);
     unsigned unit = unit_in_block(at);
-    if (__builtin_expect(may_begin_quick(in.block), 1))
+    if (__builtin_expect(may_begin_quick(&in), 1))
         begin_quick(writes, &in, unit, size >> USUAL_SHIFT);
+    else if (doing.keeping_places && locations_noted_quickly && in.block->dead == 0 && !is_looked_at(&in))
+        first_with_site(writes, &in, unit, size >> USUAL_SHIFT, code);
     else if (locations_noted_quickly)
         locations_touch_block(writes, at, at + size, code);
     else
@@ -149,48 +162,54 @@ static inline void first_units(bool writes, uintptr_t at, size_t size, uintptr_t
                 locations_note_unit(writes, &in, unit, part, code);
 }
 
-/* What the text in inline_checks.s calls for such an access that isn't noted quickly, with the byte of its first unit; and
-   of the stack, where it is no repeat, with the mark. There the byte of a single unit says already that this is done. */
-__attribute__((noinline)) static void note_first(bool writes, uintptr_t at, uint8_t *done, uintptr_t code) {
+/* This is all where the block's sites are found quickly, and the access has the only one, or one that is known. If a signal
+   ends the run before the number stands there, the site isn't known. */
+static inline bool has_quick_site(bool writes, const uint8_t *done, uintptr_t code) {
+    const struct quick_sites *quick = quick_sites_of(writes, done);
+    if (quick->key != key_of_sites(writes, done) || guards_held > 0)
+        return false;
+    if (quick->sites->only == code)
+        return true;
+    const size_t slot = site_slot(code);
+    if (quick->sites->only != SEVERAL_SITES || places_site_keys[slot] != code + 1)
+        return false;
+    quick->sites->of[(uintptr_t)done % BLOCK_UNITS] = places_site_numbers[slot];
+    return true;
+}
+
+/* The same of all units of an access, of which the first one that isn't noted has this byte. */
+static inline bool have_quick_site(bool writes, size_t size, uint8_t *done, uintptr_t code) {
+    if (!has_quick_site(writes, done, code))
+        return false;
+    if (size >> USUAL_SHIFT == 2 && (uintptr_t)done % 2 == 0 && !was_done(writes, done[1])) {
+        set_bit(&done[1], writes ? WROTE_IT : READ_IT);
+        has_quick_site(writes, done + 1, code);
+    }
+    return true;
+}
+
+/* What the text in inline_checks.s calls for such an access that isn't noted quickly, with the byte of the first unit that
+   isn't; of the stack, where it is no repeat, with the mark; and for the rest. That byte says already that this is done. */
+__attribute__((noinline)) static void note_first(bool writes, uintptr_t at, size_t size, uint8_t *done,
+                                                 uintptr_t code) {
     clear_bit(done, writes ? WROTE_IT : READ_IT);
-    first_units(writes, at, 1 << USUAL_SHIFT, code);
+    first_units(writes, at, size, code);
 }
 
-/* The same of two. */
-static inline void note_two(bool writes, uintptr_t at, uint8_t *done, uintptr_t code) {
-    const uint8_t bit = writes ? WROTE_IT : READ_IT;
-    const bool first = !was_done(writes, done[0]), second = !was_done(writes, done[1]);
-    if (first)
-        set_bit(&done[0], bit);
-    if (second)
-        set_bit(&done[1], bit);
-    if (__builtin_expect((done[0] & done[1] & QUICK) != 0, 1))
-        return;
-    if (second)
-        clear_bit(&done[1], bit);
-    if (first)
-        clear_bit(&done[0], bit);
-    first_units(writes, at, 2 << USUAL_SHIFT, code);
-}
-
-#define FIRST(KIND, WRITES) \
-    void __spbags_first_##KIND##4(uintptr_t at, uint8_t * done) { note_first(WRITES, at, done, CODE); } \
-    void __spbags_first_##KIND##8(uintptr_t at, uint8_t * done) { note_two(WRITES, at, done, CODE); } \
-    void __spbags_stack_##KIND##4(uintptr_t at, uint32_t * mark) { note_usual_marks(WRITES, at, 4, mark, CODE); } \
-    void __spbags_stack_##KIND##8(uintptr_t at, uint32_t * mark) { note_usual_marks(WRITES, at, 8, mark, CODE); }
-FIRST(read, false)
-FIRST(write, true)
-
-/* An object's table of virtual functions is named as it begins and as it ends. */
-void __tsan_vptr_update(void *at, void *table) {
-    (void)table;
-    OFTEN(true, at, sizeof table);
-}
-void __tsan_vptr_read(void *at) { OFTEN(false, at, sizeof at); }
+#define BEHIND_TEST(KIND, WRITES, SIZE) \
+    void __spbags_first_##KIND##SIZE(uintptr_t at, uint8_t *done) { \
+        if (!have_quick_site(WRITES, SIZE, done, CODE)) \
+            note_first(WRITES, at, SIZE, done, CODE); \
+    } \
+    void __spbags_stack_##KIND##SIZE(uintptr_t at, uint32_t *mark) { note_usual_marks(WRITES, at, SIZE, mark, CODE); } \
+    void __spbags_long_##KIND##SIZE(void *at) { OFTEN(WRITES, at, SIZE); }
+BEHIND_TEST(read, false, 4)
+BEHIND_TEST(read, false, 8)
+BEHIND_TEST(write, true, 4)
+BEHIND_TEST(write, true, 8)
 
 void __tsan_read_range(void *at, size_t size) { READ(at, size); }
 void __tsan_write_range(void *at, size_t size) { WRITE(at, size); }
-void __tsan_init(void) {}
 
 /* The run has one thread, so plain operations do. A determinacy race doesn't ask whether accesses are atomic. */
 #define ATOMICALLY(ACCESSES) \
@@ -201,66 +220,15 @@ void __tsan_init(void) {}
         is_atomic = false; \
         leave_guard(ATOMIC); \
     } while (false)
-/* What widths.py puts before an update that has no other hook. */
-void __spbags_atomic_update(void *at, size_t size) { ATOMICALLY(READ(at, size); WRITE(at, size)); }
-#define UPDATE(BITS, TYPE, NAME, NEW) \
-    TYPE __tsan_atomic##BITS##_##NAME(volatile TYPE *at, TYPE value, int order) { \
-        (void)order; \
-        ATOMICALLY(READ(at, sizeof *at); WRITE(at, sizeof *at)); \
-        TYPE old = *at; \
-        *at = (TYPE)(NEW); \
-        return old; \
-    }
-#define COMPARE(BITS, TYPE, NAME) \
-    int __tsan_atomic##BITS##_compare_exchange_##NAME(volatile TYPE *at, TYPE *expected, TYPE value, int order, \
-                                                      int failing) { \
-        (void)order, (void)failing; \
-        ATOMICALLY(READ(at, sizeof *at)); \
-        TYPE old = *at; \
-        if (old != *expected) { \
-            *expected = old; \
-            return 0; \
-        } \
-        ATOMICALLY(WRITE(at, sizeof *at)); \
-        *at = value; \
-        return 1; \
-    }
-#define ATOMICS(BITS, TYPE) \
-    TYPE __tsan_atomic##BITS##_load(const volatile TYPE *at, int order) { \
-        (void)order; \
-        ATOMICALLY(READ(at, sizeof *at)); \
-        return *at; \
-    } \
-    void __tsan_atomic##BITS##_store(volatile TYPE *at, TYPE value, int order) { \
-        (void)order; \
-        ATOMICALLY(WRITE(at, sizeof *at)); \
-        *at = value; \
-    } \
-    UPDATE(BITS, TYPE, exchange, value) \
-    UPDATE(BITS, TYPE, fetch_add, old + value) \
-    UPDATE(BITS, TYPE, fetch_sub, old - value) \
-    UPDATE(BITS, TYPE, fetch_and, (old & value)) \
-    UPDATE(BITS, TYPE, fetch_or, old | value) \
-    UPDATE(BITS, TYPE, fetch_xor, old ^ value) \
-    UPDATE(BITS, TYPE, fetch_nand, ~(old & value)) \
-    COMPARE(BITS, TYPE, strong) \
-    COMPARE(BITS, TYPE, weak) \
-    TYPE __tsan_atomic##BITS##_compare_exchange_val(volatile TYPE *at, TYPE expected, TYPE value, int order, \
-                                                    int failing) { \
-        (void)order, (void)failing; \
-        ATOMICALLY(READ(at, sizeof *at)); \
-        TYPE old = *at; \
-        if (old == expected) { \
-            ATOMICALLY(WRITE(at, sizeof *at)); \
-            *at = value; \
-        } \
-        return old; \
-    }
-ATOMICS(8, uint8_t)
-ATOMICS(16, uint16_t)
-ATOMICS(32, uint32_t)
-ATOMICS(64, uint64_t)
-ATOMICS(128, unsigned __int128)
-
-void __tsan_atomic_thread_fence(int order) { (void)order; }
-void __tsan_atomic_signal_fence(int order) { (void)order; }
+/* Beside an operation that the program makes itself: an access; or what the operation writes if it finds
+   what it expects there, and else perhaps where that was. */
+void __spbags_atomic(const volatile void *at, unsigned long size, long writes) {
+    ATOMICALLY(ACCESS(writes != 0, at, size));
+}
+void __spbags_compare(const volatile void *at, const void *expected, unsigned long size, long is_stored) {
+    ATOMICALLY(READ(at, size));
+    if (memcmp((const void *)at, expected, size) == 0)
+        ATOMICALLY(WRITE(at, size));
+    else if (is_stored)
+        WRITE(expected, size);
+}

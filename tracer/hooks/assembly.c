@@ -1,4 +1,4 @@
-/* What spbags-cc puts beside a statement of the assembler. */
+/* What stands beside a statement of the assembler. */
 #include "frames.h"
 #include "guards.h"
 #include "noting.h"
@@ -24,4 +24,10 @@ void __spbags_asm_outside(const char *place) {
 void __spbags_asm_unseen(const char *place) {
     if (procedures_run_beside() && tell_is_first((uintptr_t)place))
         tell_incomplete("%s: the assembly here may access memory that none of its operands names", place);
+}
+
+/* A statement of the program that accesses memory in a way that has no hook. */
+void __spbags_unseen(const char *place) {
+    if (procedures_run_beside() && tell_is_first((uintptr_t)place))
+        tell_incomplete("%s: an access of memory here isn't seen", place);
 }

@@ -107,6 +107,12 @@ static inline void set_in_all(uint8_t *done, uint8_t bit) {
         __asm__ volatile("orq %1, %0" : "+m"(*(uint64_t *)(done + part)) : "r"(bits) : "cc");
 }
 
+static inline void clear_in_all(uint8_t *done, uint8_t bit) {
+    const uint64_t bits = bit * (UINT64_MAX / UINT8_MAX);
+    for (unsigned part = 0; part < BLOCK_UNITS; part += sizeof bits)
+        __asm__ volatile("andq %1, %0" : "+m"(*(uint64_t *)(done + part)) : "r"(~bits) : "cc");
+}
+
 static inline void set_done(uint8_t *done, uint64_t units, uint8_t bit) {
     if (units == UINT64_MAX) {
         set_in_all(done, bit);
@@ -117,6 +123,10 @@ static inline void set_done(uint8_t *done, uint64_t units, uint8_t bit) {
 }
 
 static inline void clear_done(uint8_t *done, uint64_t units, uint8_t bit) {
+    if (units == UINT64_MAX) {
+        clear_in_all(done, bit);
+        return;
+    }
     for (; units != 0; units &= units - 1)
         clear_bit(&done[__builtin_ctzll(units)], bit);
 }

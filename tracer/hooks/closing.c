@@ -1,5 +1,6 @@
 #include "closing.h"
 
+#include "course.h"
 #include "detector.h"
 #include "frames.h"
 #include "locations.h"
@@ -14,16 +15,25 @@ void closing_stop(void) {
     short_way_find();
 }
 
+/* How much was there, for spbags-run. Builds run programs in which nothing is, and read what they print. */
+static void tell_extent(void) {
+    char record[100];
+    snprintf(record, sizeof record, "ran %" PRIu64 " %" PRIu64, detector_spawns, detector_accesses);
+    if (detects() && tells_records())
+        tell_text(record, "");
+}
+
 static void tell_notes(void) {
     if (has_had_children())
         locations_tell_narrow();
+    else if (tells_records())
+        tell_incomplete("nothing ran in parallel: the program made no spawn, task or iteration");
     if (procedures_most > DEFAULT_DEPTH + 1 && !detects())
         tell_record(tell_numbered("depth", procedures_most - 1).text,
                     "procedures nest %u deep, so spbags needs --depth %u or more", procedures_most - 1,
                     procedures_most - 1);
     openmp_tell_notes();
     unknown_tell();
-    places_end();
 }
 
 void closing_end(void) {
@@ -31,10 +41,10 @@ void closing_end(void) {
     sigfillset(&all);
     sigprocmask(SIG_BLOCK, &all, &before);
     closing_stop();
-    places_tell_course();
     records_put_strand();
     records_put_rest();
-    outcome.most = look_next_place = places_last_record = UINT64_MAX;
+    course_tell();
+    outcome.most = look_next_place = course_last_record = UINT64_MAX;
     while (procedures_count > 0)
         procedures_close(0);
     records_put_rest();
@@ -43,7 +53,8 @@ void closing_end(void) {
     tell_notes();
     if (detects())
         detector_end(has_had_children() || tell_has_told);
-    output_close(&places);
+    tell_extent();
+    places_end();
     output_close(&outcome);
     sigprocmask(SIG_SETMASK, &before, NULL);
 }

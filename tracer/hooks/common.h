@@ -1,7 +1,7 @@
-/* The hooks write a trace, or hand its records to the detector inside. `spbags-cc` compiles a program with
-   -fsanitize=thread, which puts a call beside each access and at each function's entry and exit, and links it with these
-   files instead of the sanitizer's own runtime. They are compiled without that flag. The program runs on one thread, in
-   the serial order: a spawned child runs at once, as an ordinary call.
+/* The hooks write a trace, or hand its records to the detector inside. `spbags-cc` compiles a program with a plugin
+   of the compiler, which puts a call beside each access and at each function's entry and exit. It links the program with
+   these files. The program runs on one thread, in the serial order: a spawned child runs at once, as an
+   ordinary call.
 
    Each part is a .c file with a header of what others may call; what is on the way of each access is inline there.
    Each stands on those before it: units, spans, blocks, stacks, marks and own, which say what the strand has done

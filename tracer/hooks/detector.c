@@ -31,6 +31,7 @@ static struct {
 } at_hand __attribute__((aligned(TWO_LINES)));
 
 bool detector_has_races;
+uint64_t detector_spawns, detector_accesses;
 
 static void give_bundle(const uint64_t *end) {
     filling->used = (size_t)(end - filling->records);
@@ -61,9 +62,22 @@ __attribute__((noinline, cold, noreturn)) static void refuse_step(unsigned statu
     fail("the detector rejected a record with status %u, so the run ends here without a report", status);
 }
 
+/* Of the kinds accesses alone have this bit. */
+static void count_records(const uint64_t *first, const uint64_t *end) {
+    _Static_assert(SPBAGS_READ == 4 && SPBAGS_WRITE == 5, "this counts other records");
+    uint64_t spawns = 0, accesses = 0;
+    for (const uint64_t *record = first; record < end; record++) {
+        spawns += (*record & 7) == SPBAGS_SPAWN;
+        accesses += *record >> 2 & 1;
+    }
+    detector_spawns += spawns;
+    detector_accesses += accesses;
+}
+
 static void take_records(const uint64_t *first, const uint64_t *end) {
     if (first == end)
         return;
+    count_records(first, end);
     uint8_t status = spbags_steps(at_hand.session, first, (size_t)(end - first));
     if (status != SPBAGS_TAKEN)
         refuse_step(status);
@@ -101,12 +115,21 @@ static void take_endings(void) {
     at_hand.endings_count = 0;
 }
 
+/* Those of a block's records; the next one of the run. */
+static const uint64_t *take_sites(const uint64_t *sites) {
+    const uint64_t *end = sites + 1 + *sites;
+    for (const uint64_t *at = sites + 1; at < end; at++)
+        places_put((uint16_t)*at, *at >> 16);
+    return end;
+}
+
 /* A block's accesses; the next record. */
 static const uint64_t *take_block(const uint64_t *record) {
     uint8_t status = spbags_block(at_hand.session, *record >> 3, record[1], record[2]);
+    detector_accesses += (uint64_t)(__builtin_popcountll(record[1]) + __builtin_popcountll(record[2]));
     if (status != SPBAGS_TAKEN)
         refuse_step(status);
-    return record + 3;
+    return doing.plain && doing.keeping_places ? take_sites(record + 3) : record + 3;
 }
 
 /* Blocks that have ended; the next record. */
@@ -117,12 +140,16 @@ static const uint64_t *take_ended(const uint64_t *record) {
 }
 
 static void take_bundle(struct bundle *bundle) {
+    const bool has_sites = doing.plain && doing.keeping_places;
+    const uint64_t record_bits = has_sites ? without_site : UINT64_MAX;
     uint64_t *end = bundle->records;
     const uint64_t *at = end, *last = end + bundle->used;
     while (at < last) {
         uint64_t kind = *at & 7;
         if (kind <= SPBAGS_WRITE) {
-            *end++ = *at++;
+            if (has_sites)
+                places_put((uint16_t)(*at >> SITE_SHIFT), 1);
+            *end++ = *at++ & record_bits;
         } else if (kind == numbers_end && (*at >> 3) % 2 == 1) {
             at_hand.endings[at_hand.endings_count++] = *at++;
         } else {
@@ -195,12 +222,9 @@ static void start_thread(void) {
 /* The report goes where SPBAGS_REPORT says, named as a trace is, or else to standard error. */
 void detector_begin(void) {
     const char *name = settings_text(SETTING_REPORT), *places_name = settings_text(SETTING_PLACES);
-    outcome.name = "standard error";
+    outcome.name = name ? name : "standard error";
     report_is_asked = name;
-    if (name)
-        output_open(&outcome, "SPBAGS_REPORT", name);
-    else
-        outcome.file = output_move_away("SPBAGS_REPORT", STDERR_FILENO);
+    outcome.file = name ? output_open(name, "SPBAGS_REPORT") : output_move_away("SPBAGS_REPORT", STDERR_FILENO);
     if (places_name)
         places_open(places_name);
     detector_heap_begin();

@@ -12,8 +12,10 @@
 /* The detector has a thread of its own, which alone calls it. The program's thread hands it the records in bundles, and
    fills one while the detector goes through those before. */
 enum { BUNDLES = 8 };
-/* Whether the report, once it is made, is more than the line `races 0`. */
+/* Whether the report, once it is made, is more than the line `races 0`; and then, how many spawns and accesses the detector
+   has taken. */
 extern bool detector_has_races;
+extern uint64_t detector_spawns, detector_accesses;
 
 /* The detector begins, and its thread, for which the heap has memory aside. */
 void detector_begin(void);
@@ -25,7 +27,7 @@ uint64_t *detector_hand_over(const uint64_t *end);
 /* In a step a record with words behind it. Nothing before it can be left out any more. */
 void detector_step_words(uint64_t record, const uint64_t *words, size_t count);
 #else
-enum { detector_has_races = false };
+enum { detector_has_races = false, detector_spawns = 0, detector_accesses = 0 };
 static inline void detector_begin(void) {}
 static inline void detector_end(bool has_more_to_say) { (void)has_more_to_say; }
 static inline uint64_t *detector_hand_over(const uint64_t *end) { return (void)end, NULL; }

@@ -32,12 +32,12 @@ static void put_byte(struct divided *unit, size_t byte, bool writes, uintptr_t a
 }
 
 /* Units of blocks have no repeats in one part of a strand. */
-static void follow_unit(struct divided *unit, bool writes, uintptr_t address, uintptr_t code) {
+static void follow_unit(struct divided *unit, bool writes) {
     const uint64_t mark = is_gathered(unit->location) ? 2 * part_now() : marks_read;
     if (unit->mark >= mark + writes)
         return;
     unit->mark = mark + writes;
-    records_follow_unit(writes, unit->location, address, code);
+    course_unit(writes, unit->location);
 }
 
 bool divided_access(bool writes, const struct touched *in, uint64_t location, uintptr_t address, uintptr_t code) {
@@ -50,7 +50,7 @@ bool divided_access(bool writes, const struct touched *in, uint64_t location, ui
     } else {
         *stack_mark(address) = TOUCHED;
     }
-    follow_unit(unit, writes, address, code);
+    follow_unit(unit, writes);
     unsigned left_out = bytes_left_out(address);
     for (size_t byte = 0; byte <= units_mask; byte++)
         if ((left_out >> byte & 1) == 0 && !is_repeat(writes, unit->marks[byte])) {

@@ -9,9 +9,12 @@ extern struct doing {
     bool tracing;
     /* Its records go to the detector; or it looks at the places of races. Else it writes a trace. */
     bool detecting, looking;
-    /* A record goes to the detector or into the trace, and that is all. Few runs do anything else. */
+    /* A record goes to the detector or into the trace, or is counted by a run that looks, and that is all. Few runs do
+       anything else. */
     bool plain;
-    /* Each record's place is kept, as long as there is room, and the course of the run is followed. */
+    /* And it neither looks nor keeps places. */
+    bool plainest;
+    /* Each record's place is kept, as long as there is room. */
     bool keeping_places;
     /* Each record of an access begins a strand, so that there are no repeats. */
     bool writing_repeats;

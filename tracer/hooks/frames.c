@@ -58,7 +58,22 @@ ALWAYS_INLINE void clear_below(uintptr_t address) {
 
 void frames_forget_below(uintptr_t address) { clear_below(address); }
 
+ALWAYS_INLINE void plain_structure(enum spbags_kind kind, uintptr_t code, bool has_pending, uint64_t site) {
+    begin_step();
+    if (strands_part.used > 0 || has_pending)
+        records_put_strand();
+    course_structure(kind, code);
+    procedures_count += procedures_opened_by(kind);
+    step_at(kind, 0, site);
+    begin_window();
+    end_step();
+}
+
 __attribute__((noinline)) static void other_structure(enum spbags_kind kind, uintptr_t code) {
+    if (doing.plain) {
+        plain_structure(kind, code, look_is_pending, doing.keeping_places ? site_number(code) : 0);
+        return;
+    }
     begin_record();
     records_structure(kind, code);
     end_change();
@@ -67,15 +82,9 @@ __attribute__((noinline)) static void other_structure(enum spbags_kind kind, uin
 
 /* With each record of the structure a strand ends and another begins. */
 ALWAYS_INLINE void structure(enum spbags_kind kind, uintptr_t code) {
-    if (__builtin_expect(doing.plain, 1)) {
-        begin_step();
-        if (strands_part.used > 0)
-            records_put_strand();
-        procedures_count += procedures_opened_by(kind);
-        step(kind, 0);
-        begin_window();
-        end_step();
-    } else
+    if (__builtin_expect(doing.plainest, 1))
+        plain_structure(kind, code, false, 0);
+    else
         other_structure(kind, code);
     begin_strand();
 }
@@ -198,45 +207,37 @@ void __spbags_sync(void) {
     sync_children(frames_top, CODE);
 }
 
-ALWAYS_INLINE void enter_function(uintptr_t end, uintptr_t code) {
+void __tsan_func_entry(void *caller) {
+    (void)caller;
     if (!doing.tracing)
         return;
+    uintptr_t end = FRAME_END;
     if (end - stacks_first > stacks_size)
         fail("the program runs on a stack of its own, or on more than %zu bytes of stack", (size_t)stacks_size);
-    leave_jumped(end, code);
+    leave_jumped(end, CODE);
     clear_below(end);
     push_frame_at(FUNCTION, end, records_so_far());
 }
-
-void __tsan_func_entry(void *caller) {
-    (void)caller;
-    enter_function(FRAME_END, CODE);
-}
-
-void frames_enter(uintptr_t end, uintptr_t code) { enter_function(end, code); }
 
 /* Whether no record comes of a frame's end. A function is of kind 0. */
 static inline bool ends_quietly(const struct frame *frame) {
     return (frame->kind | frame->called | frame->children | frame->node) == 0;
 }
 
-__attribute__((noinline)) static void leave_to(uintptr_t end, uintptr_t code) {
+__attribute__((noinline)) static void leave_function(uintptr_t end, uintptr_t code) {
     leave_below(end, code);
     clear_below(end);
 }
 
-ALWAYS_INLINE void leave_function(uintptr_t end, uintptr_t code) {
+void __tsan_func_exit(void) {
     if (!doing.tracing)
         return;
+    uintptr_t end = FRAME_END;
     if (end != frames_top->end || !ends_quietly(frames_top)) {
-        leave_to(end, code);
+        leave_function(end, CODE);
         return;
     }
     clear_below(end);
     frames_top--;
     follow_top();
 }
-
-void __tsan_func_exit(void) { leave_function(FRAME_END, CODE); }
-
-void frames_exit(uintptr_t end, uintptr_t code) { leave_function(end, code); }

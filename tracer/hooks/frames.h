@@ -123,10 +123,6 @@ static inline void back_to_function(uintptr_t stack_pointer, uintptr_t code) {
 /* The stack memory below this address has no variable any more. */
 void frames_forget_below(uintptr_t address);
 
-/* A function whose frame ends here begins, or returns. */
-void frames_enter(uintptr_t end, uintptr_t code);
-void frames_exit(uintptr_t end, uintptr_t code);
-
 /* Between a spawn and the entry of what it calls, and between its exit and the return, compilers copy arguments and the
    result through memory of the parent's frame, which no program sees. A library function that is the child itself says
    so by its name. */

@@ -21,6 +21,7 @@ void guards_begin(void) {
 }
 
 void guards_enter_first(uintptr_t id, const char *name) {
+    course_guard(id);
     if (!guards_noted || guards_held == MOST_GUARDS)
         return;
     memmove(guards + 1, guards, guards_held++ * sizeof *guards);

@@ -2,6 +2,7 @@
 #define SPBAGS_GUARDS_H
 
 #include "common.h"
+#include "course.h"
 #include "spans.h"
 
 /* What the program holds now: locks, critical regions, and of an atomic access itself. It is noted beside an access by a
@@ -29,6 +30,7 @@ void guards_begin(void);
    where it ends with a space the report adds the name of the variable whose address the number is. Beyond so many that
    are held at once no more are noted. */
 static inline void enter_guard(uintptr_t id, const char *name) {
+    course_guard(id);
     if (guards_noted && guards_held < MOST_GUARDS)
         guards[guards_held++] = (struct guard){name_in_life(id), name};
 }
@@ -38,6 +40,7 @@ void guards_enter_first(uintptr_t id, const char *name);
 
 /* The last entry of it is left; of what isn't held nothing is. */
 static inline void leave_guard(uintptr_t id) {
+    course_guard(~id);
     unsigned at = guards_held;
     if (at > 0)
         id = name_in_life(id);

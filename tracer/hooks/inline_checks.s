@@ -1,59 +1,81 @@
-# The test for a repeat at an access, in place of the call of its hook: `spbags-cc` puts it there. The address is in
-# %rdi, and what a call may change is free. An access goes the short way, as in accesses.c, if the stack pointer is
-# below the end of that way, and the address is a multiple of the size. A region of the stack has a row below 0, and marks
-# there: then a repeat calls nothing. Others have a byte for each unit: then a repeat calls nothing, nor does the first
-# access to a single unit whose byte says QUICK, which is the sign. It says there what is done before it knows that, so
-# that a handler of a signal between changes nothing; for all else FIRST takes that back, STACK is called where not all
-# marks are of repeats, and HOOK for the rest.
-.macro __spbags_inline_check HOOK, FIRST, STACK, SIZE, BIT, BITS, IS_REPEAT, IS_NONE
-	cmpq __spbags_short_way_end(%rip), %rsp
-	jae .Lspbags_hook\@
+# The test for a repeat at an access, in place of the call of its hook: the compiler's plugin puts it there. The
+# address is in %rdi, and what a call may change is free. An access goes the short way, as in accesses.c, if
+# the stack pointer is below the end of that way, and the address is a multiple of the size. A region of the stack has a row
+# below 0, and marks there: then a repeat calls nothing. Others have a byte for each unit: then a repeat calls nothing, nor
+# does the first access to units whose bytes say QUICK, which is the sign. It says there what is done before it
+# knows that, so that a handler of a signal between changes nothing; for all else `first` takes that back, `stack` is called
+# where not all marks are of repeats, and `long` for the rest.
+#
+# What may become a part of a shared library, where the assembler knows __spbags_is_shared, has addresses in a table.
+.macro __spbags_global BEFORE, NAME, BEHIND, FREE
+.ifdef __spbags_is_shared
+	movq \NAME@GOTPCREL(%rip), \FREE
+	\BEFORE (\FREE)\BEHIND
+.else
+	\BEFORE \NAME(%rip)\BEHIND
+.endif
+.endm
+.macro __spbags_inline_check KIND, SIZE, BIT, BITS, IS_REPEAT, IS_NONE
+	__spbags_global cmpq, __spbags_short_way_end, ", %rsp", %rax
+	jae 1f
 	testb $\SIZE - 1, %dil
-	jne .Lspbags_hook\@
+	jne 1f
 	movq %rdi, %rax
 	shrq $24, %rax
+.ifdef __spbags_is_shared
+	movq __spbags_regions@GOTPCREL(%rip), %rsi
+	movq (%rsi,%rax,8), %rsi
+.else
 	movq __spbags_regions(,%rax,8), %rsi
+.endif
 	movq %rdi, %rax
 	shrq $2, %rax
 	testq %rsi, %rsi
-	jle .Lspbags_stack\@
+	jle 4f
 	movzbl (%rsi,%rax), %ecx
 	testb $\BITS, %cl
 .if \SIZE == 4
-	jne .Lspbags_done\@
+	jne 6f
 	orb $\BIT, (%rsi,%rax)
-	js .Lspbags_done\@
+	js 6f
 .else
-	je .Lspbags_first\@
-	testb $\BITS, 1(%rsi,%rax)
-	jne .Lspbags_done\@
+	jne 2f
+	orb $\BIT, (%rsi,%rax)
+	jns 3f
+2:
+	movzbl 1(%rsi,%rax), %ecx
+	testb $\BITS, %cl
+	jne 6f
+	orb $\BIT, 1(%rsi,%rax)
+	js 6f
+	incq %rsi
 .endif
-.Lspbags_first\@:
+3:
 	addq %rax, %rsi
-	call \FIRST
-	jmp .Lspbags_done\@
-.Lspbags_stack\@:
-	je .Lspbags_hook\@
+	call __spbags_first_\KIND\SIZE
+	jmp 6f
+4:
+	je 1f
 	addq %rdi, %rsi
-	movl __spbags_has_read(%rip), %eax
+	__spbags_global movl, __spbags_has_read, ", %eax", %rax
 	cmpl %eax, (%rsi)
 .if \SIZE == 8
-	\IS_NONE .Lspbags_mark\@
+	\IS_NONE 5f
 	cmpl %eax, 4(%rsi)
 .endif
-	\IS_REPEAT .Lspbags_done\@
-.Lspbags_mark\@:
-	call \STACK
-	jmp .Lspbags_done\@
-.Lspbags_hook\@:
-	call \HOOK
-.Lspbags_done\@:
+	\IS_REPEAT 6f
+5:
+	call __spbags_stack_\KIND\SIZE
+	jmp 6f
+1:
+	call __spbags_long_\KIND\SIZE
+6:
 .endm
-.macro __spbags_read HOOK, SIZE
-	__spbags_inline_check \HOOK, __spbags_first_read\SIZE, __spbags_stack_read\SIZE, \SIZE, 1, 3, jae, jb
+.macro __spbags_read SIZE
+	__spbags_inline_check read, \SIZE, 1, 3, jae, jb
 .endm
-.macro __spbags_write HOOK, SIZE
-	__spbags_inline_check \HOOK, __spbags_first_write\SIZE, __spbags_stack_write\SIZE, \SIZE, 2, 2, ja, jbe
+.macro __spbags_write SIZE
+	__spbags_inline_check write, \SIZE, 2, 2, ja, jbe
 .endm
 # The usual entry of a function, in place of the call of its hook: accesses go the short way, the newest frame hasn't
 # ended, and nothing has a mark below this one's end. A frame has 56 bytes: its end; its kind, which is 2 for a child, and
@@ -61,48 +83,48 @@
 # newest one, a handler of a signal may have its own there: so the rest is written then, and the end again.
 .macro __spbags_entry
 	leaq 16(%rbp), %rcx
-	movq __spbags_top(%rip), %rax
-	cmpq __spbags_short_way_first(%rip), %rcx
-	jb .Lspbags_hook\@
-	cmpq __spbags_lowest(%rip), %rcx
-	ja .Lspbags_hook\@
+	__spbags_global movq, __spbags_top, ", %rax", %rax
+	__spbags_global cmpq, __spbags_short_way_first, ", %rcx", %rdx
+	jb 7f
+	__spbags_global cmpq, __spbags_lowest, ", %rcx", %rdx
+	ja 7f
 	cmpq (%rax), %rcx
-	jae .Lspbags_hook\@
+	jae 7f
 	addq $56, %rax
-	cmpq __spbags_frames_end(%rip), %rax
-	je .Lspbags_hook\@
-	movq __spbags_next_record(%rip), %rdx
-	subq __spbags_records_origin(%rip), %rdx
+	__spbags_global cmpq, __spbags_frames_end, ", %rax", %rdx
+	je 7f
+	__spbags_global movq, __spbags_next_record, ", %rdx", %rdx
+	__spbags_global subq, __spbags_records_origin, ", %rdx", %rsi
 	movq %rcx, (%rax)
-	movq %rax, __spbags_top(%rip)
+	__spbags_global "movq %rax,", __spbags_top, "", %rsi
 	movq %rcx, (%rax)
 	movq $0, 8(%rax)
 	movq $0, 16(%rax)
 	movq %rdx, 24(%rax)
-	movq %rcx, __spbags_short_way_end(%rip)
-	jmp .Lspbags_done\@
-.Lspbags_hook\@:
+	__spbags_global "movq %rcx,", __spbags_short_way_end, "", %rsi
+	jmp 6f
+7:
 	call __tsan_func_entry
-.Lspbags_done\@:
+6:
 .endm
 # And its usual exit: the newest frame is the function's, with nothing that stands open.
 .macro __spbags_exit
 	leaq 16(%rbp), %rcx
-	cmpq __spbags_short_way_end(%rip), %rcx
-	jne .Lspbags_hook\@
-	cmpq __spbags_lowest(%rip), %rcx
-	ja .Lspbags_hook\@
-	movq __spbags_top(%rip), %rax
+	__spbags_global cmpq, __spbags_short_way_end, ", %rcx", %rdx
+	jne 7f
+	__spbags_global cmpq, __spbags_lowest, ", %rcx", %rdx
+	ja 7f
+	__spbags_global movq, __spbags_top, ", %rax", %rax
 	movq 8(%rax), %rdx
 	orq 16(%rax), %rdx
-	jne .Lspbags_hook\@
+	jne 7f
 	cmpl $2, -48(%rax)
 	cmovneq -56(%rax), %rdx
 	subq $56, %rax
-	movq %rax, __spbags_top(%rip)
-	movq %rdx, __spbags_short_way_end(%rip)
-	jmp .Lspbags_done\@
-.Lspbags_hook\@:
+	__spbags_global "movq %rax,", __spbags_top, "", %rsi
+	__spbags_global "movq %rdx,", __spbags_short_way_end, "", %rsi
+	jmp 6f
+7:
 	call __tsan_func_exit
-.Lspbags_done\@:
+6:
 .endm

@@ -7,8 +7,10 @@
 
 int library_state_of_hsearch;
 static int library_state_of_rand, library_state_of_drand48, library_state_of_mblen, library_state_of_mbtowc,
-    library_state_of_wctomb, library_state_of_environment, library_state_of_locale, library_state_of_textdomain,
-    library_state_of_getpwent, library_state_of_getgrent;
+    library_state_of_wctomb, library_state_of_mbrlen, library_state_of_mbrtowc, library_state_of_wcrtomb,
+    library_state_of_mbrtoc16, library_state_of_c16rtomb, library_state_of_mbsrtowcs, library_state_of_wcsrtombs,
+    library_state_of_environment, library_state_of_locale, library_state_of_textdomain, library_state_of_getpwent,
+    library_state_of_getgrent, library_state_of_setlogmask;
 
 /* ---- Accesses of several pieces ---- */
 
@@ -27,6 +29,14 @@ static void note_pieces(bool writes, const struct iovec *piece, size_t count, ss
         note_access(writes, (uintptr_t)piece->iov_base, size, self, stack_pointer, code);
         bytes -= (ssize_t)size;
     }
+}
+
+/* A list that a function is handed is the caller's: arguments are taken out of it. */
+static void note_list(va_list list, __spbags_function self, uintptr_t stack_pointer, uintptr_t code) {
+    if (!doing.tracing)
+        return;
+    note_access(false, (uintptr_t)list, sizeof(va_list), self, stack_pointer, code);
+    note_access(true, (uintptr_t)list, sizeof(va_list), self, stack_pointer, code);
 }
 
 enum { KIND_READ = false, KIND_WRITE = true };
@@ -53,24 +63,6 @@ void library_note_argument(bool writes, uintptr_t at, size_t size, const void *w
 #ifndef __clang__
 #pragma GCC pop_options
 #endif
-
-/* What clang from 15 on calls where it copies or fills memory itself. */
-void *__tsan_memcpy(void *to, const void *from, size_t size) {
-    NOTE(false, from, size);
-    NOTE(true, to, size);
-    return memcpy(to, from, size);
-}
-
-void *__tsan_memmove(void *to, const void *from, size_t size) {
-    NOTE(false, from, size);
-    NOTE(true, to, size);
-    return memmove(to, from, size);
-}
-
-void *__tsan_memset(void *to, int byte, size_t size) {
-    NOTE(true, to, size);
-    return memset(to, byte, size);
-}
 
 void library_refuse_thread(void) {
     if (doing.tracing)

@@ -7,7 +7,7 @@
 #include "openmp.h"
 
 uint64_t *locations_numbers;
-bool locations_noted_quickly;
+bool locations_noted_quickly, locations_stack_noted_quickly;
 
 /* Accesses that don't fill their units, and the bits of their addresses and sizes. */
 static uint64_t narrow_accesses;
@@ -63,7 +63,9 @@ void locations_clear(uintptr_t address, size_t size) {
 
 void locations_follow_views(void) {
     locations_noted_quickly = doing.plain && !reducers_any;
+    locations_stack_noted_quickly = locations_noted_quickly && !doing.looking && !doing.keeping_places;
     short_way_leave();
+    leave_quick_sites();
     for (size_t at = 0; at < strands_part.used && !locations_noted_quickly; at++)
         if (strands_part.list[at].block)
             clear_done(strands_part.list[at].done, UINT64_MAX, QUICK);
@@ -72,6 +74,8 @@ void locations_follow_views(void) {
 
 void locations_note_stack(bool writes, uintptr_t address, uint32_t *mark, unsigned shift, uintptr_t code) {
     bool marks_write = writes;
+    if (!is_of_running(address))
+        openmp_note_other(address, code);
     if (__builtin_expect(reducers_any, 0)) {
         enum update update = reducers_update_of(address, shift, is_repeat(false, *mark));
         if (update != NO_UPDATE && is_repeat(false, *mark))
@@ -90,6 +94,8 @@ void locations_note_unit(bool writes, const struct touched *in, unsigned unit, u
         heap_use_dead(writes, address, code);
         return;
     }
+    if (in->block->has_own)
+        openmp_note_other(address, code);
     if (reducers_any) {
         bool repeats = was_done(false, in->done[unit]);
         enum update update = reducers_update_of(address, units_shift, repeats);
@@ -107,9 +113,12 @@ static void note_quickly(const struct touched *in) { set_done(in->done, ~in->blo
 __attribute__((noinline)) static void note_units(bool writes, uintptr_t address, struct part_of_block part,
                                                  uintptr_t code) {
     uint64_t units = new_units(writes, part.in.done, part.units);
-    if (units != 0 && locations_noted_quickly && (units & part.in.block->dead) == 0) {
-        note_in_block(writes, &part.in, units);
-        note_quickly(&part.in);
+    const struct block *block = part.in.block;
+    if (units != 0 && locations_noted_quickly && (units & block->dead) == 0 && !block->has_own &&
+        !is_looked_at(&part.in) && !(doing.keeping_places && units_narrow.end != 0)) {
+        note_in_block(writes, &part.in, units, code);
+        if (!doing.keeping_places)
+            note_quickly(&part.in);
         return;
     }
     for (; units != 0; units &= units - 1) {
@@ -141,6 +150,8 @@ void locations_touch(bool writes, uintptr_t address, size_t size, uintptr_t code
     if (((address | size) & units_mask) != 0) {
         narrow_accesses++;
         narrow_bits |= address | size;
+        if (!own_has(address))
+            course_narrow(writes, address, size);
         units_narrow.first = address;
         units_narrow.end = address + size;
     }

@@ -4,6 +4,7 @@
 #ifndef SPBAGS_LOCATIONS_H
 #define SPBAGS_LOCATIONS_H
 
+#include "look.h"
 #include "marks.h"
 #include "records.h"
 #include "reducers.h"
@@ -66,8 +67,9 @@ void locations_clear(uintptr_t address, size_t size);
 
 /* ---- Accesses ---- */
 
-/* Without views of reducers, if the run is plain, a unit is noted quickly. */
-extern bool locations_noted_quickly;
+/* Without views of reducers, if the run is plain, a unit is noted quickly. A run that looks needs the location of each
+   unit of the stack, and those of blocks that have a race; and one that keeps places the code of each access. */
+extern bool locations_noted_quickly, locations_stack_noted_quickly;
 /* After a change of either. */
 void locations_follow_views(void);
 
@@ -77,7 +79,7 @@ void locations_note_stack(bool writes, uintptr_t address, uint32_t *mark, unsign
 
 /* Without calls on the way where there is nothing else to do. */
 static inline void note_stack_unit(bool writes, uintptr_t address, uint32_t *mark, unsigned shift, uintptr_t code) {
-    if (__builtin_expect(!locations_noted_quickly || is_window_full() || !is_of_running(address), 0)) {
+    if (__builtin_expect(!locations_stack_noted_quickly || is_window_full() || !is_of_running(address), 0)) {
         locations_note_stack(writes, address, mark, shift, code);
         return;
     }
@@ -87,8 +89,10 @@ static inline void note_stack_unit(bool writes, uintptr_t address, uint32_t *mar
         *number = ++window_last_number;
         lower_running(address);
     }
+    const uint64_t location = 2 * *number + 1;
     *mark = new_mark(writes);
-    step(writes ? SPBAGS_WRITE : SPBAGS_READ, 2 * *number + 1);
+    course_stack(writes, location);
+    step(writes ? SPBAGS_WRITE : SPBAGS_READ, location);
     end_step();
 }
 
@@ -106,8 +110,14 @@ static inline void begin_quick(bool writes, const struct touched *in, unsigned f
     finish_records();
 }
 
-static inline bool may_begin_quick(const struct block *block) {
-    return locations_noted_quickly && block->place == 0 && block->dead == 0 && !block->has_own;
+static inline bool is_looked_at(const struct touched *in) {
+    return __builtin_expect(doing.looking, 0) && look_has_race_in(in->location);
+}
+
+static inline bool may_begin_quick(const struct touched *in) {
+    const struct block *block = in->block;
+    return locations_noted_quickly && block->place == 0 && block->dead == 0 && !block->has_own && !is_looked_at(in) &&
+           !doing.keeping_places;
 }
 
 /* What this memory touches of the block in which it begins; the end of that. */

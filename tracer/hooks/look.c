@@ -5,13 +5,15 @@
 #include "heap.h"
 #include "memory.h"
 #include "noting.h"
+#include "output.h"
 #include "own.h"
-#include "places.h"
+#include "records.h"
 #include "reducers.h"
 #include "stacks.h"
 #include "strands.h"
 
-uint64_t look_place_now, look_next_place = UINT64_MAX;
+uint64_t look_place_now, look_next_place = UINT64_MAX, look_blocks[(1 << LOOK_BLOCK_BITS) / 64];
+bool look_is_pending;
 
 /* ---- The races ---- */
 
@@ -383,10 +385,12 @@ void look_note_pending(bool writes, uint64_t location, uintptr_t address, uintpt
     struct race *race = may_race(location) ? &races[race_from(location)] : NULL;
     if (!race || race == races + races_count || race->location != location)
         return;
+    records_put_rest();
     struct look *look = race->first.place > look_place_now ? &race->first : &race->second;
     if (look->writes != writes || look->place <= look_place_now || look->part == part_now())
         return;
     look->part = part_now();
+    look_is_pending = true;
     take_look(race, look, address, code);
     if (look == &race->second) {
         race->next_pending = newest_pending;
@@ -406,6 +410,7 @@ static void leave_meeting(const struct race *race) {
 
 /* All that is pending goes out. */
 void look_forget_pending(void) {
+    look_is_pending = false;
     for (; newest_pending; newest_pending = newest_pending->next_pending)
         leave_meeting(newest_pending);
 }
@@ -434,7 +439,7 @@ __attribute__((format(__printf__, 1, 2))) static void go_astray(const char *form
 static void next_stop(void) {
     if (astray[0] == '\0')
         look_next_place = ++stops_met < stops_count ? stops[stops_met].place : UINT64_MAX;
-    if (look_next_place == UINT64_MAX && places_last_record != UINT64_MAX)
+    if (look_next_place == UINT64_MAX && course_last_record != UINT64_MAX)
         closing_end_run();
 }
 
@@ -621,6 +626,13 @@ static void put_addresses(void) {
     }
 }
 
+/* The units that accesses of races don't fill. */
+static void put_narrow(void) {
+    for (const struct race *race = races; race < races + races_count; race++)
+        if (race->pair != 0 && (race->first.is_narrow || race->second.is_narrow))
+            put("narrow %" PRIu64 "\n", unit_of(race->location));
+}
+
 void look_put_notes(void) {
     if (stops_met < stops_count) {
         put("astray %" PRIu64 " ", stops[stops_met].place);
@@ -633,6 +645,7 @@ void look_put_notes(void) {
         put_pair(pair, pair->race);
     }
     put_addresses();
+    put_narrow();
     put("left %" PRIu64 "\nend\n", left_out);
 }
 
@@ -655,7 +668,9 @@ static void read_races(int file) {
     allocations = memory_reserve((races_count + 1) * sizeof *allocations);
     for (struct race *race = races; race < races + races_count; race++, at += OF_RACE) {
         *race = (struct race){.location = at[0], .first = look_at(at[1]), .second = look_at(at[2])};
-        race_filter[filter_at(at[0]) / 64] |= (uint64_t)1 << filter_at(at[0]) % 64;
+        uint64_t filter = filter_at(at[0]), block = look_block_bit(unit_of(at[0]) & ~(uint64_t)(2 * BLOCK_UNITS - 1));
+        race_filter[filter / 64] |= (uint64_t)1 << filter % 64;
+        look_blocks[block / 64] |= (uint64_t)1 << block % 64;
     }
     for (struct stop *stop = stops; stop < stops + stops_count; stop++, at += OF_STOP)
         *stop = (struct stop){at[0], &races[at[1]]};

@@ -7,6 +7,21 @@
 
 #include "frames.h"
 
+/* Whether an access was noted whose record hasn't gone out. */
+extern bool look_is_pending;
+/* Most blocks without a race have no bit here: by the locations of their first units. */
+enum { LOOK_BLOCK_BITS = 18 };
+extern uint64_t look_blocks[(1 << LOOK_BLOCK_BITS) / 64];
+
+static inline uint64_t look_block_bit(uint64_t location) {
+    return location * 0x9e3779b97f4a7c15u >> (64 - LOOK_BLOCK_BITS);
+}
+
+static inline bool look_has_race_in(uint64_t block) {
+    const uint64_t bit = look_block_bit(block);
+    return (look_blocks[bit / 64] >> bit % 64 & 1) != 0;
+}
+
 /* How many records such a run would have written so far, and the place of the next that is looked at. */
 extern uint64_t look_place_now, look_next_place;
 

@@ -11,6 +11,8 @@
 /* Whether accesses are looked at beside, as those after an ordered region. They come here all. */
 extern bool openmp_watches;
 void openmp_watch_access(bool writes, uintptr_t address, size_t size, uintptr_t code);
+/* An access of memory that may be another thread's: of a stack that doesn't run, or near what a thread has of its own. */
+__attribute__((cold)) void openmp_note_other(uintptr_t address, uintptr_t code);
 /* Whether a task or a thread may run beside what the program does now; for code that may have something in any
    register. */
 __attribute__((no_caller_saved_registers, target("general-regs-only"))) bool openmp_has_beside(void);
@@ -24,6 +26,7 @@ enum { openmp_watches = false };
 static inline void openmp_watch_access(bool writes, uintptr_t address, size_t size, uintptr_t code) {
     (void)writes, (void)address, (void)size, (void)code;
 }
+static inline void openmp_note_other(uintptr_t address, uintptr_t code) { (void)address, (void)code; }
 static inline bool openmp_has_beside(void) { return false; }
 static inline size_t openmp_room_for_members(size_t *own_size) {
     (void)own_size;

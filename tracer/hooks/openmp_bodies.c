@@ -5,6 +5,7 @@
 #include "openmp_loops.h"
 #include "openmp_notes.h"
 #include "openmp_parts.h"
+#include "openmp_shares.h"
 #include "openmp_silence.h"
 #include "openmp_team.h"
 
@@ -40,13 +41,22 @@ static void end_parallel_body(void) {
     silence_follow_body();
 }
 
+/* The thread of this number does, or will do, a master region. */
+static void note_master(int number) {
+    const struct scope *thread = scopes_thread();
+    if (thread->kind == MEMBER && number >= 0 && number < (int)thread->size)
+        thread->team->masters |= (uint64_t)1 << number;
+}
+
 /* One thread of the team does this, beside what the others do. A master region is a part of what its thread does. */
 static void begin_child_body(struct body *body, uintptr_t stack_pointer, uintptr_t code) {
     struct scope *thread = scopes_holder();
     bool is_of_team = scopes_is_thread(thread) && !thread->alone;
     silence_from(NULL);
-    if (body->kind == MASTER_BODY && is_of_team)
+    if (body->kind == MASTER_BODY && is_of_team) {
         thread->master = code;
+        note_master(thread->thread);
+    }
     body->is_child = is_of_team && body->kind != MASTER_BODY && (body->kind == SINGLE_BODY || !thread->loop->in_blocks);
     if (!body->is_child)
         return;
@@ -65,6 +75,15 @@ static void end_child_body(const struct body *body, uintptr_t code) {
     silence_follow_body();
 }
 
+static void end_of_scope(enum body_kind kind, uintptr_t stack_pointer, uintptr_t code) {
+    if (kind == SCOPED_BODY)
+        shares_begin_combining(stack_pointer, code);
+    else if (kind == SCOPE_BODY)
+        shares_end_loop(code);
+    else
+        shares_end_following(code);
+}
+
 #pragma GCC visibility push(hidden)
 
 void __spbags_body(int kind) {
@@ -77,6 +96,7 @@ void __spbags_body(int kind) {
 int __spbags_filter(int number) {
     const struct scope *team = scopes_team();
     bool has_it = number < (int)team->size || team->alone;
+    note_master(number);
     if (!has_it && notes.masked_out == 0 && (team->team_wanted == 0 || (uint64_t)number < team->team_wanted)) {
         notes.masked_out = CODE;
         notes.masked_thread = number;
@@ -95,9 +115,11 @@ int __spbags_goes_on(void) {
         end_parallel_body();
     else if (body->kind == SIMD_BODY)
         notes_keep(&notes.simd_loop, CODE);
-    else if (begins && body->kind != LAST_BODY)
+    else if (body->kind >= SCOPE_BODY && !begins)
+        end_of_scope(body->kind, STACK_POINTER, CODE);
+    else if (begins && body->kind < LAST_BODY)
         begin_child_body(body, STACK_POINTER, CODE);
-    else if (body->kind != LAST_BODY)
+    else if (body->kind < LAST_BODY)
         end_child_body(body, CODE);
     bodies.newest -= !begins;
     return begins;

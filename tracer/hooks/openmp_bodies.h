@@ -1,12 +1,22 @@
 /* What spbags-cc puts before some parts of OpenMP: `for (__spbags_body(KIND); __spbags_goes_on();)`, before a parallel
    region, a single one, and a master's, a loop with simd alone, and with clang a section, and sections with nowait and
-   lastprivate. */
+   lastprivate. A scope with reductions has one around it and one inside, between whose ends these are combined. */
 #ifndef SPBAGS_OPENMP_BODIES_H
 #define SPBAGS_OPENMP_BODIES_H
 
 #include "common.h"
 
-enum body_kind { PARALLEL_BODY, SINGLE_BODY, MASTER_BODY, SIMD_BODY, SECTION_BODY, LAST_BODY };
+enum body_kind {
+    PARALLEL_BODY,
+    SINGLE_BODY,
+    MASTER_BODY,
+    SIMD_BODY,
+    SECTION_BODY,
+    LAST_BODY,
+    SCOPE_BODY,
+    SCOPE_NOWAIT_BODY,
+    SCOPED_BODY
+};
 
 /* Whether it has begun, and is a child. */
 struct body {

@@ -13,10 +13,16 @@ static double seconds(clockid_t clock, int (*ask)(clockid_t, struct timespec *))
     return (double)time.tv_sec + (double)time.tv_nsec / 1e9;
 }
 
+/* What a region does may depend on how many threads it has. */
+static void note_question(const struct scope *team) {
+    if (!team->alone)
+        teams_note_asking(team->size, team->team_wanted, team->team ? team->team->code : team->code);
+}
+
 /* A member may do what only one of its number does, so loops aren't all the first member's any more. */
 static void ask_in_team(struct scope *thread) {
     thread->team->asks = true;
-    teams_note_asking(thread->size, thread->team->wanted, thread->team->code);
+    note_question(scopes_team());
     if (scopes.newest->kind == SHARE && thread->loop && !thread->loop->ordered)
         thread->loop->in_blocks = true;
 }
@@ -40,7 +46,11 @@ double omp_get_wtick(void) { return seconds(CLOCK_MONOTONIC, clock_getres); }
 /* ---- Threads ---- */
 
 void omp_set_num_threads(int threads) { scopes_task()->threads_wanted = threads; }
-int omp_get_num_threads(void) { return (int)scopes_team()->size; }
+int omp_get_num_threads(void) {
+    const struct scope *team = scopes_team();
+    note_question(team);
+    return (int)team->size;
+}
 int omp_get_num_procs(void) { return PROCESSORS; }
 int omp_get_thread_limit(void) { return INT_MAX; }
 int omp_in_parallel(void) { return teams.active_levels > 0; }
@@ -60,8 +70,8 @@ int __spbags_thread_num(void) {
         ask_in_team(thread);
     else if (teams.active_levels > 0 && task != TEAM)
         notes_keep(&notes.task_asks, CODE);
-    if (thread->kind == TEAM && !thread->alone)
-        teams_note_asking(thread->size, thread->team_wanted, thread->code);
+    if (thread->kind == TEAM)
+        note_question(thread);
     return thread->thread;
 }
 
@@ -72,10 +82,12 @@ int omp_get_active_level(void) { return scopes_level(true); }
 
 int omp_get_ancestor_thread_num(int of) {
     const struct scope *thread = thread_of_level(of);
+    note_question(scopes_team());
     return thread ? thread->thread : -1;
 }
 int omp_get_team_size(int of) {
     const struct scope *thread = thread_of_level(of);
+    note_question(scopes_team());
     return thread ? (int)thread->size : -1;
 }
 void omp_set_max_active_levels(int most) { teams.most_active_levels = most >= 0 ? most : teams.most_active_levels; }

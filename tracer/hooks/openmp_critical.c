@@ -28,13 +28,3 @@ void GOMP_atomic_start(void) { critical_begin_combining(); }
 void GOMP_atomic_end(void) { critical_end_combining(); }
 
 #pragma GCC visibility pop
-
-/* What gcc calls in an atomic update, in place of an instruction that its sanitizer leaves out. */
-#define COMPARE_AND_STORE(NAME, BITS) \
-    __asm__(".text\n .globl " NAME "\n .hidden " NAME "\n .type " NAME ", @function\n" NAME ":\n .cfi_startproc\n" \
-            "jmp __tsan_atomic" #BITS "_compare_exchange_strong\n .cfi_endproc\n .size " NAME ", .-" NAME);
-COMPARE_AND_STORE("__atomic_compare_exchange_1", 8)
-COMPARE_AND_STORE("__atomic_compare_exchange_2", 16)
-COMPARE_AND_STORE("__atomic_compare_exchange_4", 32)
-COMPARE_AND_STORE("__atomic_compare_exchange_8", 64)
-COMPARE_AND_STORE("__atomic_compare_exchange_16", 128)

@@ -55,6 +55,7 @@ static void join_members(struct team *team, uintptr_t code) {
         look_at_wait(team->frame, code, false);
     children_join_from(scopes.newest, code);
     team->singles = 0;
+    team->masters = 0;
     loops_end_from(team->first_loop);
     for (unsigned number = 0; number < team->size; number++)
         team->members[number].scope.loops_met = team->members[number].scope.singles_met = 0;
@@ -95,6 +96,8 @@ void members_wait(uintptr_t code) {
 void members_run(struct member *member, uintptr_t stack_end) {
     const struct team *team = member->scope.team;
     const struct region *region = &team->region;
+    if (member->scope.thread > 0)
+        member->scope.stack_end = stack_end;
     begin_part(member, team->code);
     frames_push(TASK_PART, stack_end);
     frames_top->code = team->code;
@@ -130,10 +133,34 @@ static void make_member(struct team *team, unsigned number, const struct scope *
                                    .team = team,
                                    .member = member,
                                    .thread = (int)number,
-                                   .stack_end = number == 0 ? around->stack_end : member->stack->end,
+                                   .stack_end = number == 0 ? around->stack_end : member->stack->first,
                                    .threads_wanted = around->threads_wanted,
                                    .period = scope,
                                    .number = scope};
+}
+
+static bool is_in_share(void) {
+    const struct scope *at = scopes.newest;
+    while (at->kind != SHARE && !scopes_is_thread(at))
+        at--;
+    return at->kind == SHARE;
+}
+
+/* Whether a member of the team has a variable of the region there. */
+static bool is_in_region(const struct member *member, uintptr_t address) {
+    return address >= member->stack->first && address < member->scope.stack_end;
+}
+
+/* The compiler's own code before the body, as of copyin, has a barrier behind it. */
+void openmp_note_other(uintptr_t address, uintptr_t code) {
+    const struct scope *thread = scopes_thread();
+    bool in_share = is_in_share();
+    for (unsigned at = 0; at < turns.stacks_used && (in_share || thread->in_body); at++)
+        if (&stacks[at] != stacks_running && own_is_of(&stacks[at].own, address))
+            notes_keep(&notes.others_own, code);
+    for (unsigned number = 0; number < thread->size && in_share && thread->kind == MEMBER; number++)
+        if ((int)number != thread->thread && is_in_region(&thread->team->members[number], address))
+            notes_keep(&notes.others_local, code);
 }
 
 void members_do_region(struct team *team) {

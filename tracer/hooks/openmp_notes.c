@@ -4,7 +4,6 @@
 #include "openmp_loops.h"
 #include "openmp_team.h"
 #include "openmp_waits.h"
-#include "own.h"
 #include "source_line.h"
 
 struct notes notes;
@@ -66,6 +65,18 @@ static void tell_order(void) {
             place_of(notes.last_does));
 }
 
+/* What a thread has of its own is recorded where others access it. */
+static void tell_others(void) {
+    if (notes.others_own != 0)
+        tell_incomplete("%s: this accesses what another thread has of its own, by threadprivate or thread_local. What "
+                        "that thread does there isn't recorded: races with it aren't seen",
+                        place_of(notes.others_own));
+    if (notes.others_local != 0)
+        tell_incomplete("%s: this accesses another thread's variable of the parallel region, in a loop, sections or a "
+                        "single region. What that thread does there counts as private: races with it aren't seen",
+                        place_of(notes.others_local));
+}
+
 static void tell_depend(void) {
     if (notes.depend_wait != 0)
         tell_incomplete("%s: this depends on a task, and waits for all before it by SPBAGS_DEPEND=order: races of what "
@@ -103,22 +114,22 @@ static void tell_left_out(void) {
 
 static void tell_small_team(void) {
     if (notes.small_team_asks)
-        tell_incomplete(
-            "%s: this parallel region has %llu threads, and asks for a thread's number: what only others do "
-            "isn't run. SPBAGS_TEAM says how many there may be",
-            place_of(notes.small_team), (unsigned long long)notes.small_team_has);
+        tell_incomplete("%s: this parallel region has %llu threads, and asks for a thread's number, or how many there "
+                        "are: what only others do isn't run. SPBAGS_TEAM says how many there may be",
+                        place_of(notes.small_team), (unsigned long long)notes.small_team_has);
     else if (notes.small_team != 0)
-        tell_report("%s: this parallel region wants %llu threads, and has %llu: SPBAGS_TEAM says how many there may be",
-                    place_of(notes.small_team), (unsigned long long)notes.small_team_wants,
-                    (unsigned long long)notes.small_team_has);
+        tell_incomplete(
+            "%s: this parallel region wants %llu threads, and has %llu: SPBAGS_TEAM says how many there may be",
+            place_of(notes.small_team), (unsigned long long)notes.small_team_wants,
+            (unsigned long long)notes.small_team_has);
 }
 
 /* What can't be judged, or not well. */
 static void tell_unsure(void) {
     if (notes.simd_loop != 0)
-        tell_report("%s: a loop with simd alone runs serially here: whether its iterations depend on each other isn't "
-                    "checked",
-                    place_of(notes.simd_loop));
+        tell_incomplete("%s: a loop with simd alone runs serially here: whether its iterations depend on each other "
+                        "isn't checked",
+                        place_of(notes.simd_loop));
     if (notes.task_asks != 0)
         tell_seeming("%s: a task or an iteration asks for its thread's number, which is that of the thread that makes "
                      "it, so memory that they choose by that number may look like a race",
@@ -128,12 +139,10 @@ static void tell_unsure(void) {
 void openmp_tell_notes(void) {
     tell_waits();
     tell_order();
+    tell_others();
     tell_depend();
     tell_unfinished();
     tell_left_out();
     tell_small_team();
     tell_unsure();
-    if (own[THREAD].end > own[THREAD].first)
-        tell_report("variables of which each thread has its own, %zu bytes, aren't recorded",
-                    (size_t)(own[THREAD].end - own[THREAD].first));
 }

@@ -38,6 +38,9 @@ extern struct notes {
     uintptr_t after_ordered;
     /* A task that waited for all before it by its `depend`; and one whose `depend` was ignored. */
     uintptr_t depend_wait, depend_ignored;
+    /* An access of what another thread has of its own; and of another one's variable of the region, in a loop, sections
+       or a single region. */
+    uintptr_t others_own, others_local;
     /* A region that OpenMP would cancel. */
     uintptr_t cancelled;
 } notes;

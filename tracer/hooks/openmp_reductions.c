@@ -10,15 +10,15 @@
 
 static const size_t most_copies = (size_t)1 << 36;
 
-void reductions_start(void) { own[COPIES].first = own[COPIES].end = (uintptr_t)memory_reserve(most_copies); }
+void reductions_start(void) { own_copies.first = own_copies.end = (uintptr_t)memory_reserve(most_copies); }
 
 static uintptr_t own_block(size_t alignment, size_t size) {
-    uintptr_t block = (own[COPIES].end + alignment - 1) & ~(alignment - 1);
-    own[COPIES].end = (block + size + 15) & ~(uintptr_t)15;
-    if (own[COPIES].end - own[COPIES].first > most_copies)
+    uintptr_t block = (own_copies.end + alignment - 1) & ~(alignment - 1);
+    own_copies.end = (block + size + 15) & ~(uintptr_t)15;
+    if (own_copies.end - own_copies.first > most_copies)
         fail("out of memory for the copies of reductions");
     if (doing.tracing)
-        own_add(block, own[COPIES].end);
+        own_add((struct own_memory){block, own_copies.end});
     return block;
 }
 

@@ -72,7 +72,7 @@ __attribute__((constructor(102))) static void start_openmp(void) {
     cancel_is_allowed = is_true("OMP_CANCELLATION");
     loops.iterations = settings_number(SETTING_ITERATIONS);
     reductions_start();
-    dl_iterate_phdr(own_find_thread, &own[THREAD]);
+    stacks[0].own = own_find();
     if (doing.tracing)
-        own_add(own[THREAD].first, own[THREAD].end);
+        own_enter(&stacks[0].own);
 }

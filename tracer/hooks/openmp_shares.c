@@ -6,6 +6,8 @@
 #include "openmp_notes.h"
 #include "openmp_parts.h"
 #include "openmp_silence.h"
+#include "own.h"
+#include "stacks.h"
 
 /* How many iterations the thread's block still has, of those that are left. The last thread's has all. */
 static uint64_t left_of_block(const struct scope *thread, uint64_t left) {
@@ -14,12 +16,28 @@ static uint64_t left_of_block(const struct scope *thread, uint64_t left) {
     return number + 1 == thread->size ? left : least(block - least(block, thread->taken), left);
 }
 
+/* Two members do a loop, so that what one reaches of another is seen. Of a region that is nothing but a loop that is only
+   what threads have of their own, and ordered iterations follow one another. */
+static bool is_shared_out(const struct scope *thread) {
+    return thread->kind == MEMBER && !thread->loop->ordered && (!thread->team->region.whole || own_has_variables());
+}
+
+/* Whether a later member of the team may do a part too: one that does no master region. */
+static bool has_later(const struct scope *thread) {
+    const uint64_t all = UINT64_MAX >> (MOST_STACKS - thread->size), now = (uint64_t)2 << thread->thread;
+    return (all & -now & ~thread->team->masters) != 0;
+}
+
 uint64_t shares_left(const struct scope *thread) {
     const struct loop *loop = thread->loop;
     uint64_t left = loop->count - loop->begun;
     if (loop->in_blocks)
         return left_of_block(thread, left);
-    return left > 0 && barriers_leaves_to_others(thread) ? 0 : left;
+    if (left > 0 && barriers_leaves_to_others(thread))
+        return 0;
+    /* The first does most of it: two iterations of another one may race with each other. */
+    uint64_t kept = is_shared_out(thread) && has_later(thread) ? least(loop->count / 2, 2) : 0;
+    return left - least(kept, left);
 }
 
 /* How many iterations the thread has next. gcc asks for each section. */
@@ -59,20 +77,33 @@ static void begin_share(const struct scope *thread, uint64_t first, uintptr_t st
     note_share(loop, first);
 }
 
+static bool may_have_following(const struct scope *thread) {
+    return thread->in_body && !thread->alone && scopes_is_thread(scopes_holder());
+}
+
 static bool has_following(const struct scope *thread) {
     const struct loop *loop = thread->loop;
-    if (!thread->in_body || thread->alone || !scopes_is_thread(scopes_holder()))
+    if (!may_have_following(thread))
         return false;
     return loop->in_blocks ? team_is_last(thread) && !loop->has_late_last : team_is_last(thread) || thread->shares > 0;
 }
 
-void shares_begin_following(const struct scope *thread, uintptr_t stack_pointer, uintptr_t code) {
-    if (has_following(thread)) {
+static void begin_following(bool is_child, uintptr_t stack_pointer, uintptr_t code) {
+    if (is_child) {
         children_open(SHARE, code)->follows_loop = true;
         parts_open(LOOP_PART, stack_pointer, code);
         note_part((struct part){.of = "reduction"});
     }
     silence_from(frames_top);
+}
+
+void shares_begin_following(const struct scope *thread, uintptr_t stack_pointer, uintptr_t code) {
+    begin_following(has_following(thread), stack_pointer, code);
+}
+
+void shares_begin_combining(uintptr_t stack_pointer, uintptr_t code) {
+    const struct scope *thread = scopes_thread();
+    begin_following(may_have_following(thread) && team_is_last(thread), stack_pointer, code);
 }
 
 void shares_end_following(uintptr_t code) {

@@ -1,7 +1,7 @@
 /* Shares of loops. The wrapper gives every loop the schedule `dynamic`, so that gcc asks for each iteration here: then
-   the share before ends, and a new one begins. The first member of a team that comes does all of them, so the others find
-   nothing left, unless each of them has a block of its own. Variables of a thread are private to each share, so all stack
-   memory below its region's loses its numbers between two. */
+   the share before ends, and a new one begins. The first member of a team that comes does all but the last two, which
+   another one does; if the region is nothing but the loop, mostly it does all. Variables of a thread are private to each share, so all stack memory below
+   its region's loses its numbers between two. */
 #ifndef SPBAGS_OPENMP_SHARES_H
 #define SPBAGS_OPENMP_SHARES_H
 
@@ -24,7 +24,10 @@ unsigned shares_next_section(uintptr_t stack_pointer, uintptr_t code);
 void shares_begin_following(const struct scope *thread, uintptr_t stack_pointer, uintptr_t code);
 void shares_end_following(uintptr_t code);
 
-/* The loop ends, with a barrier. */
+/* The same behind a scope, of which each thread has a sum. */
+void shares_begin_combining(uintptr_t stack_pointer, uintptr_t code);
+
+/* The loop or the scope ends, with a barrier. */
 void shares_end_loop(uintptr_t code);
 
 #endif

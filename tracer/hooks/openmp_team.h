@@ -34,9 +34,11 @@ struct team {
     unsigned size;
     /* How many threads the program wants it to have, or 0. */
     uint64_t wanted;
-    /* The loops that have begun in this phase are those from here on; and how many single regions have. */
+    /* The loops that have begun in this phase are those from here on; how many single regions have; and, by their bits, of
+       which members it is known that they do a master region. */
     struct loop *first_loop;
     uint32_t singles;
+    uint64_t masters;
     /* A member has asked for its number. */
     bool asks;
     /* What a single region hands to the other members. */

@@ -1,6 +1,7 @@
 #include "openmp_turns.h"
 
 #include "hidden.h"
+#include "locations.h"
 #include "look.h"
 #include "memory.h"
 #include "openmp_bodies.h"
@@ -12,8 +13,17 @@ struct turns turns = {.stacks_used = 1};
 /* What signals a member lets through. */
 static sigset_t members_mask;
 
+/* What others have recorded there is forgotten. */
+static void enter_own(const struct stack *stack) {
+    for (size_t at = 0; at < OWN_PARTS; at++)
+        locations_clear(stack->own.part[at].first, stack->own.part[at].end - stack->own.part[at].first);
+    own_enter(&stack->own);
+}
+
 static void leave_stack(void) {
     struct stack *stack = stacks_running;
+    if (doing.tracing)
+        own_leave(&stack->own);
     stack->frames = frames_all;
     stack->frames_end = frames_end;
     stack->top = frames_top;
@@ -45,6 +55,8 @@ static void enter_stack(struct stack *stack) {
     hidden_updates = stack->hidden_updates;
     guards_held = stack->guards_held;
     memcpy(guards, stack->guards, guards_held * sizeof *guards);
+    if (doing.tracing)
+        enter_own(stack);
     short_way_find();
 }
 
@@ -71,11 +83,10 @@ void turns_switch_to(struct stack *next) {
 
 /* The first turn of a member's thread. */
 static void prepare_thread(void) {
-    struct own_memory memory;
     sigaltstack(&(stack_t){.ss_sp = stacks_for_signals, .ss_size = sizeof stacks_for_signals}, NULL);
-    dl_iterate_phdr(own_find_thread, &memory);
+    stacks_running->own = own_find();
     if (doing.tracing)
-        own_add(memory.first, memory.end);
+        enter_own(stacks_running);
     watch_begin();
 }
 

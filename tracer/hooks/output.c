@@ -6,35 +6,26 @@
 volatile sig_atomic_t changes, changes_stepping, changes_waiting_signal;
 
 struct output outcome = {.file = -1, .room = LONGEST, .most = UINT64_MAX};
-struct output places = {.file = -1, .room = LONGEST, .most = UINT64_MAX};
 
 /* A closed pipe and a file past its size limit kill by a signal, unless that is blocked: then the write fails. */
 void output_write(struct output *output) {
     int error = errno;
-    bool refused = false;
     sigset_t deadly, before;
     begin_change();
     sigemptyset(&deadly);
     sigaddset(&deadly, SIGPIPE);
     sigaddset(&deadly, SIGXFSZ);
     sigprocmask(SIG_BLOCK, &deadly, &before);
-    while (!refused && output->gone < output->used) {
+    while (output->gone < output->used) {
         ssize_t wrote = write(output->file, output->bytes + output->gone, output->used - output->gone);
         if (wrote > 0)
             output->gone += (size_t)wrote;
         else if (wrote == 0 || errno != EINTR)
-            refused = true;
-        if (refused && !output->is_spare)
             fail_by(wrote < 0 && errno == EPIPE ? "fault closed" : "fault", "cannot write %s: %s", output->name,
                     wrote == 0 ? "no byte was written" : strerror(errno));
     }
     output->written += output->gone;
     output->used = output->gone = 0;
-    if (refused) {
-        output->at_limit();
-        while (sigtimedwait(&deadly, NULL, &(struct timespec){0}) > 0)
-            continue;
-    }
     sigprocmask(SIG_SETMASK, &before, NULL);
     errno = error;
     end_change();
@@ -44,7 +35,7 @@ void output_close(struct output *output) {
     if (output->file < 0)
         return;
     output_write(output);
-    if (output->file >= 0 && close(output->file) != 0 && !output->is_spare)
+    if (close(output->file) != 0)
         fail("cannot write %s: %s", output->name, strerror(errno));
 }
 
@@ -83,18 +74,18 @@ int output_named_file(const char *variable, const char *name) {
     return moved;
 }
 
-void output_open(struct output *output, const char *variable, const char *name) {
-    output->name = name;
-    output->file = output_named_file(variable, name);
+int output_open(const char *name, const char *variable) {
+    int file = output_named_file(variable, name);
     if (strcmp(name, "-") == 0) {
-        output->file = output_move_away(variable, STDOUT_FILENO);
+        file = output_move_away(variable, STDOUT_FILENO);
         dup2(STDERR_FILENO, STDOUT_FILENO);
-    } else if (output->file < 0) {
-        int file = open(name, O_WRONLY | O_CREAT | O_TRUNC | O_CLOEXEC, 0666);
-        if (file < 0)
+    } else if (file < 0) {
+        int opened = open(name, O_WRONLY | O_CREAT | O_TRUNC | O_CLOEXEC, 0666);
+        if (opened < 0)
             fail("cannot open %s: %s", name, strerror(errno));
-        output->file = output_move_away(variable, file);
-        close(file);
+        file = output_move_away(variable, opened);
+        close(opened);
     }
-    enlarge_pipe(output->file);
+    enlarge_pipe(file);
+    return file;
 }

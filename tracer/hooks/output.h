@@ -1,4 +1,4 @@
-/* What goes out of the program: the trace or the report, and places. */
+/* What goes out of the program: the trace or the report. Places have an output of their own. */
 #ifndef SPBAGS_OUTPUT_H
 #define SPBAGS_OUTPUT_H
 
@@ -15,18 +15,17 @@ struct output {
     /* Of the bytes: how many are used, how many of those have gone out, and how many may be used at most. */
     size_t used, gone, room;
     uint64_t written, most;
-    /* What is done at that limit; and whether the same is done where it can't be written, and the run goes on. */
+    /* What is done at that limit. */
     void (*at_limit)(void);
-    bool is_spare;
     char bytes[PIECE];
 };
 
-/* What the run makes; and where each record of it comes from. */
-extern struct output outcome, places;
+/* What the run makes. */
+extern struct output outcome;
 
 /* NAME is a file, fd:N an open descriptor, and - the standard output: what the program prints there goes to its standard
-   error instead. VARIABLE is the setting that says so. */
-void output_open(struct output *output, const char *variable, const char *name);
+   error instead. VARIABLE is the setting that says so. Gives the descriptor. */
+int output_open(const char *name, const char *variable);
 /* Where NAME is fd:N with a descriptor that isn't the program's, this is that descriptor, out of the way; else -1. */
 int output_named_file(const char *variable, const char *name);
 /* Out of the program's way: its own files keep their numbers, and what it starts doesn't get ours. */

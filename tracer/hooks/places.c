@@ -1,8 +1,8 @@
 #include "places.h"
 
-#include "changes.h"
 #include "doing.h"
 #include "memory.h"
+#include "output.h"
 #include "tell.h"
 
 static const uint64_t no_list = (uint64_t)MOST_SITE_LISTS << LIST_SHIFT;
@@ -10,18 +10,9 @@ static uint64_t *sites;
 static uint32_t sites_count;
 uint64_t *places_site_keys;
 uint16_t *places_site_numbers;
-struct course places_course;
-uint64_t places_last_record = UINT64_MAX;
-
-void places_tell_course(void) {
-    char line[100];
-    snprintf(line, sizeof line, "course %" PRIu64 " %" PRIx64, places_course.records, places_course.digest);
-    if (doing.keeping_places && tells_records())
-        tell_text(line, "");
-}
 
 uint16_t places_find_site(uint64_t word) {
-    size_t slot = word * 0x9e3779b97f4a7c15u >> 47;
+    size_t slot = site_slot(word);
     while (places_site_keys[slot] != word + 1 && places_site_keys[slot] != 0)
         slot = (slot + 1) % SITE_SLOTS;
     if (places_site_keys[slot] == 0) {
@@ -36,14 +27,102 @@ uint16_t places_find_site(uint64_t word) {
     return places_site_numbers[slot];
 }
 
-/* ---- The end of the file ---- */
+/* ---- Numbers ---- */
 
-static void add_to_places(const void *bytes, size_t size) {
-    for (size_t at = 0; at < size; at++) {
-        *room(&places) = ((const char *)bytes)[at];
-        places.used++;
+struct places_newest places_newest = {.site = PLACES_REPEAT};
+
+/* Those that wait, and what has gone out. At the limit, or where it can't be written, a descriptor's are given up. */
+static struct {
+    const char *name;
+    int file;
+    bool is_spare;
+    uint64_t written, most;
+    size_t used;
+    uint16_t numbers[1 << 14];
+} out = {.file = -1};
+
+/* So many records, or somewhat more, stand between two marks. */
+enum { MARKED = 1 << 16, MOST_MARKS = 1 << 22 };
+static struct mark { uint64_t records, numbers; } * marks;
+static size_t marks_count;
+
+static void give_up(void);
+
+/* A file that is full kills by a signal, unless that is blocked: then the write fails. */
+static bool write_whole(const void *bytes, size_t size) {
+    const char *at = bytes, *end = at + size;
+    while (at < end) {
+        ssize_t wrote = write(out.file, at, (size_t)(end - at));
+        if (wrote == 0 || (wrote < 0 && errno != EINTR))
+            return false;
+        if (wrote > 0) {
+            at += wrote;
+            out.written += (uint64_t)wrote;
+        }
     }
+    return true;
 }
+
+static void refuse(void) {
+    if (out.is_spare)
+        give_up();
+    else
+        fail("cannot write %s: %s", out.name, strerror(errno));
+}
+
+static void write_numbers(void) {
+    const size_t size = out.used * sizeof *out.numbers;
+    int error = errno;
+    sigset_t deadly, before;
+    sigemptyset(&deadly);
+    sigaddset(&deadly, SIGPIPE);
+    sigaddset(&deadly, SIGXFSZ);
+    pthread_sigmask(SIG_BLOCK, &deadly, &before);
+    out.used = 0;
+    if (out.file >= 0 && (out.written + size > out.most || !write_whole(out.numbers, size)))
+        refuse();
+    while (sigtimedwait(&deadly, NULL, &(struct timespec){0}) > 0)
+        continue;
+    pthread_sigmask(SIG_SETMASK, &before, NULL);
+    errno = error;
+}
+
+static void put_number(uint16_t number) {
+    if (out.used == sizeof out.numbers / sizeof *out.numbers)
+        write_numbers();
+    out.numbers[out.used++] = number;
+}
+
+/* A site that stands there once more has a number again. */
+static void put_more(void) {
+    uint64_t more = places_newest.more;
+    places_newest.records += more;
+    places_newest.more = 0;
+    for (; more > 1; more -= more < UINT16_MAX ? more : UINT16_MAX) {
+        put_number(PLACES_REPEAT);
+        put_number((uint16_t)(more < UINT16_MAX ? more : UINT16_MAX));
+    }
+    if (more == 1)
+        put_number(places_newest.site);
+}
+
+static void add_mark(void) {
+    uint64_t last = marks_count > 0 ? marks[marks_count - 1].records : 0;
+    if (places_newest.records - last >= MARKED && marks_count < MOST_MARKS)
+        marks[marks_count++] = (struct mark){places_newest.records, out.written / sizeof *out.numbers + out.used};
+}
+
+void places_put_other(uint16_t site) {
+    if (out.file < 0)
+        return;
+    put_more();
+    add_mark();
+    put_number(site);
+    places_newest.site = site;
+    places_newest.records++;
+}
+
+/* ---- The end of the file ---- */
 
 /* A line for each list that a site names, from the first on; how many bytes. */
 static uint64_t put_lists(void) {
@@ -52,58 +131,74 @@ static uint64_t put_lists(void) {
         const struct guard *guard = guards_listed + guards_lists[list].first, *end = guard + guards_lists[list].length;
         for (; guard < end; guard++) {
             char text[1000];
-            snprintf(text, sizeof text, "%lx %s%c", guard->id, guard->name, guard + 1 < end ? '\t' : '\n');
-            add_to_places(text, strlen(text));
-            bytes += strlen(text);
+            int length = snprintf(text, sizeof text, "%lx %s%c", guard->id, guard->name, guard + 1 < end ? '\t' : '\n');
+            bytes += (uint64_t)length;
+            write_whole(text, (size_t)length);
         }
     }
     return bytes;
 }
 
 /* spbags-run has the lines of the report by their records. For who reads a trace that is kept they stand here. */
-void places_end(void) {
+static bool put_end(void) {
     static const char mark[8] = "spbplace";
-    if (places.file < 0)
+    uint64_t lines = tells_records() && out.is_spare ? 0 : tell_kept_length,
+             numbers = out.written / sizeof *out.numbers;
+    bool is_written =
+        write_whole(marks, marks_count * sizeof *marks) && write_whole(sites, sites_count * sizeof *sites);
+    uint64_t bytes = put_lists(), counts[] = {places_newest.records, numbers, marks_count, sites_count, bytes, lines};
+    return is_written && write_whole(tell_kept, lines) && write_whole(counts, sizeof counts) &&
+           write_whole(mark, sizeof mark);
+}
+
+static void close_file(void) {
+    close(out.file);
+    out.file = -1;
+}
+
+void places_end(void) {
+    if (out.file < 0)
         return;
-    uint64_t count = (places.written + places.used) / sizeof(uint16_t);
-    uint64_t lines = tells_records() && places.is_spare ? 0 : tell_kept_length;
-    add_to_places(sites, sites_count * sizeof *sites);
-    uint64_t bytes = put_lists(), counts[] = {count, sites_count, bytes, lines};
-    add_to_places(tell_kept, lines);
-    add_to_places(counts, sizeof counts);
-    add_to_places(mark, sizeof mark);
+    put_more();
+    write_numbers();
+    if (out.file >= 0 && !put_end())
+        refuse();
+    if (out.file >= 0)
+        close_file();
 }
 
 /* There is no room for more places. The last of those that are there make room for the end, and the run goes on. */
-static void give_up_places(void) {
+static void give_up(void) {
     static bool is_given_up;
-    uint64_t needed = sites_count * sizeof *sites + 100 * (uint64_t)guards_listed_count + tell_kept_length + PIECE;
-    uint64_t kept = places.written > needed ? (places.written - needed) / 2 * 2 : 0;
-    begin_change();
-    places.used = places.gone = 0;
-    places.most = UINT64_MAX;
-    if (!is_given_up && ftruncate(places.file, (off_t)kept) == 0 && lseek(places.file, (off_t)kept, SEEK_SET) >= 0) {
+    uint64_t needed = sites_count * sizeof *sites + marks_count * sizeof *marks + 100 * (uint64_t)guards_listed_count +
+                      tell_kept_length + PIECE;
+    uint64_t kept = out.written > needed ? (out.written - needed) / sizeof *out.numbers : 0;
+    while (marks_count > 0 && marks[marks_count - 1].numbers > kept)
+        marks_count--;
+    struct mark last = marks_count > 0 ? marks[marks_count - 1] : (struct mark){0};
+    off_t size = (off_t)(last.numbers * sizeof *out.numbers);
+    if (!is_given_up && ftruncate(out.file, size) == 0 && lseek(out.file, size, SEEK_SET) >= 0) {
         is_given_up = true;
-        places.written = kept;
-        places_end();
-        output_write(&places);
-        tell("there is no room for places after the first %llu", (unsigned long long)kept / 2);
+        out.written = (uint64_t)size;
+        places_newest.records = last.records;
+        put_end();
+        tell("there is no room for places after the first %llu", (unsigned long long)last.records);
     }
-    close(places.file);
-    places.file = -1;
-    end_change();
+    close_file();
 }
 
 void places_open(const char *name) {
     struct statvfs space;
-    output_open(&places, "SPBAGS_PLACES", name);
+    out.name = name;
+    out.file = output_open(name, "SPBAGS_PLACES");
+    out.most = UINT64_MAX;
     sites = memory_reserve(MOST_SITES * sizeof *sites);
+    marks = memory_reserve(MOST_MARKS * sizeof *marks);
     places_site_keys = memory_reserve(SITE_SLOTS * sizeof *places_site_keys);
     places_site_numbers = memory_reserve(SITE_SLOTS * sizeof *places_site_numbers);
     guards_begin();
     doing.keeping_places = true;
-    places.at_limit = give_up_places;
-    places.is_spare = strncmp(name, "fd:", 3) == 0;
-    if (places.is_spare && fstatvfs(places.file, &space) == 0)
-        places.most = space.f_bavail * space.f_frsize / 4;
+    out.is_spare = strncmp(name, "fd:", 3) == 0;
+    if (out.is_spare && fstatvfs(out.file, &space) == 0)
+        out.most = space.f_bavail * space.f_frsize / 4;
 }

@@ -3,13 +3,15 @@
 
 #include "common.h"
 #include "guards.h"
-#include "output.h"
 
 /* The file of places says of each record where it comes from. A site is a code address, with what is held there and
-   whether the access there doesn't fill its unit; a run has few. The file has the number of its site for each record, 2
-   bytes, and behind all of them the sites, the lists of guards, the lines of the report if nobody else has them, and how
-   many those are. */
-enum { MOST_SITES = 65535, NO_SITE = 65535, SITE_SLOTS = 1 << 17 };
+   whether the access there doesn't fill its unit; a run has few. Most records of a block have one. So the file has numbers
+   of 2 bytes: that of the next record's site; or PLACES_REPEAT and how many more records have the same site. Behind them
+   stand, for those who look for one record, how many records and how many numbers came before some of the numbers; then
+   the sites, the lists of guards, the lines of the report if nobody else has them, and how many those are.
+
+   The thread of the detector writes them where it goes through the records, and else the program's. */
+enum { PLACES_REPEAT = 65534, NO_SITE = 65535, MOST_SITES = PLACES_REPEAT, SITE_SLOTS = 1 << 17 };
 /* So many are for code that holds nothing. */
 enum { FREE_SITES = 1 << 14 };
 /* The parts of a site's word: the code address, then the list of guards, then the mark of a narrow access. Of the lists
@@ -18,23 +20,6 @@ enum { LIST_SHIFT = 48, NARROW_SHIFT = 63, MOST_SITE_LISTS = 0x7fff };
 /* By a hash: a site's word and one, and its number. */
 extern uint64_t *places_site_keys;
 extern uint16_t *places_site_numbers;
-
-/* The course of a run: how many records it has had, and a digest of them. A run whose course is the same did the same,
-   as far as that can be told. */
-struct course {
-    uint64_t records, digest;
-};
-extern struct course places_course;
-/* The run ends behind so many records; one that looks, at the last place that it looks at, if that comes before. */
-extern uint64_t places_last_record;
-
-void places_tell_course(void);
-
-static inline void follow_course(uint64_t record, uint64_t site) {
-    uint64_t mixed = places_course.digest ^ record ^ (site << 24 | site >> 40);
-    places_course.digest = (mixed << 29 | mixed >> 35) * 0x9e3779b97f4a7c15u;
-    places_course.records++;
-}
 
 static inline uint64_t site_word(bool is_narrow, uintptr_t code) {
     uint64_t list = guards_now();
@@ -45,16 +30,29 @@ static inline uint64_t site_word(bool is_narrow, uintptr_t code) {
 
 uint16_t places_find_site(uint64_t word);
 
+static inline size_t site_slot(uint64_t word) { return word * 0x9e3779b97f4a7c15u >> 47; }
+
 static inline uint16_t site_number(uint64_t word) {
-    size_t slot = word * 0x9e3779b97f4a7c15u >> 47;
+    size_t slot = site_slot(word);
     return __builtin_expect(places_site_keys[slot] == word + 1, 1) ? places_site_numbers[slot] : places_find_site(word);
 }
 
-static inline void write_place(uint16_t site) {
-    if (places.file < 0)
-        return;
-    __builtin_memcpy(room(&places), &site, sizeof site);
-    places.used += sizeof site;
+/* The newest site, how many more records have it whose number isn't there yet, and how many records there were before
+   these. */
+extern struct places_newest {
+    uint16_t site;
+    uint64_t more, records;
+} places_newest;
+
+void places_put_other(uint16_t site);
+
+/* So many more records, at least one, have this site. */
+static inline void places_put(uint16_t site, uint64_t count) {
+    if (__builtin_expect(site != places_newest.site, 0)) {
+        places_put_other(site);
+        count--;
+    }
+    places_newest.more += count;
 }
 
 /* Places go to the output of this name. Those of a descriptor have a limit. */

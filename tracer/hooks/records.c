@@ -108,27 +108,49 @@ static inline void write_access(bool writes, uint64_t location) {
     end_line(put_access_line(room(&outcome), writes, location));
 }
 
+/* The place of this record is looked at, or not. */
+static inline void pass_place(uint64_t record) {
+    const unsigned kind = record & 7;
+    if (kind == numbers_end || ++look_place_now != look_next_place)
+        return;
+    if (kind == SPBAGS_READ || kind == SPBAGS_WRITE)
+        look_at_access(kind == SPBAGS_WRITE, record >> 3);
+    else
+        look_at_structure();
+}
+
 /* Whether records are lines of a trace. */
 static inline bool writes_lines(void) { return !detects() && !doing.looking; }
 
 /* The record's place goes out when its line is there, so that there are as many of both whatever ends the run. */
 static inline void put_access(bool writes, uint64_t location, uint16_t site) {
-    if (doing.looking && ++look_place_now == look_next_place)
-        look_at_access(writes, location);
+    if (doing.looking)
+        pass_place(location << 3 | (writes ? SPBAGS_WRITE : SPBAGS_READ));
     const size_t length = writes_lines() ? put_access_line(room(&outcome), writes, location) : 0;
     if (doing.keeping_places)
-        write_place(site);
+        places_put(site, 1);
     end_line(length);
 }
 
-/* ---- In a plain run that writes a trace ---- */
+/* ---- In a plain run that writes a trace or looks ---- */
 
 /* The next one that goes out. Where the run ends meanwhile, as without room on the stack, the rest goes out then. */
 static const uint64_t *volatile next_out = at_hand;
 
+static void write_record(uint64_t record) {
+    if (doing.looking) {
+        pass_place(record);
+        return;
+    }
+    const size_t length = put_line(room(&outcome), record & without_site);
+    if (doing.keeping_places && (record & 7) != numbers_end)
+        places_put((uint16_t)(record >> SITE_SHIFT), 1);
+    end_line(length);
+}
+
 uint64_t *records_write_out(const uint64_t *end) {
     for (const uint64_t *at = next_out; at < end; next_out = ++at)
-        end_line(put_line(room(&outcome), *at));
+        write_record(*at);
     next_out = at_hand;
     return at_hand;
 }
@@ -225,16 +247,30 @@ static struct {
     uint64_t units[2];
 } going_out;
 
+static struct block_sites *sites_going_out(bool writes) {
+    return &strands_part.sites[going_out.block - strands_part.list][writes];
+}
+
+static void forget_sites(const struct touched *touched) {
+    struct block_sites *sites = strands_part.sites[touched - strands_part.list];
+    if (doing.keeping_places)
+        sites[false].only = sites[true].only = NO_SITES;
+}
+
+static inline uint16_t site_of_unit(const struct block_sites *sites, unsigned unit) {
+    return sites->only == SEVERAL_SITES ? sites->of[unit] : sites->number;
+}
+
 static void put_accesses(bool writes) {
     const struct touched *touched = going_out.block;
-    const uint16_t *sites = strands_part.sites[touched - strands_part.list][writes];
+    const struct block_sites *sites = sites_going_out(writes);
     for (uint64_t units = going_out.units[writes]; units != 0; going_out.units[writes] = units &= units - 1) {
         unsigned unit = (unsigned)__builtin_ctzll(units);
         uint64_t location = touched->location + 2 * unit;
-        if (__builtin_expect(doing.plain, 1))
+        if (doing.plain && !doing.looking && !doing.keeping_places)
             write_access(writes, location);
         else
-            put_access(writes, location, sites[unit]);
+            put_access(writes, location, site_of_unit(sites, unit));
     }
 }
 
@@ -247,19 +283,56 @@ static void step_words(unsigned kind, uint64_t location, const uint64_t *words, 
         end_step();
 }
 
+/* For the detector's thread: how many records one after another have one site. */
+static uint64_t *put_sites(uint64_t *at, bool writes) {
+    const struct block_sites *sites = sites_going_out(writes);
+    uint64_t units = going_out.units[writes];
+    if (units != 0 && sites->only != SEVERAL_SITES) {
+        *at++ = (uint64_t)count_units(units) << 16 | sites->number;
+        return at;
+    }
+    for (uint64_t last = NO_SITE + 1; units != 0; units &= units - 1) {
+        uint64_t site = sites->of[__builtin_ctzll(units)];
+        if (site != last)
+            *at++ = site;
+        last = site;
+        at[-1] += 1 << 16;
+    }
+    return at;
+}
+
+static void step_block(void) {
+    uint64_t words[3 + 2 * BLOCK_UNITS] = {going_out.units[false], going_out.units[true]}, *end = words + 2;
+    if (doing.plain && doing.keeping_places) {
+        end = put_sites(put_sites(end + 1, false), true);
+        words[2] = (uint64_t)(end - words) - 3;
+    }
+    step_words(block_follows, going_out.block->location, words, (size_t)(end - words));
+}
+
+/* Whether none of the block's places is looked at; then they have passed. */
+static bool passes_by(void) {
+    unsigned count = count_units(going_out.units[false]) + count_units(going_out.units[true]);
+    if (!doing.looking || look_next_place - look_place_now <= count)
+        return false;
+    look_place_now += count;
+    return true;
+}
+
 static void put_rest_of_block(void) {
     if (going_out.waits_for_detector)
-        step_words(block_follows, going_out.block->location, going_out.units, 2);
+        step_block();
     going_out.waits_for_detector = false;
-    if (!only_detects()) {
+    if (!only_detects() && !passes_by()) {
         put_accesses(false);
         put_accesses(true);
     }
+    forget_sites(going_out.block);
     going_out.block = NULL;
 }
 
 void records_put_rest(void) {
-    if (doing.plain && !detects())
+    if (doing.plain && !detects() && steps_window > at_hand)
         steps_pass_on();
 }
 
@@ -267,8 +340,12 @@ static void put_block(const struct touched *touched) {
     if (!touched->block)
         return;
     take_units(touched, going_out.units);
-    if ((going_out.units[false] | going_out.units[true]) == 0)
+    if (doing.plain)
+        course_units(touched->location, going_out.units[false], going_out.units[true]);
+    if ((going_out.units[false] | going_out.units[true]) == 0) {
+        forget_sites(touched);
         return;
+    }
     going_out.waits_for_detector = detects();
     going_out.block = touched;
     put_rest_of_block();
@@ -277,6 +354,7 @@ static void put_block(const struct touched *touched) {
 static void put_blocks(void) {
     static size_t at;
     short_way_leave();
+    leave_quick_sites();
     if (going_out.block)
         put_rest_of_block();
     for (; at < strands_part.used; at++) {
@@ -296,6 +374,7 @@ void records_put_strand(void) {
         look_forget_pending();
     if (strands_part.used > 0)
         put_blocks();
+    course_part();
     strands_part.before++;
 }
 
@@ -333,9 +412,14 @@ static void end_span_blocks(size_t span) {
 
 /* If nothing was used after its death, nobody else has accessed these. */
 static void end_dead_blocks(struct life_end end) {
-    struct touched first = blocks_dead(end.span, 0);
-    if (!end.is_dead_used)
-        memset(first.done, 0, (size_t)end.dead * BLOCK_UNITS);
+    struct touched first = blocks_dead(end.span, 0), at = first;
+    for (; !end.is_dead_used && at.block < first.block + end.dead; at.block++) {
+        if (doing.plain)
+            strands_follow(&at, UINT64_MAX);
+        memset(at.done, 0, BLOCK_UNITS);
+        at.done += BLOCK_UNITS;
+        at.location += 2 * BLOCK_UNITS;
+    }
     end_blocks(first, end.dead);
 }
 
@@ -344,6 +428,7 @@ void records_end_life(struct life_end end) {
     end_records();
     records_put_rest();
     short_way_leave();
+    leave_quick_sites();
     end_span_blocks(end.span);
     end_dead_blocks(end);
     short_way_find();
@@ -356,48 +441,36 @@ void records_end_life(struct life_end end) {
 void records_structure(enum spbags_kind kind, uintptr_t code) {
     records_put_strand();
     news++;
-    if (doing.keeping_places || doing.looking)
-        follow_course(kind, code);
-    if (doing.looking && ++look_place_now == look_next_place)
-        look_at_structure();
+    course_structure(kind, code);
+    if (doing.looking)
+        pass_place(kind);
     const size_t length = writes_lines() ? put_structure_line(room(&outcome), kind) : 0;
     if (doing.keeping_places)
-        write_place(site_number(code));
+        places_put(site_number(code), 1);
     procedures_count += procedures_opened_by(kind);
     end_line(length);
     step_record(spbags_record(kind, 0));
 }
 
-static inline uint64_t site_of_access(uintptr_t unit, uintptr_t code) {
-    return site_word(bytes_left_out(unit) != 0, code);
-}
-
-/* The location is the unit's. */
-static inline void follow_access(bool writes, uint64_t location, uintptr_t unit, uint64_t site) {
-    enum { BYTES_SHIFT = 56 };
-    follow_course((uint64_t)bytes_left_out(unit) << BYTES_SHIFT | location << 3 | (writes ? SPBAGS_WRITE : SPBAGS_READ),
-                  site);
-}
-
 /* The access is new in its block, which has its place. */
-static void keep_access(bool writes, const struct touched *in, unsigned unit, uint16_t site) {
+static void keep_access(bool writes, const struct touched *in, unsigned unit, uint64_t site) {
     if (doing.keeping_places)
-        strands_part.sites[in->block->place - 1][writes][unit] = site;
+        note_sites(writes, in, (uint64_t)1 << unit, site);
     in->done[unit] |= writes ? WROTE_IT : READ_IT;
 }
 
 /* The access of a unit, or of a byte; its block, or null for one that goes out at once. */
 static inline void begin_access(bool writes, const struct touched *in, uint64_t location, uintptr_t address,
                                 uintptr_t code, uint64_t site) {
-    const uint16_t number = doing.keeping_places ? site_number(site) : NO_SITE;
     if (in)
         list_block(in);
     if (doing.looking)
         look_note_pending(writes, location, address, code);
     if (in)
-        keep_access(writes, in, (location - in->location) / 2, number);
+        keep_access(writes, in, (location - in->location) / 2, site);
     else
-        keep_recent(spbags_record(writes ? SPBAGS_WRITE : SPBAGS_READ, location), number);
+        keep_recent(spbags_record(writes ? SPBAGS_WRITE : SPBAGS_READ, location),
+                    doing.keeping_places ? site_number(site) : NO_SITE);
 }
 
 void records_access(bool writes, const struct touched *in, uint64_t location, uintptr_t address, uintptr_t code) {
@@ -405,8 +478,7 @@ void records_access(bool writes, const struct touched *in, uint64_t location, ui
     news += in != NULL;
     if (!__builtin_expect(divided_any, 0) || !divided_access(writes, in, location, address, code)) {
         uint64_t site = doing.keeping_places ? site_of_access(address, code) : 0;
-        if (doing.keeping_places || doing.looking)
-            follow_access(writes, location, address, site);
+        course_unit(writes, location);
         begin_access(writes, in, location, address, code, site);
     }
     if (doing.writing_repeats) {
@@ -419,11 +491,6 @@ void records_access(bool writes, const struct touched *in, uint64_t location, ui
 
 void records_begin_byte(bool writes, uint64_t location, uintptr_t address, uintptr_t code) {
     begin_access(writes, NULL, location, address, code, site_word(true, code));
-}
-
-void records_follow_unit(bool writes, uint64_t location, uintptr_t unit, uintptr_t code) {
-    if (doing.keeping_places || doing.looking)
-        follow_access(writes, location, unit, site_of_access(unit, code));
 }
 
 /* ---- What others ask ---- */

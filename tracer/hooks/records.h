@@ -4,14 +4,16 @@
 #define SPBAGS_RECORDS_H
 
 #include "closing.h"
+#include "course.h"
 #include "detector.h"
+#include "look.h"
 #include "places.h"
 #include "strands.h"
 #include "tell.h"
 
 /* The run may end behind the newest record, by closing.h. */
 static inline void end_at_last(void) {
-    if (__builtin_expect(places_course.records >= places_last_record, 0))
+    if (__builtin_expect(course.records >= course_last_record, 0))
         closing_end_run();
 }
 
@@ -61,7 +63,7 @@ void records_end_numbers(uint64_t location);
 /* A strand ends, or a part of it. Where the run ends meanwhile, as a signal handler may end it, the rest goes out
    then. */
 void records_put_strand(void);
-/* In a plain run what can't be left out any more goes into the trace. */
+/* In a plain run what can't be left out any more goes into the trace, or is looked at. */
 void records_put_rest(void);
 /* What hasn't gone out never does, and what is open is so in what has. */
 void records_drop(void);
@@ -83,23 +85,45 @@ void records_end_life(struct life_end end);
 void records_structure(enum spbags_kind kind, uintptr_t code);
 void records_access(bool writes, const struct touched *in, uint64_t location, uintptr_t address, uintptr_t code);
 
-static inline void step_access(bool writes, uint64_t location) {
+static inline uint64_t site_of_access(uintptr_t unit, uintptr_t code) {
+    return site_word(bytes_left_out(unit) != 0, code);
+}
+
+static inline void step_access(bool writes, uint64_t location, uintptr_t address, uintptr_t code) {
     begin_records();
-    step(writes ? SPBAGS_WRITE : SPBAGS_READ, location);
+    if (__builtin_expect(doing.looking, 0))
+        look_note_pending(writes, location, address, code);
+    course_stack(writes, location);
+    step_at(writes ? SPBAGS_WRITE : SPBAGS_READ, location,
+            __builtin_expect(doing.keeping_places, 0) ? site_number(site_of_access(address, code)) : 0);
     finish_records();
 }
 
-/* These units of a block have been accessed, in a plain run. */
-static inline void note_in_block(bool writes, const struct touched *in, uint64_t units) {
+/* These units of a block have been accessed, in a plain run. None of them is accessed in part if places are kept. */
+static inline void note_in_block(bool writes, const struct touched *in, uint64_t units, uintptr_t code) {
     begin_records();
     list_block(in);
+    if (__builtin_expect(doing.keeping_places, 0))
+        note_sites(writes, in, units, site_word(false, code));
     set_done(in->done, units, writes ? WROTE_IT : READ_IT);
+    finish_records();
+}
+
+static inline void note_one_in_block(bool writes, const struct touched *in, unsigned unit, uintptr_t address,
+                                     uintptr_t code) {
+    begin_records();
+    list_block(in);
+    if (__builtin_expect(doing.looking, 0))
+        look_note_pending(writes, in->location + 2 * unit, address, code);
+    if (__builtin_expect(doing.keeping_places, 0))
+        note_sites(writes, in, (uint64_t)1 << unit, site_of_access(address, code));
+    set_bit(&in->done[unit], writes ? WROTE_IT : READ_IT);
     finish_records();
 }
 
 static inline void access_record(bool writes, uint64_t location, uintptr_t address, uintptr_t code) {
     if (__builtin_expect(doing.plain, 1))
-        step_access(writes, location);
+        step_access(writes, location, address, code);
     else
         records_access(writes, NULL, location, address, code);
 }
@@ -108,7 +132,7 @@ static inline void access_record(bool writes, uint64_t location, uintptr_t addre
 static inline void block_record(bool writes, const struct touched *in, unsigned unit, uintptr_t address,
                                 uintptr_t code) {
     if (__builtin_expect(doing.plain, 1))
-        note_in_block(writes, in, (uint64_t)1 << unit);
+        note_one_in_block(writes, in, unit, address, code);
     else
         records_access(writes, in, in->location + 2 * unit, address, code);
 }
@@ -117,9 +141,6 @@ static inline void block_record(bool writes, const struct touched *in, unsigned 
 
 /* The access of a byte, which goes out at once. */
 void records_begin_byte(bool writes, uint64_t location, uintptr_t address, uintptr_t code);
-/* The course of the run is that of the units. */
-void records_follow_unit(bool writes, uint64_t location, uintptr_t unit, uintptr_t code);
-
 /* ---- The beginning of a run, and what has come ---- */
 
 void records_begin(void);

@@ -160,12 +160,10 @@ void __spbags_reducers(const volatile void *at, unsigned long size, unsigned lon
     begin_views((uintptr_t)at, each, each > 0 ? size / each : 0, note, STACK_POINTER, CODE);
 }
 
-const char __spbags_no_reducer[] = "";
-
 /* One that never began, as a global one, begins now. */
 static void *update(uintptr_t at, size_t size, const char *note, uintptr_t stack_pointer, uintptr_t code) {
     enum { FIRST_BYTES = 8 };
-    if (records_views() && size > 0 && note != __spbags_no_reducer) {
+    if (records_views() && size > 0) {
         leave_jumped(stack_pointer, code);
         known_view(at, size, note);
         locations_touch(false, at, size < FIRST_BYTES ? size : FIRST_BYTES, code);
@@ -174,7 +172,7 @@ static void *update(uintptr_t at, size_t size, const char *note, uintptr_t stack
 }
 
 static void *value(uintptr_t at, size_t size, const char *note, uintptr_t stack_pointer, uintptr_t code) {
-    if (records_views() && size > 0 && note != __spbags_no_reducer) {
+    if (records_views() && size > 0) {
         leave_jumped(stack_pointer, code);
         write_view(known_view(at, size, note), code);
     }
@@ -187,20 +185,6 @@ void *__spbags_update(const volatile void *at, unsigned long size, const char *n
 
 void *__spbags_value(const volatile void *at, unsigned long size, const char *note) {
     return value((uintptr_t)at, size, note, STACK_POINTER, CODE);
-}
-
-static bool is_in(const volatile void *at, const void *first, size_t size) {
-    return (uintptr_t)at - (uintptr_t)first < size;
-}
-
-void *__spbags_update_of(const volatile void *at, unsigned long size, const char *note, const void *first,
-                         unsigned long whole) {
-    return is_in(at, first, whole) ? update((uintptr_t)at, size, note, STACK_POINTER, CODE) : (void *)at;
-}
-
-void *__spbags_value_of(const volatile void *at, unsigned long size, const char *note, const void *first,
-                        unsigned long whole) {
-    return is_in(at, first, whole) ? value((uintptr_t)at, size, note, STACK_POINTER, CODE) : (void *)at;
 }
 
 static void end_view(struct view *view, uintptr_t code) {

@@ -1,5 +1,6 @@
 /* How a run begins. */
 #include "closing.h"
+#include "course.h"
 #include "detector.h"
 #include "divided.h"
 #include "ends.h"
@@ -9,6 +10,7 @@
 #include "look.h"
 #include "openmp.h"
 #include "output.h"
+#include "own.h"
 #include "places.h"
 #include "settings.h"
 #include "streams.h"
@@ -28,7 +30,8 @@ static void open_outputs(const char *name) {
     static char beside[4096];
     const char *places_name = settings_given(SETTING_PLACES);
     struct stat about;
-    output_open(&outcome, "SPBAGS_TRACE", name);
+    outcome.name = name;
+    outcome.file = output_open(name, "SPBAGS_TRACE");
     bool is_file = fstat(outcome.file, &about) == 0 && S_ISREG(about.st_mode);
     set_limit(is_file);
     if (!places_name && is_file && strcmp(name, "-") != 0 && strncmp(name, "fd:", 3) != 0) {
@@ -48,7 +51,7 @@ static void open_ways(void) {
         tell_file = output_named_file("SPBAGS_SAYS", said);
         pthread_atfork(ends_refuse_fork, NULL, NULL);
     }
-    places_last_record = settings_number_or(SETTING_LAST, UINT64_MAX);
+    course_last_record = settings_number_or(SETTING_LAST, UINT64_MAX);
     if (units)
         divided_begin(output_named_file("SPBAGS_DIVIDE", units));
     if (report)
@@ -141,10 +144,12 @@ __attribute__((constructor(101))) static void start(void) {
     settings_forget(SETTING_PLACES);
     spans_need();
     find_stack();
+    own_begin();
     ends_begin();
     if (name && !doing.looking)
         put_header();
-    doing.plain = !doing.looking && !doing.keeping_places && !divided_any && !doing.writing_repeats;
+    doing.plain = !divided_any && !doing.writing_repeats && course_last_record == UINT64_MAX;
+    doing.plainest = doing.plain && !doing.looking && !doing.keeping_places;
     locations_follow_views();
     doing.tracing = true;
     short_way_find();

@@ -29,6 +29,12 @@ void __spbags_passed(const volatile void *at, unsigned long size, const void *co
     note_access(false, (uintptr_t)at, size, NULL, STACK_POINTER, (uintptr_t)code);
 }
 
+/* The copy of an argument in memory for a call. */
+void __spbags_argument(const volatile void *at, unsigned long size) {
+    if (!spawns_passed((uintptr_t)at, size))
+        NOTE(false, at, size);
+}
+
 /* A statement that spawns is a function of its own in C++, and becomes a child once it has evaluated the arguments. It
    has no children itself. */
 void __spbags_detach(const void *code) {

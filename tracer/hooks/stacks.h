@@ -5,6 +5,7 @@
 
 #include "common.h"
 #include "guards.h"
+#include "own.h"
 
 enum { MOST_STACKS = 64 };
 /* Between two stacks is so much that belongs to none. */
@@ -24,6 +25,8 @@ struct stack {
     unsigned initialising, hidden_updates;
     struct guard guards[MOST_GUARDS];
     unsigned guards_held;
+    /* What its thread has of its own. */
+    struct own_of_thread own;
     /* Of a member's: its thread waits here for its turn, and then does this. */
     sem_t turn;
     struct member *member;

@@ -54,7 +54,7 @@ void steps_leave_out(uintptr_t before) {
     if (to < steps_window || to > steps_next)
         to = steps_window;
     for (const uint64_t *from = to; from < steps_next; from++) {
-        uint64_t record = *from, kind = record & 7, number = record >> 4;
+        uint64_t record = *from, kind = record & 7, number = (record & without_site) >> 4;
         bool is_of_stack = (kind == SPBAGS_READ || kind == SPBAGS_WRITE) && (record >> 3) % 2 == 1;
         *to = record;
         to += !(is_of_stack && is_dying(number));

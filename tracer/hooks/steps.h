@@ -40,11 +40,17 @@ void steps_end_window(void);
 /* What stands before the window goes on. */
 void steps_pass_on(void);
 
-static inline void step(unsigned kind, uint64_t location) {
-    *steps_next++ = spbags_record(kind, location);
+/* In a run that keeps places the number of its site is in a record's first bits. */
+enum { SITE_SHIFT = 48 };
+static const uint64_t without_site = ((uint64_t)1 << SITE_SHIFT) - 1;
+
+static inline void step_at(unsigned kind, uint64_t location, uint64_t site) {
+    *steps_next++ = spbags_record(kind, location) | site << SITE_SHIFT;
     if (__builtin_expect(steps_next == steps_window_end, 0))
         steps_end_window();
 }
+
+static inline void step(unsigned kind, uint64_t location) { step_at(kind, location, 0); }
 
 /* How many records went before, but for those that are left out. */
 static inline uintptr_t steps_so_far(void) { return (uintptr_t)steps_next - steps_origin; }

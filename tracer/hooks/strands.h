@@ -9,6 +9,8 @@
 
 #include "../include/spbags_inside.h"
 #include "blocks.h"
+#include "course.h"
+#include "doing.h"
 #include "own.h"
 
 #ifndef MOST_BLOCKS
@@ -28,15 +30,24 @@ static inline bool is_gathered(uint64_t location) { return location % 2 == 0 && 
 /* So many blocks before one goes out, it is looked for. */
 enum { AHEAD = 8 };
 
-/* The part at hand: how many went before, its blocks, without one where that has gone out alone, and the number of the
-   site of each of their accesses where that is kept: the reads', and then the writes'. */
+/* The sites of a block's reads, or of its writes: none, the word and the number of the only one, or of each unit the
+   number. */
+enum { NO_SITES = 0, SEVERAL_SITES = 1 };
+struct block_sites {
+    uint64_t only;
+    uint16_t number;
+    uint16_t of[BLOCK_UNITS];
+};
+
+/* The part at hand: how many went before, its blocks, without one where that has gone out alone, and the sites of their
+   accesses where these are kept. */
 extern struct part_of_strand {
     uint64_t before;
     size_t used;
     /* Whether something was left out. */
     bool has_gaps;
     struct touched list[MOST_BLOCKS + AHEAD];
-    uint16_t sites[MOST_BLOCKS][2][BLOCK_UNITS];
+    struct block_sites sites[MOST_BLOCKS][2];
 } strands_part;
 
 static inline uint64_t part_now(void) { return strands_part.before + 1; }
@@ -58,6 +69,38 @@ static inline void list_block(const struct touched *touched) {
     place_block(touched);
 }
 
+/* Those of some blocks, by the bytes of the blocks and the kind of the accesses, while nothing else is to be done at an
+   access of theirs. */
+enum { QUICK_SITES = 16 };
+extern struct quick_sites {
+    uintptr_t key;
+    struct block_sites *sites;
+} strands_quick_sites[QUICK_SITES];
+
+static inline uintptr_t key_of_sites(bool writes, const uint8_t *done) {
+    return ((uintptr_t)done & ~(uintptr_t)(BLOCK_UNITS - 1)) | writes;
+}
+
+static inline struct quick_sites *quick_sites_of(bool writes, const uint8_t *done) {
+    return &strands_quick_sites[((uintptr_t)done / BLOCK_UNITS * 2 + writes) % QUICK_SITES];
+}
+
+static inline void leave_quick_sites(void) {
+    if (doing.keeping_places)
+        memset(strands_quick_sites, 0, sizeof strands_quick_sites);
+}
+
+/* Where that isn't the only one. */
+void strands_note_others(bool writes, const struct touched *in, uint64_t units, uint64_t word);
+
+/* The site of these units, which are new in a block that has its place. */
+static inline void note_sites(bool writes, const struct touched *in, uint64_t units, uint64_t word) {
+    if (strands_part.sites[in->block->place - 1][writes].only != word)
+        strands_note_others(writes, in, units, word);
+}
+
+/* What a plain run has done with these units, which doesn't go out, is of its course. */
+void strands_follow(const struct touched *touched, uint64_t units);
 /* This memory of a heap block dies in the strand of its birth: its accesses are left out, as far as they haven't gone
    out. */
 void strands_set_dead(uintptr_t address, uintptr_t end);

@@ -77,12 +77,6 @@ void fail_by(const char *record, const char *format, ...) {
     __real__exit(2);
 }
 
-void tell_report(const char *format, ...) {
-    PUT_TEXT(text, 1000, format);
-    tell_text("report", text);
-    keep(text);
-}
-
 void tell_seeming(const char *format, ...) {
     PUT_TEXT(text, 1000, format);
     tell_text("seeming", text);

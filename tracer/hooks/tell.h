@@ -37,7 +37,6 @@ extern size_t tell_kept_length;
 /* How many say that something wasn't seen or modelled. */
 extern uint64_t tell_incomplete_lines;
 
-__attribute__((format(__printf__, 1, 2))) void tell_report(const char *format, ...);
 /* Of use where there are races: some of them may be none. */
 __attribute__((format(__printf__, 1, 2))) void tell_seeming(const char *format, ...);
 /* One sentence for the user: something may have touched memory, or may run in parallel, and wasn't seen or modelled. */

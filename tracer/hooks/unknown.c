@@ -24,11 +24,8 @@ __spbags_count_call(struct unknown *function) {
 
 void unknown_tell(void) {
     for (struct unknown *function = unknown_functions; function < unknown_end; function++)
-        if (*function->library == '\0' && *function->name == '\0')
+        if (*function->library == '\0')
             tell_incomplete("calls to the virtual functions of %s aren't seen: spbags-cc didn't compile them",
-                            function->shown);
-        else if (*function->library == '\0')
-            tell_incomplete("what the nested function %s accesses of the variables around it isn't seen",
                             function->shown);
         else if (function->calls > 0)
             tell_unseen(function->name, function->shown, function->library, function->calls);

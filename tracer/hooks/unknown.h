@@ -4,8 +4,7 @@
 
 #include "common.h"
 
-/* A function; or where no library is named, a nested function, or without a name a class whose virtual functions nothing
-   is known of. */
+/* A function; or without a name and a library a class whose virtual functions nothing is known of. */
 struct unknown {
     const char *name, *shown, *library;
     /* Each call counts, also where nothing may run beside it. */

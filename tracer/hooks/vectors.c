@@ -1,4 +1,4 @@
-/* What spbags-cc puts beside an instruction of the compiler's that goes to memory by a pointer. */
+/* What stands beside an instruction of the compiler's that goes to memory by a pointer. */
 #include "frames.h"
 #include "noting.h"
 #include "tell.h"

@@ -7,6 +7,7 @@
 
 int cell, cells[4], counted, updated, updated_too, kept, set, barred, shown, taken, both[2];
 long wide;
+static volatile int sink;
 unsigned char table[256];
 void whole(void);
 
@@ -47,10 +48,12 @@ static void go_beyond_operands(void) {
     __asm__ volatile("incl %c0" : : "i"(&cell) : "memory");                        /* [unseen] */
     __asm__ volatile("movl 4+%0, %%eax" : : "m"(cells[0]) : "eax");                /* [unseen] */
     __asm__ volatile("lock; btsl %1, %0" : "+m"(own[0]) : "r"(40));                /* [unseen] */
+    __asm__ volatile("movups %0, %%xmm1" : : "m"(own[0]) : "xmm1");                /* [unseen] */
     __asm__ volatile(".byte 0x90");                                                /* [unseen] */
 }
 
 __attribute__((naked)) static void naked(void) { __asm__("incl cell\n\tret"); }    /* [unseen] */
+__attribute__((naked)) static void naked_too(void) { __asm__("incl %c0\n\tret" : : "i"(&cell)); } /* [unseen] */
 __asm__("\t.text\nwhole:\n\tincl\tcell\n\tret\n");                                 /* [unseen] */
 __asm__(".macro bump\nincl cell\n.endm");                                          /* [unseen] */
 
@@ -65,6 +68,7 @@ static long is_known(void) {
     long n = 3, more = 0;
     double x = 4;
     register long bound __asm__("r12") = 5;
+    _Alignas(16) int wide_enough[4] = {0};
     __asm__ volatile("");
     __asm__ volatile("" : : : "memory");
     __asm__ volatile("rep; nop");
@@ -80,6 +84,8 @@ static long is_known(void) {
     __asm__ volatile("leaq (%1,%1,2), %0\n\tprefetcht0 (%2)" : "=r"(n) : "r"(n), "r"(own));
     __asm__ volatile("movsbl %b2, %0\n\tmovq %%rsp, %1" : "=&r"(a), "=&r"(more) : "q"(b));
     __asm__ volatile("sqrtsd %1, %0\n\tmovsd %0, %1" : "+x"(x), "+x"(x));
+    __asm__ volatile("movups %0, %%xmm1\n\tpaddd %0, %%xmm1" : : "m"(wide_enough) : "xmm1");
+    __asm__ volatile("movhps %0, %%xmm1\n\tmovlps %%xmm1, %0" : "+m"(x) : : "xmm1");
     __asm__ volatile("fsqrt\n\tfldz\n\tfaddp %%st, %%st(1)" : "+t"(x));
     __asm__ volatile("btl $3, %1\n\tsbbl %0, %0" : "=r"(a) : "m"(own[3]) : "cc");
     __asm__ volatile("bt %1, %0" : : "r"(a), "r"(b) : "cc");
@@ -100,6 +106,7 @@ static int other(void) {
 }
 static int takes(register int n, register int updated) { return n + updated; }
 static int takes_too(n, updated_too) register int n, updated_too; { return n + updated_too; }
+int declared(register int n, register int set);
 
 static void update(void) {
     __asm__ volatile("lock; incl %0" : "+m"(counted));              /* [4 counted first] */
@@ -116,15 +123,15 @@ static void update(void) {
 int main(int words, char **word) {
     if (words > 1 && strcmp(word[1], "races") == 0) {
         cilk_spawn update();
-        counted = 1;     /* [4 counted second] */
-        updated = 1;     /* [4 updated second] */
-        updated_too = 1; /* [4 updated_too second] */
-        kept = 1;        /* [4 kept second] */
-        set = 1;         /* [4 set second] */
+        sink = counted;     /* [4 counted second] */
+        sink = updated;     /* [4 updated second] */
+        sink = updated_too; /* [4 updated_too second] */
+        sink = kept;        /* [4 kept second] */
+        sink = set;         /* [4 set second] */
         barred = 1;
-        shown = 1;       /* [4 shown second] */
-        table[1] = 1;    /* [1 table second] */
-        taken = 1;       /* [4 taken second] */
+        sink = shown;       /* [4 shown second] */
+        sink = table[1];    /* [1 table second] */
+        taken = 1;          /* [4 taken second] */
         both[0] = 1, both[1] = 1; /* [8 both second] */
         cilk_sync;
         return 0;
@@ -133,6 +140,7 @@ int main(int words, char **word) {
     cilk_spawn go_by_names();
     cilk_spawn go_beyond_operands();
     cilk_spawn naked();
+    naked_too();
     whole();
     printf("%ld %d\n", is_known(), other() + takes(1, 2) + takes_too(1, 2));
     cilk_sync;

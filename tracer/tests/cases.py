@@ -31,6 +31,8 @@ needs_detector = unittest.skipUnless(INSIDE, WITHOUT_DETECTOR)
 SPBAGS_CC, SPBAGS_CPLUSPLUS, SPBAGS_RUN, SPBAGS_LINES = (
     os.path.join(TRACER, name) for name in ("spbags-cc", "spbags-c++", "spbags-run", "spbags-lines"))
 Done = collections.namedtuple("Done", "status out errors")
+# What the last line of a report says of how much there was.
+EXTENT = re.compile(", [0-9,]+ spawns?, [0-9,]+ access(?:es)?")
 # The even locations of a block.
 BLOCK = 64
 PEAK = """import resource, subprocess, sys
@@ -71,6 +73,11 @@ def lines_of(source, text):
     """The numbers of the lines that have this text."""
     with open(source, encoding="utf-8") as file:
         return [number for number, line in enumerate(file, 1) if text in line]
+
+
+def last_line(text):
+    """Without how much there was."""
+    return EXTENT.sub("", text.splitlines()[-1])
 
 
 def line_of(source, text):

@@ -43,15 +43,22 @@ static void use_bytes_in_parallel(void) {
 __attribute__((unused)) static void zero(void *view) { *(int *)view = 0; }
 __attribute__((unused)) static void add(void *left, void *right) { *(int *)left += *(int *)right; }
 
+/* Only gcc traces reducers. */
+#ifdef __clang__
+#define REDUCED
+#else
+#define REDUCED cilk_reducer(zero, add)
+#endif
+
 static void sum_and_end(void) {
     int *block = calloc(10, sizeof *block);
-    int cilk_reducer(zero, add) *sum = (void *)block;
+    int REDUCED *sum = (void *)block;
     given = block;            /* [give sum] */
     free((*sum += 1, block)); /* [end of sum] */
 }
 
 static void set_sum(void) {
-    int cilk_reducer(zero, add) *sum = (void *)given; /* [take sum] */
+    int REDUCED *sum = (void *)given; /* [take sum] */
     *sum = 2;                                         /* [set] */
 }
 

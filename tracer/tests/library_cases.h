@@ -4,6 +4,11 @@
 #define NUMBER(CALL) (sink = (int)(long)(CALL))
 
 /* ---- Scanning ---- */
+/* Functions in whose place the headers put others. */
+int older_sscanf(const char *at, const char *form, ...) __asm__("sscanf");
+int older_fscanf(FILE *stream, const char *form, ...) __asm__("fscanf");
+int older_vsscanf(const char *at, const char *form, va_list list) __asm__("vsscanf");
+int older_vfscanf(FILE *stream, const char *form, va_list list) __asm__("vfscanf");
 CASE(sscanf(pair, scanned, big, a), R(pair, 0, 8), R(scanned, 0, 6), W(big, 0, 4), W(a, 0, 5))
 CASE(sscanf(pair, "%hhd %3c", big, a), R(pair, 0, 8), W(big, 0, 1), W(a, 0, 3))
 CASE(sscanf(pair, "%*d %ms%n", rest, big), R(pair, 0, 8), W(rest, 0, 8), W(big, 0, 4))
@@ -16,8 +21,8 @@ CASE(sscanf(decimals, "%Lf", big), R(decimals, 0, 5), W(big, 0, sizeof(long doub
 CASE(fscanf(text, scanned, big, a), R(scanned, 0, 6))
 CASE(fscanf(text, "%s %n", a, big), W(a, 0, 6), W(big, 0, 4))
 CASE(scanf("%9s", a), NO_MORE)
-CASE(__builtin_sscanf(pair, scanned, big, a), R(pair, 0, 8), R(scanned, 0, 6), W(big, 0, 4), W(a, 0, 5))
-CASE(__builtin_fscanf(text, "%s", a), W(a, 0, 6))
+CASE(older_sscanf(pair, scanned, big, a), R(pair, 0, 8), R(scanned, 0, 6), W(big, 0, 4), W(a, 0, 5))
+CASE(older_fscanf(text, "%s", a), W(a, 0, 6))
 CASE(swscanf(wide_pair, L"%d %s", big, a), R(wide_pair, 0, 32), W(big, 0, 4), W(a, 0, 5))
 CASE(fwscanf(wide_text(), L"%s", a), W(a, 0, 6))
 #define SCANNED(CALL, ...) \
@@ -33,8 +38,8 @@ CASE(fwscanf(wide_text(), L"%s", a), W(a, 0, 6))
     CASE_OF(scanned_case_##NUMBER, __LINE__, scanned_##NUMBER(scanned, big, a), __VA_ARGS__)
 SCANNED(vsscanf(pair, form, list), R(pair, 0, 8), R(scanned, 0, 6), W(big, 0, 4), W(a, 0, 5))
 SCANNED(vfscanf(text, form, list), R(scanned, 0, 6))
-SCANNED(__builtin_vsscanf(pair, form, list), R(pair, 0, 8), R(scanned, 0, 6), W(big, 0, 4), W(a, 0, 5))
-SCANNED(__builtin_vfscanf(text, form, list), R(scanned, 0, 6))
+SCANNED(older_vsscanf(pair, form, list), R(pair, 0, 8), R(scanned, 0, 6), W(big, 0, 4), W(a, 0, 5))
+SCANNED(older_vfscanf(text, form, list), R(scanned, 0, 6))
 SCANNED(vswscanf(wide_pair, ((void)form, L"%d %s"), list), R(wide_pair, 0, 32), W(big, 0, 4), W(a, 0, 5))
 
 /* Under the names that programs for strict C have. */
@@ -536,14 +541,22 @@ int plain_feof(FILE *) __asm__("feof_unlocked");
 int plain_ferror(FILE *) __asm__("ferror_unlocked");
 
 /* ---- What functions keep: a child and its parent use it, and so many bytes race ---- */
-SHARED(4, NUMBER(rand()), srand(5)) SHARED(4, (void)(drand48()), srand48(5)) SHARED(4, NUMBER(mblen(b, 4)), (void)(mblen(b, 4)))
+SHARED(0, errno = 1, errno = 2) SHARED(4, NUMBER(rand()), srand(5)) SHARED(4, (void)(drand48()), srand48(5)) SHARED(4, NUMBER(mblen(b, 4)), (void)(mblen(b, 4)))
 SHARED(4, NUMBER(mbtowc(NULL, b, 4)), (void)(mbtowc(NULL, b, 4))) SHARED(4, NUMBER(wctomb(a, L'x')), (void)(wctomb(c, L'x')))
+SHARED(0, NUMBER(mbrlen(b, 4, NULL)), (void)(mbrlen(b, 4, STATE))) SHARED(4, NUMBER(mbrlen(b, 4, NULL)), (void)(mbrlen(b, 4, NULL))) SHARED(4, NUMBER(mbrtowc(NULL, b, 4, NULL)), (void)(mbrtowc(NULL, b, 4, NULL)))
+SHARED(4, NUMBER(wcrtomb(a, L'x', NULL)), (void)(wcrtomb(c, L'x', NULL))) SHARED(4, NUMBER(mbrtoc16(NULL, b, 4, NULL)), (void)(mbrtoc16(NULL, b, 4, NULL)))
+SHARED(4, NUMBER(c16rtomb(a, u'x', NULL)), (void)(c16rtomb(c, u'x', NULL)))
+SHARED(4, NUMBER(mbsrtowcs(NULL, AS(const char *, rest), 0, NULL)), (void)(mbsrtowcs(NULL, AS(const char *, rest), 0, NULL)))
+SHARED(4, NUMBER(wcsrtombs(NULL, AS(const wchar_t *, wide_rest), 0, NULL)), (void)(wcsrtombs(NULL, AS(const wchar_t *, wide_rest), 0, NULL)))
+SHARED(0, NUMBER(setlogmask(0)), (void)(setlogmask(0))) SHARED(4, NUMBER(setlogmask(1)), (void)(setlogmask(1)))
 SHARED(4, setenv("x", "y", 1), (void)(getenv("x"))) SHARED(4, NUMBER(setlocale(LC_ALL, "C")), (void)(localeconv()))
 SHARED(4, NUMBER(textdomain("x")), (void)(textdomain(NULL))) SHARED(4, NUMBER(getpwent()), setpwent()) SHARED(4, (void)(getgrent()), setgrent())
 SHARED(4, hcreate(4), hdestroy()) SHARED(8, (void)(strtok(b, " ")), NUMBER(strtok(NULL, " ")))
-SHARED(56, NUMBER(localtime(AS(time_t, big))), (void)(gmtime(AS(time_t, big)))) SHARED(26, NUMBER(asctime(AS(struct tm, day))), (void)(ctime(AS(time_t, big))))
+SHARED(56, NUMBER(gmtime(AS(time_t, big)) == localtime(AS(time_t, big))), (void)(ctime(AS(time_t, big)))) SHARED(26, NUMBER(asctime(AS(struct tm, day))), (void)(ctime(AS(time_t, big))))
 SHARED(2, NUMBER(l64a(5)), (void)(l64a(5))) SHARED(8, (putc_unlocked)('x', text), (getc_unlocked)(text))
 SHARED(8, (fputc_unlocked)('x', text), (fgetc_unlocked)(text)) SHARED(8, clearerr_unlocked(text), (void)(plain_feof(text)))
+SHARED(8, NUMBER(fflush_unlocked(text)), (putc_unlocked)('x', text)) SHARED(8, __fpurge(text), (putc_unlocked)('x', text))
+SHARED(8, NUMBER(__fpending(text)), (putc_unlocked)('x', text)) SHARED(8, NUMBER(__fbufsize(text)), (putc_unlocked)('x', text))
 SHARED(8, clearerr_unlocked(text), (void)(plain_ferror(text))) SHARED(8, clearerr_unlocked(text), (void)(fileno_unlocked(text)))
 /* The order of a stream or a descriptor is 4 bytes; and what takes no lock, or closes the stream, races with all 8. The
    text and the letters are other streams for each of these, and the standard streams are the text. */

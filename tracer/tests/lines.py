@@ -198,6 +198,12 @@ def check_headers():
     return len(codes)
 
 
+def has_reducers(source):
+    """Only gcc traces them."""
+    with open(source, encoding="utf-8") as text:
+        return "cilk_reducer" in text.read()
+
+
 def write(name, text):
     with open(name, "w", encoding="utf-8") as file:
         file.write(text)
@@ -217,7 +223,7 @@ def main():
             check_the_loop()
             compared += check_headers() if IS_GCC else 0
             sources = [example for example in sorted(glob.glob(os.path.join(TRACER, "examples", "*.c")))
-                       if IS_GCC or "openmp" not in example]
+                       if IS_GCC or not ("openmp" in example or has_reducers(example))]
             for number in range(words.count):
                 sources.append(f"random{number}.c")
                 write(sources[-1], Writer(f"{words.seed} {number}").text())

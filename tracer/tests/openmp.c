@@ -288,6 +288,59 @@ static void wants_more(void) {
     row[omp_get_thread_num()] = 1;
 }
 
+static void wants_four(void) {
+#pragma omp parallel num_threads(4) /* [wants four] */
+    {
+#pragma omp barrier
+    }
+}
+
+static void asks_how_many(void) {
+#pragma omp parallel /* [asks how many] */
+    if (omp_get_num_threads() > 2)
+        one++;
+}
+
+static int *of_master;
+
+static void reaches_local(int iterations) {
+#pragma omp parallel num_threads(2)
+    {
+        int local = 0;
+#pragma omp master
+        of_master = &local;
+#pragma omp barrier
+#pragma omp for
+        for (int i = 0; i < iterations; i++)
+            *of_master += i; /* [reaches local] */
+#pragma omp master
+        row[0] = local;
+    }
+}
+
+static void reaches_local_often(void) { reaches_local(8); }
+static void reaches_local_once(void) { reaches_local(2); }
+
+static void reaches_own(void) {
+    of_master = &mine;
+#pragma omp parallel num_threads(2)
+    ++*of_master; /* [reaches own] */
+}
+
+static void reaches_own_in_loop(void) {
+    of_master = &mine;
+#pragma omp parallel for num_threads(2)
+    for (int i = 0; i < 8; i++)
+        ++*of_master; /* [reaches own in loop] */
+}
+
+static void copies_own(void) {
+    mine = 3;
+#pragma omp parallel num_threads(2) copyin(mine)
+    if (mine != 3)
+        abort();
+}
+
 static void exits(void) {
 #pragma omp parallel /* [exits] */
     {
@@ -373,7 +426,7 @@ static void left_by_groups(void) {
                 row[i] = i;
         }
 #pragma omp single
-        one = row[3];
+        one = row[0];
     }
 }
 
@@ -564,6 +617,13 @@ int main(int count, char **words) {
                 {"no_race", no_race, true},
                 {"by_number", by_number, true},
                 {"wants_more", wants_more, true},
+                {"wants_four", wants_four, true},
+                {"asks_how_many", asks_how_many, true},
+                {"reaches_local_often", reaches_local_often, true},
+                {"reaches_local_once", reaches_local_once, true},
+                {"reaches_own", reaches_own, true},
+                {"reaches_own_in_loop", reaches_own_in_loop, true},
+                {"copies_own", copies_own, true},
                 {"exits", exits, true},
                 {"two_masters", two_masters, true},
                 {"both_masked", both_masked, true},

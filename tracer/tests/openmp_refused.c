@@ -12,6 +12,16 @@ int main(void) {
 #pragma omp teams /* [refused] */
     a = 3;
     int depend = 1;
+#ifndef __clang__
+#pragma omp parallel for collapse(2) /* [refused] */
+    for (int i = 0; i < 8; i++)
+        for (int j = i; j < 8; j++)
+            a = row[j];
+#endif
+#pragma omp parallel for collapse(2)
+    for (int i = 0; i < 8; i++)
+        for (int j = 0; j < 8; j++)
+            a = row[j];
 #pragma omp parallel allocate(a) private(a) /* [refused] */
     a = 4;
 #pragma omp parallel for reduction(inscan, + : a) /* [refused] */

@@ -47,6 +47,12 @@ void records_end_life(struct life_end end) { begin_life(end.span); }
 void look_at_block(uintptr_t block, size_t size, uintptr_t stack_pointer, uintptr_t code) {
     (void)block, (void)size, (void)stack_pointer, (void)code;
 }
+uint64_t look_blocks[(1 << LOOK_BLOCK_BITS) / 64], *places_site_keys;
+uint16_t *places_site_numbers;
+uint16_t places_find_site(uint64_t word) { return (uint16_t)word; }
+void look_note_pending(bool writes, uint64_t location, uintptr_t address, uintptr_t code) {
+    (void)writes, (void)location, (void)address, (void)code;
+}
 void note_write(uintptr_t at, size_t size, __spbags_function self, uintptr_t stack_pointer, uintptr_t code) {
     (void)at, (void)size, (void)self, (void)stack_pointer, (void)code;
 }
@@ -187,7 +193,7 @@ void records_access(bool writes, const struct touched *in, uint64_t location, ui
     records++;
     recorded = location;
     if (in)
-        note_in_block(writes, in, units_from((unsigned)(location - in->location) / 2, 1));
+        note_in_block(writes, in, units_from((unsigned)(location - in->location) / 2, 1), code);
 }
 
 static void next_strand(void) {
@@ -216,8 +222,8 @@ static void marks_repeats(void) {
 /* What is a thread's own has no records, also when the numbers of strands begin again. */
 static void marks_own(void) {
     make_stack();
-    own[COPIES] = (struct own_memory){memory_unit(3), memory_unit(5)};
-    own_add(own[COPIES].first, own[COPIES].end);
+    own_copies = (struct own_memory){memory_unit(3), memory_unit(5)};
+    own_add(own_copies);
     for (int strand = 0; strand < 3 * (int)MOST_STRANDS; strand++) {
         records = 0;
         locations_touch(true, memory_unit(2), 16, 0);

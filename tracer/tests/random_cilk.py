@@ -25,6 +25,8 @@ sys.path.insert(0, TRACER)
 import answers
 from cases import DETECTOR, INSIDE
 SPBAGS = os.path.realpath(os.environ.get("SPBAGS", os.path.join(TRACER, "..", "spbags")))
+# Only gcc traces reducers.
+REDUCER = "" if "clang" in os.environ.get("CC", "") else "cilk_reducer(zero, add)"
 BATCH, GLOBALS, MOST_STEPS = 25, 4, 400
 WAYS = {}, {"SPBAGS_REUSE": "0"}, {"SPBAGS_REUSE": "0", "SPBAGS_REPEATS": "1"}
 # Of a loop with two iterations, with the numbers 0 and 1.
@@ -95,7 +97,7 @@ class Writer:
         names = [f"p{self.number}_g{at}" for at in range(GLOBALS)]
         self.line(f"static number {', '.join(names)};", f"static int {', '.join(names)};")
         sum = f"p{self.number}_sum"
-        self.line(f"static int cilk_reducer(zero, add) {sum};", f"static int {sum};")
+        self.line(f"static int {REDUCER} {sum};", f"static int {sum};")
         for at in range(count):
             self.function(self, at, names, sum).write()
         self.line(f"static void p{self.number}(void) {{", f"static void p{self.number}(void) {{ begin_program();")
@@ -145,10 +147,10 @@ class Function:
             self.locals.append((name, on_heap))
             if on_heap:
                 self.tags[name] = tag
-        if self.random.random() < 0.3:
+        if REDUCER and self.random.random() < 0.3:
             name = f"w{len(self.sums)}"
             tag = f"{self.name}.{len(self.writer.cilk)}.{name}"
-            self.writer.tagged(tag, f"int cilk_reducer(zero, add) {name} = 0;",
+            self.writer.tagged(tag, f"int {REDUCER} {name} = 0;",
                                f'int {name} = variable("{tag}"); touch({name}, true);')
             self.sums.append(name)
 
@@ -171,6 +173,8 @@ class Function:
 
     def reduce(self):
         """An update of a reducer is a read of it, and all else a write."""
+        if not REDUCER:
+            return
         name, kind, number = self.random.choice(self.sums), self.random.randrange(9), self.random.randrange(6)
         _, this, judged = self.variable()
         update, value = f"touch({name}, false);", f"touch({name}, true);"
@@ -178,7 +182,7 @@ class Function:
             (f"{name} += {number};", update), (f"{name}++;", update), (f"{name} = {number} + {name};", update),
             (f"if ({name} < {number}) {name} = {number};", update), (f"add_to(&{name}, {number});", update),
             (f"cilk_spawn add_to(&{name}, {number});", f"{update} spawn(); {update} spawned();"),
-            (f"(void){name};", value), (f"{this} = {name};", f"{value} touch({judged}, true);"),
+            (f"{{ int got = {name}; (void)got; }}", value), (f"{this} = {name};", f"{value} touch({judged}, true);"),
             (f"{name} = {number};", value))[kind])
 
     def access(self):

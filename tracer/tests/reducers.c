@@ -34,7 +34,7 @@ extern int cilk_reducer(least, greatest) best;
 int cilk_reducer(least, greatest) best = -1;
 static int racy, kept;
 
-static void add_to(int *sum, int n) { *sum += n; /* [added] */ }
+static void add_to(int *sum, int n) { *sum += n; }
 
 static void scalars(void) {
     static int cilk_reducer(zero, add) calls;
@@ -70,7 +70,7 @@ static void scalars(void) {
 /* A child gets the address, and the reducer ends before a sync. */
 static void addresses(void) {
     int cilk_reducer(zero, add) sum = 1;
-    cilk_spawn add_to(&sum, 2);
+    cilk_spawn add_to(&sum, 2); /* [handed] */
     add_to(&sum, 3);
     if (racy)
         kept = sum; /* [before sync] */
@@ -80,12 +80,20 @@ static void addresses(void) {
     printf("%d\n", sum);
 }
 
-/* A variable of the same name. */
+/* Variables of the same name. */
 static int shadowed(void) {
     int total = 0;
     cilk_for (int i = 0; i < 4; i++)
         total += i; /* [shadowed] */
     return total;
+}
+
+static long same_names(long n) {
+    long made = n, total = 2;
+    for (long i = 0, total = 2; i < total; i++)
+        made += total;
+    __typeof__(n) best = 3;
+    return made + total + best;
 }
 
 /* Members, and another struct with a member of that name. */
@@ -189,6 +197,43 @@ static void pointers(void) {
             (*at)++;
     count_down(at, 2);
     printf("%d %d\n", sum, of[1]);
+}
+
+static int cilk_reducer(zero, add) first, others[2] = {2, 3};
+struct linked {
+    struct {
+        int cilk_reducer(zero, add) n;
+    } inner;
+    int cilk_reducer(zero, add) *to;
+};
+static int four(void) { return 4; }
+
+/* Several in a declaration, in an inner struct, by pointers to pointers, in a loop's header, and what a child sets. */
+static void places(void) {
+    struct linked one = {{1}, &first};
+    int cilk_reducer(zero, add) **twice = &one.to, child = 0;
+    cilk_for (int i = 0; i < 4; i++)
+        if (racy && i == 2)
+            kept = first; /* [value] */
+        else
+            **twice += i;
+    cilk_for (int i = 0; i < 4; i++)
+        if (racy && i == 2)
+            kept = *others; /* [value] */
+        else
+            *others -= i;
+    cilk_for (int i = 0; i < 4; i++)
+        if (racy && i == 2)
+            kept = one.inner.n; /* [value] */
+        else
+            add_to(&one.inner.n, i);
+    for (int cilk_reducer(zero, add) i = 0; i < 2; i++)
+        first += i;
+    child = cilk_spawn four(); /* [set by child] */
+    if (racy)
+        child++; /* [beside child] */
+    cilk_sync;
+    printf("%d %d %d %d %ld\n", first, others[0], one.inner.n, child, same_names(1));
 }
 
 static void structs(void) {
@@ -302,6 +347,7 @@ int main(int count, char **words) {
         members();
         arrays();
         pointers();
+        places();
         older();
         if (racy)
             printf("%d\n", shadowed());

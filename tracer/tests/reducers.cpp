@@ -1,6 +1,6 @@
 /* Reducers in C++, of OpenCilk and of the older library. Iterations update each at once, which is no race; with the
    word `racy` one of them reads or sets the value as well, on the line behind the update's. The word `own` is for a
-   monoid of the program's own. */
+   monoid of the program's own, and `views` for a view that has more memory elsewhere. */
 #include <cilk/cilk.h>
 #include <cilk/opadd_reducer.h>
 #include <cilk/ostream_reducer.h>
@@ -18,9 +18,12 @@
 #include <cstring>
 #include <iostream>
 #include <set>
+#include <stdexcept>
 #include <string>
+#include <vector>
 
 static bool racy;
+static long sink;
 
 template <class Update, class Value> static void both(Update update, Value value) {
 #pragma cilk grainsize = 1
@@ -97,7 +100,7 @@ static void opencilk() {
     cilk::ostream_reducer<char> out(std::cout);
     Totals totals;
     both([&](int i) { everywhere += i; }, /* [update] */
-         [&] { (void)everywhere; });
+         [&] { sink = everywhere; });
     both([&](int i) { local += i; }, /* [update] */
          [&] { local = 3; });
     both([&](int i) { library += i; }, /* [update] */
@@ -111,7 +114,7 @@ static void opencilk() {
     More more;
     static long cilk_reducer(zero, plus) table[2][2];
     both([&](int i) { tally.sum += i; }, /* [update] */
-         [&] { (void)(tally.sum + more.sum); });
+         [&] { sink = tally.sum + more.sum; });
     both([&](int i) { table[1][i % 2] += i; }, /* [update] */
          [&] { table[1][0] = table[0][0] + 3; });
     tally.add(1);
@@ -127,17 +130,43 @@ static void shared() {
     long cilk_reducer(zero, plus) *at = __builtin_addressof(Shared::of[0]);
     Shared one;
     both([&](int i) { Shared::total += i; }, /* [update] */
-         [&] { (void)one.total; });
+         [&] { sink = one.total; });
     both([&](int i) { Shared::of[1] += i; }, /* [update] */
          [&] { one.of[1] = 2; });
     both([&](int i) { SharedBy<int>::total += i; }, /* [update] */
          [&] { SharedBy<int>::total = 2; });
     both([&](int i) { *at += i; }, /* [update] */
-         [&] { (void)*at; });
+         [&] { sink = *at; });
     both([&](int i) { reference += i; }, /* [update] */
-         [&] { (void)reference; });
+         [&] { sink = reference; });
     both([&](int i) { Shared::add(i); add_to(local, i); }, [] {});
     std::printf("%ld %ld %ld %ld\n", one.get(), Shared::of[1] + *at, SharedBy<int>::total, local);
+}
+
+template <class T> void zero_of(void *view) { *static_cast<T *>(view) = 0; }
+template <class T> void plus_of(void *left, void *right) { *static_cast<T *>(left) += *static_cast<T *>(right); }
+template <class T> struct Both {
+    T cilk_reducer(zero_of<T>, plus_of<T>) sum = 0, product = 1;
+};
+static void add_plainly(long &to, int more) { to += more; }
+static int three() { return 3; }
+
+/* Several in a declaration, functions of templates, lambdas, plain references, and what a child sets. */
+static void places() {
+    Both<long> one;
+    long cilk_reducer([](void *view) { *static_cast<long *>(view) = 0; },
+                      [](void *left, void *right) { *static_cast<long *>(left) += *static_cast<long *>(right); })
+        sum = 0, set = 0;
+    both([&](int i) { add_plainly(one.sum, i); }, /* [update] */
+         [&] { sink = one.sum; });
+    both([&](int i) { one.product = i * one.product; }, /* [update] */
+         [&] { one.product = 1; });
+    both([&](int i) { if (sum < i) sum = i; }, /* [update] */
+         [&] { sink = sum; });
+    both([&](int) { set++; }, /* [update] */
+         [&] { set = cilk_spawn three(); });
+    auto copy = [sum] { return sum + 1; };
+    std::printf("%ld %ld %ld %ld %ld\n", one.sum, one.product, sum, set, copy());
 }
 
 static void scalars() {
@@ -197,6 +226,34 @@ struct Union : cilk::monoid_base<std::set<int>> {
     static void reduce(std::set<int> *left, std::set<int> *right) { left->insert(right->begin(), right->end()); }
 };
 
+static void none(void *view) { new (view) std::vector<int>(); }
+static void join(void *, void *) {}
+struct Kept {
+    int number;
+    ~Kept() { number = 0; }
+};
+static Kept put(std::vector<int> &to, Kept kept, const std::string &text) {
+    to.push_back(kept.number);
+    if (text == "throw")
+        throw std::runtime_error(text);
+    return kept;
+}
+
+static void views() {
+    std::vector<int> cilk_reducer(none, join) all;
+    std::vector<int> cilk_reducer(none, join) *at = __builtin_addressof(all);
+    cilk_for (int i = 0; i < 4; i++) {
+        put(all, Kept{i}, "text");
+        at->push_back(i);
+        all.insert(all.end(), i);
+        try {
+            put(*at, Kept{i}, "throw");
+        } catch (const std::runtime_error &) {
+        }
+    }
+    std::printf("%zu\n", all.size());
+}
+
 static void own() {
     cilk::reducer<Union> all;
     both([&](int i) { all->insert(i); }, /* [own] */
@@ -210,8 +267,13 @@ int main(int, char **words) {
         own();
         return 0;
     }
+    if (std::strcmp(words[1], "views") == 0) {
+        views();
+        return 0;
+    }
     opencilk();
     shared();
+    places();
     scalars();
     owners();
 }

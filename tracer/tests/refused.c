@@ -9,9 +9,6 @@ int f(int n);
 int *g(void);
 struct place h(void);
 
-void by_value(int cilk_reducer(zero, add) sum); /* [refused] */
-void by_pointer(int cilk_reducer(zero, add) *sum);
-
 int refused(int n, int *p) {
     int x = 0, y = 0;
     x += cilk_spawn f(n);
@@ -44,17 +41,6 @@ int refused(int n, int *p) {
         y++;
     if (cilk_spawn f(0)) /* [refused] */
         y++;
-    static _Thread_local int cilk_reducer(zero, add) own; /* [refused] */
-    int cilk_reducer(zero, add) *pointer;
-    int cilk_reducer(zero, add) **twice; /* [refused] */
-    int cilk_reducer(zero, add) one, other; /* [refused] */
-    for (int cilk_reducer(zero, add) i = 0; i < n; i++) /* [refused] */
-        y++;
-    typedef int cilk_reducer(zero, add) type; /* [refused] */
-    struct {
-        int cilk_reducer(zero, add) member; /* [refused] */
-        int cilk_reducer(zero, add) *to; /* [refused] */
-    } s;
     cilk_sync;
     return cilk_spawn f(x + y); /* [refused] */
 }

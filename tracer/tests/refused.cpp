@@ -60,7 +60,6 @@ int refused(int n, int *p) {
     Place one{cilk_spawn f(1), 2}; // [refused]
     int two(cilk_spawn f(1)); // [refused]
     static int s = cilk_spawn f(1); // [refused]
-    thread_local int cilk_reducer(zero, add) own = 0; // [refused]
     int &r = cilk_spawn there(1); // [refused]
     const auto &rr = cilk_spawn f(1); // [refused]
     auto [first, second] = cilk_spawn g(std::pair(1, 2)); // [refused]

@@ -182,13 +182,16 @@ static void of_a_file_of_guards(void) {
         of_guards();
 }
 
-/* More records than a small disk has room for. */
+/* More records of other lines, one after the other, than a small disk has room for. */
 static void of_a_small_disk(void) {
     if (!is_first())
         return;
     of_a_global();
     for (int i = 0; i < 200; i++)
         cilk_spawn set_all();
+    cilk_sync;
+    for (int i = 0; i < 40000; i++)
+        cilk_spawn nothing();
     cilk_sync;
     cilk_spawn turn();
     turn();
@@ -248,6 +251,31 @@ static void of_doubles(void) {
         doubles[i] = 2; /* [doubles] */
 }
 
+/* Another race in the first run than in later ones. */
+static void of_a_file_of_others(void) {
+    if (is_first())
+        of_a_global();
+    else
+        of_a_static();
+}
+
+/* Only later runs hold the lock. */
+static void turn_later(int is_later) {
+    if (is_later)
+        pthread_mutex_lock(&lock);
+    guarded = 1; /* [turn later] */
+    if (is_later)
+        pthread_mutex_unlock(&lock);
+}
+
+static void of_a_file_of_locks(void) {
+    int is_later = !is_first();
+    cilk_spawn turn_later(is_later);
+    turn_later(is_later);
+}
+
+static void of_a_file_alone(void) { run_number(); }
+
 /* In the first run two children write one byte, in later ones neighbours. */
 static void of_a_file_of_letters(void) {
     int at = is_first() ? 5 : 6;
@@ -255,9 +283,9 @@ static void of_a_file_of_letters(void) {
     set_letter(at);
 }
 
-/* Only the third run takes another course. */
-static void of_a_third_run(void) {
-    if (run_number() < 3)
+/* Only the fourth run, and those behind it, take another course. */
+static void of_a_fourth_run(void) {
+    if (run_number() < 4)
         of_a_letter();
 }
 
@@ -277,7 +305,8 @@ static const struct {
     {"neighbours", of_neighbours}, {"letter", of_a_letter}, {"guards", of_guards}, {"one guard", of_one_guard},
     {"header", of_a_header}, {"file", of_a_file}, {"later", of_a_file_later}, {"guards file", of_a_file_of_guards},
     {"small disk", of_a_small_disk}, {"more neighbours", of_more_neighbours}, {"flags", of_flags},
-    {"doubles", of_doubles}, {"letters file", of_a_file_of_letters}, {"third", of_a_third_run},
+    {"doubles", of_doubles}, {"letters file", of_a_file_of_letters}, {"fourth", of_a_fourth_run},
+    {"others file", of_a_file_of_others}, {"locks file", of_a_file_of_locks}, {"file alone", of_a_file_alone},
     {"one strand", of_one_strand},
 };
 

@@ -565,6 +565,27 @@ static void inner(void) {
 }
 
 /* The other members' threads don't keep the process. */
+#ifndef __clang__
+static void sums_of_scope(void) {
+    int sum = 0;
+#pragma omp parallel
+#pragma omp scope reduction(+ : sum)
+    sum += 2;
+    demand(sum % 2 == 0 && sum > 0);
+}
+
+static void sums_of_scope_too_early(void) {
+    int sum = 0;
+#pragma omp parallel
+    {
+#pragma omp scope reduction(+ : sum) nowait
+        sum += 2;
+#pragma omp single
+        one = sum;
+    }
+}
+#endif
+
 static void thread_ends(void) {
 #pragma omp parallel
     row[omp_get_thread_num()]++;
@@ -615,6 +636,10 @@ static const struct {
             {"sections", sections, "none"},
             {"in_order", in_order, "none"},
             {"inner", inner, "none"},
+#ifndef __clang__
+            {"sums_of_scope", sums_of_scope, "none"},
+            {"sums_of_scope_too_early", sums_of_scope_too_early, "data"},
+#endif
             {"thread_ends", thread_ends, "none"}};
 
 int main(int count, char **words) {

@@ -33,7 +33,7 @@ static void up(void) {
     __asm__ volatile("inc DWORD PTR cell" : : : "memory"); /* [unseen] */
     int own = 1;
     __asm__ volatile("{incl %0|inc DWORD PTR cell}" : "+r"(own)); /* [unseen] */
-    __asm__ volatile("{incl cell|inc %0}" : "+r"(own)); /* [unseen] */
+    __asm__ volatile("{incl cell|inc %0}" : "+r"(own));
     __asm__ volatile("{addl %1, %0|add %0, %1}" : "+r"(own) : "r"(own));
 }
 int main(void) {

@@ -50,6 +50,34 @@ int main() {
     std::for_each(values.begin(), values.end(), [](int value) { cilk_spawn set(value); });
 }
 """
+# libstdc++ keeps in a table what it has narrowed.
+NARROWED = """#include <cilk/cilk.h>
+#include <locale>
+static const std::ctype<char> *kind;
+static char narrow(char one) { return kind->narrow(one, '?'); }
+int main() {
+    kind = &std::use_facet<std::ctype<char>>(std::locale::classic());
+    cilk_spawn narrow('x');
+    narrow('x');
+    cilk_sync;
+}
+"""
+# Whoever comes first makes the object of its thread, beside which the compiler keeps whether it is made.
+OWN_OBJECT = """#include <cilk/cilk.h>
+struct Counter {
+    int value;
+    Counter() : value(first()) {}
+    static int first() { return 1; }
+};
+static thread_local Counter counter;
+static int seen[2];
+static void see(int at) { seen[at] = counter.value; }
+int main() {
+    cilk_spawn see(0);
+    see(1);
+    cilk_sync;
+}
+"""
 # A template of several lines, and one of which a line is like a directive.
 ASSEMBLY = """#include <cilk/cilk.h>
 int count, other;
@@ -170,6 +198,18 @@ class CilkTest(CPlusPlusTest):
             self.build("loops", "thrown.cpp", "-Dcilk_for=_Cilk_for")
             self.reports(3, "thrown.cpp:3: an exception leaves a child here", "--", "./loops")
 
+    def test_library_keeps(self):
+        self.write("narrowed.cpp", NARROWED)
+        self.build("narrowed", "narrowed.cpp")
+        self.reports(0, "race:^std::ctype<char>::narrow( suppresses 1 race of 1 pair", "--unseen-ok", "*", "--",
+                     "./narrowed")
+
+    def test_own_object(self):
+        self.write("own.cpp", OWN_OBJECT)
+        self.build("own", "own.cpp")
+        self.assertNotIn("__tls_guard", self.reports(1, "each thread has its own", "--", "./own"))
+        self.reports(0, "", "--data-races", "--", "./own")
+
     def test_macros(self):
         text = "#include <cilk/cilk.h>\nstatic int f() { return 0; }\n" \
                "int main() { try { int x = cilk_spawn f(); cilk_sync; return x; } catch (int) {} }\n"
@@ -218,16 +258,12 @@ class CilkTest(CPlusPlusTest):
 class CopiesTest(CPlusPlusTest):
     def test_copies(self):
         """Structs that calls take or give, by the line of each."""
-        for options in ([], ["-march=native"]):
+        for options in ([], ["-march=native"], ["-masm=intel"], ["-fPIC"]):
             with self.subTest(options):
                 self.build("copies", COPIES, "-fopenmp", *options)
                 wanted = by_call(COPIES, map(cases.race_of, self.run_command("./copies").out.splitlines()))
                 self.assertTrue(wanted)
                 self.assertEqual(wanted, by_call(COPIES, self.races_of("./copies", **UNIT)))
-        with self.subTest("the other syntax of the assembler"):
-            self.write("intel.cpp", "struct S { int a, b; } x;\nint f(S);\nint g() { return f(x); }\n")
-            self.ends_with(1, "can.t be traced with -masm=intel", SPBAGS_CPLUSPLUS, LEVEL, "-masm=intel", "-c",
-                           "intel.cpp")
 
 
 class ContainersTest(CPlusPlusTest):

@@ -1,6 +1,7 @@
 #!/usr/bin/env python3
 """The examples, for each level and, in C with Cilk, for each compiler. A program does what the plain one does, and its
 races are those of examples/expected: by the trace, by spbags-run, and by the detector inside."""
+import os
 import re
 import sys
 
@@ -93,6 +94,9 @@ class CPlusPlusTest(ExampleTest):
 def add_tests(case, pattern):
     """One for each of these examples, with races and without."""
     for source in cases.examples(pattern):
+        with open(os.path.join(TRACER, "examples", source), encoding="utf-8") as file:
+            if CC == "clang" and "cilk_reducer" in file.read():
+                continue  # Only gcc traces reducers.
         for flags in ((), ("-DRACY",)):
             def test(self, source=source, flags=flags):
                 self.check_example(source, *flags)

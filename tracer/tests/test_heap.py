@@ -6,7 +6,7 @@ import sys
 
 sys.dont_write_bytecode = True
 import cases
-from cases import SPBAGS_RUN, TESTS, TracerTest, line_of, needs_detector
+from cases import CC, SPBAGS_RUN, TESTS, TracerTest, line_of, needs_detector
 
 SOURCE = os.path.join(TESTS, "heap.c")
 # The pairs of tags whose lines race.
@@ -42,6 +42,8 @@ class HeapTest(TracerTest):
     def test_races(self):
         """The same with memory that comes again and without."""
         for word, tags in RACES.items():
+            if word == "sum" and CC == "clang":
+                continue
             wanted = sorted(tuple(sorted(line_of(SOURCE, tag) for tag in pair)) for pair in tags)
             for reuse in "10":
                 with self.subTest(word, reuse=reuse):

@@ -9,6 +9,7 @@ import sys
 sys.dont_write_bytecode = True
 import cases
 from cases import CC, TESTS, TRACER, TracerTest, needs_detector, size_of
+import answers
 
 BEFORE = ", and the report has what came before"
 FAULT, ABORT, TRAP, TERMINATE, KILL = (-number for number in (signal.SIGSEGV, signal.SIGABRT, signal.SIGILL,
@@ -230,6 +231,23 @@ class OutputsTest(InsideTest):
         self.build("racy", "fib.c", "-DRACY")
         self.run_command("./racy", SPBAGS_REPORT="wanted")
         self.wanted = self.read("wanted")
+
+    def sites_of(self, program, output, **settings):
+        """The code of each record, and whether it is a narrow access."""
+        self.run_command("./" + program, SPBAGS_PLACES="run.places", **{output: "/dev/null"}, **settings)
+        places = answers.places_of("run.places")
+        return [places.site(place)[:2] for place in range(1, places.count + 1)]
+
+    def test_sites(self):
+        """A record has one site, whoever keeps it: the detector's thread, as the program goes the short way or not, or
+        who writes the trace."""
+        for program in ("cilksort", "traps"):
+            self.build(program, program + ".c", "-w", "-DRACY")
+            with self.subTest(program):
+                wanted = self.sites_of(program, "SPBAGS_TRACE", SPBAGS_LAST="1000000000")
+                self.assertLess(100, len(wanted))
+                self.assertEqual(wanted, self.sites_of(program, "SPBAGS_TRACE"))
+                self.assertEqual(wanted, self.sites_of(program, "SPBAGS_REPORT"))
 
     def test_outputs(self):
         with self.subTest("a file"):

@@ -51,16 +51,6 @@ int main(int count, char **) {
     std::cout << numbers[0] + numbers[1] << std::endl;
 }
 """
-NESTED = """#include <cilk/cilk.h>
-int main(void) {
-    int around = 0;
-    void add(void) { around++; }
-    cilk_spawn add();
-    add();
-    cilk_sync;
-    return around - 2;
-}
-"""
 FILLS_ITSELF = """#include <omp.h>
 void fill(int *at) {
 #pragma omp parallel num_threads(3)
@@ -150,11 +140,6 @@ class UnknownTest(LinkTest):
         self.write("draws.cpp", '#include "shape.h"\nint main() { return (new shape)->sides(); }\n')
         self.succeeds(SPBAGS_CPLUSPLUS, "-o", "draws", "draws.cpp", "shape.o")
         self.reports(3, "calls to the virtual functions of shape aren't seen", "--", "./draws")
-
-    def test_nested(self):
-        self.write("nested.c", NESTED)
-        self.succeeds(SPBAGS_CC, "-O1", "-o", "nested", "nested.c")
-        self.reports(3, "what the nested function add accesses of the variables around it isn't seen", "--", "./nested")
 
     def test_library_with_openmp(self):
         self.write("fill_itself.c", FILLS_ITSELF)
@@ -347,7 +332,8 @@ class HooksTest(LinkTest):
         ahead = [self.compiler, "--compile-hooks"]
         made = self.succeeds(*ahead, **self.SETTINGS)
         self.assertEqual(4, made.errors.count("compiling the hooks"), made.errors)
-        self.assertEqual([True] * 4, [os.path.exists(name) for name in made.out.splitlines()])
+        # And the plugin.
+        self.assertEqual([True] * 5, [os.path.exists(name) for name in made.out.splitlines()])
         for words in (ahead, self.link, [*self.link, "-fopenmp"], ["there/tracer/spbags-c++", *self.link[1:]]):
             with self.subTest(words):
                 self.assertEqual("", self.succeeds(*words, **self.SETTINGS).errors)

@@ -81,7 +81,7 @@ class TraceTest(OpenMPTest):
         self.says("neighbours", 0, "SPBAGS_ITERATIONS=2 makes", [], SPBAGS_ITERATIONS="2")
         self.says("numbered", 0, "", self.pair("numbered", "numbered"), SPBAGS_TEAM="1")
         self.says("numbered", 0, f"each of 3 {BLOCKS}", [], SPBAGS_TEAM="3")
-        self.says("thread_memory", 0, "variables of which each thread has its own, 4 bytes", [])
+        self.says("thread_memory", 0, "", [])
 
     def test_notes(self):
         """A trace that is kept has them behind its places. By records they go out once."""
@@ -139,6 +139,14 @@ ANSWERS = [
     ("by_number", 3, TWO, "", "", {"OMP_NUM_THREADS": "9"}),
     ("by_number", 3, "has one thread by OMP_NUM_THREADS", "", "", {"SPBAGS_TEAM": "9", "OMP_NUM_THREADS": "1"}),
     ("wants_more", 3, f"{at('wants')}: this parallel region has 2 threads", "", "", {}),
+    ("wants_four", 3, f"{at('wants four')}: this parallel region wants 4 threads", "", "", {}),
+    ("asks_how_many", 3, f"{at('asks how many')}: this parallel region has 2 threads, and asks", "", "", {}),
+    ("reaches_local_often", 1, f"{at('reaches local')}: this accesses another", "reaches local", "reaches local", {}),
+    ("reaches_local_once", 3, f"{at('reaches local')}: this accesses another", "", "", {}),
+    ("reaches_own", 3, f"{at('reaches own')}: this accesses what another", "", "", {}),
+    ("reaches_own_in_loop", 1, f"{at('reaches own in loop')}: this accesses what another", "reaches own in loop",
+     "reaches own in loop", {}),
+    ("copies_own", 0, "", "", "", {}),
     ("exits", 3, f"{at('exits')}: the run ends inside", "", "", {}),
     ("two_masters", 0, "", "", "", {"SPBAGS_TEAM": "2"}),
     ("both_masked", 3, f"{at('both masked')}: the thread of this master region also", "", "", {}),
@@ -156,7 +164,7 @@ ANSWERS = [
     ("ordered_tasks", 3, f"wait for 4 tasks, iterations or other parts, the first from {TESTS}/{at('beside ordered')}",
      "", "", {}),
     ("alike", 3, f"each of 2 {BLOCKS}, since with schedule", "", "", {}),
-    ("lanes", 0, f"{at('lanes')}: a loop with simd alone", "", "", {}),
+    ("lanes", 3, f"{at('lanes')}: a loop with simd alone", "", "", {}),
     ("task_number", 0, "", "", "", {}),
     ("numbered", 3, f"each of 2 {BLOCKS}, since its region asks", "", "", {}),
     ("nested", 3, INNER, "", "", {}),
@@ -272,6 +280,15 @@ class RefusedTest(OpenMPTest):
                                         f"{name}({'0' if parameter == 'int' else ''});\n}}\n")
                 self.ends_with(1, f"unknown.c:3: {name} can.t be traced: it is a part of OpenMP", SPBAGS_CC,
                                "-fopenmp", "-o", "unknown", "unknown.c")
+
+    def test_ignored(self):
+        """Without -fopenmp a warning says that the program is serial."""
+        self.write("ignored.c", "void f(int *at) {\n#pragma omp simd\nfor (int i = 0; i < 8; i++) at[i] = i;\n"
+                                "#pragma omp parallel for\nfor (int i = 0; i < 8; i++) at[i]++;\n}\n")
+        for options, lines in (((), ["4"]), (("-fopenmp",), []), (("-Wno-unknown-pragmas",), [])):
+            with self.subTest(options):
+                done = self.succeeds(SPBAGS_CC, *options, "-c", "ignored.c")
+                self.assertEqual(lines, re.findall("ignored.c:([0-9]+): warning: without -fopenmp", done.errors))
 
     def test_cilk(self):
         self.ends_with(1, "fib.c:8: error: Cilk can.t be traced together with OpenMP", SPBAGS_CC, "-fopenmp", "-c",

@@ -1,6 +1,7 @@
 #!/usr/bin/env python3
-"""Reducers, for each level: in C for each compiler, and in C++."""
+"""Reducers, for each level, by gcc: in C and in C++."""
 import os
+import shutil
 import sys
 
 sys.dont_write_bytecode = True
@@ -11,6 +12,7 @@ C, CPLUSPLUS = (os.path.join(TESTS, name) for name in ("reducers.c", "reducers.c
 PRINTED = """out 7 12 3 4 26 10
 10 15 10 4 10
 21 20 12 20
+10 24 4 4 5
 11 24 f0 7 4 4 1 1 6 4
  and 8
 4 eeeeeeeeeeeeeeeeeeee tbbbbbbbbbbccccccccccddddddddddeeeeeeeeee
@@ -41,12 +43,14 @@ class CTest(ReducersTest):
         """The line of the value is two above that of the update."""
         of_struct = line_of(C, "counts.all; /*")
         yield from (f"{line} {line + 2}" for line in lines_of(C, "[value]") if line != of_struct)
-        yield from (f"{line_of(C, '[added]')} {line_of(C, tag)}" for tag in ("[before sync]", "[ends]", "[array ends]"))
+        yield f"{line_of(C, '[handed]')} {line_of(C, '[before sync]')}"
+        yield from (twice(line_of(C, tag)) for tag in ("[ends]", "[array ends]"))
+        yield f"{line_of(C, '[set by child]')} {line_of(C, '[beside child]')}"
         yield from (twice(line_of(C, tag)) for tag in ("[shadowed]", "[other struct]"))
 
     def test_races(self):
         with self.subTest("clean"):
-            self.says(["6 8 4 3 4", "6", "6 4 4 -4", "2 4 13 2", "12 7", "6 3", "12 2 3 2"],
+            self.says(["6 8 4 3 4", "6", "6 4 4 -4", "2 4 13 2", "12 7", "7 -4 7 4 10", "6 3", "12 2 3 2"],
                       "--", "./reducers", "clean")
         with self.subTest("racy"):
             self.assertEqual(sorted(self.racy_lines()), self.lines(C, "./reducers", "racy"))
@@ -74,13 +78,22 @@ class CTest(ReducersTest):
             self.assertEqual([twice(line_of(C, "[number]"))], self.lines(C, "./reducers", "arguments"))
 
     def test_refused(self):
-        start = "#include <cilk/cilk.h>\nstatic int cilk_reducer(0, 0) {};\nint main(void) {{\nreturn 0; {};\n}}\n"
-        for variable, use, text in (("of[2]", "*of", "name one element of the reducers of"),
-                                    ("*of", "of++", "name what the pointer of points to"),
-                                    ("*of", "int *at = of", "what gets it is no pointer to a reducer")):
-            with self.subTest(use):
-                self.write("element.c", start.format(variable, use))
-                self.ends_with(1, f"(?m)^element.c:4: error: .*{text}", SPBAGS_CC, "element.c")
+        start = "#include <cilk/cilk.h>\nvoid zero(void *);\nvoid add(void *, void *);\n"
+        no_place = "this reducer cannot be traced: declare a variable, a member or a pointer"
+        for text, why in (("void f(int cilk_reducer(zero, add) by_value);", no_place),
+                          ("typedef int cilk_reducer(zero, add) named;", no_place),
+                          ("struct { int x; } cilk_reducer(zero, add) made;", no_place),
+                          ("_Thread_local int cilk_reducer(zero, add) own;", "local to a thread"),
+                          ("int cilk_reducer(zero, add) sum; int *at = &sum;", "cannot be traced in a constant")):
+            with self.subTest(text):
+                self.write("place.c", start + text)
+                self.ends_with(1, f"(?m)^place.c:4:.* error: .*{why}", SPBAGS_CC, "-c", "place.c")
+        with self.subTest("another compiler"):
+            if not shutil.which("clang"):
+                return
+            self.write("place.c", start + "int cilk_reducer(zero, add) sum;")
+            self.ends_with(1, "(?m)^place.c:4: error: reducers can be traced only with gcc$", SPBAGS_CC, "-c", "place.c",
+                           CC="clang")
 
 
 class CPlusPlusTest(ReducersTest):
@@ -93,6 +106,10 @@ class CPlusPlusTest(ReducersTest):
                              self.lines(CPLUSPLUS, "./reducers", "racy"))
         with self.subTest("a monoid of its own"):
             self.reports(3, "what the monoid Union does in another schedule", "--", "./reducers", "own")
+        with self.subTest("views with more memory elsewhere"):
+            said = self.reports(3, "what join does for the reducer all in another schedule", "--unseen-ok", "std*", "--",
+                                "./reducers", "views")
+            self.assertIn("16", said.splitlines())
 
 
 if __name__ == "__main__":

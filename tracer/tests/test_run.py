@@ -13,7 +13,8 @@ import time
 
 sys.dont_write_bytecode = True
 import cases
-from cases import SPBAGS_CC, SPBAGS_LINES, SPBAGS_RUN, TESTS, TRACER, TracerTest, lines_of_tags
+from cases import (DETECTOR, INSIDE, SPBAGS_CC, SPBAGS_LINES, SPBAGS_RUN, TESTS, TRACER, TracerTest, last_line,
+                   lines_of_tags)
 import answers
 import source
 
@@ -26,6 +27,22 @@ SAYS = """#!/usr/bin/env python3
 import os, sys
 os.write(int(os.environ["SPBAGS_TRACE"][3:]), b"trace 2\\nreturn\\n")
 os.write(int(os.environ["SPBAGS_SAYS"][3:]), "".join(line + "\\n" for line in sys.argv[1:]).encode())
+"""
+# With a word three children access a location each.
+EXTENT = """#include <cilk/cilk.h>
+static volatile int at[4];
+static void set(int number) {
+    at[number] = 1;
+}
+int main(int count, char **words) {
+    (void)words;
+    set(3);
+    if (count > 1) {
+        cilk_spawn set(0);
+        cilk_spawn set(1);
+        cilk_spawn set(2);
+    }
+}
 """
 FAULTS = "int main(void) { *(volatile int *)8 = 1; }\n"
 TAKES = """#include <signal.h>
@@ -236,12 +253,29 @@ class ReportTest(RunTest):
         self.assertEqual(([1000], 1003, {"pairs": 3, "races": 3}),
                          ([pair["races"] for pair in report["pairs"]], report["races"], report["not_shown"]))
         text = self.text_of("--most", "0", "--", "./run", *words)
-        self.assertEqual("races 1003, pairs of lines 4; not shown: 1003 races of 4 pairs", text.splitlines()[-1])
+        self.assertEqual("races 1003, pairs of lines 4; not shown: 1003 races of 4 pairs", last_line(text))
+
+    def test_extent(self):
+        """The last line says how much there was, and a run without anything in parallel has no answer to be sure of."""
+        self.write("extent.c", EXTENT)
+        self.succeeds(SPBAGS_CC, *DETECTOR, "-o", "extent", "extent.c")
+        for word, status, spawns, accesses in (("", 3, 0, 1), ("three", 0, 3, 4)):
+            done = self.run_command(SPBAGS_RUN, "--json", "--", "./extent", *word.split())
+            found = json.loads(done.out)
+            with self.subTest(word):
+                self.assertEqual((status, status == 3),
+                                 (done.status, "nothing ran in parallel" in "".join(found["incomplete"])))
+                self.assertEqual((spawns, accesses) if INSIDE else (None, None), (found["spawns"], found["accesses"]))
+        if INSIDE:
+            self.assertEqual("races 0, pairs of lines 0, 3 spawns, 4 accesses",
+                             self.run_command(SPBAGS_RUN, "--", "./extent", "three").out.splitlines()[-1])
 
     def test_no_race(self):
-        self.assertEqual((0, "races 0, pairs of lines 0\n", ""), self.run_command(SPBAGS_RUN, "--", "./run"))
         status, report = self.found()
-        self.assertEqual((0, 0, []), (status, report["races"], report["pairs"]))
+        self.assertEqual((3, 0, []), (status, report["races"], report["pairs"]))
+        modules = self.run_command(sys.executable, "-X", "importtime", SPBAGS_RUN, "--", "./run").errors
+        for name, is_read in (("runs", True), ("pairs", False), ("variables", False)):
+            self.assertEqual(is_read, re.search(rf"(?m)\| +{name}$", modules) is not None, name)
 
 
 class SecondRunTest(RunTest):
@@ -256,20 +290,37 @@ class SecondRunTest(RunTest):
         self.assertEqual([[("write", "[set]")], [("write", "[global]")]], sides_of(kept["pairs"][0]))
 
     def test_program_that_keeps_a_file(self):
-        """The first run's races are reported, with its own lines, also if the trace is kept."""
-        for options in ((), ("--keep", "run.trace")):
+        """The first run's races are reported: with its own lines if its trace is kept, or it alone looks; else without
+        any."""
+        lines = [[("write", "[set]")], [("write", "[global]")]], None
+        for options, many, (sides, guard) in (((), 3, ([[("write", "?")], [("write", "?")]], "unknown")),
+                                              (("--keep", "run.trace"), 2, lines), (("--one-run",), 1, lines)):
             status, report = self.found_at_first("file", options=options)
-            self.assertEqual((1, 1, 1, False),
-                             tuple((status, report["races"], report["without_stacks"], report["stacks"])))
+            self.assertEqual((1, 1, 1, False, many), (status, report["races"], report["without_stacks"],
+                                                      report["stacks"], os.path.getsize("ran")))
             [pair] = report["pairs"]
-            self.assertEqual(([[("write", "[set]")], [("write", "[global]")]], 1, "table", 8, None),
+            self.assertEqual((sides, 1, "table", 8, guard),
                              (sides_of(pair), pair["races"], *of_variable(pair, "name", "offset"), pair["guard"]))
         os.remove("ran")
         text = self.text_of("--", "./run", "file")
-        self.assertEqual("races 1, pairs of lines 1", text.splitlines()[-1])
+        self.assertEqual("races 1, pairs of lines 1", last_line(text))
         self.assertRegex(" ".join(text.split()),
                          "the second run took another path: record [0-9]+, an access of the first run, is .* in the "
-                         "second; lines without stacks: 1 of 1 race")
+                         "second; lines without stacks: 1 of 1 race 1 race of the first run came in no later one, and "
+                         "has no lines: this program can't be repeated")
+
+    def test_number_of_runs(self):
+        for many, *words in ((1, "file alone"), (2, "file alone", "global")):
+            self.found_at_first(*words)
+            self.assertEqual(many, os.path.getsize("ran"))
+
+    def test_races_of_a_later_run(self):
+        """A run that looks from its start has another race, which is reported beside that of the first."""
+        status, report = self.found_at_first("others file")
+        self.assertEqual((1, 2, 2, 3), (status, report["races"], report["without_stacks"], os.path.getsize("ran")))
+        self.assertEqual({"table": [[("write", "?")], [("write", "?")]],
+                          "calls": [[("write", "[count]")], [("write", "[count]")]]},
+                         {pair["variable"]["name"]: sides_of(pair) for pair in report["pairs"]})
 
     def test_later_course(self):
         """What the second run meets before it goes astray has its stacks."""
@@ -278,23 +329,30 @@ class SecondRunTest(RunTest):
         whole, bare = sorted(report["pairs"], key=lambda pair: pair["variable"]["name"], reverse=True)
         self.assertEqual([("write", "[set]"), ("call", "[set below]"), ("spawn", "[spawn global]")],
                          sides_of(whole)[0][:3])
-        self.assertEqual([[("write", "[count]")], [("write", "[count]")]], sides_of(bare))
+        self.assertEqual([[("write", "?")], [("write", "?")]], sides_of(bare))
         self.assertEqual("calls", bare["variable"]["name"])
 
     def test_guards_of_another_course(self):
-        """What was held in the first run is said, and makes no data race."""
-        status, report = self.found_at_first("guards file")
+        """What was held in the first run isn't known by what later ones hold, so it may be a data race."""
+        for word, sides in (("guards file", [[("write", "?")], [("write", "?")]]),
+                            ("locks file", [[("write", "[turn later]")], [("write", "[turn later]")]])):
+            status, report = self.found_at_first(word, options=("--data-races",))
+            [pair] = [pair for pair in report["pairs"] if pair["variable"]["name"] == "guarded"]
+            self.assertEqual((1, "unknown", sides), (status, pair["guard"], [side[:1] for side in sides_of(pair)]))
+
+    def test_guards_of_one_run(self):
+        status, report = self.found_at_first("guards file", options=("--one-run",))
         self.assertEqual((1, ["atomic", "the lock lock"], False),
                          (status, [pair["guard"] for pair in report["pairs"]], report["stacks"]))
         self.assertEqual([(True, True), (False, False)],
                          [(pair["first"]["atomic"], pair["second"]["atomic"]) for pair in report["pairs"]])
-        self.assertEqual(0, self.found_at_first("guards file", options=("--data-races",))[0])
+        self.assertEqual(0, self.found_at_first("guards file", options=("--one-run", "--data-races"))[0])
 
     def test_small_disk(self):
         """Races whose places have no room have no lines, and it isn't known whether they are data races."""
         for options in ((), ("--data-races",)):
             done = self.run_command("bash", "-c", 'rm -f ran; ulimit -f 100; exec "$@"', "bash", SPBAGS_RUN, "--json",
-                                    *options, "--", "./run", "small disk")
+                                    "--one-run", *options, "--", "./run", "small disk")
             status, report = done.status, self.as_report(done)
             self.assertEqual((1, 1002, 1002), (status, report["races"], report["without_stacks"]))
             pairs = {pair["variable"]["name"]: pair for pair in report["pairs"]}
@@ -368,17 +426,19 @@ class SecondRunTest(RunTest):
         self.assertEqual((1, 1, [(True, 1)]),
                          (status, report["races"], [(pair["neighbours"], pair["races"]) for pair in report["pairs"]]))
         self.assertRegex("\n".join(report["notes"]), "(?m)^maybe only neighbours race at 1 location")
-        status, report = self.found_at_first("third")
+        self.assertEqual(2, os.path.getsize("ran"))
+        status, report = self.found_at_first("fourth")
+        self.assertEqual(5, os.path.getsize("ran"))
         self.assertEqual((1, 1, False, 1), (status, report["races"], report["stacks"], report["without_stacks"]))
         [pair] = report["pairs"]
-        self.assertEqual([[("write", "[letter]")], [("write", "[letter]")]], sides_of(pair))
+        self.assertEqual([[("write", "?")], [("write", "?")]], sides_of(pair))
         self.assertEqual(("letters", 5, False),
                          (pair["variable"]["name"], pair["variable"]["offset"], pair["neighbours"]))
 
     def test_programs_without_a_race(self):
-        for name in ("many", "stores"):
+        for name, status in (("many", 0), ("stores", 3)):
             self.build(name, os.path.join(TESTS, name + ".c"), "-w")
-            self.assertEqual(0, self.run_command(SPBAGS_RUN, "--", "./" + name).status)
+            self.reports(status, "races 0", "--", "./" + name)
 
 
 class OutputTest(RunTest):
@@ -507,10 +567,9 @@ class StatusTest(RunTest):
             self.assertEqual((3, [shown[at] for at in left]), (status, text))
             self.assertEqual([functions[at - 1] for at in left[1:]], report["unseen"])
         self.assertEqual((0, []), self.said_with(*lines[1:], options=("--unseen-ok", "*"))[:2])
-        self.assertEqual((0, ["a line"]), self.said_with("report: a line")[:2])
 
     def test_statuses(self):
-        for wanted, word, *words in ((77, "77", "global"), (0, "0", "global"), (0, "77")):
+        for wanted, word, *words in ((77, "77", "global"), (0, "0", "global"), (3, "77")):
             with self.subTest(word, words=words):
                 done = self.run_command(SPBAGS_RUN, "--exitcode", word, "--", "./run", *words)
                 self.assertEqual(wanted, done.status)
@@ -551,7 +610,7 @@ class SuppressedTest(RunTest):
         with self.subTest("the text"):
             self.write("suppressed", "race:set_all\n")
             text = self.text_of("--suppress", "suppressed", "--", "./run", *words)
-            self.assertEqual("races 2, pairs of lines 2; suppressed: 1000 races of 1 pair", text.splitlines()[-1])
+            self.assertEqual("races 2, pairs of lines 2; suppressed: 1000 races of 1 pair", last_line(text))
         with self.subTest("another line"):
             self.write("suppressed", "races:main\n")
             self.fails_with("suppressed:1: expected race:FUNCTION, race:FILE, variable:NAME or pair:FILE:LINE FILE:LINE NAME",

@@ -6,10 +6,14 @@ import json
 import os
 import re
 import sys
+import unittest.mock
 
 sys.dont_write_bytecode = True
 import cases
-from cases import SPBAGS_RUN, TESTS, TracerTest
+import pairs
+import source
+import text
+from cases import SPBAGS_RUN, TESTS, TracerTest, last_line
 
 MISSING = ["private", "reduction", "atomic", "critical"]
 # Of a word's pairs the line, and the names of their variables.
@@ -58,6 +62,8 @@ class NamesTest(WordsTest):
         with self.subTest("a thread's"):
             self.assertEqual([(True, "mine")], [(pair["variable"]["thread_local"], pair["variable"]["name"])
                                                 for pair in self.pairs_of("thread")])
+            done = self.run_command(SPBAGS_RUN, "--data-races", "--", "./words", "thread")
+            self.assertEqual((0, True), (done.status, "1 pair of thread-local variables left out" in done.out))
         with self.subTest("rows"):
             self.assertEqual("mine, thread-local", variable_row(self.text_of("thread")))
             self.assertEqual("params[1].kind", variable_row(self.text_of("union")))
@@ -143,7 +149,19 @@ class TextTest(WordsTest):
         self.assertEqual(["grid: 40 locations in 3 pairs of lines", "25 locations: write races with write"],
                          blocks[0].splitlines()[:2])
         self.assertEqual(["10 locations: write races with write", "5 locations: write races with write",
-                          "races 40, pairs of lines 3"], [block.splitlines()[0] for block in blocks[1:]])
+                          "races 40, pairs of lines 3"], [last_line(block.splitlines()[0]) for block in blocks[1:]])
+
+    def test_innermost(self):
+        """Of a stack in the library's headers the function that does the access has a row, and so has the outermost."""
+        at = [source.Position(*words) for words in (("/usr/include/c++/store.h", 3, "store"), ("/usr/include/c++/pass.h", 5, "pass"),
+                                                    ("/usr/include/c++/sort.h", 7, "sort"), ("own.cpp", 9, "main"))]
+        rows = text.Text.rows([pairs.Frame(role, position, 1) for role, position in zip(("header", *["call"] * 3), at)])
+        self.assertEqual([("store.h:3", "store", ""), ("sort.h:7", "sort", "and 1 more"), ("own.cpp:9", "main", "")],
+                         [(row.place, row.function, row.behind) for row in rows])
+        codes = dict(enumerate(at))
+        with unittest.mock.patch("source.positions_of", lambda _, __: {code + 1: [one] for code, one in codes.items()}):
+            self.assertEqual(["/usr/include/c++/store.h:3", "own.cpp:9"],
+                             [row.split()[0] for row in text.stack_rows("program", codes)])
 
     def test_line_ends(self):
         """A form feed ends no line of a source, nor does what else ends lines for Python."""
@@ -203,7 +221,7 @@ class SuppressionsTest(WordsTest):
         self.assertEqual(["variable:gri* suppresses 40 races of 3 pairs", "variable:^rid suppresses nothing",
                           "race:set_row suppresses 40 races of 3 pairs",
                           "races 0, pairs of lines 0; suppressed: 40 races of 3 pairs"],
-                         self.text_of("pairs", options=("--suppress", "known")).splitlines())
+                         list(map(last_line, self.text_of("pairs", options=("--suppress", "known")).splitlines())))
 
 
 class CPlusPlusTest(WordsTest):

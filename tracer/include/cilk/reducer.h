@@ -201,7 +201,7 @@ template <class T> struct changed_value {
 
 #else
 
-/* In C a reducer of the older library is one of OpenCilk; `name.value` is its value too. */
+/* In C a reducer of the older library is a member of a struct, `name.value`. */
 typedef unsigned char __spbags_uchar;
 typedef signed char __spbags_schar;
 typedef unsigned short __spbags_ushort;
@@ -218,12 +218,12 @@ typedef long __spbags_long;
 typedef float __spbags_float;
 typedef double __spbags_double;
 
-#define REDUCER_VIEW(name) (name)
-#define CILK_C_REGISTER_REDUCER(name) ((void)(name))
-#define CILK_C_UNREGISTER_REDUCER(name) ((void)(name))
-#define CILK_C_DECLARE_REDUCER(type) type _Hyperobject
-#define CILK_C_INIT_REDUCER(type, reduce, identity, destroy, ...) __VA_ARGS__
-#define __SPBAGS_C_REDUCER(name, type, value) __spbags_##type _Hyperobject(0, 0) name = (value)
+#define REDUCER_VIEW(name) ((name).value)
+#define CILK_C_REGISTER_REDUCER(name) ((void)(name).value)
+#define CILK_C_UNREGISTER_REDUCER(name) ((void)(name).value)
+#define CILK_C_DECLARE_REDUCER(type) struct { type _Hyperobject value; }
+#define CILK_C_INIT_REDUCER(type, reduce, identity, destroy, ...) {__VA_ARGS__}
+#define __SPBAGS_C_REDUCER(name, type, ...) struct { __spbags_##type _Hyperobject(0, 0) value; } name = {__VA_ARGS__}
 
 #endif
 #endif

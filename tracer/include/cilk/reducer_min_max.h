@@ -91,8 +91,8 @@ __SPBAGS_BEST(min, <)
 #define __SPBAGS_BEST(name, other, SIGN) \
     do { \
         __typeof__(other) __spbags_other = (other); \
-        if (__spbags_other SIGN (name)) \
-            (name) = __spbags_other; \
+        if (__spbags_other SIGN (name).value) \
+            (name).value = __spbags_other; \
     } while (0)
 
 /* A value and its index. */
@@ -107,15 +107,15 @@ __SPBAGS_INDEXED(longlong) __SPBAGS_INDEXED(ulonglong) __SPBAGS_INDEXED(float) _
 __SPBAGS_INDEXED(longdouble)
 #undef __SPBAGS_INDEXED
 
-#define CILK_C_REDUCER_MAX_INDEX(name, type, value) __spbags_indexed_##type _Hyperobject(0, 0) name = {0, (value)}
-#define CILK_C_REDUCER_MIN_INDEX(name, type, value) __spbags_indexed_##type _Hyperobject(0, 0) name = {0, (value)}
+#define CILK_C_REDUCER_MAX_INDEX(name, type, value) __SPBAGS_C_REDUCER(name, indexed_##type, {0, (value)})
+#define CILK_C_REDUCER_MIN_INDEX(name, type, value) __SPBAGS_C_REDUCER(name, indexed_##type, {0, (value)})
 #define CILK_C_REDUCER_MAX_INDEX_CALC(name, index, other) __SPBAGS_BEST_INDEX(name, index, other, >)
 #define CILK_C_REDUCER_MIN_INDEX_CALC(name, index, other) __SPBAGS_BEST_INDEX(name, index, other, <)
 #define __SPBAGS_BEST_INDEX(name, index, other, SIGN) \
     do { \
         __typeof__(other) __spbags_other = (other); \
-        if (__spbags_other SIGN (name).value) \
-            (name) = (__typeof__(name)){(index), __spbags_other}; \
+        if (__spbags_other SIGN (name).value.value) \
+            (name).value = (__typeof__((name).value)){(index), __spbags_other}; \
     } while (0)
 
 #endif

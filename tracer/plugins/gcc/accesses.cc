@@ -1,0 +1,202 @@
+#include "accesses.h"
+
+#include "assembly.h"
+#include "calls.h"
+
+/* Memory of this function alone: nothing takes its address. */
+bool accesses::is_own(tree base) const {
+    if (!DECL_P(base))
+        return false;
+    if (VAR_P(base) && DECL_HARD_REGISTER(base))
+        return true;
+    if (is_global_var(base))
+        return false;
+    /* What is given in memory is in the caller's. */
+    if (TREE_CODE(base) == RESULT_DECL && aggregate_value_p(base, fun->decl))
+        return false;
+    return !may_be_aliased(base);
+}
+
+/* Nothing writes there. */
+static bool is_constant(tree base) {
+    return TREE_CODE(base) == STRING_CST || CONSTANT_CLASS_P(base) || TREE_CODE(base) == CONSTRUCTOR ||
+           (DECL_P(base) && TREE_READONLY(base) && is_global_var(base) && !TREE_SIDE_EFFECTS(base));
+}
+
+/* What the compiler itself keeps, of whether a variable is initialised: who comes later waits, or has its own. */
+static bool is_of_initialisation(tree base) {
+    if (!VAR_P(base) || !DECL_ARTIFICIAL(base) || !is_global_var(base) || !DECL_NAME(base))
+        return false;
+    const char *name = IDENTIFIER_POINTER(DECL_NAME(base));
+    return begins_with(name, "_ZGV") || strcmp(name, "__tls_guard") == 0;
+}
+
+static tree without_views(tree reference) {
+    while (TREE_CODE(reference) == VIEW_CONVERT_EXPR)
+        reference = TREE_OPERAND(reference, 0);
+    return reference;
+}
+
+static bool is_reference(tree value) {
+    return DECL_P(value) || handled_component_p(value) || TREE_CODE(value) == MEM_REF ||
+           TREE_CODE(value) == TARGET_MEM_REF;
+}
+
+/* What has no address of its own. */
+static bool is_part(tree reference) {
+    return TREE_CODE(reference) == BIT_FIELD_REF ||
+           (TREE_CODE(reference) == COMPONENT_REF && DECL_BIT_FIELD(TREE_OPERAND(reference, 1)));
+}
+
+static tree address_of(tree reference) {
+    tree base = get_base_address(reference);
+    if (base && DECL_P(base))
+        mark_addressable(base);
+    return build_fold_addr_expr(unshare_expr(reference));
+}
+
+static gcall *call_of(tree address, tree size, unsigned alignment, bool writes, way made) {
+    static const char *const usual[2][17] = {{0, "__tsan_read1", "__tsan_read2", 0, "__tsan_read4", 0, 0, 0,
+                                              "__tsan_read8", 0, 0, 0, 0, 0, 0, 0, "__tsan_read16"},
+                                             {0, "__tsan_write1", "__tsan_write2", 0, "__tsan_write4", 0, 0, 0,
+                                              "__tsan_write8", 0, 0, 0, 0, 0, 0, 0, "__tsan_write16"}};
+    if (made == AS_ARGUMENT)
+        return call_hook("__spbags_argument", {address, size});
+    if (made == ATOMICALLY)
+        return call_hook("__spbags_atomic", {address, size, number_of(writes)});
+    if (made != PLAINLY)
+        return call_hook("__spbags_asm", {address, size, number_of(writes), number_of(made == BY_LOCKED_ASSEMBLY)});
+    HOST_WIDE_INT bytes = tree_fits_shwi_p(size) ? tree_to_shwi(size) : 0;
+    const char *name = bytes > 0 && bytes <= 16 ? usual[writes][bytes] : nullptr;
+    if (name && alignment >= MIN(bytes, 8) * BITS_PER_UNIT)
+        return call_hook(name, {address});
+    return call_hook(writes ? "__tsan_write_range" : "__tsan_read_range", {address, size});
+}
+
+static void locate(gimple_seq sequence, location_t location) {
+    for (gimple_stmt_iterator at = gsi_start(sequence); !gsi_end_p(at); gsi_next(&at))
+        gimple_set_location(gsi_stmt(at), location);
+}
+
+void accesses::put_before(gimple *statement, gimple_seq sequence) {
+    locate(sequence, gimple_location(statement));
+    hooks.push_back({statement, sequence, false});
+}
+
+/* ADDRESS is an expression. */
+void accesses::add(gimple *statement, tree address, tree size, unsigned alignment, bool writes, way made, bool behind) {
+    gimple_seq sequence = nullptr;
+    tree value = force_gimple_operand(address, &sequence, true, NULL_TREE);
+    tree bytes = as_number(size, &sequence);
+    gimple_seq_add_stmt(&sequence, call_of(value, bytes, alignment, writes, made));
+    locate(sequence, gimple_location(statement));
+    hooks.push_back({statement, sequence, behind});
+}
+
+void accesses::note_memory(gimple *statement, tree address, tree size, bool writes, way made, bool behind) {
+    if (!integer_zerop(size))
+        add(statement, unshare_expr(address), size, get_pointer_alignment(address), writes, made, behind);
+}
+
+void accesses::note_unseen(gimple *statement) {
+    gimple_seq sequence = nullptr;
+    gimple_seq_add_stmt(&sequence, call_hook("__spbags_unseen", {place_of(gimple_location(statement))}));
+    put_before(statement, sequence);
+}
+
+/* In bits, of what stands so many bytes behind something aligned. */
+static unsigned alignment_behind(unsigned alignment, unsigned HOST_WIDE_INT bytes) {
+    return bytes == 0 ? alignment : MIN(alignment, least_bit_hwi(bytes) * BITS_PER_UNIT);
+}
+
+/* Some bits, of which the compiler takes no address: the bytes that have them. A bit field is written together with its
+   neighbours. Of what isn't at a constant place it is the whole. */
+void accesses::note_part(gimple *statement, tree reference, bool writes, way made, bool behind) {
+    tree whole = without_views(TREE_OPERAND(reference, 0));
+    tree first, bits;
+    if (TREE_CODE(reference) == COMPONENT_REF) {
+        tree field = TREE_OPERAND(reference, 1);
+        if (writes && DECL_BIT_FIELD_REPRESENTATIVE(field))
+            field = DECL_BIT_FIELD_REPRESENTATIVE(field);
+        first = bit_position(field);
+        bits = DECL_SIZE(field);
+    } else {
+        first = TREE_OPERAND(reference, 2);
+        bits = TREE_OPERAND(reference, 1);
+    }
+    if (is_part(whole) || !tree_fits_uhwi_p(first) || !tree_fits_uhwi_p(bits)) {
+        note_reference(statement, whole, writes, made, behind);
+        return;
+    }
+    unsigned HOST_WIDE_INT from = tree_to_uhwi(first), end = from + tree_to_uhwi(bits);
+    unsigned HOST_WIDE_INT begins = from / BITS_PER_UNIT, bytes = (end + BITS_PER_UNIT - 1) / BITS_PER_UNIT - begins;
+    unsigned alignment = alignment_behind(get_object_alignment(whole), begins);
+    tree address = fold_build_pointer_plus_hwi(address_of(whole), begins);
+    add(statement, address, number_of(bytes), alignment, writes, made, behind);
+}
+
+void accesses::note_reference(gimple *statement, tree reference, bool writes, way made, bool behind) {
+    tree size = NULL_TREE;
+    if (TREE_CODE(reference) == WITH_SIZE_EXPR) {
+        size = TREE_OPERAND(reference, 1);
+        reference = TREE_OPERAND(reference, 0);
+    }
+    reference = without_views(reference);
+    tree base = is_reference(reference) ? get_base_address(reference) : NULL_TREE;
+    if (!base || is_gimple_reg(base) || is_own(base) || is_of_initialisation(base) || (is_constant(base) && !writes))
+        return;
+    tree type = TREE_TYPE(reference);
+    size = size ? size : TYPE_SIZE_UNIT(type);
+    if (is_empty_type(type))
+        return;
+    if (is_part(reference))
+        note_part(statement, reference, writes, made, behind);
+    else if (!ADDR_SPACE_GENERIC_P(TYPE_ADDR_SPACE(type)) || !size || !is_gimple_val(size))
+        note_unseen(statement);
+    else if (!integer_zerop(size))
+        add(statement, address_of(reference), size, get_object_alignment(reference), writes, made, behind);
+}
+
+void accesses::find_in(gimple *statement) {
+    if (is_gimple_debug(statement) || gimple_clobber_p(statement))
+        return;
+    if (gcall *call = dyn_cast<gcall *>(statement)) {
+        find_in_call(*this, call);
+    } else if (gasm *assembly = dyn_cast<gasm *>(statement)) {
+        find_in_assembly(*this, assembly);
+    } else if (greturn *returns = dyn_cast<greturn *>(statement)) {
+        tree value = gimple_return_retval(returns);
+        if (value && TREE_CODE(value) != RESULT_DECL)
+            note_reference(statement, value, false);
+    } else if (is_gimple_assign(statement)) {
+        if (gimple_assign_single_p(statement))
+            note_reference(statement, gimple_assign_rhs1(statement), false);
+        if (gimple_store_p(statement))
+            note_reference(statement, gimple_assign_lhs(statement), true);
+    }
+}
+
+void accesses::find() {
+    basic_block block;
+    FOR_EACH_BB_FN (block, fun)
+        for (gimple_stmt_iterator at = gsi_start_bb(block); !gsi_end_p(at); gsi_next(&at))
+            find_in(gsi_stmt(at));
+}
+
+static void put_behind(gimple *statement, gimple_seq sequence) {
+    gimple_stmt_iterator at = gsi_for_stmt(statement);
+    if (!stmt_ends_bb_p(statement))
+        gsi_insert_seq_after(&at, sequence, GSI_SAME_STMT);
+    else if (edge goes_on = find_fallthru_edge(gimple_bb(statement)->succs))
+        gsi_insert_seq_on_edge_immediate(goes_on, sequence);
+}
+
+void accesses::put() {
+    for (hook &one : hooks) {
+        gimple_stmt_iterator at = gsi_for_stmt(one.statement);
+        if (one.behind)
+            put_behind(one.statement, one.sequence);
+        else
+            gsi_insert_seq_before(&at, one.sequence, GSI_SAME_STMT);
+    }
+}

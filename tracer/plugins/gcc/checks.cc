@@ -1,0 +1,185 @@
+#include "checks.h"
+
+static bool checks_wanted;
+
+/* The macros come before all code. */
+static void put_macros(void *, void *file) {
+    std::string text, line;
+    /* What may become a part of a shared library has addresses in a table. */
+    if (flag_shlib)
+        text = "\t.set __spbags_is_shared, 1\n";
+    std::ifstream lines(static_cast<const char *>(file));
+    while (std::getline(lines, line))
+        if (line[0] != '#')
+            text += line + "\n";
+    if (!lines.eof())
+        fatal_error(UNKNOWN_LOCATION, "the plugin cannot read %s", static_cast<const char *>(file));
+    if (ASSEMBLER_DIALECT == ASM_INTEL)
+        text = "\t.att_syntax prefix\n" + text + "\t.intel_syntax noprefix\n";
+    symtab->finalize_toplevel_asm(build_string(text.size() + 1, text.c_str()));
+}
+
+void checks_begin(const char *plugin, const char *file) {
+    checks_wanted = true;
+    register_callback(plugin, PLUGIN_START_UNIT, put_macros, const_cast<char *>(file));
+}
+
+/* ---- Memory of the function alone ---- */
+
+static bool is_local(tree base) {
+    if (!DECL_P(base) || is_global_var(base) || TREE_CODE(base) == RESULT_DECL)
+        return false;
+    if (!may_be_aliased(base))
+        return true;
+    pt_solution shared;
+    memset(&shared, 0, sizeof shared);
+    shared.escaped = 1;
+    shared.ipa_escaped = flag_ipa_pta != 0;
+    return !pt_solution_includes(&shared, base);
+}
+
+static bool points_to_local(tree pointer) {
+    ptr_info_def *known = TREE_CODE(pointer) == SSA_NAME ? SSA_NAME_PTR_INFO(pointer) : nullptr;
+    if (!known)
+        return false;
+    const pt_solution &to = known->pt;
+    /* What is given in memory is in the caller's. */
+    tree result = DECL_RESULT(cfun->decl);
+    if (to.vars && result && bitmap_bit_p(to.vars, DECL_PT_UID(result)))
+        return false;
+    return !to.anything && !to.nonlocal && !to.escaped && !to.ipa_escaped && !to.vars_contains_nonlocal &&
+           !to.vars_contains_escaped && !to.vars_contains_escaped_heap && to.vars && !bitmap_empty_p(to.vars);
+}
+
+static bool is_of_own_memory(gimple *statement) {
+    const char *name = called_hook(statement);
+    if (!name || !(begins_with(name, "__tsan_read") || begins_with(name, "__tsan_write") ||
+                   strcmp(name, "__spbags_argument") == 0))
+        return false;
+    tree address = gimple_call_arg(statement, 0);
+    if (TREE_CODE(address) != ADDR_EXPR)
+        return points_to_local(address);
+    tree base = get_base_address(TREE_OPERAND(address, 0));
+    if (base && TREE_CODE(base) == MEM_REF)
+        return points_to_local(TREE_OPERAND(base, 0));
+    return base && is_local(base);
+}
+
+static void remove_hook(gimple_stmt_iterator *at) {
+    gimple *hook = gsi_stmt(*at);
+    unlink_stmt_vdef(hook);
+    gsi_remove(at, true);
+    release_defs(hook);
+}
+
+bool checks_drop_own(function *fun) {
+    bool dropped = false;
+    basic_block block;
+    FOR_EACH_BB_FN (block, fun)
+        for (gimple_stmt_iterator at = gsi_start_bb(block); !gsi_end_p(at);) {
+            bool is_needless = is_of_own_memory(gsi_stmt(at));
+            dropped |= is_needless;
+            if (is_needless)
+                remove_hook(&at);
+            else
+                gsi_next(&at);
+        }
+    return dropped;
+}
+
+/* ---- Tests ---- */
+
+static tree operand(const char *constraint, tree value) {
+    return build_tree_list(build_tree_list(NULL_TREE, build_string(strlen(constraint) + 1, constraint)), value);
+}
+
+/* All that a call changes: the text calls the hook where the test doesn't do. */
+static vec<tree, va_gc> *changed_by_calls() {
+    vec<tree, va_gc> *changed = nullptr;
+    auto add = [&](const std::string &name) {
+        vec_safe_push(changed, build_tree_list(NULL_TREE, build_string(name.size() + 1, name.c_str())));
+    };
+    for (const char *name : {"rax", "rcx", "rdx", "rsi", "r8", "r9", "r10", "r11"})
+        add(name);
+    /* A function may be for general registers alone. */
+    int vectors = !TARGET_SSE ? 0 : TARGET_AVX512F ? 32 : 16;
+    for (int number = 0; number < vectors; number++)
+        add("xmm" + std::to_string(number));
+    for (int number = 0; number < 8 && TARGET_AVX512F; number++)
+        add("k" + std::to_string(number));
+    return changed;
+}
+
+/* A statement with this text, which gets a value in %rdi. */
+static gasm *test(const std::string &text, tree value) {
+    std::string whole =
+        ASSEMBLER_DIALECT == ASM_INTEL ? ".att_syntax prefix\n" + text + "\n\t.intel_syntax noprefix" : text;
+    vec<tree, va_gc> *inputs = nullptr, *outputs = nullptr;
+    vec_safe_push(outputs, operand("=D", NULL_TREE));
+    vec_safe_push(inputs, operand("0", value));
+    gasm *made = gimple_build_asm_vec(whole.c_str(), inputs, outputs, changed_by_calls(), nullptr);
+    TREE_VALUE(gimple_asm_output_op(made, 0)) = make_ssa_name(TREE_TYPE(value), made);
+    gimple_asm_set_volatile(made, true);
+    return made;
+}
+
+void checks_put(function *fun) {
+    static const struct {
+        const char *hook, *text;
+    } tests[] = {{"__tsan_read4", "\t__spbags_read 4"},
+                 {"__tsan_read8", "\t__spbags_read 8"},
+                 {"__tsan_write4", "\t__spbags_write 4"},
+                 {"__tsan_write8", "\t__spbags_write 8"}};
+    basic_block block;
+    FOR_EACH_BB_FN (block, fun)
+        for (gimple_stmt_iterator at = gsi_start_bb(block); !gsi_end_p(at); gsi_next(&at)) {
+            const char *name = called_hook(gsi_stmt(at));
+            for (auto &row : tests)
+                if (name && checks_wanted && strcmp(name, row.hook) == 0) {
+                    gimple *call = gsi_stmt(at);
+                    gasm *made = test(row.text, gimple_call_arg(call, 0));
+                    gimple_set_location(made, gimple_location(call));
+                    unlink_stmt_vdef(call);
+                    gsi_replace(&at, made, true);
+                }
+        }
+}
+
+/* As where a function takes memory from the stack. */
+void checks_keep_stack(function *fun) {
+    if (!checks_wanted)
+        return;
+    fun->calls_alloca = 1;
+    crtl->stack_alignment_needed = MAX(crtl->stack_alignment_needed, PREFERRED_STACK_BOUNDARY);
+    crtl->preferred_stack_boundary = MAX(crtl->preferred_stack_boundary, PREFERRED_STACK_BOUNDARY);
+}
+
+/* It gets the frame pointer, so that it stands behind what sets that: the compiler puts what needs no frame before. */
+static gimple_seq frame_test(const char *text, location_t location) {
+    gimple_seq sequence = nullptr;
+    gcall *frame = gimple_build_call(builtin_decl_implicit(BUILT_IN_FRAME_ADDRESS), 1, integer_zero_node);
+    tree pointer = make_ssa_name(ptr_type_node, frame);
+    gimple_call_set_lhs(frame, pointer);
+    gimple_seq_add_stmt(&sequence, frame);
+    gimple_seq_add_stmt(&sequence, test(text, pointer));
+    for (gimple_stmt_iterator at = gsi_start(sequence); !gsi_end_p(at); gsi_next(&at))
+        gimple_set_location(gsi_stmt(at), location);
+    return sequence;
+}
+
+static gimple_seq frame_call(gcall *call, location_t location) {
+    gimple_seq sequence = nullptr;
+    gimple_set_location(call, location);
+    gimple_seq_add_stmt(&sequence, call);
+    return sequence;
+}
+
+gimple_seq check_of_entry(location_t location) {
+    return checks_wanted ? frame_test("\t__spbags_entry", location)
+                         : frame_call(call_hook("__tsan_func_entry", {null_pointer_node}), location);
+}
+
+gimple_seq check_of_exit(location_t location) {
+    return checks_wanted ? frame_test("\t__spbags_exit", location)
+                         : frame_call(call_hook("__tsan_func_exit", {}), location);
+}

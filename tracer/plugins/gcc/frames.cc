@@ -1,0 +1,50 @@
+#include "frames.h"
+
+#include "checks.h"
+
+/* As gcc itself does for -fsanitize=thread: so the mark is known to all that deals with the code. */
+void frames_mark(function *fun) {
+    gcall *mark = gimple_build_call_internal(IFN_TSAN_FUNC_EXIT, 0);
+    gimple *whole = gimple_build_try(gimple_body(fun->decl), mark, GIMPLE_TRY_FINALLY);
+    gimple_seq sequence = nullptr;
+    gimple_seq_add_stmt(&sequence, gimple_build_bind(NULL_TREE, whole, NULL_TREE));
+    gimple_set_body(fun->decl, sequence);
+}
+
+/* What matters of a function. */
+struct found {
+    std::vector<gimple *> exits;
+    bool does_something;
+};
+
+static found found_in(function *fun) {
+    found all = {{}, false};
+    basic_block block;
+    FOR_EACH_BB_FN (block, fun)
+        for (gimple_stmt_iterator at = gsi_start_bb(block); !gsi_end_p(at); gsi_next(&at)) {
+            gimple *statement = gsi_stmt(at);
+            if (gimple_call_internal_p(statement, IFN_TSAN_FUNC_EXIT))
+                all.exits.push_back(statement);
+            else if (gimple_code(statement) == GIMPLE_ASM)
+                all.does_something = true;
+            else if (is_gimple_call(statement))
+                all.does_something |= !gimple_call_internal_p(statement);
+        }
+    return all;
+}
+
+void frames_put(function *fun) {
+    found all = found_in(fun);
+    for (gimple *exit : all.exits) {
+        gimple_stmt_iterator at = gsi_for_stmt(exit);
+        if (all.does_something)
+            gsi_insert_seq_before(&at, check_of_exit(fun->function_end_locus), GSI_SAME_STMT);
+        unlink_stmt_vdef(exit);
+        gsi_remove(&at, true);
+    }
+    if (!all.does_something)
+        return;
+    basic_block first = split_edge(single_succ_edge(ENTRY_BLOCK_PTR_FOR_FN(fun)));
+    gimple_stmt_iterator at = gsi_start_bb(first);
+    gsi_insert_seq_before(&at, check_of_entry(DECL_SOURCE_LOCATION(fun->decl)), GSI_SAME_STMT);
+}

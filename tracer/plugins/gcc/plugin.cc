@@ -1,0 +1,111 @@
+/* A plugin of gcc that puts the tracer's hooks into the code of a program: beside each load and store of its text, and at
+   each function's entry and exit. gcc loads it by -fplugin, and -fplugin-arg-spbags-checks=FILE names the
+   assembler's macros of the tests that stand inline; without these hooks are called.
+
+   While a source is read reducers.h puts the hooks of reducers into it. Then each function goes through passes: frames.h
+   marks the ways out; accesses.h puts the hooks of accesses before any optimization; checks.h drops those of what turns
+   out to be the function's alone; at last ranges.h makes one of those of a loop, and checks.h puts tests in place of
+   calls. */
+#include "accesses.h"
+#include "checks.h"
+#include "frames.h"
+#include "ranges.h"
+#include "reducers.h"
+
+int plugin_is_GPL_compatible;
+
+/* The compiler keeps the attribute no_sanitize_thread as a bit of another one. */
+static bool is_traced(function *fun) {
+    tree without = lookup_attribute("no_sanitize", DECL_ATTRIBUTES(fun->decl));
+    return !(without && (tree_to_uhwi(TREE_VALUE(without)) & SANITIZE_THREAD)) &&
+           !lookup_attribute("naked", DECL_ATTRIBUTES(fun->decl)) && !fun->is_thunk;
+}
+
+static unsigned mark_frames(function *fun) {
+    frames_mark(fun);
+    return 0;
+}
+
+static unsigned put_accesses(function *fun) {
+    reducers_drop_notes(fun);
+    accesses all(fun);
+    all.find();
+    all.put();
+    return TODO_update_ssa | TODO_cleanup_cfg;
+}
+
+static unsigned drop_own(function *fun) {
+    return checks_drop_own(fun) ? TODO_update_ssa | TODO_update_address_taken : 0;
+}
+
+static unsigned put_checks(function *fun) {
+    if (optimize) {
+        checks_drop_own(fun);
+        ranges_put(fun);
+    }
+    checks_put(fun);
+    frames_put(fun);
+    return TODO_update_ssa | TODO_cleanup_cfg;
+}
+
+static unsigned keep_stack(function *fun) {
+    checks_keep_stack(fun);
+    return 0;
+}
+
+/* One of the passes, and where it stands. */
+struct place {
+    const char *name, *beside;
+    pass_positioning_ops where;
+    int instance;
+    unsigned properties;
+    unsigned (*does)(function *fun);
+    enum { ALWAYS, OPTIMIZING, NOT_OPTIMIZING } when;
+};
+static const place places[] = {
+    {"spbags_frames", "lower", PASS_POS_INSERT_BEFORE, 1, PROP_gimple_any, mark_frames, place::ALWAYS},
+    /* Behind the compiler's early warnings, which hooks would mislead. */
+    {"spbags_accesses", "nothrow", PASS_POS_INSERT_BEFORE, 1, PROP_ssa | PROP_cfg, put_accesses, place::ALWAYS},
+    /* Once it is known what pointers point to. This stands in place of a pass that has a function store its result where
+       the text has its caller store it. */
+    {"spbags_own", "retslot", PASS_POS_REPLACE, 1, PROP_ssa | PROP_cfg, drop_own, place::OPTIMIZING},
+    /* Where the sanitizer's passes stand: there are several courses through the others. */
+    {"spbags_checks", "tsan", PASS_POS_INSERT_BEFORE, 0, PROP_ssa | PROP_cfg, put_checks, place::OPTIMIZING},
+    {"spbags_checks", "tsan0", PASS_POS_INSERT_BEFORE, 1, PROP_ssa | PROP_cfg, put_checks, place::NOT_OPTIMIZING},
+    {"spbags_stack", "expand", PASS_POS_INSERT_AFTER, 1, PROP_rtl, keep_stack, place::ALWAYS}};
+
+static pass_data data_of(const place &where) {
+    opt_pass_type type = where.properties == PROP_rtl ? RTL_PASS : GIMPLE_PASS;
+    return {type, where.name, OPTGROUP_NONE, TV_NONE, where.properties, 0, 0, 0, 0};
+}
+
+class pass : public opt_pass {
+  public:
+    explicit pass(const place &where) : opt_pass(data_of(where), g), where(where) {}
+    opt_pass *clone() final override { return new pass(where); }
+    bool gate(function *fun) final override {
+        bool is_wanted = where.when == place::ALWAYS || (where.when == place::OPTIMIZING) == (optimize > 0);
+        return is_wanted && is_traced(fun);
+    }
+    unsigned execute(function *fun) final override { return where.does(fun); }
+
+  private:
+    const place &where;
+};
+
+int plugin_init(plugin_name_args *given, plugin_gcc_version *version) {
+    if (!plugin_default_version_check(version, &gcc_version)) {
+        error("the plugin is for gcc %s", gcc_version.basever);
+        return 1;
+    }
+    for (int at = 0; at < given->argc; at++)
+        if (strcmp(given->argv[at].key, "checks") == 0)
+            checks_begin(given->base_name, given->argv[at].value);
+    hooks_begin(given->base_name);
+    reducers_begin(given->base_name);
+    for (const place &where : places) {
+        register_pass_info made = {new pass(where), where.beside, where.instance, where.where};
+        register_callback(given->base_name, PLUGIN_PASS_MANAGER_SETUP, nullptr, &made);
+    }
+    return 0;
+}

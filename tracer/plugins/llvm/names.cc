@@ -1,0 +1,60 @@
+#include "names.h"
+
+using namespace llvm;
+
+/* A function's file, its line and its name. */
+typedef std::tuple<std::string, unsigned, std::string> place;
+/* Where a description of a function has its names. */
+enum { NAME = 2, LINKAGE_NAME = 3 };
+
+static StringRef name_of(const DISubprogram *program) {
+    return program->getName().empty() ? program->getLinkageName() : program->getName();
+}
+
+static bool is_made(StringRef name) { return begins_with(name, ".omp") || begins_with(name, ".red_"); }
+
+static std::string file_of(const DISubprogram *program) {
+    return (program->getDirectory() + "/" + program->getFilename()).str();
+}
+
+/* Whether it only calls a function with the program's code. */
+static bool is_caller(const Function &function) {
+    if (begins_with(function.getName(), ".omp_task_entry."))
+        return true;
+    for (const Instruction &one : instructions(function))
+        if (auto *call = dyn_cast<CallBase>(&one);
+            call && call->getCalledFunction() &&
+            begins_with(call->getCalledFunction()->getName(), ".omp_outlined._debug__"))
+            return begins_with(function.getName(), ".omp_outlined.");
+    return false;
+}
+
+static void rename(DISubprogram *program, StringRef name) {
+    program->replaceOperandWith(NAME, MDString::get(program->getContext(), name));
+    program->replaceOperandWith(LINKAGE_NAME, nullptr);
+}
+
+/* The compiler puts some of them into each other where it optimizes. */
+static void keep_apart(Function &function) {
+    if (!is_made(function.getName()) || !function.hasFnAttribute(Attribute::AlwaysInline))
+        return;
+    function.removeFnAttr(Attribute::AlwaysInline);
+    function.addFnAttr(Attribute::NoInline);
+}
+
+void names_put(Module &module) {
+    std::set<place> places;
+    for (Function &function : module)
+        if (DISubprogram *program = function.getSubprogram(); program && !is_made(name_of(program)))
+            places.emplace(file_of(program), program->getLine(), name_of(program).str());
+    for (Function &function : module) {
+        keep_apart(function);
+        DISubprogram *program = function.getSubprogram();
+        if (!program || !is_made(name_of(program)))
+            continue;
+        auto found = places.lower_bound({file_of(program), program->getLine() + 1, ""});
+        if (found == places.begin() || std::get<0>(*--found) != file_of(program))
+            continue;
+        rename(program, is_caller(function) ? "__spbags_outlined" : std::get<2>(*found));
+    }
+}

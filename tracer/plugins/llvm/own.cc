@@ -1,0 +1,71 @@
+#include "own.h"
+
+using namespace llvm;
+
+/* What a use makes of an address. */
+enum class use { PLAIN, AGAIN, SHARED };
+
+static bool is_about_life(const CallBase &call) {
+    return call.isLifetimeStartOrEnd() || isa<DbgInfoIntrinsic>(call) || call.isDroppable();
+}
+
+static use use_of(const Use &address) {
+    const auto *user = cast<Instruction>(address.getUser());
+    if (isa<LoadInst>(user) || isa<ICmpInst>(user))
+        return use::PLAIN;
+    if (isa<StoreInst>(user))
+        return address.getOperandNo() == StoreInst::getPointerOperandIndex() ? use::PLAIN : use::SHARED;
+    if (isa<GetElementPtrInst>(user) || isa<BitCastInst>(user) || isa<PHINode>(user) || isa<SelectInst>(user))
+        return use::AGAIN;
+    if (auto *call = dyn_cast<CallBase>(user))
+        return isa<AnyMemIntrinsic>(call) || is_about_life(*call) || !called_hook(*call).empty() ? use::PLAIN
+                                                                                                 : use::SHARED;
+    return use::SHARED;
+}
+
+/* Whether all that comes of an address stays here. */
+static bool stays(const Value *address) {
+    std::set<const Value *> seen = {address};
+    std::vector<const Value *> left = {address};
+    while (!left.empty()) {
+        const Value *value = left.back();
+        left.pop_back();
+        for (const Use &one : value->uses()) {
+            use made = use_of(one);
+            if (made == use::SHARED)
+                return false;
+            if (made == use::AGAIN && seen.insert(one.getUser()).second)
+                left.push_back(one.getUser());
+        }
+    }
+    return true;
+}
+
+static bool is_own(const Value *base) {
+    if (auto *global = dyn_cast<GlobalVariable>(base))
+        return global->isConstant();
+    auto *argument = dyn_cast<Argument>(base);
+    return (isa<AllocaInst>(base) || (argument && argument->hasByValAttr())) && stays(base);
+}
+
+bool own_memory::has(Value *address) {
+    const Value *base = getUnderlyingObject(address);
+    auto found = known.find(base);
+    if (found == known.end())
+        found = known.emplace(base, is_own(base)).first;
+    return found->second;
+}
+
+void own_drop(Function &function) {
+    own_memory own;
+    std::vector<Instruction *> needless;
+    for (Instruction &one : instructions(function)) {
+        StringRef name = called_hook(one);
+        bool is_access =
+            begins_with(name, "__tsan_read") || begins_with(name, "__tsan_write") || name == "__spbags_argument";
+        if (is_access && own.has(cast<CallInst>(one).getArgOperand(0)))
+            needless.push_back(&one);
+    }
+    for (Instruction *one : needless)
+        one->eraseFromParent();
+}
