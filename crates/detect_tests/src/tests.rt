@@ -10,5 +10,4 @@ mod rows;
 mod samples;
 mod sharded_rows;
 mod thousand_races;
-mod thousand_runs;
 mod together;

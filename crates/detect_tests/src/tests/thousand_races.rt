@@ -9,7 +9,7 @@ use std::test::Fail;
 use testing::devices::Pieces;
 use trace::{Fault, Limits, NestFault, NestKind};
 
-pub const LIMITS: Limits = Limits {
+const LIMITS: Limits = Limits {
     records: 2003,
     depth: 1,
 };
@@ -24,7 +24,7 @@ fn writes(alloc: Global) -> Result<Vec<u8>, AllocError> {
 }
 
 /// The row's text.
-pub fn trace_text(alloc: Global) -> Result<Vec<u8>, AllocError> {
+fn trace_text(alloc: Global) -> Result<Vec<u8>, AllocError> {
     let writes = writes(alloc)?;
     let mut text = Vec::from_slice(alloc, b"trace 1\nspawn\n")?;
     text.extend_from_slice(&writes)?;
@@ -35,7 +35,7 @@ pub fn trace_text(alloc: Global) -> Result<Vec<u8>, AllocError> {
 }
 
 /// The row's report: the child writes at places 2 to 1001, and its parent at places 1003 to 2002.
-pub fn report_text(alloc: Global) -> Result<Vec<u8>, AllocError> {
+fn report_text(alloc: Global) -> Result<Vec<u8>, AllocError> {
     let mut text = Vec::from_slice(alloc, b"races 1000\n")?;
     for k in 0..1000u64 {
         let line = format!(in alloc; "race {} write {} write {}\n", 2 * k, 2 + k, 1003 + k)?;
