@@ -1,6 +1,7 @@
 /* The detector as a library: a session takes the records of one run as they come, and then gives the text of their
-   report, byte for byte that of `spbags check`. The library is the crate `inside`. Its contracts are proved of callers
-   that do what is said here.
+   report. It has the locations that race; if no location is accessed again after spbags_forget, it is byte for byte
+   that of `spbags check`. The library is the crate `inside`. Its contracts are proved of callers that do what is said
+   here.
 
    A handle points to spbags_room() bytes aligned to 16. Between spbags_new and spbags_free only these
    functions read or write what lies there. One thread calls them, one call at a time, and no signal handler does. */
@@ -50,7 +51,8 @@ uint8_t spbags_block(void *handle, uint64_t location, uint64_t reads, uint64_t w
    the former life is used again. */
 uint8_t spbags_forget(void *handle, uint64_t location, uint64_t units);
 
-/* Makes the text of the report of all records that were taken. No record is taken after that. */
+/* Makes the text of the report of all records that were taken. Of a location that has raced in several lives it has one
+   race. No record is taken after that. */
 uint8_t spbags_report(void *handle);
 
 /* Returns the next byte of that text, SPBAGS_AT_END after the last one, or SPBAGS_NO_TEXT if there is no text. */

@@ -10,7 +10,7 @@ ghost use Rattle.dag.specs.declared.records.Record.{Record};
 ghost use Rattle.dag.specs.declared.records.Placed.{Placed};
 ghost use Rattle.dag.specs.Traces.{placed, IsWellNested};
 ghost use Rattle.trace.specs.Faults.{HasEnded};
-ghost use Rattle.shadow.specs.Found.{by_location, found};
+ghost use Rattle.shadow.specs.Found.{by_location, found, verdict};
 ghost use Rattle.collect.specs.Collected.{KeepsBest};
 ghost use Rattle.serial.specs.Reported.{IsReportOf};
 ghost use Rattle.bags.specs.Procedures.{event};
@@ -19,7 +19,8 @@ ghost use Rattle.shadow.specs.Shadow.{kept_of, last_place_of, least_count_of};
 ghost use Rattle.blocks.specs.Blocks.{is_unit, next_place_of};
 ghost use Rattle.online.specs.Accesses.{accesses, block_records};
 ghost use Rattle.serial.specs.Racy.{HasLocation};
-ghost use Rattle.online.specs.Lives.{in_life, placed_in_life, first_lives, lives_after, IsReportOfLives, HasRacyLife};
+ghost use Rattle.online.specs.Lives.{in_life, placed_in_life, first_lives, lives_after, AreOfFirstLives};
+ghost use Rattle.online.specs.Lives.{IsReportOfLives, HasRacyLife};
 ghost use Rattle.online.specs.Online.{HasTakenPlaced, IsAfter, IsStopped, WantsMemory, MayWant};
 
 use bags::Bags;
@@ -344,6 +345,11 @@ impl<S: BuildHasher + Drop> Detector<S> {
             → report ≡ by_location (found u)) }
         ensures report { IfOk result (λ report. (u : List Record) (records depths : ℕ) → IsAfter u first_lives self
             → IsWellNested u records depths → IsReportOf u report) }
+        // The same where no location was accessed again after it was forgotten.
+        ensures once { IfOk result (λ report. (u : List Record) (lives : ℕ → ℕ) → IsAfter u lives self
+            → AreOfFirstLives u → report ≡ verdict u) }
+        ensures once_report { IfOk result (λ report. (u : List Record) (lives : ℕ → ℕ) (records depths : ℕ)
+            → IsAfter u lives self → AreOfFirstLives u → IsWellNested u records depths → IsReportOf u report) }
         ensures stopped { IsStopped self → IsErr result }
     {
         if self.stopped {
