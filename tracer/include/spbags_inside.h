@@ -16,7 +16,7 @@ enum spbags_kind { SPBAGS_SPAWN, SPBAGS_CALL, SPBAGS_RETURN, SPBAGS_SYNC, SPBAGS
 enum spbags_status {
     SPBAGS_TAKEN,        /* it is done */
     SPBAGS_AFTER_END,    /* the root has returned, so no record may come; nothing has changed */
-    SPBAGS_TOO_MANY,     /* 2^48 records were taken; nothing has changed */
+    SPBAGS_TOO_MANY,     /* with these there would be more than 2^48 records; nothing has changed */
     SPBAGS_NO_MEMORY,    /* memory was refused, now or before: the session has stopped for good */
     SPBAGS_UNKNOWN_KIND, /* no record has this kind; nothing has changed */
     SPBAGS_GIVEN         /* the report was made before; nothing has changed */

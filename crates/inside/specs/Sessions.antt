@@ -137,11 +137,13 @@ pub record HasTakenBlock (before : Session) (location reads writes : ℕ) (after
   pub ended : status ≡ after_end → (u : List Record) (lives : ℕ → ℕ) → HasTaken u lives before → HasEnded u
   pub many : status ≡ too_many → (u : List Record) (lives : ℕ → ℕ) → HasTaken u lives before
       → most_records < length u + (count_ones reads + count_ones writes)
-  -- and none that it could take is refused so
+  -- and none that it could take is refused so; memory may be refused only to accesses
   pub is_full : (u : List Record) (lives : ℕ → ℕ) → HasTaken u lives before
       → most_records < length u + (count_ones reads + count_ones writes) → status ≡ too_many
   pub is_ended : (u : List Record) (lives : ℕ → ℕ) → HasTaken u lives before → HasEnded u
       → length u + (count_ones reads + count_ones writes) ≤ most_records → status ≡ after_end
+  pub want : status ≡ no_memory → (u : List Record) (lives : ℕ → ℕ) → HasTaken u lives before
+      → (reads ≢ 0) ⊎ (writes ≢ 0)
   -- it answers so after the report was made, and only then
   pub giving : (text : List ℕ) (count : ℕ) → HasGiven text count before → status ≡ given
   pub taking : (u : List Record) (lives : ℕ → ℕ) → HasTaken u lives before → status ≢ given

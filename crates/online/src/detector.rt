@@ -146,6 +146,8 @@ impl<S: BuildHasher + Drop> Detector<S> {
             ↔ (most_records < length u + (count_ones reads + count_ones writes)) }
         ensures unchanged { IfErr result (λ refusal. refusal ≢ Refusal.NoMemory → self.new ≡ self.old) }
 
+        ensures want { (u : List Record) (lives : ℕ → ℕ) → IsAfter u lives self.old
+            → result ≡ Err Refusal.NoMemory → (reads ≢ 0) ⊎ (writes ≢ 0) }
         ensures stops { result ≡ Err Refusal.NoMemory → IsStopped self.new }
         ensures stopped { IsStopped self.old → result ≡ Err Refusal.NoMemory }
     {
@@ -292,6 +294,7 @@ impl<S: BuildHasher + Drop> Detector<S> {
             ++ map (placed_in_life lives) (accesses location Kind.Read (self.old.last_place + 1) reads))
             ++ map (placed_in_life lives) (accesses location Kind.Write
             (self.old.last_place + count_ones reads + 1) writes)) lives self.new) }
+        ensures want { OnErr result ((reads ≢ 0) ⊎ (writes ≢ 0)) }
         ensures last { OnOk result (self.new.last_place
             ≡ self.old.last_place + (count_ones reads + count_ones writes)) }
         ensures bags { self.new.bags ≡ self.old.bags }
@@ -315,6 +318,7 @@ impl<S: BuildHasher + Drop> Detector<S> {
         requires to_limit { self.old.last_place ≤ most_records }
         ensures met { OnOk result ((u : List Placed) (lives : ℕ → ℕ) → HasTakenPlaced u lives self.old
             → HasTakenPlaced (u ++ map (placed_in_life lives) (accesses location kind place units)) lives self.new) }
+        ensures want { OnErr result (units ≢ 0) }
         ensures later { next_place_of self.new.blocks ≤ place + count_ones units }
         ensures bags { self.new.bags ≡ self.old.bags }
         ensures last { self.new.last_place ≡ self.old.last_place }
