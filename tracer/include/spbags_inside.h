@@ -1,6 +1,7 @@
 /* The detector as a library: a session takes the records of one run as they come, and then gives the text of their
-   report, byte for byte that of `spbags check`. The library is the crate `inside`. Its contracts are proved of callers
-   that do what is said here.
+   report. It has the locations that race; if no location is accessed again after spbags_forget, it is byte for byte
+   that of `spbags check`. The library is the crate `inside`. Its contracts are proved of callers that do what is said
+   here.
 
    A handle points to spbags_room() bytes aligned to 16. Between spbags_new and spbags_free only these
    functions read or write what lies there. One thread calls them, one call at a time, and no signal handler does. */
@@ -15,7 +16,7 @@ enum spbags_kind { SPBAGS_SPAWN, SPBAGS_CALL, SPBAGS_RETURN, SPBAGS_SYNC, SPBAGS
 enum spbags_status {
     SPBAGS_TAKEN,        /* it is done */
     SPBAGS_AFTER_END,    /* the root has returned, so no record may come; nothing has changed */
-    SPBAGS_TOO_MANY,     /* 2^48 records were taken; nothing has changed */
+    SPBAGS_TOO_MANY,     /* with these there would be more than 2^48 records; nothing has changed */
     SPBAGS_NO_MEMORY,    /* memory was refused, now or before: the session has stopped for good */
     SPBAGS_UNKNOWN_KIND, /* no record has this kind; nothing has changed */
     SPBAGS_GIVEN         /* the report was made before; nothing has changed */
@@ -50,7 +51,8 @@ uint8_t spbags_block(void *handle, uint64_t location, uint64_t reads, uint64_t w
    the former life is used again. */
 uint8_t spbags_forget(void *handle, uint64_t location, uint64_t units);
 
-/* Makes the text of the report of all records that were taken. No record is taken after that. */
+/* Makes the text of the report of all records that were taken. Of a location that has raced in several lives it has one
+   race. No record is taken after that. */
 uint8_t spbags_report(void *handle);
 
 /* Returns the next byte of that text, SPBAGS_AT_END after the last one, or SPBAGS_NO_TEXT if there is no text. */

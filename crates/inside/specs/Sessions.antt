@@ -1,5 +1,5 @@
 -- Promised: what lies at a handle, and what a session has taken or gives.
-use Rattle.std.specs.Prelude.{◌≡◌, ◌≢◌, ℕ, ◌+◌, ◌<◌, ◌≤◌, ◌/◌, ◌%◌, ◌⊎◌, List, [], ◌∷◌, ◌++◌, length, map}
+use Rattle.std.specs.Prelude.{◌≡◌, ◌≢◌, ℕ, ◌+◌, ◌<◌, ◌≤◌, ◌/◌, ◌%◌, ◌↔◌, ◌⊎◌, List, [], ◌∷◌, ◌++◌, length, map}
 use Rattle.std.specs.Prelude.{slice_index_or}
 use base.Fraction.{full_share}
 use base.Fml.{Fml, ftrue, fsep, fex}
@@ -9,13 +9,15 @@ use Rattle.std.specs.Int.RustNames.{count_ones}
 use Rattle.dag.specs.Accesses.{RaceAt}
 use Rattle.dag.specs.Bounds.{most_records}
 use Rattle.trace.specs.Faults.{HasEnded}
-use Rattle.dag.specs.Traces.{placed}
+use Rattle.dag.specs.Traces.{placed, IsWellNested}
 use Rattle.dag.specs.declared.records.Record.{Record}
 use Rattle.dag.specs.declared.records.Record.TheVariants.{Spawn, Call, Return, Sync, Read, Write}
-use Rattle.shadow.specs.Found.{found, by_location}
+use Rattle.shadow.specs.Found.{found, by_location, verdict}
 use Rattle.collect.specs.ReportText.{rtext}
+use Rattle.serial.specs.Racy.{HasLocation}
+use Rattle.serial.specs.Reported.{IsReportOf}
 use Rattle.online.specs.Accesses.{block_records}
-use Rattle.online.specs.Lives.{in_life, first_lives, lives_after, IsReportOfLives}
+use Rattle.online.specs.Lives.{in_life, first_lives, lives_after, AreOfFirstLives, IsReportOfLives, HasRacyLife}
 use Rattle.online.specs.Online.{IsAfter, MayWant}
 use Rattle.inside.specs.declared.session.Session.{Session}
 use Rattle.inside.specs.declared.session.Session.TheVariants.{Taking, Giving, Stopped}
@@ -75,9 +77,16 @@ HasGiven text count Stopped = ⊥
 abbrev pub report_text : List Record → List ℕ
 report_text u = rtext (by_location (found (placed u)))
 
--- the text is that of the report of all lives
-abbrev pub IsTextOfLives : List Record → List ℕ → Type 0
-IsTextOfLives u text = (races : List RaceAt) × IsReportOfLives (placed u) races × (text ≡ rtext races)
+-- The text is that of the report of all lives. If the records are well nested, it has exactly the locations one of
+-- whose lives has a race by the dag. If no location was accessed again after it was forgotten, it is the verdict, and
+-- so of well nested records the report by the dag.
+pub record IsTextOfLives (u : List Record) (text : List ℕ) : Type 0 where
+  pub races : List RaceAt
+  pub spelled : text ≡ rtext races
+  pub of_lives : IsReportOfLives (placed u) races
+  pub racy : (records depths : ℕ) → IsWellNested u records depths → (l : ℕ) → HasLocation races l ↔ HasRacyLife u l
+  pub once : AreOfFirstLives u → races ≡ verdict u
+  pub report : (records depths : ℕ) → AreOfFirstLives u → IsWellNested u records depths → IsReportOf u races
 
 -- What a step does, from one session to the next.
 pub record HasStepped (before : Session) (kind location : ℕ) (after : Session) (status : ℕ) : Type 0 where
@@ -128,11 +137,13 @@ pub record HasTakenBlock (before : Session) (location reads writes : ℕ) (after
   pub ended : status ≡ after_end → (u : List Record) (lives : ℕ → ℕ) → HasTaken u lives before → HasEnded u
   pub many : status ≡ too_many → (u : List Record) (lives : ℕ → ℕ) → HasTaken u lives before
       → most_records < length u + (count_ones reads + count_ones writes)
-  -- and none that it could take is refused so
+  -- and none that it could take is refused so; memory may be refused only to accesses
   pub is_full : (u : List Record) (lives : ℕ → ℕ) → HasTaken u lives before
       → most_records < length u + (count_ones reads + count_ones writes) → status ≡ too_many
   pub is_ended : (u : List Record) (lives : ℕ → ℕ) → HasTaken u lives before → HasEnded u
       → length u + (count_ones reads + count_ones writes) ≤ most_records → status ≡ after_end
+  pub want : status ≡ no_memory → (u : List Record) (lives : ℕ → ℕ) → HasTaken u lives before
+      → (reads ≢ 0) ⊎ (writes ≢ 0)
   -- it answers so after the report was made, and only then
   pub giving : (text : List ℕ) (count : ℕ) → HasGiven text count before → status ≡ given
   pub taking : (u : List Record) (lives : ℕ → ℕ) → HasTaken u lives before → status ≢ given

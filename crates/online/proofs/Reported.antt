@@ -1,13 +1,19 @@
 -- The report of all lives, and that of a run in which each location has but one.
-use Rattle.std.proofs.Common.{◌≡◌, ◌≢◌, ◌↔◌, ◌⊎◌, ℕ, ◌/◌, ◌%◌, ◌^◌, ◌<◌, ◌≤◌, true, false, List, [], ◌∷◌, map, Option, Some, None, refl, sym, ap, subst, ◌∙◌, ⊎_elim, arith}
+use Rattle.std.proofs.Common.{◌≡◌, ◌≢◌, ◌↔◌, ℕ, suc, ◌/◌, ◌%◌, ◌^◌, ◌<◌, ◌≤◌, Bool, true, false, List, [], ◌∷◌, ◌++◌, map, Option, Some, None, refl, sym, ap, subst, ◌∙◌, ⊎_elim, arith}
 use Rattle.std.specs.List.{AllByRecursion}
+use Rattle.std.specs.Option.{option_to_list}
+use Rattle.std.proofs.lemmas.List.{map-append}
+use Rattle.std.proofs.lemmas.List.Elements.{recursion_from_All}
 use Rattle.std.proofs.lemmas.Bool.{cases_lt}
 use Rattle.dag.specs.declared.back.Back.{Back}
+use Rattle.dag.specs.declared.records.Kind.{Kind}
 use Rattle.dag.specs.declared.records.Record.{Record}
+use Rattle.dag.specs.declared.records.Record.TheVariants.{Spawn, Call, Return, Sync, Read, Write}
 use Rattle.dag.specs.declared.records.Placed.{Placed}
+use Rattle.dag.specs.declared.records.Access.{Access}
 use Rattle.dag.specs.Accesses.{RaceAt}
-use Rattle.shadow.specs.Cells.{Cell, untouched}
-use Rattle.shadow.specs.Found.{state_at_start, state_after, found, put_in, by_location, verdict}
+use Rattle.shadow.specs.Cells.{Cell, untouched, race_with, rival}
+use Rattle.shadow.specs.Found.{State, state_at_start, state_after, after_record, race_of, found, found_from, put_in, by_location, verdict}
 use Rattle.shadow.proofs.FoundLaws.{found_from-apart, found-reported}
 use Rattle.collect.specs.Collected.{KeepsBest, IsCollected, best}
 use Rattle.collect.proofs.Sorted.{collected_is_sorted}
@@ -18,9 +24,9 @@ use Rattle.dag.proofs.Once.{In, In_from, Contains_from}
 use Rattle.shadow.proofs.Listed.{In-by_location, In-from_by_location}
 use Rattle.shadow.proofs.Headlines.{racy}
 use Rattle.serial.specs.Racy.{HasLocation}
-use Rattle.dag.specs.Traces.{placed, IsWellNested}
+use Rattle.dag.specs.Traces.{placed, placed_from, IsWellNested}
 use Rattle.serial.proofs.Detected.{apart}
-use Rattle.online.specs.Lives.{named, first_lives, home, at_home, IsReportOfLives, HasRacyLife}
+use Rattle.online.specs.Lives.{named, first_lives, home, at_home, IsOfFirstLife, AreOfFirstLives, IsReportOfLives, HasRacyLife}
 use Rattle.online.specs.Online.{Online, HasTakenPlaced}
 
 pub reported_lives : (u : List Placed) (lives : ℕ → ℕ) (d : Online) (rs : List RaceAt) → HasTakenPlaced u lives d → ((g : List Back) → KeepsBest g d.kept → IsCollected g rs) → IsReportOfLives u rs
@@ -46,10 +52,39 @@ at_home_all u d h (r ∷ rs) a =
     let small : r.location % 2 ^ 64 ≡ r.location = omega (arith, in_first_life u d h r.location a.0) in
     (λ i. record { location = small i; first = r.first; second = r.second } ∷ at_home_all u d h rs a.1 i)
 
-pub reported_first : (u : List Placed) (d : Online) (rs : List RaceAt) → HasTakenPlaced u first_lives d → ((g : List Back) → KeepsBest g d.kept → IsCollected g rs) → rs ≡ by_location (found u)
-reported_first u d rs h collected =
-    let races = h.races ∙ at_home_all u d h (found u) (found-reported state_at_start u) in
+reported_home : (u : List Placed) (lives : ℕ → ℕ) (d : Online) (rs : List RaceAt) → HasTakenPlaced u lives d → map at_home (found u) ≡ found u → ((g : List Back) → KeepsBest g d.kept → IsCollected g rs) → rs ≡ by_location (found u)
+reported_home u lives d rs h same collected =
+    let races = h.races ∙ same in
     collected_is_sorted put_in by_location (λ r. refl) (λ r s ss. refl) refl (λ r ss. refl) h.given rs (found u) (collected h.given h.holds) (apart (found u) (found_from-apart state_at_start u)) (λ l. ap (best l) races)
+
+pub reported_first : (u : List Placed) (d : Online) (rs : List RaceAt) → HasTakenPlaced u first_lives d → ((g : List Back) → KeepsBest g d.kept → IsCollected g rs) → rs ≡ by_location (found u)
+reported_first u d rs h = reported_home u first_lives d rs h (at_home_all u d h (found u) (found-reported state_at_start u))
+
+-- races of first lives are those of their locations
+
+race_at_home : (l : ℕ) (kind : Kind) (place : ℕ) (b : Bool) (o : Option Access) → l < 2 ^ 64 → map at_home (option_to_list (race_with l kind place b o)) ≡ option_to_list (race_with l kind place b o)
+race_at_home l kind place b None f = refl
+race_at_home l kind place true (Some a) f = refl
+race_at_home l kind place false (Some a) f =
+    let small : l % 2 ^ 64 ≡ l = omega (arith, f) in
+    ap (λ n. record { location = n; first = a; second = record { kind = kind; place = place } } ∷ []) small
+
+record_at_home : (s : State) (place : ℕ) (r : Record) → IsOfFirstLife r → map at_home (option_to_list (race_of s place r)) ≡ option_to_list (race_of s place r)
+record_at_home s place Spawn f = refl
+record_at_home s place Call f = refl
+record_at_home s place Return f = refl
+record_at_home s place Sync f = refl
+record_at_home s place (Read l) f = race_at_home l Kind.Read place (s.kept l).reported (rival s.bags.active Kind.Read (s.kept l)) f
+record_at_home s place (Write l) f = race_at_home l Kind.Write place (s.kept l).reported (rival s.bags.active Kind.Write (s.kept l)) f
+
+races_at_home : (s : State) (i : ℕ) (u : List Record) → AllByRecursion IsOfFirstLife u → map at_home (found_from s (placed_from i u)) ≡ found_from s (placed_from i u)
+races_at_home s i [] a = refl
+races_at_home s i (r ∷ u) a =
+    let rest = found_from (after_record s i r) (placed_from (suc i) u) in
+    map-append at_home (option_to_list (race_of s i r)) rest ∙ (λ j. record_at_home s i r a.0 j ++ races_at_home (after_record s i r) (suc i) u a.1 j)
+
+pub reported_once : (u : List Record) (lives : ℕ → ℕ) (d : Online) (rs : List RaceAt) → AreOfFirstLives u → HasTakenPlaced (placed u) lives d → ((g : List Back) → KeepsBest g d.kept → IsCollected g rs) → rs ≡ verdict u
+reported_once u lives d rs first h = reported_home (placed u) lives d rs h (races_at_home state_at_start 1 u (recursion_from_All IsOfFirstLife u first))
 
 -- ---- the locations that are reported
 

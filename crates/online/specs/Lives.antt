@@ -1,5 +1,5 @@
 -- Promised: the lives of locations, and what is reported of them.
-use Rattle.std.specs.Prelude.{◌≡◌, ℕ, ◌+◌, ◌*◌, ◌%◌, ◌^◌, List, map, if◌then◌else◌}
+use Rattle.std.specs.Prelude.{◌≡◌, ℕ, ◌+◌, ◌*◌, ◌%◌, ◌^◌, ◌<◌, ⊤, List, map, All, if◌then◌else◌}
 use Rattle.dag.specs.declared.records.Record.{Record}
 use Rattle.dag.specs.declared.records.Record.TheVariants.{Spawn, Call, Return, Sync, Read, Write}
 use Rattle.dag.specs.declared.records.Placed.{Placed}
@@ -33,6 +33,19 @@ first_lives l = 0
 -- the lives after these units of the location's block were forgotten: each of them is in its next one
 abbrev pub lives_after : ℕ → ℕ → (ℕ → ℕ) → ℕ → ℕ
 lives_after location units lives l = if is_unit location units l then lives l + 1 else lives l
+
+-- the record accesses no location, or one in its first life
+abbrev pub IsOfFirstLife : Record → Type 0
+IsOfFirstLife Spawn = ⊤
+IsOfFirstLife Call = ⊤
+IsOfFirstLife Return = ⊤
+IsOfFirstLife Sync = ⊤
+IsOfFirstLife (Read l) = l < 2 ^ 64
+IsOfFirstLife (Write l) = l < 2 ^ 64
+
+-- no location was accessed again after it was forgotten
+abbrev pub AreOfFirstLives : List Record → Type 0
+AreOfFirstLives u = All IsOfFirstLife u
 
 -- the location of a name
 abbrev pub home : ℕ → ℕ

@@ -10,7 +10,7 @@ ghost use Rattle.dag.specs.declared.records.Record.{Record};
 ghost use Rattle.dag.specs.declared.records.Placed.{Placed};
 ghost use Rattle.dag.specs.Traces.{placed, IsWellNested};
 ghost use Rattle.trace.specs.Faults.{HasEnded};
-ghost use Rattle.shadow.specs.Found.{by_location, found};
+ghost use Rattle.shadow.specs.Found.{by_location, found, verdict};
 ghost use Rattle.collect.specs.Collected.{KeepsBest};
 ghost use Rattle.serial.specs.Reported.{IsReportOf};
 ghost use Rattle.bags.specs.Procedures.{event};
@@ -19,7 +19,8 @@ ghost use Rattle.shadow.specs.Shadow.{kept_of, last_place_of, least_count_of};
 ghost use Rattle.blocks.specs.Blocks.{is_unit, next_place_of};
 ghost use Rattle.online.specs.Accesses.{accesses, block_records};
 ghost use Rattle.serial.specs.Racy.{HasLocation};
-ghost use Rattle.online.specs.Lives.{in_life, placed_in_life, first_lives, lives_after, IsReportOfLives, HasRacyLife};
+ghost use Rattle.online.specs.Lives.{in_life, placed_in_life, first_lives, lives_after, AreOfFirstLives};
+ghost use Rattle.online.specs.Lives.{IsReportOfLives, HasRacyLife};
 ghost use Rattle.online.specs.Online.{HasTakenPlaced, IsAfter, IsStopped, WantsMemory, MayWant};
 
 use bags::Bags;
@@ -145,6 +146,8 @@ impl<S: BuildHasher + Drop> Detector<S> {
             ↔ (most_records < length u + (count_ones reads + count_ones writes)) }
         ensures unchanged { IfErr result (λ refusal. refusal ≢ Refusal.NoMemory → self.new ≡ self.old) }
 
+        ensures want { (u : List Record) (lives : ℕ → ℕ) → IsAfter u lives self.old
+            → result ≡ Err Refusal.NoMemory → (reads ≢ 0) ⊎ (writes ≢ 0) }
         ensures stops { result ≡ Err Refusal.NoMemory → IsStopped self.new }
         ensures stopped { IsStopped self.old → result ≡ Err Refusal.NoMemory }
     {
@@ -291,6 +294,7 @@ impl<S: BuildHasher + Drop> Detector<S> {
             ++ map (placed_in_life lives) (accesses location Kind.Read (self.old.last_place + 1) reads))
             ++ map (placed_in_life lives) (accesses location Kind.Write
             (self.old.last_place + count_ones reads + 1) writes)) lives self.new) }
+        ensures want { OnErr result ((reads ≢ 0) ⊎ (writes ≢ 0)) }
         ensures last { OnOk result (self.new.last_place
             ≡ self.old.last_place + (count_ones reads + count_ones writes)) }
         ensures bags { self.new.bags ≡ self.old.bags }
@@ -314,6 +318,7 @@ impl<S: BuildHasher + Drop> Detector<S> {
         requires to_limit { self.old.last_place ≤ most_records }
         ensures met { OnOk result ((u : List Placed) (lives : ℕ → ℕ) → HasTakenPlaced u lives self.old
             → HasTakenPlaced (u ++ map (placed_in_life lives) (accesses location kind place units)) lives self.new) }
+        ensures want { OnErr result (units ≢ 0) }
         ensures later { next_place_of self.new.blocks ≤ place + count_ones units }
         ensures bags { self.new.bags ≡ self.old.bags }
         ensures last { self.new.last_place ≡ self.old.last_place }
@@ -344,6 +349,11 @@ impl<S: BuildHasher + Drop> Detector<S> {
             → report ≡ by_location (found u)) }
         ensures report { IfOk result (λ report. (u : List Record) (records depths : ℕ) → IsAfter u first_lives self
             → IsWellNested u records depths → IsReportOf u report) }
+        // The same where no location was accessed again after it was forgotten.
+        ensures once { IfOk result (λ report. (u : List Record) (lives : ℕ → ℕ) → IsAfter u lives self
+            → AreOfFirstLives u → report ≡ verdict u) }
+        ensures once_report { IfOk result (λ report. (u : List Record) (lives : ℕ → ℕ) (records depths : ℕ)
+            → IsAfter u lives self → AreOfFirstLives u → IsWellNested u records depths → IsReportOf u report) }
         ensures stopped { IsStopped self → IsErr result }
     {
         if self.stopped {

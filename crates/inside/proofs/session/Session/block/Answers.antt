@@ -18,6 +18,7 @@ returns-in-Taking c =
       many = λ e u lives h. (c.take_block-answer.ensures.too_many u lives (subst (HasTaken u lives) c.in-Taking.is h)).0 (answered r _ _ is e);
       is_full = λ u lives h full. is ∙ ap answered_status ((c.take_block-answer.ensures.too_many u lives (subst (HasTaken u lives) c.in-Taking.is h)).1 full);
       is_ended = λ u lives h ended room. is ∙ ap answered_status ((c.take_block-answer.ensures.after_end u lives (subst (HasTaken u lives) c.in-Taking.is h)).1 (ended, room));
+      want = λ e u lives h. c.take_block-answer.ensures.want u lives (subst (HasTaken u lives) c.in-Taking.is h) (answered r _ _ is e);
       giving = λ text count h. absurd (subst (HasGiven text count) c.in-Taking.is h);
       taking = λ u lives h e. omega (arith, e);
       known = λ e. omega (arith, e);

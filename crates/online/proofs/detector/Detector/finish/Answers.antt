@@ -4,7 +4,7 @@ use Rattle.dag.specs.Traces.{placed}
 use Rattle.online.specs.Lives.{first_lives}
 use Rattle.online.specs.Online.{HasTakenPlaced, IsAfter}
 use Rattle.serial.proofs.Detected.{report_of}
-use Rattle.online.proofs.Reported.{reported_lives, reported_first, lives_racy}
+use Rattle.online.proofs.Reported.{reported_lives, reported_first, reported_once, lives_racy}
 use Rattle.online.proofs.detector.Detector.finish.Goals as goal
 
 pub returns-clause-races : goal.returns-clause-races
@@ -22,3 +22,11 @@ returns-clause-first g c = IfOk-weaker c.finish.result _ _
 pub returns-clause-report : goal.returns-clause-report
 returns-clause-report g c = IfOk-weaker c.finish.result _ _
     (λ rs collected u records depths h nested. report_of u rs nested (reported_first (placed u) _ rs (subst (IsAfter u first_lives) (sym c.self.view_is) h).met collected)) c.finish.ensures.ok
+
+pub returns-clause-once : goal.returns-clause-once
+returns-clause-once g c = IfOk-weaker c.finish.result _ _
+    (λ rs collected u lives h first. reported_once u lives _ rs first (subst (IsAfter u lives) (sym c.self.view_is) h).met collected) c.finish.ensures.ok
+
+pub returns-clause-once_report : goal.returns-clause-once_report
+returns-clause-once_report g c = IfOk-weaker c.finish.result _ _
+    (λ rs collected u lives records depths h first nested. report_of u rs nested (reported_once u lives _ rs first (subst (IsAfter u lives) (sym c.self.view_is) h).met collected)) c.finish.ensures.ok

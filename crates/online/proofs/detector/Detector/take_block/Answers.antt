@@ -1,4 +1,4 @@
-use Rattle.std.proofs.Common.{◌+◌, ◌≤◌, sym, subst, ◌++◌, map}
+use Rattle.std.proofs.Common.{◌+◌, ◌≤◌, sym, subst, ◌++◌, map, IsErr, OnErr}
 use Rattle.std.specs.Int.RustNames.{count_ones}
 use Rattle.dag.specs.Bounds.{most_records}
 use Rattle.dag.specs.Traces.{placed}
@@ -6,7 +6,7 @@ use Rattle.shadow.proofs.StateLemmas.{map_OnOk}
 use Rattle.online.specs.Accesses.{block_records}
 use Rattle.online.specs.Lives.{in_life}
 use Rattle.online.specs.Online.{IsAfter}
-use Rattle.online.proofs.Found.{where_ok}
+use Rattle.online.proofs.Found.{where_ok, where_err}
 use Rattle.online.proofs.Running.{after_block}
 use Rattle.online.proofs.detector.Detector.take_block.Goals as goal
 
@@ -17,3 +17,8 @@ returns-clause-taken g c = map_OnOk c.settle.result _ _ (λ is u lives h.
     let met = where_ok touched.result _ is.1 touched.ensures.met (placed u) lives in
     subst (IsAfter (u ++ map (in_life lives) (block_records c.args.location c.args.reads c.args.writes)) lives) (sym is.0)
     (after_block u lives c.args.location c.args.reads c.args.writes c.args.self.now touched.new.self c.ranges.reads.fits c.ranges.writes.fits room h met (where_ok touched.result _ is.1 touched.ensures.last) touched.ensures.bags touched.ensures.ended touched.ensures.going)) c.settle.ensures.ok
+
+pub returns-clause-want : goal.returns-clause-want
+returns-clause-want g c u lives h refused =
+    let failed : IsErr c.touch_both-followed.result = subst (λ r. OnErr r (IsErr c.touch_both-followed.result)) refused c.settle.ensures.refused in
+    where_err c.touch_both-followed.result _ failed c.touch_both-followed.ensures.want
