@@ -32,10 +32,8 @@ def is_of_cilk(pair):
 
 def is_scalar(pair, unit):
     """Whether what races is no row of elements."""
-    parts = pair.variable.get("parts")
-    if not parts:
-        return pair.races * unit <= MOST_SCALAR
-    return pair.variable["parts_count"] == 1 or not any("[" in part for part in parts)
+    parts = pair.variable.get("parts", ())
+    return not any("[" in part for part in parts) and bool(pair.variable.get("expression") or pair.races * unit <= MOST_SCALAR)
 
 
 def of_cilk(pair, unit):

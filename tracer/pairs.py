@@ -406,7 +406,8 @@ class Program:
             found = self.heap_types.parts(whole, runs, variable["size"], MOST_PARTS)
         else:
             found = self.names.parts(whole, variable["name"], runs, MOST_PARTS)
-        variable["parts"], variable["parts_count"] = found or ([variable["expression"]], 1)
+        if found and found[1] > 1:
+            variable["parts"], variable["parts_count"] = found
 
     def guard(self, guard, variable):
         """The name of what both accesses of this variable hold; a lock is named by its variable."""

@@ -221,7 +221,7 @@ def variable_line(variable, unit):
             return f"{parts_named(variable)}, in a block of the heap{byte_of(offset, size)}"
         elements = f", or element {offset // element} of {size // element}" if element else ""
         return "a block of the heap" + byte_of(offset, size) + elements
-    if len(parts_of(variable)) > 1:
+    if variable.get("parts") and len(parts_of(variable)) > 1:
         return owned(variable, parts_named(variable), "of ")
     if variable.get("expression"):
         expression, rest = without_inner(variable["expression"]), variable["rest"]
@@ -243,7 +243,7 @@ def without_inner(expression):
 
 
 def parts_of(variable):
-    return list(dict.fromkeys(map(without_inner, variable.get("parts", ()))))
+    return list(dict.fromkeys(map(without_inner, variable.get("parts") or [variable["expression"]])))
 
 
 def parts_named(variable):

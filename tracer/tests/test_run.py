@@ -134,7 +134,7 @@ class ReportTest(RunTest):
 
     def test_global(self):
         status, report = self.found("global")
-        self.assertEqual((1, 2, 1, 4, True),
+        self.assertEqual((1, 3, 1, 4, True),
                          (status, report["version"], report["races"], report["unit"], report["stacks"]))
         self.assertEqual({"status": 1, "signal": None, "complete": True}, report["ended"])
         self.assertEqual(["the program ended with status 1"], report["notes"])
@@ -624,6 +624,8 @@ class SuppressedTest(RunTest):
         status, report = self.found("guards", "global", options=("--data-races",))
         self.assertEqual((1, 1, {"pairs": 2, "races": 2}), (status, len(report["pairs"]), report["guarded"]))
         self.assertEqual(0, self.found("guards", options=("--data-races",))[0])
+        said = self.run_command(SPBAGS_RUN, "--", "./run", "guards").out
+        self.assertEqual("races 2, pairs of lines 2; no data race, which --data-races leaves out: 2 pairs", last_line(said))
         status, report = self.found("one guard", options=("--data-races",))
         self.assertEqual((1, [None]), (status, [pair["guard"] for pair in report["pairs"]]))
 
@@ -710,7 +712,7 @@ class EndlessTest(RunTest):
                                          ("futex", signal.SIGTERM, "and so for ever", ["[sleeps]"]),
                                          ("doze", signal.SIGTERM, "it waits for ever", ["[dozes]", "[calls doze]"])):
             with self.subTest(way):
-                process = self.start("--json", "--", "./ends", way)
+                process = self.start("--json", "--", "./ends", way, COLUMNS="1000")
                 line, *rows = [process.stderr.readline() for _ in range(1 + len(stack) + len(tail))]
                 process.send_signal(number)
                 report = json.loads(process.communicate(timeout=cases.LONG)[0])
