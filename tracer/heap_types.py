@@ -54,11 +54,20 @@ class Expressions:
         return reached.name or reached.kind.at, self.shapes.size(reached.kind)
 
     def followed(self, use, code):
-        return [self.follow(self.shapes.type_of(entry), use) for entry in self.names.declared(code, use.base)]
+        """What an expression may be: that of a local, of a member of `this`, or of a global."""
+        entries = self.names.locals_named(code, use.base)
+        if not entries:
+            this = use._replace(base="this", steps=("->" + use.base, *use.steps))
+            entries = self.names.locals_named(code, "this")
+            found = [one for one in (self.follow(self.shapes.type_of(entry), this) for entry in entries) if one[0]]
+            if found:
+                return found
+            entries = self.names.globals_named(code, use.base)
+        return [self.follow(self.shapes.type_of(entry), use) for entry in entries]
 
     def follow(self, kind, use):
         """The type of this expression, what its last pointer leads to, and its text."""
-        found, text = None, use.base
+        found, text, indexes = None, use.base, 0
         if kind and kind.tag in REFERENCES:
             kind, found = self.pointed(kind, text, DIRECT)
         for step in use.steps:
@@ -68,7 +77,13 @@ class Expressions:
             if pointer:
                 kind, found = self.pointed(pointer, text, POINTED if pointer is kind else INDEXED)
             elif step in ("[]", "*") and kind.tag == ARRAY:
-                kind, found = self.shapes.type_of(kind), found and found._replace(path=found.path + "[]")
+                indexes += 1
+                found = found and found._replace(path=found.path + "[]")
+                if indexes == len(list(self.shapes.counts(kind))):
+                    kind, indexes = self.shapes.type_of(kind), 0
+            elif step[0] != ".":
+                # An operator of a class.
+                return None, None, text
             if step[0] in ".-":
                 name = step.lstrip(".->")
                 kind, found = kind and self.member(kind, name), found and found._replace(path=f"{found.path}.{name}")
@@ -132,7 +147,7 @@ class HeapTypes:
         kind = known[0].kind
         is_single = self.shapes.size(kind) == size or size % self.shapes.size(kind) != 0
         named = {(found.pointer, found.form) for found in by_access if found and (is_single or found.form == INDEXED)}
-        if len(named) == 1 and all(pointer for pointer, _ in named):
+        if len(named) == 1 and all(pointer and not (allocated and pointer == "this") for pointer, _ in named):
             return Made(kind, *named.pop())
         if allocated:
             return Made(kind, allocated.pointer, allocated.form if is_single else INDEXED)
@@ -178,9 +193,10 @@ class HeapTypes:
         return part is not None and (path == reached.path or (reached.has_parts and path.startswith(reached.path)))
 
     def part_at(self, kind, offset, size, width):
-        """The part at this byte of a block of elements of this type, or None where there can't be such an access."""
+        """The part at this byte of a block of elements of this type, or of one with more behind it, or None where there
+        can't be such an access."""
         element = self.shapes.size(kind)
-        if not element or (size % element != 0 and offset >= element):
+        if not element or element > size or (size % element != 0 and offset >= element):
             return None
         part = self.shapes.part(kind, offset % element)
         is_inside = not width or offset % element - part.first + width <= part.size or not part.is_scalar
@@ -192,6 +208,8 @@ class HeapTypes:
             found = [one for one in (self.expressions.assigned(use, line.code) for use in uses_of(line.text)) if one]
             if found:
                 reached = self.expressions.only(found)
-                is_there = reached and all(self.part_at(reached.kind, offset, size, access.width) for access in accesses)
+                # A block with more behind one element may have something before it.
+                is_there = reached and size % (self.shapes.size(reached.kind) or size) == 0 and all(
+                    self.part_at(reached.kind, offset, size, access.width) for access in accesses)
                 return reached if is_there else None
         return None

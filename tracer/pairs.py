@@ -369,9 +369,11 @@ class Program:
                     yield int(word, 16), position
 
     def line_of(self, kind, words):
-        """The line that accesses a block."""
-        code, position = next(self.lines_of(words), (0, UNKNOWN))
-        return Line(code - 1, source.text_of(position), kind, self.names.width(int(words[0], 16)))
+        """The line that accesses a block; what the library does there has no text."""
+        code = int(words[0], 16)
+        position = self.positions[code][0]
+        text = "" if source.is_system(position) else source.text_of(position)
+        return Line(code - 1, text, kind, self.names.width(code))
 
     def named(self, address):
         """What neither a block nor a function holds."""

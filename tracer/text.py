@@ -44,6 +44,13 @@ def at_end(text, width):
     return text if len(text) <= width else text[:max(width - len(CUT), 0)] + CUT
 
 
+def stacks_of(pair):
+    """Both as they are shown."""
+    is_of_openmp = pair.suggested and not advice.is_of_cilk(pair)
+    stacks = [without_regions(side.stack) if is_of_openmp else side.stack for side in pair.sides]
+    return [[stack[0]._replace(role=kind_of(stack[0].role, pair)), *stack[1:]] for stack in stacks]
+
+
 class Text:
     """With colours where it goes to a terminal."""
 
@@ -111,9 +118,7 @@ class Text:
 
     def block(self, pair):
         yield from self.wrapped(f"{many(pair.races, 'location')}: {kinds_of(pair)}{guarded(pair.guard)}", "1;31")
-        is_of_openmp = pair.suggested and not advice.is_of_cilk(pair)
-        stacks = [without_regions(side.stack) if is_of_openmp else side.stack for side in pair.sides]
-        stacks = [[stack[0]._replace(role=kind_of(stack[0].role, pair)), *stack[1:]] for stack in stacks]
+        stacks = stacks_of(pair)
         tail = common_tail(*stacks)
         shown = [row for side, stack in zip(pair.sides, stacks)
                  for row in access_rows(stack[:len(stack) - tail], side.lead())]

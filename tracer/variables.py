@@ -60,8 +60,8 @@ def readable(method):
 class Names:
     def __init__(self, program):
         self.functions, self.globals, self.dwarf, self.shapes = {}, {}, None, None
-        # By their names, the variables of functions and of units.
-        self.of_functions, self.of_units = {}, {}
+        # The functions by where they begin, and the variables of functions and units by their names.
+        self.entries, self.named_in = {}, {}
         try:
             self.dwarf = Dwarf(program)
             self.shapes = Shapes(self.dwarf)
@@ -203,22 +203,27 @@ class Names:
 
     # ---- By their names ----
 
-    def declared(self, code, name):
-        """The variables that this name may be of in the function with this code: locals, or else globals."""
+    def locals_named(self, code, name):
+        """The variables of this name that the function with this code has."""
+        function = self.function_with(code)
+        return self.by_name(function, HOLDS_VARIABLES).get(name, []) if function else []
+
+    def globals_named(self, code, name):
+        """The same of the unit of compilation."""
+        function = self.function_with(code)
+        return self.by_name(self.dwarf.root(function.unit), {NAMESPACE}).get(name, []) if function else []
+
+    def function_with(self, code):
         found = self.dwarf.elf.function_at(code)
-        function = found and self.function(found[0])
-        if not function:
-            return []
-        if function.at not in self.of_functions:
-            self.of_functions[function.at] = self.by_name(function, HOLDS_VARIABLES)
-        unit = function.unit
-        if unit.start not in self.of_units:
-            self.of_units[unit.start] = self.by_name(self.dwarf.root(unit), {NAMESPACE})
-        return self.of_functions[function.at].get(name) or self.of_units[unit.start].get(name, [])
+        if found and found[0] not in self.entries:
+            self.entries[found[0]] = self.function(found[0])
+        return found and self.entries[found[0]]
 
     def by_name(self, entry, holders):
         """The variables of an entry and of those of these kinds in it."""
-        found, entries = {}, [entry]
+        if entry.at in self.named_in:
+            return self.named_in[entry.at]
+        found, entries = self.named_in.setdefault(entry.at, {}), [entry]
         for holder in entries:
             for child in self.dwarf.each_child(holder):
                 if child.tag in (VARIABLE, PARAMETER):

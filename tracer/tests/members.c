@@ -18,6 +18,9 @@ struct stats {
 struct other {
     double first, second;
 };
+struct table {
+    int rows[2][3];
+};
 static double sink;
 
 static void push(particle *p, int at) { p[at].pos[1] = 2; }
@@ -59,6 +62,14 @@ static void of_several(void) {
     note(&own, 2);
 }
 
+static void set_cell(struct table *t) { t->rows[1][2] = 1; }
+
+static void of_rows(void) {
+    struct table *table = malloc(sizeof *table);
+    cilk_spawn set_cell(table);
+    set_cell(table);
+}
+
 static void fill(double *row, int many) {
     for (int i = 0; i < many; i++)
         row[i] = many;
@@ -95,7 +106,7 @@ static const struct {
     const char *name;
     void (*run)(void);
 } all[] = {{"member", of_a_member},   {"type", of_a_type}, {"node", of_a_node}, {"several", of_several},
-           {"elements", of_elements}, {"line", of_a_line}, {"doubt", of_doubt}};
+           {"elements", of_elements}, {"line", of_a_line}, {"rows", of_rows},   {"doubt", of_doubt}};
 
 int main(int count, char **words) {
     for (size_t at = 0; at < sizeof all / sizeof *all; at++)

@@ -153,6 +153,7 @@ class MembersTest(WordsTest):
                              ("type", "particle[1].pos[1], in a block of the heap, byte 48 of 320"),
                              ("node", "at->sum, in a block of the heap, byte 16 of 24"),
                              ("line", "from->second, in a block of the heap, byte 8 of 16"),
+                             ("rows", "t->rows[1][2], in a block of the heap, byte 20 of 24"),
                              ("doubt", "a block of the heap, byte 8 of 32, or element 1 of 4"),
                              ("elements", "numbers[0] and 4 more elements of numbers, in a block of the heap, byte 0 of 40")):
             with self.subTest(word):
@@ -344,7 +345,7 @@ class CPlusPlusTest(WordsTest):
 
     def test_allocation_of_the_library(self):
         """The user's line stands first, and all functions of the library are one row."""
-        block = next(block for block in blocks_of(self.text_of()) if "a block of the heap" in block)
+        block = next(block for block in blocks_of(self.text_of()) if re.search("variable +a block of the heap", block))
         rows = block.splitlines()
         at = next(number for number, row in enumerate(rows) if "allocated at" in row)
         self.assertRegex(rows[at], rf"words\.cpp:{self.line_of('resize')} +main +table\.rows\[key\]\.re")
@@ -352,8 +353,17 @@ class CPlusPlusTest(WordsTest):
         self.assertRegex(rows[at + 2], r"\A    no order")
 
     def test_names(self):
-        names = [pair["variable"].get("expression") or "" for pair in self.pairs_of()]
-        self.assertEqual(["", "plates::Derived::shared", "plates::derived[1].counts[2]"], sorted(names))
+        """A map has operators of its own, so what is in it has no name."""
+        found = sorted((pair["races"], pair["variable"].get("parts") or pair["variable"].get("expression") or "")
+                       for pair in self.pairs_of())
+        self.assertEqual([(1, "last"), (1, "plates::Derived::shared"), (1, "plates::derived[1].counts[2]"), (2, ""),
+                          (3, ["counters[2].hits", "counters[2].sum"]), (3, ["this->hits", "this->sum"])],
+                         sorted(found, key=str))
+
+    def test_lambda(self):
+        said = self.text_of(COLUMNS="250")
+        at = f"{self.SOURCE}:{self.line_of('lambda')}"
+        self.assertRegex(said, rf"\n    write +\S+ +lambda at {at}  +last = i;\n")
 
 
 class OpenMPTest(WordsTest):
