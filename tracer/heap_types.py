@@ -79,7 +79,7 @@ class Expressions:
             elif step in ("[]", "*") and kind.tag == ARRAY:
                 indexes += 1
                 found = found and found._replace(path=found.path + "[]")
-                if indexes == len(list(self.shapes.counts(kind))):
+                if indexes == len(self.shapes.counts(kind)):
                     kind, indexes = self.shapes.type_of(kind), 0
             elif step[0] != ".":
                 # An operator of a class.

@@ -18,6 +18,18 @@ MEMBER_LOCATION, DECLARATION, TYPE, DATA_BITS = 0x38, 0x3c, 0x49, 0x6b
 Part = namedtuple("Part", "path first size is_scalar")
 
 
+def kept(method):
+    """What a method finds of an entry, which is looked up once."""
+    def found(self, entry):
+        if entry is None:
+            return None
+        key = method, entry.at
+        if key not in self.kept:
+            self.kept[key] = method(self, entry)
+        return self.kept[key]
+    return found
+
+
 class Elements:
     """The type of memory that has elements of one type: of as many bytes."""
     tag = ARRAY
@@ -31,8 +43,9 @@ class Elements:
 
 class Shapes:
     def __init__(self, dwarf):
-        self.dwarf, self.wholes = dwarf, {}
+        self.dwarf, self.kept = dwarf, {}
 
+    @kept
     def type_of(self, entry):
         """The type of a variable, a member or an element, behind its other names."""
         found = self.dwarf.inherited(entry, TYPE)
@@ -41,9 +54,8 @@ class Shapes:
             found = self.dwarf.referred(found, TYPE)
         return found
 
+    @kept
     def size(self, kind):
-        if kind is None:
-            return None
         if kind.tag != ARRAY or kind.number(BYTE_SIZE) is not None:
             return kind.number(BYTE_SIZE, POINTER_SIZE if kind.tag in POINTERS else None)
         size = self.size(self.type_of(kind))
@@ -51,12 +63,11 @@ class Shapes:
             size = size and count and size * count
         return size or None
 
+    @kept
     def counts(self, array):
         """How many elements an array has in each dimension; None where that isn't known."""
-        for child in self.dwarf.each_child(array):
-            if child.tag == SUBRANGE:
-                last = child.number(UPPER_BOUND)
-                yield child.number(COUNT, None if last is None else last + 1)
+        last = {child: child.number(UPPER_BOUND) for child in self.dwarf.each_child(array) if child.tag == SUBRANGE}
+        return [child.number(COUNT, None if last[child] is None else last[child] + 1) for child in last]
 
     # ---- Parts ----
 
@@ -89,11 +100,12 @@ class Shapes:
             for part in self.parts(element, max(first - start, 0), min(end - start, size)):
                 yield part._replace(path=path + part.path, first=start + part.first)
 
+    @kept
     def dimensions(self, array):
         """An array's elements, their size, and how many there are in each dimension; no size where these aren't known."""
         if isinstance(array, Elements):
             return array.element, self.size(array.element), [None]
-        element, counts = self.type_of(array), list(self.counts(array))
+        element, counts = self.type_of(array), self.counts(array)
         return element, None if None in counts[1:] or not counts else self.size(element), counts
 
     def parts_of_members(self, kind, first, end):
@@ -113,11 +125,11 @@ class Shapes:
 
     def count(self, kind, first, end):
         """How many parts there are with these bytes."""
-        if first == 0 and end == self.size(kind):
-            if kind.at not in self.wholes:
-                self.wholes[kind.at] = self.counted(kind, first, end)
-            return self.wholes[kind.at]
-        return self.counted(kind, first, end)
+        return self.count_all(kind) if first == 0 and end == self.size(kind) else self.counted(kind, first, end)
+
+    @kept
+    def count_all(self, kind):
+        return self.counted(kind, 0, self.size(kind))
 
     def counted(self, kind, first, end):
         if kind and kind.tag in WITH_MEMBERS:
@@ -142,14 +154,17 @@ class Shapes:
             last = self.part(kind, end - 1)
         return paths, number
 
+    @kept
     def members(self, kind):
         """The members and the bases of a struct, class or union, with the bytes that they touch."""
+        found = []
         for child in self.dwarf.each_child(kind):
             if child.tag not in (MEMBER, INHERITANCE) or child.number(DECLARATION):
                 continue
             first = child.number(MEMBER_LOCATION) if MEMBER_LOCATION in child.values else 0
             if first is not None:
-                yield child, *self.bytes_of(child, first)
+                found.append((child, *self.bytes_of(child, first)))
+        return found
 
     def bytes_of(self, member, first):
         """The first byte that a member touches, and how many: it begins in this byte, or has some bits from there on."""
