@@ -32,7 +32,8 @@ def function_of(position):
     lambdas = list(LAMBDA.finditer(name))
     if not lambdas or "operator()" not in name[lambdas[-1].start():]:
         return name
-    line, outer = line_of_lambda(position), name[:lambdas[0].start()].rstrip(":").split(" ")[-1]
+    line, outer = line_of_lambda(position), name[:lambdas[0].start()].rstrip(":")
+    outer = outer.removeprefix("decltype(auto) ").removeprefix("auto ")
     if line:
         return f"lambda at {position.file}:{line}"
     # Where the source has none, it is the body of a cilk_for.

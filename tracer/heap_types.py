@@ -157,8 +157,7 @@ class HeapTypes:
     @readable
     def parts(self, made, runs, size, most):
         """Of the parts with these runs of bytes so many expressions, and their number."""
-        block = Elements(made.kind, size)
-        paths, number = self.shapes.gathered(block, [(first, min(end, size)) for first, end in runs if first < size], most)
+        paths, number = self.shapes.gathered(Elements(made.kind, size), runs, most)
         return [self.spelled(made, path) for path in paths], number
 
     @staticmethod

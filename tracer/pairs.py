@@ -403,11 +403,12 @@ class Program:
         variable, whole = pair.variable, pair.variable.whole
         if not whole or pair.reducer or not variable.get("expression"):
             return
-        runs = [(first, first + 1) for first, _ in pair.runs] if pair.neighbours else pair.runs
+        size = variable["size"]
+        runs = [(first, first + 1 if pair.neighbours else min(end, size)) for first, end in pair.runs if first < size]
         if variable["kind"] == "heap":
-            found = self.heap_types.parts(whole, runs, variable["size"], MOST_PARTS)
+            found = self.heap_types.parts(whole, runs, size, MOST_PARTS)
         else:
-            found = self.names.parts(whole, variable["name"], runs, MOST_PARTS)
+            found = self.names.parts(whole, variable, runs, MOST_PARTS)
         if found and found[1] > 1:
             variable["parts"], variable["parts_count"] = found
 

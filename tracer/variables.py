@@ -247,9 +247,7 @@ class Names:
         return found
 
     @readable
-    def parts(self, entry, name, runs, most):
-        """Of the parts of a variable of this name with these runs of bytes so many expressions, and their number."""
-        kind = self.shapes.type_of(entry)
-        size = self.shapes.size(kind)
-        paths, number = self.shapes.gathered(kind, [(first, min(end, size or end)) for first, end in runs], most)
-        return [name + path for path in paths], number
+    def parts(self, entry, variable, runs, most):
+        """Of the parts of a variable with these runs of bytes so many expressions, and their number."""
+        paths, number = self.shapes.gathered(self.shapes.type_of(entry), runs, most)
+        return [variable["name"] + path for path in paths], number
