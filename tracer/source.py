@@ -63,11 +63,14 @@ class Root:
 
 @functools.lru_cache
 def shown(file):
-    """A file's name from the root, where that is shorter; those of the system keep theirs."""
-    whole = os.path.normpath(file)
-    if not whole.startswith("/") or whole.startswith(SYSTEM) or is_own(whole):
-        return whole
-    return min(os.path.relpath(whole, Root.folder), whole, key=len)
+    """A file's name from the root, where it is below that or below the folder around that; those of the system keep
+    theirs."""
+    whole, root = os.path.normpath(file), os.path.abspath(Root.folder)
+    around = os.path.dirname(root)
+    # What is in the folders of the system itself, as in /tmp, has nothing to do with each other.
+    near = os.path.join(around if around.count(os.sep) > 1 else root, "")
+    is_near = whole.startswith(near) and not whole.startswith(SYSTEM) and not is_own(whole)
+    return os.path.relpath(whole, root) if is_near else whole
 
 
 @functools.lru_cache
