@@ -33,7 +33,8 @@ def is_of_cilk(pair):
 def is_scalar(pair, unit):
     """Whether what races is no row of elements."""
     parts = pair.variable.get("parts", ())
-    return not any("[" in part for part in parts) and bool(pair.variable.get("expression") or pair.races * unit <= MOST_SCALAR)
+    is_small = pair.variable.get("expression") or pair.races * unit <= MOST_SCALAR
+    return bool(is_small) and not any("[" in part for part in parts)
 
 
 def of_cilk(pair, unit):
@@ -43,7 +44,7 @@ def of_cilk(pair, unit):
     if pair.reducer:
         return waits
     if all(is_update(side.lead()) for side in pair.sides):
-        return (REDUCER,) if is_scalar(pair, unit) else (*waits, REDUCER)
+        return (REDUCER,) if is_scalar(pair, unit) else (REDUCER, *waits)
     first, second = pair.kinds
     if "write" in first and "write" in second and (pair.siblings or is_of_one_function(pair)):
         return (PRIVATE,) if pair.missing_sync or is_scalar(pair, unit) else ()

@@ -175,7 +175,7 @@ class AdviceTest(WordsTest):
 
     def test_names(self):
         for word, wanted in (("counter", ["reducer"]), ("least", ["reducer"]), ("result", ["cilk_sync"]),
-                             ("scratch", ["private"]), ("elements", ["cilk_sync", "reducer"]), ("sum", ["reducer"]),
+                             ("scratch", ["private"]), ("elements", ["reducer", "cilk_sync"]), ("sum", ["reducer"]),
                              ("own", ["private"])):
             with self.subTest(word):
                 self.assertEqual({tuple(wanted)}, {tuple(pair["suggested"]) for pair in self.pairs_of(word)})
@@ -183,7 +183,7 @@ class AdviceTest(WordsTest):
     def test_text(self):
         for word, wanted in (("counter", "a reducer"), ("scratch", "a variable of each child's own"),
                              ("result", f"a cilk_sync before {self.SOURCE}:{self.line_of('early')}"),
-                             ("elements", f"a cilk_sync before {self.SOURCE}:{self.line_of('second half')} or a reducer"),
+                             ("elements", f"a reducer or a cilk_sync before {self.SOURCE}:{self.line_of('second half')}"),
                              ("sum", "a reducer"), ("own", "a variable of each iteration's own")):
             with self.subTest(word):
                 said = " ".join(self.text_of(word).split())
