@@ -69,6 +69,12 @@ def without_regions(stack):
             if not before or (before.role, frame.role) != ("spawn", "call") or before.position != frame.position]
 
 
+def stacks_of(pair):
+    """Both as they are shown."""
+    stacks = [without_regions(side.stack) if pair.suggested else side.stack for side in pair.sides]
+    return [[stack[0]._replace(role=kind_of(stack[0].role, pair)), *stack[1:]] for stack in stacks]
+
+
 class Text:
     """With colours where it goes to a terminal."""
 
@@ -133,8 +139,7 @@ class Text:
 
     def block(self, pair):
         yield from self.wrapped(f"{many(pair.races, 'location')}: {kinds_of(pair)}{guarded(pair.guard)}", "1;31")
-        stacks = [without_regions(side.stack) if pair.suggested else side.stack for side in pair.sides]
-        stacks = [[stack[0]._replace(role=kind_of(stack[0].role, pair)), *stack[1:]] for stack in stacks]
+        stacks = stacks_of(pair)
         tail = common_tail(*stacks)
         rows = [row for side, stack in zip(pair.sides, stacks)
                 for row in self.access_rows(stack[:len(stack) - tail], side.lead())]
