@@ -199,12 +199,29 @@ void detector_tell_next(void) {
     tell("for the source lines: spbags-run -- %s%s", words, (ssize_t)strlen(words) + 1 < size ? " .." : "");
 }
 
+/* How much was taken, as spbags-run shows it of a long run: a page of its file. */
+static struct shown_progress { uint64_t spawns, accesses; } own_progress, *progress = &own_progress;
+
+void detector_share_progress(int file) {
+    struct shown_progress *page = memory_reserve(sizeof *page);
+    mmap(page, sizeof *page, PROT_READ | PROT_WRITE, MAP_SHARED | MAP_FIXED, file, 0);
+    close(file);
+    __atomic_store_n(&progress, page, __ATOMIC_RELEASE);
+}
+
+static void show_progress(void) {
+    struct shown_progress *page = __atomic_load_n(&progress, __ATOMIC_ACQUIRE);
+    page->spawns = detector_spawns;
+    page->accesses = detector_accesses;
+}
+
 static void *detect(void *nothing) {
     bool is_last = false;
     spbags_new(at_hand.session);
     for (size_t number = 0; !is_last; number = (number + 1) % BUNDLES) {
         wait_for(&full_bundles);
         take_bundle(&bundles[number]);
+        show_progress();
         is_last = bundles[number].is_last;
         sem_post(&free_bundles);
     }

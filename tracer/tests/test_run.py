@@ -627,6 +627,62 @@ class OutputTest(RunTest):
                 self.assertEqual(f"{before.rstrip()}\n{command} {newest}\n".lstrip(), said)
 
 
+class ProgressTest(TracerTest):
+    """What a terminal shows of a long run."""
+    TEXT = """#include <cilk/cilk.h>
+#include <unistd.h>
+static int cells[1 << 20], racy;
+static void child(void) { racy = 1; }
+int main(int count, char **words) {
+    cilk_spawn child();
+    racy = 2;
+    cilk_sync;
+    for (int i = 0; i < 1 << 20; i++)
+        cells[i] = i;
+    cilk_spawn child();
+    cilk_sync;
+    sleep(count > 1 ? *words[1] - '0' : 0);
+}
+"""
+
+    def setUp(self):
+        super().setUp()
+        self.write("slow.c", self.TEXT)
+        self.succeeds(SPBAGS_CC, "-w", "-o", "slow", "slow.c")
+
+    def shown(self, *words, **settings):
+        """What standard error gets, if it is a terminal."""
+        self.command = " ".join(words)
+        control, terminal = pty.openpty()
+        with subprocess.Popen(words, stdin=subprocess.DEVNULL, stdout=subprocess.DEVNULL, stderr=terminal,
+                              env={**os.environ, "TERM": "xterm", **settings}):
+            os.close(terminal)
+            said = b""
+            with contextlib.suppress(OSError):
+                while piece := os.read(control, 1 << 16):
+                    said += piece
+        os.close(control)
+        return said.decode()
+
+    def test_terminal(self):
+        """A line says how far each run is, and is gone at the end."""
+        said = self.shown(SPBAGS_RUN, "--", "./slow", "4")
+        accesses = ", 1\\.0 million accesses" if INSIDE else ""
+        self.assertRegex(said, rf"run 1: [23] s{accesses}\033")
+        self.assertRegex(said, r"run 2: [0-9]+ s, 1 race\033")
+        self.assertRegex(said, r"\033\[J\Z")
+        self.assertEqual("", re.sub(r"\033(?:[DM78]|\[J|\[[02]m)|\r*\n|(?:run [12]|looking up source lines): [0-9]+ s[\w,. ]*",
+                                    "", said))
+
+    def test_elsewhere(self):
+        """A short run shows nothing, nor does a pipe, a file, or a terminal that can't erase."""
+        self.assertEqual("", self.shown(SPBAGS_RUN, "--", "./slow"))
+        self.assertEqual("", self.shown(SPBAGS_RUN, "--", "./slow", "3", TERM="dumb"))
+        self.assertEqual("", self.run_command(SPBAGS_RUN, "--", "./slow", "3").errors)
+        self.succeeds("bash", "-c", 'exec 2>errors; "$@" || [ $? = 1 ]', "bash", SPBAGS_RUN, "--", "./slow", "3")
+        self.assertEqual("", self.read("errors"))
+
+
 class StatusTest(RunTest):
     """What wasn't seen, and the statuses."""
     SOURCES = ("run", "ways_out")
