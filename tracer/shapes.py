@@ -146,12 +146,15 @@ class Shapes:
 
     def gathered(self, kind, runs, most):
         """Of these runs of bytes, each its first and its end: so many paths to their parts, and the number of parts."""
-        paths, number, last = [], 0, None
+        paths, number, before = [], 0, 0
         for first, end in joined(runs):
-            goes_on = last is not None and self.part(kind, first) == last
+            # Whether the run before ends in the part with which this one begins.
+            goes_on = self.part(kind, first).first < before
             number += self.count(kind, first, end) - goes_on
-            paths += (part.path for part in islice(self.parts(kind, first, end), goes_on, goes_on + most - len(paths)))
-            last = self.part(kind, end - 1)
+            if len(paths) < most:
+                parts = islice(self.parts(kind, first, end), goes_on, goes_on + most - len(paths))
+                paths += (part.path for part in parts)
+            before = end
         return paths, number
 
     @kept
