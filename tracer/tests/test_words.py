@@ -150,7 +150,7 @@ class MembersTest(WordsTest):
 
     def test_names(self):
         for word, wanted in (("member", "swarm[1].pos[1], in a block of the heap, byte 48 of 320"),
-                             ("type", "particle[1].pos[1], in a block of the heap, byte 48 of 320"),
+                             ("type", "particle.pos[1], in a block of the heap, byte 48 of 320"),
                              ("node", "at->sum, in a block of the heap, byte 16 of 24"),
                              ("line", "from->second, in a block of the heap, byte 8 of 16"),
                              ("rows", "t->rows[1][2], in a block of the heap, byte 20 of 24"),
@@ -357,7 +357,7 @@ class CPlusPlusTest(WordsTest):
         found = sorted((pair["races"], pair["variable"].get("parts") or pair["variable"].get("expression") or "")
                        for pair in self.pairs_of())
         self.assertEqual([(1, "last"), (1, "plates::Derived::shared"), (1, "plates::derived[1].counts[2]"), (2, ""),
-                          (3, ["counters[2].hits", "counters[2].sum"]), (3, ["this->hits", "this->sum"])],
+                          (3, ["counter->hits", "counter->sum"]), (3, ["counters[2].hits", "counters[2].sum"])],
                          sorted(found, key=str))
 
     def test_lambda(self):
