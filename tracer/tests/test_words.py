@@ -362,8 +362,7 @@ class CPlusPlusTest(WordsTest):
 
     def test_lambda(self):
         said = self.text_of(COLUMNS="250")
-        at = f"{self.SOURCE}:{self.line_of('lambda')}"
-        self.assertRegex(said, rf"\n    write +\S+ +lambda at {at}  +last = i;\n")
+        self.assertRegex(said, rf"\n    write +\S+ +lambda at words\.cpp:{self.line_of('lambda')}  +last = i;\n")
 
 
 class OpenMPTest(WordsTest):
