@@ -260,6 +260,16 @@ class TextTest(WordsTest):
             [pair] = self.pairs_of(program="./own", options=options)
             self.assertEqual((wanted, 3, "n++;"), tuple(pair["first"]["user_frame"][name] for name in ("file", "line", "text")))
 
+    def test_parts(self):
+        """All members are named; of many elements one, and the number of the others."""
+        for parts, number, wanted in (([f"s.{name}" for name in "abcde"], 5, "s.a, s.b, s.c, s.d and s.e"),
+                                      (["s[0]", "s[7]"], 2, "s[0] and s[7]"),
+                                      ([f"s[{at}]" for at in range(5)], 5, "s[0] and 4 more elements of s"),
+                                      ([f"s[{at}].x" for at in range(20)], 60, "s[0].x and 59 more parts of s"),
+                                      (["s._M_a.b", "s._M_c"], 2, "s")):
+            with self.subTest(wanted):
+                self.assertEqual(wanted, text.parts_named({"name": "s", "parts": parts, "parts_count": number}))
+
     def test_told(self):
         """What can't wait for the report is as wide."""
         words = "for 30 seconds the program has touched no new memory and started no task. It goes on, since it may"
