@@ -5,6 +5,7 @@ import re
 from collections import namedtuple
 
 from expressions import uses_of
+from functions import without_arguments
 from shapes import (ARRAY, CLASS, DECLARATION, INHERITANCE, MEMBER, POINTER, REFERENCE, RIGHT_REFERENCE, STRUCTURE, TYPE,
                     Elements)
 from variables import readable
@@ -22,6 +23,8 @@ CLASSES, REFERENCES = {CLASS, STRUCTURE}, {REFERENCE, RIGHT_REFERENCE}
 # Classes that lead to memory of the heap as a pointer does, by the beginning of their names and the operators for that;
 # and the parameter of these templates that is the type there.
 LEADING, PARAMETER, PARAMETER_NAME = (("vector<", ("[]",)), ("unique_ptr<", ("*", "->"))), 0x2f, "_Tp"
+# The class of the library that a function is of.
+MEMBER_OF = re.compile(r"\bstd::(?:__cxx11::)?(\w+)<[^<>]*>::")
 # Bytes that C++ may put before an array of objects.
 COOKIE = 8
 
@@ -52,6 +55,14 @@ class Expressions:
     def form_of(self, kind):
         """Of what a pointer leads to, or a class that is like one."""
         return INDEXED if kind.tag in CLASSES and self.dwarf.name(kind).startswith("vector<") else POINTED
+
+    def of_class(self, use, code, name):
+        """The text of the longest beginning of this that is an object of a class whose name begins so, or None."""
+        for count in range(len(use.steps), -1, -1):
+            for kind, _, text in self.followed(use._replace(steps=use.steps[:count]), code):
+                if kind and kind.tag in CLASSES and (self.dwarf.name(kind) or "").startswith(name):
+                    return text
+        return None
 
     def only(self, found):
         """The one that is known."""
@@ -146,6 +157,15 @@ class HeapTypes:
         allocation, and by those of the two accesses."""
         made = self.made(offset, size, allocations, accesses)
         return made and (made, self.parts(made, [(offset, offset + 1)], size, 1)[0][0])
+
+    @readable
+    def owner(self, function, line):
+        """The object on a line whose member function of the library allocates."""
+        of_class = MEMBER_OF.findall(without_arguments(function))
+        if not of_class:
+            return None
+        found = {self.expressions.of_class(use, line.code, of_class[-1] + "<") for use in uses_of(line.text)} - {None}
+        return found.pop() if len(found) == 1 else None
 
     def made(self, offset, size, allocations, accesses):
         by_access = [self.by_access(line, offset, size) for line in accesses]

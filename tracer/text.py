@@ -225,7 +225,8 @@ def variable_line(variable, unit):
         if variable.get("expression"):
             return f"{parts_named(variable)}, in a block of the heap{byte_of(offset, size)}"
         elements = f", or element {offset // element} of {size // element}" if element else ""
-        return "a block of the heap" + byte_of(offset, size) + elements
+        owner = f" that {variable['owner']} has" if "owner" in variable else ""
+        return f"a block of the heap{owner}{byte_of(offset, size)}{elements}"
     if variable.get("parts") and len(parts_of(variable)) > 1:
         return owned(variable, parts_named(variable), "of ")
     if variable.get("expression"):

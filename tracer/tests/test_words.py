@@ -375,6 +375,16 @@ class CPlusPlusTest(WordsTest):
         self.assertRegex(said, rf"\n    write +\S+ +lambda at words\.cpp:{self.line_of('lambda')}  +last = i;\n")
 
 
+class OwnersTest(WordsTest):
+    SOURCE = os.path.join(TESTS, "owners.cpp")
+
+    def test_owners(self):
+        """A node is the map's, and characters are the string's."""
+        blocks = [pair["variable"] for pair in self.pairs_of() if pair["variable"]["kind"] == "heap"]
+        self.assertEqual({"numbers", "text"}, {block["owner"] for block in blocks})
+        self.assertIn("   a block of the heap that numbers has, byte ", self.text_of())
+
+
 class OpenMPTest(WordsTest):
     SOURCE, OPTIONS = os.path.join(TESTS, "words_openmp.c"), ("-fopenmp",)
 
