@@ -1,5 +1,6 @@
 """What the text calls functions: a lambda by the line where it begins, and a template without its long arguments."""
 import functools
+import os
 import re
 
 import source
@@ -35,7 +36,7 @@ def function_of(position):
     line, outer = line_of_lambda(position), name[:lambdas[0].start()].rstrip(":")
     outer = outer.removeprefix("decltype(auto) ").removeprefix("auto ")
     if line:
-        return f"lambda at {position.file}:{line}"
+        return f"lambda at {os.path.basename(position.file)}:{line}"
     # Where the source has none, it is the body of a cilk_for.
     return outer if source.lines_of(position.file) else f"lambda in {outer}"
 

@@ -5,6 +5,7 @@ import re
 from collections import namedtuple
 
 from expressions import uses_of
+from functions import without_arguments
 from shapes import (ARRAY, CLASS, DECLARATION, INHERITANCE, MEMBER, POINTER, REFERENCE, RIGHT_REFERENCE, STRUCTURE, TYPE,
                     Elements)
 from variables import readable
@@ -19,8 +20,13 @@ Line = namedtuple("Line", "code text kind width", defaults=(None, None))
 Made = namedtuple("Made", "kind name form")
 POINTED, INDEXED, DIRECT = "pointed", "indexed", "direct"
 CLASSES, REFERENCES = {CLASS, STRUCTURE}, {REFERENCE, RIGHT_REFERENCE}
-# Where a vector of libstdc++ has its elements.
-INSIDE_VECTOR, FIRST_OF_VECTOR = "_M_impl", "_M_start"
+# Classes that lead to memory of the heap as a pointer does, by the beginning of their names and the operators for that;
+# and the parameter of these templates that is the type there.
+LEADING, PARAMETER, PARAMETER_NAME = (("vector<", ("[]",)), ("unique_ptr<", ("*", "->"))), 0x2f, "_Tp"
+# The class of the library that a function is of.
+MEMBER_OF = re.compile(r"\bstd::(?:__cxx11::)?(\w+)<[^<>]*>::")
+# Bytes that C++ may put before an array of objects.
+COOKIE = 8
 
 
 class Expressions:
@@ -37,13 +43,26 @@ class Expressions:
     def assigned(self, use, code):
         """What a pointer leads to that is given a value here, or a vector that is named."""
         names_vector = use.steps[:1] == ("()",) or use.steps[1:] == ("()",)
-        named = use._replace(steps=()) if names_vector else use
+        is_given = use.writes and not use.reads
         found = []
-        for kind, _, text in self.followed(named, code):
-            pointer = kind and self.pointer_of(kind, "[]")
-            if pointer and (pointer is not kind or (use.writes and not use.reads)):
-                found.append(self.pointed(pointer, text, POINTED if pointer is kind else INDEXED)[1])
+        for kind, _, text in self.followed(use._replace(steps=()) if names_vector else use, code):
+            for step in ("[]", "->") if is_given else ("[]",):
+                pointer = kind and self.pointer_of(kind, step)
+                if pointer and (is_given or pointer is not kind):
+                    found.append(self.pointed(pointer, text, self.form_of(kind))[1])
         return self.only(found)
+
+    def form_of(self, kind):
+        """Of what a pointer leads to, or a class that is like one."""
+        return INDEXED if kind.tag in CLASSES and self.dwarf.name(kind).startswith("vector<") else POINTED
+
+    def of_class(self, use, code, name):
+        """The text of the longest beginning of this that is an object of a class whose name begins so, or None."""
+        for count in range(len(use.steps), -1, -1):
+            for kind, _, text in self.followed(use._replace(steps=use.steps[:count]), code):
+                if kind and kind.tag in CLASSES and (self.dwarf.name(kind) or "").startswith(name):
+                    return text
+        return None
 
     def only(self, found):
         """The one that is known."""
@@ -75,7 +94,7 @@ class Expressions:
                 return None, None, text
             pointer = self.pointer_of(kind, step)
             if pointer:
-                kind, found = self.pointed(pointer, text, POINTED if pointer is kind else INDEXED)
+                kind, found = self.pointed(pointer, text, self.form_of(kind))
             elif step in ("[]", "*") and kind.tag == ARRAY:
                 indexes += 1
                 found = found and found._replace(path=found.path + "[]")
@@ -103,11 +122,13 @@ class Expressions:
         return found and self.dwarf.name(found)
 
     def pointer_of(self, kind, step):
-        """The pointer that this step follows, if it does, as in a vector."""
+        """The pointer that this step follows, if it does; of a class that is like one what says the type."""
         if kind.tag == POINTER and step[0] != ".":
             return kind
-        found = self.member(kind, FIRST_OF_VECTOR) if step == "[]" and kind.tag in CLASSES else None
-        return found if found and found.tag == POINTER else None
+        name = (self.dwarf.name(kind) or "") if kind.tag in CLASSES else ""
+        leads = any(name.startswith(one) and step.startswith(operators) for one, operators in LEADING)
+        parameters = (child for child in self.dwarf.each_child(kind) if child.tag == PARAMETER) if leads else ()
+        return next((child for child in parameters if self.dwarf.name(child) == PARAMETER_NAME), None)
 
     def member(self, kind, name):
         """The type of a member, of a base or of a member without a name too."""
@@ -116,9 +137,8 @@ class Expressions:
                 continue
             own = self.dwarf.name(member) if member.tag == MEMBER else None
             found = self.shapes.type_of(member)
-            is_around = own is None or (own == INSIDE_VECTOR and name == FIRST_OF_VECTOR)
             if own != name:
-                found = self.member(found, name) if found and is_around else None
+                found = self.member(found, name) if found and own is None else None
             if found:
                 return found
         return None
@@ -138,6 +158,15 @@ class HeapTypes:
         made = self.made(offset, size, allocations, accesses)
         return made and (made, self.parts(made, [(offset, offset + 1)], size, 1)[0][0])
 
+    @readable
+    def owner(self, function, line):
+        """The object on a line whose member function of the library allocates."""
+        of_class = MEMBER_OF.findall(without_arguments(function))
+        if not of_class:
+            return None
+        found = {self.expressions.of_class(use, line.code, of_class[-1] + "<") for use in uses_of(line.text)} - {None}
+        return found.pop() if len(found) == 1 else None
+
     def made(self, offset, size, allocations, accesses):
         by_access = [self.by_access(line, offset, size) for line in accesses]
         allocated = self.by_allocation(allocations, offset, size, accesses)
@@ -152,7 +181,7 @@ class HeapTypes:
         if allocated:
             return Made(kind, allocated.pointer, allocated.form if is_single else INDEXED)
         name = known[0].name if kind.tag in CLASSES else None
-        return Made(kind, name, DIRECT if is_single else INDEXED) if name else None
+        return Made(kind, name, DIRECT) if name else None
 
     @readable
     def parts(self, made, runs, size, most):
@@ -164,7 +193,8 @@ class HeapTypes:
     def spelled(made, path):
         if made.form == INDEXED:
             return made.name + path
-        inside = path.removeprefix("[0]")
+        # A block that nobody names may have something before its elements.
+        inside = re.sub(r"^\[[0-9]+\]", "", path)
         if made.form == DIRECT:
             return made.name + inside
         if inside.startswith("."):
@@ -207,8 +237,12 @@ class HeapTypes:
             found = [one for one in (self.expressions.assigned(use, line.code) for use in uses_of(line.text)) if one]
             if found:
                 reached = self.expressions.only(found)
-                # A block with more behind one element may have something before it.
-                is_there = reached and size % (self.shapes.size(reached.kind) or size) == 0 and all(
-                    self.part_at(reached.kind, offset, size, access.width) for access in accesses)
-                return reached if is_there else None
+                return reached if reached and self.has_all(reached.kind, size, line) and all(
+                    self.part_at(reached.kind, offset, size, access.width) for access in accesses) else None
         return None
+
+    def has_all(self, kind, size, line):
+        """Whether a block that this line allocates has elements of this type alone."""
+        element = self.shapes.size(kind)
+        may_have_cookie = kind.tag in CLASSES and element and COOKIE % element == 0 and re.search(r"\bnew\b", line.text)
+        return bool(element) and size % element == 0 and not may_have_cookie

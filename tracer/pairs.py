@@ -357,9 +357,23 @@ class Program:
         lines = [self.line_of(kind, words) for kind, _, words in noted.sides]
         allocations = [Line(code - 1, source.text_of(position)) for code, position in self.lines_of(stack)]
         found = self.heap_types.named(offset, size, allocations, lines)
+        owner = None if found else self.owner(stack)
         if found:
             variable.whole, variable["expression"] = found
+        elif owner:
+            variable["owner"] = owner
         return variable
+
+    def owner(self, words):
+        """What has a block that the library allocates for it."""
+        inside = None
+        for code in (int(word, 16) for word in words if word != "spawn"):
+            for position in self.positions[code]:
+                if not source.is_system(position):
+                    line = Line(code - 1, source.text_of(position))
+                    return inside and self.heap_types.owner(inside.function, line)
+                inside = position
+        return None
 
     def lines_of(self, words):
         """The code and the position of each function on a stack that isn't of the system."""

@@ -15,7 +15,7 @@ OF_REDUCER = {"read": "update", "write": "value"}
 LEAST_WIDTH = 60
 # What the tracer's reducers and classes of libstdc++ have inside.
 INNER = re.compile(r"\.(?:__spbags|_M)_")
-# So many parts of a variable are named, and else the first alone.
+# So many elements of a variable are named, and else the first alone.
 MOST_NAMED = 4
 BASE, ELEMENT = re.compile(r"[(*]*[\w:]+"), re.compile(r"(?:\[[0-9]+\])+")
 GAP = "  "
@@ -225,7 +225,8 @@ def variable_line(variable, unit):
         if variable.get("expression"):
             return f"{parts_named(variable)}, in a block of the heap{byte_of(offset, size)}"
         elements = f", or element {offset // element} of {size // element}" if element else ""
-        return "a block of the heap" + byte_of(offset, size) + elements
+        owner = f" that {variable['owner']} has" if "owner" in variable else ""
+        return f"a block of the heap{owner}{byte_of(offset, size)}{elements}"
     if variable.get("parts") and len(parts_of(variable)) > 1:
         return owned(variable, parts_named(variable), "of ")
     if variable.get("expression"):
@@ -252,15 +253,15 @@ def parts_of(variable):
 
 
 def parts_named(variable):
-    """All parts that race, if these are few, or the first and their number."""
+    """All parts that race; or of elements, if they are more than a few, the first and their number."""
     parts = parts_of(variable)
     if len(parts) == 1:
         return parts[0]
-    if len(parts) <= MOST_NAMED:
+    are_all = len(variable["parts"]) == variable["parts_count"]
+    if len(parts) <= MOST_NAMED or (are_all and not any("[" in part for part in parts)):
         return f"{', '.join(parts[:-1])} and {parts[-1]}"
     name = variable.get("name") or BASE.match(parts[0])[0]
     kind = "element" if all(ELEMENT.fullmatch(part[len(name):]) for part in parts) else "part"
-    are_all = len(variable["parts"]) == variable["parts_count"]
     return f"{parts[0]} and {(len(parts) if are_all else variable['parts_count']) - 1} more {kind}s of {name}"
 
 

@@ -150,7 +150,7 @@ class MembersTest(WordsTest):
 
     def test_names(self):
         for word, wanted in (("member", "swarm[1].pos[1], in a block of the heap, byte 48 of 320"),
-                             ("type", "particle[1].pos[1], in a block of the heap, byte 48 of 320"),
+                             ("type", "particle.pos[1], in a block of the heap, byte 48 of 320"),
                              ("node", "at->sum, in a block of the heap, byte 16 of 24"),
                              ("line", "from->second, in a block of the heap, byte 8 of 16"),
                              ("rows", "t->rows[1][2], in a block of the heap, byte 20 of 24"),
@@ -260,6 +260,16 @@ class TextTest(WordsTest):
             [pair] = self.pairs_of(program="./own", options=options)
             self.assertEqual((wanted, 3, "n++;"), tuple(pair["first"]["user_frame"][name] for name in ("file", "line", "text")))
 
+    def test_parts(self):
+        """All members are named; of many elements one, and the number of the others."""
+        for parts, number, wanted in (([f"s.{name}" for name in "abcde"], 5, "s.a, s.b, s.c, s.d and s.e"),
+                                      (["s[0]", "s[7]"], 2, "s[0] and s[7]"),
+                                      ([f"s[{at}]" for at in range(5)], 5, "s[0] and 4 more elements of s"),
+                                      ([f"s[{at}].x" for at in range(20)], 60, "s[0].x and 59 more parts of s"),
+                                      (["s._M_a.b", "s._M_c"], 2, "s")):
+            with self.subTest(wanted):
+                self.assertEqual(wanted, text.parts_named({"name": "s", "parts": parts, "parts_count": number}))
+
     def test_told(self):
         """What can't wait for the report is as wide."""
         words = "for 30 seconds the program has touched no new memory and started no task. It goes on, since it may"
@@ -357,13 +367,22 @@ class CPlusPlusTest(WordsTest):
         found = sorted((pair["races"], pair["variable"].get("parts") or pair["variable"].get("expression") or "")
                        for pair in self.pairs_of())
         self.assertEqual([(1, "last"), (1, "plates::Derived::shared"), (1, "plates::derived[1].counts[2]"), (2, ""),
-                          (3, ["counters[2].hits", "counters[2].sum"]), (3, ["this->hits", "this->sum"])],
+                          (3, ["counter->hits", "counter->sum"]), (3, ["counters[2].hits", "counters[2].sum"])],
                          sorted(found, key=str))
 
     def test_lambda(self):
         said = self.text_of(COLUMNS="250")
-        at = f"{self.SOURCE}:{self.line_of('lambda')}"
-        self.assertRegex(said, rf"\n    write +\S+ +lambda at {at}  +last = i;\n")
+        self.assertRegex(said, rf"\n    write +\S+ +lambda at words\.cpp:{self.line_of('lambda')}  +last = i;\n")
+
+
+class OwnersTest(WordsTest):
+    SOURCE = os.path.join(TESTS, "owners.cpp")
+
+    def test_owners(self):
+        """A node is the map's, and characters are the string's."""
+        blocks = [pair["variable"] for pair in self.pairs_of() if pair["variable"]["kind"] == "heap"]
+        self.assertEqual({"numbers", "text"}, {block["owner"] for block in blocks})
+        self.assertIn("   a block of the heap that numbers has, byte ", self.text_of())
 
 
 class OpenMPTest(WordsTest):
