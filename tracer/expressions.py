@@ -10,8 +10,8 @@ from tokens import tokens_of
 
 # What a line names: its text; the name that it begins with, and what follows, each `*`, `[]`, `.NAME`, `->NAME` or `()`;
 # whether an operator reads and writes it there; whether it may be both, since its address is taken or it is handed to a
-# function; and whether it is declared there.
-Use = namedtuple("Use", "text base steps reads writes is_handed is_declared")
+# function; whether it is declared there; and whether a statement begins with it, so that nobody uses the value.
+Use = namedtuple("Use", "text base steps reads writes is_handed is_declared is_first")
 
 RESERVED = set("alignof break case catch cilk_spawn co_return co_yield const constexpr continue decltype default delete do else "
                "extern false for goto if inline new nullptr register return sizeof static switch throw true try typedef "
@@ -20,6 +20,7 @@ RESERVED = set("alignof break case catch cilk_spawn co_return co_yield const con
 IN_TYPES = {"const", "volatile"}
 STEPS = {"*", "&", "++", "--"}
 ENDS = (")", ",", None)
+BEFORE_STATEMENT = (None, ";", "{", "}", ")", ",", ":", "else", "do")
 
 
 class Line:
@@ -73,7 +74,8 @@ class Line:
             behind = self.text_at(end + 1) if behind in ("++", "--") else behind
             prefix = self.prefix(start)
         text = " ".join([base, *steps])
-        return Use(text, base, tuple(steps), *self.usage(start, prefix, behind), self.is_declared(first))
+        is_first = self.text_at(start - 1 - (prefix is not None)) in BEFORE_STATEMENT
+        return Use(text, base, tuple(steps), *self.usage(start, prefix, behind), self.is_declared(first), is_first)
 
     def prefix(self, start):
         """The operator for one operand before this, or None."""
@@ -105,17 +107,17 @@ def uses_of(text):
 
 
 def updates(text, before="", after=""):
-    """Whether all that a line writes is made of what it was, as a sum or a greatest number is. The line before may ask
-    for that, or this one for what the line after does."""
+    """Whether all that a line writes is made of what it was, as a sum or a greatest number is, and used by nothing else.
+    The line before may ask for that, or this one for what the line after does."""
     written = written_in(text)
     if not written and is_question(text):
         before, written = "", written_in(after)
     read = {use.text for use in (*uses_of(text), *(uses_of(before) if is_question(before) else ())) if use.reads}
-    return bool(written) and written <= read
+    return bool(written) and all(use.is_first and use.text in read for use in written)
 
 
 def written_in(text):
-    return {use.text for use in uses_of(text) if use.writes and "()" not in use.steps and not use.is_declared}
+    return [use for use in uses_of(text) if use.writes and "()" not in use.steps and not use.is_declared]
 
 
 def is_question(text):

@@ -197,7 +197,8 @@ class AdviceTest(WordsTest):
                              ("best = std::max(best, x);", True), ("best = x > best ? x : best;", True),
                              ("if (x > best) best = x;", True), ("*out++ = *in++;", False), ("a[n++] = x;", False),
                              ("int x = cilk_spawn fib(n - 1);", False), ("auto up = [n] { n[3]++; };", True),
-                             ("fill(a->text, n);", False), ("return x + y; // x++", False)):
+                             ("int slot = next++;", False), ("return sum += x;", False), ("f(n++);", False),
+                             ("for (;;) sum += x;", True), ("fill(a->text, n);", False), ("return x + y; // x++", False)):
             with self.subTest(line):
                 self.assertEqual(wanted, expressions.updates(line))
 
