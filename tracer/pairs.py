@@ -51,6 +51,8 @@ class Noted:
     places: list = field(default_factory=list)
     waits: tuple = None
     guard: tuple = None
+    # What the first access held, and the second one's procedure held before it and after that.
+    before: tuple = None
     block: tuple = None
     # Whether it is of a reducer.
     reducer: bool = False
@@ -100,6 +102,8 @@ class Pair:
     borrowed: bool = False
     # Whether the variable is a reducer, of which an update is a read, and any use of the value a write.
     reducer: bool = False
+    # A lock that the first access held, and then, before the second one, the thread of that: so they are in order.
+    held_before: str = None
 
     def __post_init__(self):
         self.kinds = tuple({side.kind} for side in self.sides)
@@ -187,6 +191,9 @@ class Notes:
     def take_guard(self, number, *words):
         self.pairs[-1].guard = (int(number, 16), " ".join(words))
 
+    def take_before(self, number, *words):
+        self.pairs[-1].before = (int(number, 16), " ".join(words))
+
     def take_block(self, address, size, *stack):
         self.pairs[-1].block = (int(address, 16), int(size), stack)
 
@@ -211,7 +218,7 @@ class Notes:
     def forget_guards(self):
         """It isn't known what was held in the run that had these races."""
         for noted in self.pairs:
-            noted.guard = noted.guard and (0, UNKNOWN_GUARD)
+            noted.guard, noted.before = noted.guard and (0, UNKNOWN_GUARD), None
 
     def codes(self):
         for noted in (*self.pairs, *self.ordered):
@@ -289,7 +296,8 @@ class Program:
         for location, races, variable, borrowed in self.pieces(noted):
             yield Pair(races, location, sides, named_by(noted.guard, variable),
                        barrier or self.missing_sync(noted, sides), self.guard(noted.guard, variable), siblings,
-                       self.suggested(noted, siblings, variable), noted.is_narrow, borrowed, noted.reducer)
+                       self.suggested(noted, siblings, variable), noted.is_narrow, borrowed, noted.reducer,
+                       self.guard_name(noted.before))
 
     def pieces(self, noted):
         """Of each variable the location of the first race, the number of races, and whether the stacks are borrowed."""
@@ -353,6 +361,11 @@ class Program:
         """The name of what both accesses of this variable hold; a lock is named by its variable."""
         if guard is None:
             return THREAD_LOCAL if variable.get("thread_local") else None
+        return self.guard_name(guard)
+
+    def guard_name(self, guard):
+        if guard is None:
+            return None
         number, name = guard
         if not name.endswith(" "):
             return name

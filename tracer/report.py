@@ -43,9 +43,9 @@ def pair_object(pair):
     variable = dict(pair.variable)
     if "stack" in variable:
         variable["stack"] = stack_object(variable["stack"])
-    return {"races": pair.races, "location": pair.location, "guard": pair.guard, "neighbours": pair.neighbours,
-            "borrowed": pair.borrowed, "reducer": pair.reducer, "first": sides[0], "second": sides[1],
-            "variable": variable,
+    return {"races": pair.races, "location": pair.location, "guard": pair.guard, "held_before": pair.held_before,
+            "neighbours": pair.neighbours, "borrowed": pair.borrowed, "reducer": pair.reducer, "first": sides[0],
+            "second": sides[1], "variable": variable,
             "missing_sync": with_positions(pair.missing_sync, "spawn", "continues_at", "next_sync"),
             "siblings": with_positions(pair.siblings, "position"), "suggested": pair.suggested,
             "suppression": pair.suppression()}

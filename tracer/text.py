@@ -153,6 +153,9 @@ class Text:
         yield from (self.row(row, widths) for row in owner)
         if pair.siblings or pair.missing_sync:
             yield from self.prose(*order_row(pair), label)
+        if pair.held_before:
+            yield from self.prose("lock", f"in this run the later access comes after its thread held {pair.held_before}, "
+                                          "which the first one holds", label)
 
     def widths(self, rows, label):
         """Of the label, the place and the function, so that there is room for the text."""

@@ -68,18 +68,18 @@ const struct guard *guards_find(uint32_t list, uintptr_t id) {
     return guard < end ? guard : NULL;
 }
 
-static bool excluded_in(uint32_t list, uintptr_t id) {
+const struct guard *guards_excluded(uint32_t list, uintptr_t id) {
     const struct guard *guard = guards_listed + guards_lists[list].first, *end = guard + guards_lists[list].length;
     while (guard < end && !excludes(guard->id, id))
         guard++;
-    return guard < end;
+    return guard < end ? guard : NULL;
 }
 
 const struct guard *guards_common(uint32_t list, uint32_t other) {
     if (list != 0 && other != 0 && (list == UNKNOWN_LIST || other == UNKNOWN_LIST))
         return &guards_listed[MOST_LISTED];
     const struct guard *guard = guards_listed + guards_lists[list].first, *end = guard + guards_lists[list].length;
-    while (guard < end && !excluded_in(other, guard->id))
+    while (guard < end && !guards_excluded(other, guard->id))
         guard++;
     return guard < end ? guard : NULL;
 }

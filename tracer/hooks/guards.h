@@ -3,6 +3,7 @@
 
 #include "common.h"
 #include "course.h"
+#include "held.h"
 #include "spans.h"
 
 /* What the program holds now: locks, critical regions, and of an atomic access itself. It is noted beside an access by a
@@ -31,8 +32,13 @@ void guards_begin(void);
    are held at once no more are noted. */
 static inline void enter_guard(uintptr_t id, const char *name) {
     course_guard(id);
-    if (guards_noted && guards_held < MOST_GUARDS)
-        guards[guards_held++] = (struct guard){name_in_life(id), name};
+    if (!guards_noted)
+        return;
+    id = name_in_life(id);
+    if (held_is_wanted(id))
+        held_note(id);
+    if (guards_held < MOST_GUARDS)
+        guards[guards_held++] = (struct guard){id, name};
 }
 
 /* Before all others, so that it is the one that is told where two accesses hold several. */
@@ -79,6 +85,8 @@ static inline uint32_t guards_now(void) {
 
 /* This guard in a list, or null. */
 const struct guard *guards_find(uint32_t list, uintptr_t id);
+/* The first of a list that this guard excludes, or null. */
+const struct guard *guards_excluded(uint32_t list, uintptr_t id);
 /* What both hold: null where there is none, and the unknown one where that can't be told. */
 const struct guard *guards_common(uint32_t list, uint32_t other);
 

@@ -3,6 +3,7 @@
 #include "closing.h"
 #include "guards.h"
 #include "heap.h"
+#include "held.h"
 #include "memory.h"
 #include "noting.h"
 #include "output.h"
@@ -44,6 +45,10 @@ struct race {
     struct owner frame, data;
     /* Whether it is of a reducer's view. */
     bool is_view;
+    /* How many entries of guards were noted before the first access; and the one of its guards that the second one's
+       procedure has entered since, if it has. */
+    uint32_t noted;
+    const struct guard *held_before;
     /* The function in which both accesses meet; where it waits next, the code address; and whether it ends there. */
     uint32_t meeting;
     uintptr_t waits;
@@ -152,6 +157,19 @@ uint32_t look_node_of(size_t frame) {
     while (at < frame)
         add_node(++at);
     return frames_all[frame].node;
+}
+
+uint32_t look_procedure_now(void) {
+    uint32_t node = look_node_of(top_at());
+    while (!nodes[node].is_child && node != 0)
+        node = nodes[node].parent;
+    return node;
+}
+
+bool look_is_in(uint32_t node, uint32_t procedure) {
+    while (node > procedure)
+        node = nodes[node].parent;
+    return node == procedure;
 }
 
 /* The deepest function that holds both. */
@@ -370,8 +388,11 @@ static void take_look(struct race *race, struct look *look, uintptr_t address, u
     look->code = code_in(top_at(), code);
     look->guards = guards_now();
     look->is_narrow = bytes_left_out(address) != 0;
-    if (look == &race->first)
+    if (look == &race->first) {
+        race->noted = held_want(look->guards);
         return;
+    }
+    race->held_before = held_since(race->noted, race->first.guards, look->node);
     race->address = name_in_life(address);
     race->frame = frame_owner(address, look);
     race->data = data_owner(address, look);
@@ -541,6 +562,14 @@ static bool goes_on(const struct race *before, const struct race *race) {
            owner_goes_on(before->data, race->data) && has_stacks_of(before, race);
 }
 
+static void put_guard(const char *name, const struct guard *guard) {
+    if (!guard)
+        return;
+    put("%s %lx ", name, guard->id);
+    put_text(guard->name);
+    put("\n");
+}
+
 /* A pair with the stacks of one of its races. */
 static void put_pair(const struct pair *pair, const struct race *race) {
     const struct allocation *allocation = allocation_of(race->address);
@@ -556,11 +585,9 @@ static void put_pair(const struct pair *pair, const struct race *race) {
         put("reducer\n");
     if (pair->race->waits != 0 && meets == pair->race->meeting)
         put("%s %lx\n", pair->race->ends ? "ends" : "waits", pair->race->waits);
-    if (pair->guard) {
-        put("guard %lx ", pair->guard->id);
-        put_text(pair->guard->name);
-        put("\n");
-    }
+    put_guard("guard", pair->guard);
+    if (!pair->guard)
+        put_guard("before", race->held_before);
     if (allocation) {
         put("block %lx", allocation->address);
         put(" %zu", allocation->size);

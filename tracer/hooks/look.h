@@ -41,5 +41,8 @@ void look_put_notes(void);
 extern const char look_region_name[];
 static inline size_t top_at(void) { return (size_t)(frames_top - frames_all); }
 uint32_t look_node_of(size_t frame);
+/* The node of the innermost child that is running, or the root's, and whether a node is of it or of one within. */
+uint32_t look_procedure_now(void);
+bool look_is_in(uint32_t node, uint32_t procedure);
 
 #endif

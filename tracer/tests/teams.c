@@ -38,6 +38,28 @@ static void in_lock(void) {
     }
 }
 
+/* One thread writes under a lock, and the others read without it, but held it before or will hold it. */
+static void beside_lock(bool reads_before) {
+    static long written;
+    omp_lock_t lock;
+    omp_init_lock(&lock);
+#pragma omp parallel
+    {
+        bool reads = omp_get_thread_num() != 0;
+        if (reads && reads_before)
+            (void)*(volatile long *)&written;
+        omp_set_lock(&lock);
+        if (!reads)
+            written = 1;
+        omp_unset_lock(&lock);
+        if (reads && !reads_before)
+            (void)*(volatile long *)&written;
+    }
+}
+
+static void after_lock(void) { beside_lock(false); }
+static void before_lock(void) { beside_lock(true); }
+
 static void in_nested_lock(void) {
     struct {
         omp_nest_lock_t lock;
@@ -599,6 +621,8 @@ static const struct {
 } ways[] = {{"every_thread", every_thread, "data"},
             {"in_critical", in_critical, "guarded"},
             {"in_lock", in_lock, "guarded"},
+            {"after_lock", after_lock, "data"},
+            {"before_lock", before_lock, "data"},
             {"in_nested_lock", in_nested_lock, "guarded"},
             {"barriers", barriers, "none"},
             {"orphaned", orphaned, "none"},

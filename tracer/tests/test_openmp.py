@@ -236,6 +236,12 @@ class TeamsTest(OpenMPTest):
             self.assertRegex(" ".join(said.split()), "threads of the region at .* may do this at once")
         with self.subTest("a lock of two members"):
             self.reports(0, "", "--data-races", "--", "./teams", "in_lock", SPBAGS_TEAM="2")
+        with self.subTest("a thread held the lock before"):
+            said = self.reports(1, "", "--data-races", "--", "./teams", "after_lock", SPBAGS_TEAM="2")
+            self.assertIn("the later access comes after its thread held the lock", " ".join(said.split()))
+        with self.subTest("a thread holds the lock only later"):
+            self.assertNotIn("held the lock",
+                             self.reports(1, "", "--data-races", "--", "./teams", "before_lock", SPBAGS_TEAM="2"))
         with self.subTest("too large a team"):
             self.ends_with(2, "a team has at most 64 threads", "./teams", "every_thread", SPBAGS_TEAM="65",
                            SPBAGS_TRACE="run.trace")
