@@ -151,11 +151,8 @@ class Text:
         yield from (self.row(row, widths) for row in rows)
         yield from self.prose("variable", variable_line(pair.variable, self.report.unit), label)
         yield from (self.row(row, widths) for row in owner)
-        if pair.siblings or pair.missing_sync:
-            yield from self.prose(*order_row(pair), label)
-        if pair.held_before:
-            yield from self.prose("lock", f"in this run the later access comes after its thread held {pair.held_before}, "
-                                          "which the first one holds", label)
+        for row in order_rows(pair):
+            yield from self.prose(*row, label)
 
     def widths(self, rows, label):
         """Of the label, the place and the function, so that there is room for the text."""
@@ -307,6 +304,15 @@ def variable_line(variable, unit):
     if kind == "local":
         return f"a local of {variable['function']}"
     return "a local" if kind == "stack" else f"memory at {variable['address']:#x}"
+
+
+def order_rows(pair):
+    """What is said of the order of both accesses: a label and a text each."""
+    rows = [order_row(pair)] if pair.siblings or pair.missing_sync else []
+    if pair.held_before:
+        rows.append(("lock", f"in this run the later access comes after its thread held {pair.held_before}, which the first "
+                             "one holds"))
+    return rows
 
 
 def order_row(pair):
