@@ -73,11 +73,11 @@ def lines_around(file, line):
     """The lines round one as HTML, each with its number; that one is marked."""
     lines = coloured(file)
     first, last = max(line - AROUND, 1), min(line + AROUND, len(lines) - (lines[-1:] == [""]))
-    width, rows = len(str(last)), []
+    width, made = len(str(last)), []
     for number in range(first, last + 1):
         row = Markup("{}  {}").format(f"{number:{width}}", lines[number - 1])
-        rows.append(Markup("<mark>{}</mark>").format(row) if number == line else row)
-    return Markup("\n").join(rows) if line > 0 else ""
+        made.append(Markup("<mark>{}</mark>").format(row) if number == line else row)
+    return Markup("\n").join(made) if line > 0 else ""
 
 
 def excerpt_of(lead, name=""):
@@ -95,9 +95,9 @@ def excerpts_of(pair):
 def column_of(stack):
     """The rows of a stack from the outermost on, without the system's functions, and in the middle without some."""
     own = [frame for frame in stack if not source.is_system(frame.position)] or stack[:1]
-    shown = rows([own[0]._replace(role=stack[0].role), *own[1:]])[::-1]
-    left = len(shown) - BOXES + 1
-    return shown if left <= 1 else [*shown[:BOXES // 2], StackRow(LEFT_OUT, f"{left} more"), *shown[-(BOXES // 2):]]
+    found = rows([own[0]._replace(role=stack[0].role), *own[1:]])[::-1]
+    left = len(found) - BOXES + 1
+    return found if left <= 1 else [*found[:BOXES // 2], StackRow(LEFT_OUT, f"{left} more"), *found[-(BOXES // 2):]]
 
 
 def boxes_of(column, x):
@@ -144,7 +144,7 @@ def kinds_of(pair):
 def pair_of(number, pair, shown):
     stacks = text.stacks_of(pair)
     return Pair(number, pair.races, kinds_of(pair), text.variable_line(pair.variable, shown.report.unit),
-                text.order_row(pair) if pair.siblings or pair.missing_sync else None, excerpts_of(pair),
+                text.order_rows(pair), excerpts_of(pair),
                 [(stack[0].role, access_rows(stack, side.lead())) for stack, side in zip(stacks, pair.sides)],
                 allocation_rows(pair.variable["stack"]) if pair.variable.get("stack") else [],
                 drawing_of(pair, stacks), pair.is_guarded())

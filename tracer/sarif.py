@@ -54,8 +54,7 @@ def fingerprint_of(pair):
 def result_of(pair, unit, seen):
     said = [f"{text.many(pair.races, 'location')}: {text.kinds_of(pair)}{text.guarded(pair.guard)}",
             f"variable {text.variable_line(pair.variable, unit)}"]
-    if pair.siblings or pair.missing_sync:
-        said.append(" ".join(text.order_row(pair)))
+    said += map(" ".join, text.order_rows(pair))
     first, second = pair.sides
     fingerprint = fingerprint_of(pair)
     seen[fingerprint] += 1

@@ -130,11 +130,8 @@ class Text:
         yield from (self.row(row, widths) for row in shown)
         yield from self.prose("variable", variable_line(pair.variable, self.report.unit), label)
         yield from (self.row(row, widths) for row in owner)
-        if pair.siblings or pair.missing_sync:
-            yield from self.prose(*order_row(pair), label)
-        if pair.held_before:
-            yield from self.prose("lock", f"in this run the later access comes after its thread held {pair.held_before}, "
-                                          "which the first one holds", label)
+        for row in order_rows(pair):
+            yield from self.prose(*row, label)
 
     def widths(self, rows, label):
         """Of the label, the place and the function, so that there is room for the text."""
@@ -266,6 +263,15 @@ def parts_named(variable):
     name = variable.get("name") or BASE.match(parts[0])[0]
     kind = "element" if all(ELEMENT.fullmatch(part[len(name):]) for part in parts) else "part"
     return f"{parts[0]} and {(len(parts) if are_all else variable['parts_count']) - 1} more {kind}s of {name}"
+
+
+def order_rows(pair):
+    """What is said of the order of both accesses: a label and a text each."""
+    found = [order_row(pair)] if pair.siblings or pair.missing_sync else []
+    if pair.held_before:
+        found.append(("lock", f"in this run the later access comes after its thread held {pair.held_before}, which the first "
+                              "one holds"))
+    return found
 
 
 def order_row(pair):

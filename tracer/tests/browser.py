@@ -4,12 +4,15 @@
 import base64
 import json
 import os
+import select
 import shutil
 import subprocess
 import sys
 import tempfile
 
 NAME = "chromium"
+# So many seconds pass only where it hangs.
+LONG = 600
 
 
 def is_there():
@@ -26,9 +29,10 @@ class Browser:
             for old, new in zip([os.dup(asked), os.dup(answered)], (3, 4)):
                 os.dup2(old, new)
         self.process = subprocess.Popen(
-            [NAME, "--headless=new", "--no-sandbox", "--disable-gpu", "--remote-debugging-pipe", "--no-first-run",
-             f"--user-data-dir={self.folder.name}", "about:blank"], preexec_fn=prepare, close_fds=False,
-            stdin=subprocess.DEVNULL, stdout=subprocess.DEVNULL, stderr=subprocess.DEVNULL)
+            [NAME, "--headless=new", "--no-sandbox", "--disable-gpu", "--disable-dev-shm-usage", "--no-first-run",
+             "--remote-debugging-pipe", f"--user-data-dir={self.folder.name}", "about:blank"],
+            preexec_fn=prepare, close_fds=False, stdin=subprocess.DEVNULL, stdout=subprocess.DEVNULL,
+            stderr=subprocess.DEVNULL)
         os.close(asked)
         os.close(answered)
         self.number, self.rest, self.events, self.session = 0, b"", [], None
@@ -40,6 +44,8 @@ class Browser:
 
     def message(self):
         while b"\0" not in self.rest:
+            if not select.select([self.out], [], [], LONG)[0]:
+                raise TimeoutError("the browser doesn't answer")
             piece = os.read(self.out, 1 << 20)
             if not piece:
                 raise EOFError("the browser has ended")
