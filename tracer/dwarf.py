@@ -55,6 +55,12 @@ class Entry:
         self.unit, self.at, self.end = unit, at, end
         self.tag, self.has_children, self.values = tag, has_children, values
 
+    def __eq__(self, other):
+        return isinstance(other, Entry) and self.at == other.at
+
+    def __hash__(self):
+        return hash(self.at)
+
     def number(self, attribute, otherwise=None):
         found = self.values.get(attribute)
         return found[1] if found and isinstance(found[1], int) else otherwise

@@ -1,6 +1,8 @@
-"""Where the built things stand: in the repository, or where `./install` has put them."""
+"""Where the built things stand: in the repository, or where `./install` has put them; and the version."""
 import os
 
+# That of the newest release in CHANGELOG.md.
+VERSION = "0.1.0"
 HERE = os.path.dirname(os.path.realpath(__file__))
 CRATES = os.path.realpath(os.path.join(HERE, "..", "crates"))
 # An installed tracer stands in PREFIX/lib/spbags, without the sources.

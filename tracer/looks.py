@@ -189,6 +189,7 @@ class Looks:
         beside = [race for race in of_start if race[0] not in first]
         lost = [race for race in rest if race[0] not in had]
         places = start.places if start else found.places
+        self.runner.progress.begin("looking up source lines")
         known = pairs.Known(self.runner.words[0], self.unit, notes, (again, places), (lost, found.places),
                             (beside, places), (ordered, places))
         earlier = {pair.key() for pair in self.pairs}

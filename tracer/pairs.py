@@ -4,11 +4,13 @@ import re
 from collections import namedtuple
 from dataclasses import dataclass, field
 
+import advice
 import answers
 import source
 import variables
 from failure import Failure
-from report import NO_OPENMP, THREAD_LOCAL, UNKNOWN_GUARD
+from heap_types import HeapTypes, Line
+from report import THREAD_LOCAL, UNKNOWN_GUARD
 from source import UNKNOWN, Position
 
 # The number of the guard that all atomic accesses hold.
@@ -16,6 +18,8 @@ ATOMIC = 1
 # What the guard of a stream's uses is called, and the bytes there that stand for the stream.
 STREAM_GUARD = re.compile("the lock of (stdin|stdout|stderr|the stream|the descriptor)")
 STREAM_BYTES = 8
+# So many parts of a variable are named.
+MOST_PARTS = 20
 # A position on the stack, and what stands there: `write` or `read`, `spawn`, or `call`. The depth is how many functions
 # stand on the stack up to here.
 Frame = namedtuple("Frame", "role position depth")
@@ -56,6 +60,8 @@ class Noted:
     block: tuple = None
     # Whether it is of a reducer.
     reducer: bool = False
+    # Of blocks of the heap the bytes that race, as runs from a first one to an end.
+    held: list = field(default_factory=list)
 
     def is_of_order(self):
         return self.guard is not None and is_stream(self.guard, self.address)
@@ -72,6 +78,11 @@ def is_stream(guard, address):
 Place = namedtuple("Place", "location units address code offset data_code data_offset borrowed")
 # A task, or a share of a loop or of sections: where it is made, and the counter in its first and its last iteration.
 Child = namedtuple("Child", "of code first last")
+
+
+class Variable(dict):
+    """What the report says of a variable; and what the DWARF has of it, or what a block of the heap is of."""
+    whole = None
 
 
 def identity_of(variable):
@@ -104,6 +115,8 @@ class Pair:
     reducer: bool = False
     # A lock that the first access held, and then, before the second one, the thread of that: so they are in order.
     held_before: str = None
+    # The bytes of the variable that race, as runs from a first one to an end.
+    runs: list = field(default_factory=list)
 
     def __post_init__(self):
         self.kinds = tuple({side.kind} for side in self.sides)
@@ -140,6 +153,8 @@ class Pair:
     def add(self, other):
         self.races += other.races
         self.neighbours |= other.neighbours
+        if self.variable.whole == other.variable.whole:
+            self.runs += other.runs
         swapped = self.sides[0].lead() != other.sides[0].lead()
         for kinds, side in zip(self.kinds, reversed(other.sides) if swapped else other.sides):
             kinds.add(side.kind)
@@ -197,6 +212,9 @@ class Notes:
     def take_block(self, address, size, *stack):
         self.pairs[-1].block = (int(address, 16), int(size), stack)
 
+    def take_held(self, pair, first, size):
+        self.pairs[int(pair) - 1].held.append((int(first), int(first) + int(size)))
+
     def take_astray(self, place, *found):
         self.astray = (int(place), " ".join(found))
 
@@ -235,17 +253,18 @@ class Pieces:
     def __init__(self):
         self.pieces = {}
 
-    def add(self, location, units, variable):
-        """Of so many units from this location on."""
-        _, rows, single, _ = self.pieces.setdefault(identity_of(variable), (location, [], set(), variable))
+    def add(self, location, units, variable, run):
+        """Of so many units from this location on, which are this run of the variable's bytes."""
+        _, rows, single, _, runs = self.pieces.setdefault(identity_of(variable), (location, [], set(), variable, []))
+        runs.append(run)
         if units == 1:
             single.add(location)
         else:
             rows.append(units)
 
     def found(self):
-        """Of each variable the location of the first race, and the number of races."""
-        return [(location, sum(rows) + len(single), variable) for location, rows, single, variable in
+        """Of each variable the location of the first race, the number of races, and the runs of its bytes."""
+        return [(location, sum(rows) + len(single), variable, runs) for location, rows, single, variable, runs in
                 self.pieces.values()]
 
 
@@ -257,6 +276,7 @@ class Program:
         self.positions[0] = [UNKNOWN]
         # Where the memory begins that a thread has of its own.
         self.variables, self.names, self.unit, self.thread = source.Variables(name), variables.Names(name), unit, thread
+        self.heap_types = HeapTypes(self.names)
 
     def stack(self, role, words):
         """The frames of these words, from the innermost on; `spawn` stands behind a position that spawned. What stands in
@@ -293,31 +313,34 @@ class Program:
         siblings = self.siblings(noted)
         barrier = missing_barrier(siblings, sides)
         siblings = None if barrier else siblings
-        for location, races, variable, borrowed in self.pieces(noted):
+        for location, races, variable, runs, borrowed in self.pieces(noted):
             yield Pair(races, location, sides, named_by(noted.guard, variable),
                        barrier or self.missing_sync(noted, sides), self.guard(noted.guard, variable), siblings,
-                       self.suggested(noted, siblings, variable), noted.is_narrow, borrowed, noted.reducer,
-                       self.guard_name(noted.before))
+                       advice.of_openmp(noted, siblings, variable), noted.is_narrow, borrowed, noted.reducer,
+                       self.guard_name(noted.before), runs)
 
     def pieces(self, noted):
-        """Of each variable the location of the first race, the number of races, and whether the stacks are borrowed."""
+        """Of each variable the location of the first race, the number of races, the runs of its bytes, and whether the
+        stacks are borrowed."""
         if noted.block:
-            return [(noted.location, noted.races, self.block(noted, *noted.block), False)]
+            return [(noted.location, noted.races, self.block(noted, *noted.block), noted.held, False)]
         own, others = Pieces(), Pieces()
         for place in sorted(noted.places, key=lambda place: answers.unit_of(place.location) != noted.location):
-            for location, units, variable in self.split(place):
-                (others if place.borrowed else own).add(location, units, variable)
+            for piece in self.split(place):
+                (others if place.borrowed else own).add(*piece)
         return [(*piece, pieces is others) for pieces in (own, others) for piece in pieces.found()]
 
     def split(self, place):
-        """The variables that stand there one after the other, each with its first location and its number of units."""
+        """The variables that stand there one after the other, each with its first location, its number of units, and
+        which of its bytes these are."""
         done = 0
         while done < place.units:
             variable = self.variable(place, done * self.unit)
-            units = 1
+            first, units = variable.get("offset", 0), 1
             if "offset" in variable:
-                units = min(-(-(variable["size"] - variable["offset"]) // self.unit), place.units - done)
-            yield answers.unit_of(place.location) + 2 * done, units, variable
+                units = min(-(-(variable["size"] - first) // self.unit), place.units - done)
+            size = 1 if place.location >= answers.FIRST_BYTE else units * self.unit - place.address % self.unit
+            yield answers.unit_of(place.location) + 2 * done, units, variable, (first, first + size)
             done += units
 
     def variable(self, place, behind):
@@ -326,17 +349,53 @@ class Program:
                                    (place.code, place.offset, self.names.in_frame)):
             found = code and find(code - 1, offset + behind, place.address + behind)
             if found:
-                return {"kind": "local", "function": self.positions[code][-1].function, **found._asdict()}
+                variable = Variable(kind="local", function=self.positions[code][-1].function, **found._asdict())
+                variable.whole = found.entry
+                return variable
         if place.code:
-            return {"kind": "local", "function": self.positions[place.code][-1].function}
+            return Variable(kind="local", function=self.positions[place.code][-1].function)
         return self.named(place.address + behind)
 
     def block(self, noted, address, size, stack):
         widths = {self.names.width(int(stack[0], 16)) for _, _, stack in noted.sides}
         offset, width = noted.address - address, widths.pop()
         element = width if not widths and width and size % width == offset % width == 0 else None
-        return {"kind": "heap", "offset": offset, "size": size, "element": element,
-                "stack": self.stack("allocation", stack)}
+        variable = Variable(kind="heap", offset=offset, size=size, element=element,
+                            stack=self.stack("allocation", stack))
+        lines = [self.line_of(kind, words) for kind, _, words in noted.sides]
+        allocations = [Line(code - 1, source.text_of(position)) for code, position in self.lines_of(stack)]
+        found = self.heap_types.named(offset, size, allocations, lines)
+        owner = None if found else self.owner(stack)
+        if found:
+            variable.whole, variable["expression"] = found
+        elif owner:
+            variable["owner"] = owner
+        return variable
+
+    def owner(self, words):
+        """What has a block that the library allocates for it."""
+        inside = None
+        for code in (int(word, 16) for word in words if word != "spawn"):
+            for position in self.positions[code]:
+                if not source.is_system(position):
+                    line = Line(code - 1, source.text_of(position))
+                    return inside and self.heap_types.owner(inside.function, line)
+                inside = position
+        return None
+
+    def lines_of(self, words):
+        """The code and the position of each function on a stack that isn't of the system."""
+        for word in words:
+            for position in self.positions[int(word, 16)] if word != "spawn" else ():
+                if not source.is_system(position):
+                    yield int(word, 16), position
+
+    def line_of(self, kind, words):
+        """The line that accesses a block; what the library does there has no text."""
+        code = int(words[0], 16)
+        position = self.positions[code][0]
+        text = "" if source.is_system(position) else source.text_of(position)
+        return Line(code - 1, text, kind, self.names.width(code))
 
     def named(self, address):
         """What neither a block nor a function holds."""
@@ -344,18 +403,36 @@ class Program:
         for place, is_thread in ((address, False), (in_thread, True)):
             found = place is not None and self.variables.at(place)
             if found:
-                return {"kind": "global", **found._asdict(), "address": address, "thread_local": is_thread}
-        return {"kind": "memory", "address": address}
+                return Variable(kind="global", **found._asdict(), address=address, thread_local=is_thread)
+        return Variable(kind="memory", address=address)
 
     def complete(self, pair):
-        """With the part of a global that the location is."""
+        """With the parts that race, and with what Cilk has for the pair."""
         variable = pair.variable
         if variable["kind"] == "global":
             start = variable["address"] - variable["offset"] - (self.thread if variable["thread_local"] else 0)
             part = self.names.at(start, variable["offset"], variable["thread_local"])
             variable["expression"] = part and variable["name"] + part.expression[len(part.name):]
             variable["rest"] = part and part.rest
+            variable.whole = part and part.entry
+        self.name_parts(pair)
+        if advice.is_of_cilk(pair):
+            pair.suggested = advice.of_cilk(pair, self.unit)
         return pair
+
+    def name_parts(self, pair):
+        """Of a variable or of a block whose parts are known."""
+        variable, whole = pair.variable, pair.variable.whole
+        if not whole or pair.reducer or not variable.get("expression"):
+            return
+        size = variable["size"]
+        runs = [(first, first + 1 if pair.neighbours else min(end, size)) for first, end in pair.runs if first < size]
+        if variable["kind"] == "heap":
+            found = self.heap_types.parts(whole, runs, size, MOST_PARTS)
+        else:
+            found = self.names.parts(whole, variable, runs, MOST_PARTS)
+        if found and found[1] > 1:
+            variable["parts"], variable["parts_count"] = found
 
     def guard(self, guard, variable):
         """The name of what both accesses of this variable hold; a lock is named by its variable."""
@@ -402,19 +479,6 @@ class Program:
         return {"construct": first.of, "position": position, "first": list(first[2:]),
                 "second": list(second[2:])} if first.code == second.code else None
 
-    @staticmethod
-    def suggested(noted, siblings, variable):
-        """What OpenMP has for such a pair: between two children of one construct, or behind a child."""
-        first = noted.children[0]
-        if first and first.of in NO_OPENMP:
-            return ()
-        if not siblings:
-            tasks = ("taskwait", "depend") if first and first.of in ("task", "taskloop") else ("barrier",)
-            return tasks if first else ()
-        clauses = {"sections": (), "task": ("reduction",)}.get(siblings["construct"], ("private", "reduction"))
-        return (clauses if "name" in variable else ()) + (() if noted.guard else ("atomic", "critical")) + (
-            ("single",) if siblings["construct"] == "region" else ())
-
 
 def missing_barrier(siblings, sides):
     """Of threads of one region, each in a child of its own: the places where both begin, if these are two."""
@@ -438,7 +502,7 @@ def named_by(guard, variable):
     """A stream is named by its lock, unless it is a block of the heap, which is known by its allocation."""
     if guard is None or not is_stream(guard, variable.get("address", 0)):
         return variable
-    return {"kind": "stream", "name": STREAM_GUARD.fullmatch(guard[1])[1]}
+    return Variable(kind="stream", name=STREAM_GUARD.fullmatch(guard[1])[1])
 
 
 def merged(pairs):
@@ -482,10 +546,12 @@ class Sites:
         for location in self.locations:
             unit = answers.unit_of(location)
             address = answers.address_of(location, program.unit)
-            pieces.add(unit, 1, {"kind": "stack"} if unit % 2 == 1 else program.named(address))
-        for location, races, variable in pieces.found():
+            variable = Variable(kind="stack") if unit % 2 == 1 else program.named(address)
+            first, size = variable.get("offset", 0), program.unit if location < answers.FIRST_BYTE else 1
+            pieces.add(unit, 1, variable, (first, first + size))
+        for location, races, variable, runs in pieces.found():
             yield Pair(races, location, sides, named_by(self.guard, variable), None, program.guard(self.guard, variable),
-                       neighbours=self.is_narrow)
+                       neighbours=self.is_narrow, runs=runs)
 
 
 def common_guard(sites):
@@ -526,7 +592,7 @@ def by_lines(name, races, places):
     for group in groups:
         sides = sorted((source.leading(positions[code]), kind) for kind, (code, _) in zip(group.kinds, group.codes))
         sides = [Side(kind, False, [Frame(kind, position, 1)]) for position, kind in sides]
-        found.append(Pair(len(group.locations), group.locations[0], sides, {"kind": "memory"}, None, None))
+        found.append(Pair(len(group.locations), group.locations[0], sides, Variable(kind="memory"), None, None))
     return sorted(merged(found), key=Pair.key)
 
 

@@ -3,7 +3,7 @@ from collections import namedtuple
 
 import source
 
-VERSION = 2
+VERSION = 3
 # Of Cilk, of oneTBB and of C++: what a child is one of, where a report suggests nothing of OpenMP.
 NO_OPENMP = {"cilk_for", "parallel_for", "parallel_for_each", "parallel_reduce", "parallel_scan", "parallel_invoke",
              "parallel_sort", "task_group", "algorithm"}

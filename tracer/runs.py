@@ -22,7 +22,7 @@ PERSONALITY, ADDR_NO_RANDOMIZE = ctypes.CDLL(None).personality, 0x0040000
 MOST_DEPTH = "1000000"
 # What the environment of each run has.
 OURS = [f"SPBAGS_{name}" for name in ("PLACES", "TRACE", "REPORT", "EXITCODE", "LOOK", "DIVIDE", "LAST",
-                                     "WAITED", "HELP", "ROOM")]
+                                     "WAITED", "PROGRESS", "HELP", "ROOM")]
 
 
 def checker():
@@ -240,22 +240,24 @@ class Runner:
     OTHER_ENDS = ((63, 60), (signal.SIGKILL, None))
     PATIENCE = 5
 
-    def __init__(self, words, checking, settings, output, seconds, tell):
+    def __init__(self, words, checking, settings, output, seconds, tell, progress):
         """The program may run for so many seconds, or for ever; its lines that can't wait go to the function `tell`."""
         program, self.is_inside = traceable(words[0])
         self.words, self.settings, self.output = [program, *words[1:]], settings, output
-        self.checking, self.tell = checking, tell
+        self.checking, self.tell, self.progress = checking, tell, progress
         self.limit = seconds
         self.mask = signal.pthread_sigmask(signal.SIG_BLOCK, AWAITED)
         self.input = Input()
-        self.program, self.has_run = None, False
+        self.program, self.has_run, self.number = None, False, 0
         # What each run gets beside its own files.
         self.files = {}
 
-    def execute(self, said, files, silent, **settings):
+    def execute(self, said, files, silent, more="", **settings):
         """Starts the program, whose lines about the run go into a pipe. It gets descriptors of these files, by the
-        variables that name them."""
-        files = {**self.files, **files}
+        variables that name them. The progress says MORE."""
+        self.number += 1
+        self.progress.begin(f"run {self.number}", more)
+        files = {**self.files, **files, **({"SPBAGS_PROGRESS": self.progress.file} if self.progress.file else {})}
         wanted = {"SPBAGS_MAX_BYTES": "", **os.environ, **dict.fromkeys(OURS, ""), **self.settings, **settings,
                   "SPBAGS_SAYS": f"fd:{said.into}", **{variable: f"fd:{file}" for variable, file in files.items()}}
         # All runs have as long an environment, of as many variables: the program's words lie before it, and setenv
@@ -382,5 +384,5 @@ class Runner:
         said, notes = Said(self.tell), memory_file()
         with stops_of(races) as stops:
             self.execute(said, {"SPBAGS_TRACE": notes.fileno(), "SPBAGS_LOOK": stops.fileno(), **files}, True,
-                         SPBAGS_MAX_BYTES=str(1 << 62), **settings)
+                         f"{len(races):,} race{'' if len(races) == 1 else 's'}", SPBAGS_MAX_BYTES=str(1 << 62), **settings)
         return Run(*self.wait(said), notes, self.words[0])

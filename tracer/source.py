@@ -30,6 +30,8 @@ CALLER = "__spbags_outlined"
 SYSTEM = ("/usr/include/", "/usr/local/include/", "/usr/lib")
 # The headers of the tracer itself.
 OWN = os.path.join(os.path.dirname(os.path.realpath(__file__)), "include", "")
+# A comment; or a string or a character, which may look like one inside.
+COMMENT = re.compile(r"//[^\n]*|/\*(?:.|\n)*?\*/|\"(?:\\.|[^\"\\\n])*\"|'(?:\\.|[^'\\\n])*'")
 # The functions that a spawn of C++ is made of, by their first parameter; and those of the headers.
 SPAWNED, ON_THE_WAY = "::{lambda(__spbags_spawned", "__spbags_"
 
@@ -54,10 +56,21 @@ def pattern(text):
     return ".*".join(map(re.escape, text.split("*")))
 
 
+class Root:
+    """The folder from which files are named."""
+    folder = os.curdir
+
+
+@functools.lru_cache
 def shown(file):
-    """A file's name from here, where it is below this folder."""
-    relative = os.path.relpath(file) if file.startswith("/") else file
-    return os.path.normpath(file) if relative.startswith("..") else relative
+    """A file's name from the root, where it is below that or below the folder around that; those of the system keep
+    theirs."""
+    whole, root = os.path.normpath(file), os.path.abspath(Root.folder)
+    around = os.path.dirname(root)
+    # What is in the folders of the system itself, as in /tmp, has nothing to do with each other.
+    near = os.path.join(around if around.count(os.sep) > 1 else root, "")
+    is_near = whole.startswith(near) and not whole.startswith(SYSTEM) and not is_own(whole)
+    return os.path.relpath(whole, root) if is_near else whole
 
 
 @functools.lru_cache
@@ -129,10 +142,15 @@ def without_spawns(function):
 def lines_of(file):
     """As a compiler counts them: a form feed, say, ends none."""
     try:
-        with open(file, errors="replace", newline="\n") as source:
+        with open(os.path.join(Root.folder, file), errors="replace", newline="\n") as source:
             return source.read().split("\n")
     except OSError:
         return []
+
+
+def without_comments(text):
+    """A source with spaces in place of its comments, on the same lines."""
+    return COMMENT.sub(lambda found: found[0] if found[0][0] in "\"'" else re.sub(r"[^\n]", " ", found[0]), text)
 
 
 def text_of(position):

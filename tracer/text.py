@@ -1,25 +1,25 @@
 """The report of `spbags-run` as plain text, whose lines are no wider than what shows them."""
-import os
+import re
 import textwrap
-from collections import namedtuple
 from itertools import groupby
 
+import advice
 import source
+from functions import function_of
 from report import NO_OPENMP, THREAD_LOCAL, UNKNOWN_GUARD
+from rows import BOTH, Row, access_rows, allocation_rows, common_tail, place, rows, without_regions
 
 INDENT = " " * 4
-LABELS = {"spawn": "  spawned at", "call": "  called at", "allocation": "  allocated at"}
-INSIDE, BOTH, LEFT_OUT = "  inside", "both", "  .."
 # What is told of a reducer.
 OF_REDUCER = {"read": "update", "write": "value"}
-# So many rows of a stack are shown at its beginning and at its end.
-FEW = 20
 LEAST_WIDTH = 60
+# What the tracer's reducers and classes of libstdc++ have inside.
+INNER = re.compile(r"\.(?:__spbags|_M)_")
+# So many elements of a variable are named, and else the first alone.
+MOST_NAMED = 4
+BASE, ELEMENT = re.compile(r"[(*]*[\w:]+"), re.compile(r"(?:\[[0-9]+\])+")
 GAP = "  "
 CUT = ".."
-
-# A line of a stack. What stands behind the text isn't cut.
-Row = namedtuple("Row", "label place function text behind", defaults=("", "", "", ""))
 
 
 def many(number, name):
@@ -28,15 +28,6 @@ def many(number, name):
 
 def spelled(number, name):
     return f"{number:,} {name}{'' if number == 1 else 'es' if name.endswith('s') else 's'}"
-
-
-def place(position):
-    return f"{position.file}:{position.line}" if position.line > 0 else position.file
-
-
-def short_place(position):
-    """Without the folder of a header of the system."""
-    return place(position._replace(file=os.path.basename(position.file)) if source.is_system(position) else position)
 
 
 def in_middle(text, width):
@@ -53,20 +44,11 @@ def at_end(text, width):
     return text if len(text) <= width else text[:max(width - len(CUT), 0)] + CUT
 
 
-def common_tail(one, other):
-    """How many frames at the end of both stacks are alike, but for the accesses themselves."""
-    alike = 0
-    for frame, another in zip(reversed(one[1:]), reversed(other[1:])):
-        if frame[:2] != another[:2]:
-            break
-        alike += 1
-    return alike
-
-
-def without_regions(stack):
-    """A region of OpenMP is called by its own line, where its loop or its task is made too."""
-    return [frame for before, frame in zip([None, *stack], stack)
-            if not before or (before.role, frame.role) != ("spawn", "call") or before.position != frame.position]
+def stacks_of(pair):
+    """Both as they are shown."""
+    is_of_openmp = pair.suggested and not advice.is_of_cilk(pair)
+    stacks = [without_regions(side.stack) if is_of_openmp else side.stack for side in pair.sides]
+    return [[stack[0]._replace(role=kind_of(stack[0].role, pair)), *stack[1:]] for stack in stacks]
 
 
 class Text:
@@ -124,6 +106,9 @@ class Text:
                            ("no data race", report.guarded)):
             if left.pairs > 0:
                 parts.append(f"{what}: {many(left.races, 'race')} of {many(left.pairs, 'pair')}")
+        guarded_pairs = sum(pair.is_guarded() for pair in report.pairs)
+        if guarded_pairs > 0:
+            parts.append(f"no data race, which --data-races leaves out: {many(guarded_pairs, 'pair')}")
         lines = len(report.incomplete) + len(report.unseen)
         if lines > 0:
             parts.append(f"not all was seen or modelled: {many(lines, 'line')} above")
@@ -133,24 +118,20 @@ class Text:
 
     def block(self, pair):
         yield from self.wrapped(f"{many(pair.races, 'location')}: {kinds_of(pair)}{guarded(pair.guard)}", "1;31")
-        stacks = [without_regions(side.stack) if pair.suggested else side.stack for side in pair.sides]
-        stacks = [[stack[0]._replace(role=kind_of(stack[0].role, pair)), *stack[1:]] for stack in stacks]
+        stacks = stacks_of(pair)
         tail = common_tail(*stacks)
-        rows = [row for side, stack in zip(pair.sides, stacks)
-                for row in self.access_rows(stack[:len(stack) - tail], side.lead())]
+        shown = [row for side, stack in zip(pair.sides, stacks)
+                 for row in access_rows(stack[:len(stack) - tail], side.lead())]
         if tail > 0:
-            rows += [Row(BOTH), *self.rows(stacks[0][len(stacks[0]) - tail:])]
-        owner = self.allocation_rows(pair.variable["stack"]) if pair.variable.get("stack") else []
-        label = max(len(row.label) for row in [*rows, *owner])
-        widths = self.widths([*rows, *owner], label)
-        yield from (self.row(row, widths) for row in rows)
+            shown += [Row(BOTH), *rows(stacks[0][len(stacks[0]) - tail:])]
+        owner = allocation_rows(pair.variable["stack"]) if pair.variable.get("stack") else []
+        label = max(len(row.label) for row in [*shown, *owner])
+        widths = self.widths([*shown, *owner], label)
+        yield from (self.row(row, widths) for row in shown)
         yield from self.prose("variable", variable_line(pair.variable, self.report.unit), label)
         yield from (self.row(row, widths) for row in owner)
-        if pair.siblings or pair.missing_sync:
-            yield from self.prose(*order_row(pair), label)
-        if pair.held_before:
-            yield from self.prose("lock", f"in this run the later access comes after its thread held {pair.held_before}, "
-                                          "which the first one holds", label)
+        for row in order_rows(pair):
+            yield from self.prose(*row, label)
 
     def widths(self, rows, label):
         """Of the label, the place and the function, so that there is room for the text."""
@@ -171,57 +152,6 @@ class Text:
         start = f"{INDENT}{label:{width}}{GAP}"
         return textwrap.wrap(text, self.width, initial_indent=start, subsequent_indent=" " * len(start),
                              break_on_hyphens=False)
-
-    def access_rows(self, stack, lead):
-        """The user's own code comes first, where the access is in a header of the system."""
-        if stack[0].position == lead:
-            return self.rows(stack)
-        first = Row(stack[0].role, place(lead), lead.function, source.text_of(lead))
-        return [first, *self.rows([stack[0]._replace(role="header"), *stack[1:]])]
-
-    def allocation_rows(self, stack):
-        """Functions of the library stand behind the line that calls them."""
-        lead = source.leading([frame.position for frame in stack])
-        inside = next(number for number, frame in enumerate(stack) if frame.position == lead)
-        first = Row(LABELS["allocation"], place(lead), lead.function, source.text_of(lead))
-        if inside == 0:
-            return self.rows(stack)
-        return [first, *self.rows([stack[0]._replace(role="header"), *stack[1:inside]], False),
-                *self.rows(stack[inside + 1:])]
-
-    @staticmethod
-    def rows(stack, shows_innermost=True):
-        """A row for each frame, with one for those that are alike and follow one another, and one for those of headers
-        of the system, but for the innermost."""
-        rows = []
-        for is_system, frames in groupby(stack, key=lambda frame: source.is_system(frame.position)):
-            frames = list(frames)
-            if is_system and len(frames) > 1:
-                rows += system_rows(frames, shows_innermost and not rows)
-            else:
-                rows += (alike_row(key, len(list(alike)))
-                         for key, alike in groupby(frames, key=lambda frame: (frame.role, frame.position)))
-        left = len(rows) - 2 * FEW
-        return rows if left <= 1 else [*rows[:FEW], Row(LEFT_OUT, f"{left} more"), *rows[-FEW:]]
-
-
-def label_of(role):
-    return INSIDE if role == "header" else LABELS.get(role, role)
-
-
-def alike_row(key, times):
-    role, position = key
-    return Row(label_of(role), short_place(position), position.function, source.text_of(position),
-               f"{times} times" if times > 1 else "")
-
-
-def system_rows(frames, is_innermost):
-    """The function of the library that does the access, if it is the stack's innermost, and the one that other code
-    calls."""
-    rows = [alike_row((frames[0].role, frames[0].position), 1)] if is_innermost else []
-    outer, left = frames[-1], len(frames) - 1 - len(rows)
-    label = label_of(outer.role if rows else frames[0].role)
-    return [*rows, Row(label, short_place(outer.position), outer.position.function, "", f"and {left} more" if left else "")]
 
 
 # ---- What is said of a pair ----
@@ -258,11 +188,16 @@ def suppression_line(used):
     return f"{used.line} suppresses {many(used.races, 'race')} of {many(used.pairs, 'pair')}"
 
 
-def owned(variable, name):
+def owned(variable, name, before=""):
     """A variable with what tells it from others of its name."""
     if variable["kind"] == "local":
-        return f"{name}, a local of {variable['function']}"
+        return f"{name}, {before}a local of {function_named(variable)}"
     return name + (", thread-local" if variable.get("thread_local") else "")
+
+
+def function_named(variable):
+    """That of a local."""
+    return function_of(source.UNKNOWN._replace(function=variable["function"]))
 
 
 def whole_name(variable):
@@ -274,7 +209,7 @@ def whole_name(variable):
         lead = source.leading([frame.position for frame in variable["stack"]])
         return f"blocks of the heap from {place(lead)}"
     if kind == "local":
-        return f"locals of {variable['function']}"
+        return f"locals of {function_named(variable)}"
     return "locals" if kind == "stack" else "other memory"
 
 
@@ -287,21 +222,56 @@ def variable_line(variable, unit):
     kind = variable["kind"]
     if kind == "heap":
         offset, size, element = (variable[name] for name in ("offset", "size", "element"))
+        if variable.get("expression"):
+            return f"{parts_named(variable)}, in a block of the heap{byte_of(offset, size)}"
         elements = f", or element {offset // element} of {size // element}" if element else ""
-        return "a block of the heap" + byte_of(offset, size) + elements
+        owner = f" that {variable['owner']} has" if "owner" in variable else ""
+        return f"a block of the heap{owner}{byte_of(offset, size)}{elements}"
+    if variable.get("parts") and len(parts_of(variable)) > 1:
+        return owned(variable, parts_named(variable), "of ")
     if variable.get("expression"):
-        # A reducer's parts are the tracer's own.
-        expression, parts, _ = variable["expression"].partition(".__spbags_")
-        rest = not parts and variable["rest"]
-        return owned(variable, expression + (byte_of(*rest) if rest and all(rest) else ""))
+        expression, rest = without_inner(variable["expression"]), variable["rest"]
+        is_whole = expression == variable["expression"] and rest and all(rest)
+        return owned(variable, expression + (byte_of(*rest) if is_whole else ""))
     if kind == "stream":
         return variable["name"]
     if "name" in variable:
         return owned(variable, variable["name"] + (
             "" if variable["size"] <= unit else byte_of(variable["offset"], variable["size"])))
     if kind == "local":
-        return f"a local of {variable['function']}"
+        return f"a local of {function_named(variable)}"
     return "a local" if kind == "stack" else f"memory at {variable['address']:#x}"
+
+
+def without_inner(expression):
+    """Without what only the tracer or the library has a name for."""
+    return INNER.split(expression)[0]
+
+
+def parts_of(variable):
+    return list(dict.fromkeys(map(without_inner, variable.get("parts") or [variable["expression"]])))
+
+
+def parts_named(variable):
+    """All parts that race; or of elements, if they are more than a few, the first and their number."""
+    parts = parts_of(variable)
+    if len(parts) == 1:
+        return parts[0]
+    are_all = len(variable["parts"]) == variable["parts_count"]
+    if len(parts) <= MOST_NAMED or (are_all and not any("[" in part for part in parts)):
+        return f"{', '.join(parts[:-1])} and {parts[-1]}"
+    name = variable.get("name") or BASE.match(parts[0])[0]
+    kind = "element" if all(ELEMENT.fullmatch(part[len(name):]) for part in parts) else "part"
+    return f"{parts[0]} and {(len(parts) if are_all else variable['parts_count']) - 1} more {kind}s of {name}"
+
+
+def order_rows(pair):
+    """What is said of the order of both accesses: a label and a text each."""
+    found = [order_row(pair)] if pair.siblings or pair.missing_sync else []
+    if pair.held_before:
+        found.append(("lock", f"in this run the later access comes after its thread held {pair.held_before}, which the first "
+                              "one holds"))
+    return found
 
 
 def order_row(pair):
@@ -309,8 +279,7 @@ def order_row(pair):
     missing_sync = pair.missing_sync
     line = siblings_line(pair.siblings) if pair.siblings else missing_sync_line(missing_sync)
     if pair.suggested:
-        *others, last = pair.suggested
-        line += f". What may be missing: {', '.join(others)}{' or ' if others else ''}{last}"
+        line += f". {advice.sentence(pair)}"
     return "no sync" if not pair.siblings and missing_sync["construct"] == "spawn" else "no order", line
 
 
@@ -332,11 +301,17 @@ def siblings_line(siblings):
 def missing_sync_line(missing_sync):
     again = missing_sync["spawn"] == missing_sync["continues_at"]
     before = "what comes next on that line" if again else place(missing_sync["continues_at"])
-    function, spawn = missing_sync["function"], f"the {missing_sync['construct']} at {place(missing_sync['spawn'])}"
+    function = function_of(missing_sync["spawn"])
+    spawn = f"the {missing_sync['construct']} at {place(missing_sync['spawn'])}"
     line = f"in {function} between {spawn} and {before}"
     if missing_sync["syncs_at_return"]:
         return f"{line}: {function} waits only when it returns"
     return line + (f": it waits next at {place(missing_sync['next_sync'])}" if missing_sync["next_sync"] else "")
+
+
+def told(what, width):
+    """A line of `spbags-run`, in rows that are as wide."""
+    return textwrap.wrap(f"spbags-run: {what}", max(width, LEAST_WIDTH), subsequent_indent=INDENT, break_on_hyphens=False)
 
 
 def stack_rows(program, codes):
@@ -344,9 +319,9 @@ def stack_rows(program, codes):
     found = source.positions_of(program, [code + 1 for code in codes])
     known = [position for code in codes for position in found[code + 1] if position.line > 0]
     shown = [position for number, position in enumerate(known) if number == 0 or not source.is_system(position)]
-    rows = [(place(position), position.function, source.text_of(position)) for position in shown]
-    widths = [max((len(row[column]) for row in rows), default=0) for column in range(2)]
-    return ["    " + "  ".join(f"{cell:{width}}" for cell, width in zip(row, [*widths, 0])).rstrip() for row in rows]
+    cells = [(place(position), function_of(position), source.text_of(position)) for position in shown]
+    widths = [max((len(row[column]) for row in cells), default=0) for column in range(2)]
+    return [INDENT + GAP.join(f"{cell:{width}}" for cell, width in zip(row, [*widths, 0])).rstrip() for row in cells]
 
 
 # ---- Answers of `spbags` with their source lines ----
@@ -359,7 +334,7 @@ def side_lines(sides):
     """Each side is a position and what happens there."""
     width = max(len(source_line(position)) for position, _ in sides)
     for position, what in sides:
-        yield (f"{INDENT}{source_line(position):{width}}  {what:5}  in {position.function}:  "
+        yield (f"{INDENT}{source_line(position):{width}}  {what:5}  in {function_of(position)}:  "
                f"{source.text_of(position)}").rstrip()
 
 

@@ -6,10 +6,16 @@ import zlib
 from collections import namedtuple
 
 from dwarf import Dwarf, sleb, uleb
+from shapes import Shapes
 
-# A variable, a byte of it by its offset, and its size; and the part with that byte, as an expression of C. Where that
-# is no scalar, the rest is the offset in it, and its size.
-Named = namedtuple("Named", "name offset size expression rest")
+
+class Named(namedtuple("Named", "name offset size expression rest")):
+    """A variable, a byte of it by its offset, and its size; and the part with that byte, as an expression of C. Where that
+    is no scalar, the rest is the offset in it, and its size."""
+    # What the DWARF has of the variable.
+    entry = None
+
+
 # The memory that a function has: of its frame, from its end on, or from where clang has aligned it; of the data that it
 # is handed; a thread's; or a global.
 FRAME, ALIGNED, DATA, THREAD, GLOBAL = "frame", "aligned", "data", "thread", "global"
@@ -17,17 +23,10 @@ FRAME, ALIGNED, DATA, THREAD, GLOBAL = "frame", "aligned", "data", "thread", "gl
 UNREADABLE = (ValueError, LookupError, TypeError, AttributeError, RecursionError, struct.error, zlib.error)
 
 # Tags.
-ARRAY, CLASS, PARAMETER, BLOCK, MEMBER, POINTER, REFERENCE = 0x01, 0x02, 0x05, 0x0b, 0x0d, 0x0f, 0x10
-STRUCTURE, TYPEDEF, UNION, INHERITANCE, INLINED, SUBRANGE, CONST = 0x13, 0x16, 0x17, 0x1c, 0x1d, 0x21, 0x26
-FUNCTION, VARIABLE, VOLATILE, RESTRICT, NAMESPACE, RIGHT_REFERENCE, ATOMIC = 0x2e, 0x34, 0x35, 0x37, 0x39, 0x42, 0x47
-POINTERS, POINTER_SIZE = {POINTER, REFERENCE, RIGHT_REFERENCE}, 8
-RENAMING = {TYPEDEF, CONST, VOLATILE, RESTRICT, ATOMIC}
-WITH_MEMBERS = {CLASS, STRUCTURE, UNION}
+PARAMETER, BLOCK, INLINED, FUNCTION, VARIABLE, NAMESPACE = 0x05, 0x0b, 0x1d, 0x2e, 0x34, 0x39
 HOLDS_VARIABLES = {BLOCK, INLINED}
-
 # Attributes.
-BYTE_SIZE, BIT_OFFSET, BIT_SIZE, LOW_PC, UPPER_BOUND, COUNT = 0x0b, 0x0c, 0x0d, 0x11, 0x2f, 0x37
-MEMBER_LOCATION, DECLARATION, FRAME_BASE, TYPE, DATA_BITS = 0x38, 0x3c, 0x40, 0x49, 0x6b
+LOW_PC, FRAME_BASE = 0x11, 0x40
 
 # Operations of an expression. Register 5 has a function's first argument where the function begins, and 6 its frame; 3
 # has what clang has aligned of that.
@@ -60,9 +59,12 @@ def readable(method):
 
 class Names:
     def __init__(self, program):
-        self.functions, self.globals, self.dwarf = {}, {}, None
+        self.functions, self.globals, self.dwarf, self.shapes = {}, {}, None, None
+        # The functions by where they begin, and the variables of functions and units by their names.
+        self.entries, self.named_in = {}, {}
         try:
             self.dwarf = Dwarf(program)
+            self.shapes = Shapes(self.dwarf)
         except (*UNREADABLE, OSError):
             pass
 
@@ -139,19 +141,21 @@ class Names:
         found = self.dwarf.elf.function_at(code)
         if found and found[0] not in self.functions:
             start, name = found
-            function = self.entry_with(struct.pack("<Q", start), lambda entry: self.is_function(entry, start))
+            function = self.function(start)
             is_outlined = OUTLINED.search(name) is not None
             self.functions[start] = list(self.placed(function, function, is_outlined)) if function else []
         return self.functions[found[0]] if found else []
 
-    def is_function(self, entry, start):
-        return entry.tag == FUNCTION and self.dwarf.address(entry, LOW_PC) == start
+    def function(self, start):
+        """The function that begins with this code, or None."""
+        return self.entry_with(struct.pack("<Q", start), lambda entry: entry.tag == FUNCTION and
+                               self.dwarf.address(entry, LOW_PC) == start)
 
     def placed(self, entry, function, is_outlined):
         for child in self.dwarf.each_child(entry):
             if child.tag in (VARIABLE, PARAMETER):
                 for place in self.places(child, function, is_outlined):
-                    yield place, self.size(self.type_of(child)) or 0, child
+                    yield place, self.shapes.size(self.shapes.type_of(child)) or 0, child
             elif child.tag in HOLDS_VARIABLES:
                 yield from self.placed(child, function, is_outlined)
 
@@ -197,84 +201,53 @@ class Names:
             offset, rest = offset + more, rest[end:]
         return None if rest else (DATA, offset)
 
-    # ---- Types ----
+    # ---- By their names ----
 
-    def type_of(self, entry):
-        """The type of a variable, a member or an element, behind its other names."""
-        found = self.dwarf.inherited(entry, TYPE)
-        found = found and self.dwarf.referred(found, TYPE)
-        while found and found.tag in RENAMING:
-            found = self.dwarf.referred(found, TYPE)
+    def locals_named(self, code, name):
+        """The variables of this name that the function with this code has."""
+        function = self.function_with(code)
+        return self.by_name(function, HOLDS_VARIABLES).get(name, []) if function else []
+
+    def globals_named(self, code, name):
+        """The same of the unit of compilation."""
+        function = self.function_with(code)
+        return self.by_name(self.dwarf.root(function.unit), {NAMESPACE}).get(name, []) if function else []
+
+    def function_with(self, code):
+        found = self.dwarf.elf.function_at(code)
+        if found and found[0] not in self.entries:
+            self.entries[found[0]] = self.function(found[0])
+        return found and self.entries[found[0]]
+
+    def by_name(self, entry, holders):
+        """The variables of an entry and of those of these kinds in it."""
+        if entry.at in self.named_in:
+            return self.named_in[entry.at]
+        found, entries = self.named_in.setdefault(entry.at, {}), [entry]
+        for holder in entries:
+            for child in self.dwarf.each_child(holder):
+                if child.tag in (VARIABLE, PARAMETER):
+                    found.setdefault(self.dwarf.name(child), []).append(child)
+                elif child.tag in holders:
+                    entries.append(child)
         return found
 
-    def size(self, kind):
-        if kind is None:
-            return None
-        if kind.tag != ARRAY or kind.number(BYTE_SIZE) is not None:
-            return kind.number(BYTE_SIZE, POINTER_SIZE if kind.tag in POINTERS else None)
-        size = self.size(self.type_of(kind))
-        for count in self.counts(kind):
-            size = size and count and size * count
-        return size or None
-
-    def counts(self, array):
-        """How many elements an array has in each dimension; None where that isn't known."""
-        for child in self.dwarf.each_child(array):
-            if child.tag == SUBRANGE:
-                last = child.number(UPPER_BOUND)
-                yield child.number(COUNT, None if last is None else last + 1)
+    # ---- Parts ----
 
     def named(self, entry, offset):
         """The part of a variable; what the tracer puts into a program has no name."""
-        name, kind = self.dwarf.name(entry), self.type_of(entry)
-        path, rest = self.part(kind, offset)
+        name, kind = self.dwarf.name(entry), self.shapes.type_of(entry)
+        if not name or OWN.match(name):
+            return None
+        part = self.shapes.part(kind, offset)
         # The size of a class may not be known.
-        rest = rest if rest and rest[1] else None
-        return Named(name, offset, self.size(kind), name + path, rest) if name and not OWN.match(name) else None
+        rest = (offset - part.first, part.size) if part.size and not part.is_scalar else None
+        found = Named(name, offset, self.shapes.size(kind), name + part.path, rest)
+        found.entry = entry
+        return found
 
-    def part(self, kind, offset):
-        """The path to the part of a variable of this type at this offset; and if that is no scalar, what is left."""
-        if kind and kind.tag == ARRAY:
-            return self.element(kind, offset)
-        if kind and kind.tag in WITH_MEMBERS:
-            found = [(member, first) for member, first, size in self.members(kind)
-                     if size and first <= offset < first + size]
-            if len(found) != 1:
-                return "", (offset, self.size(kind))
-            member, first = found[0]
-            name = self.dwarf.name(member) if member.tag == MEMBER else None
-            path, rest = self.part(self.type_of(member), offset - first)
-            return (f".{name}" if name else "") + path, rest
-        return "", None
-
-    def element(self, array, offset):
-        element = self.type_of(array)
-        size, counts = self.size(element), list(self.counts(array))
-        if not size or None in counts[1:] or not counts:
-            return "", (offset, self.size(array))
-        index, indices = offset // size, []
-        for count in reversed(counts[1:]):
-            index, last = divmod(index, count)
-            indices.append(last)
-        path, rest = self.part(element, offset % size)
-        return "".join(f"[{number}]" for number in (index, *reversed(indices))) + path, rest
-
-    def members(self, kind):
-        """The members and the bases of a struct, class or union, with the bytes that they touch."""
-        for child in self.dwarf.each_child(kind):
-            if child.tag not in (MEMBER, INHERITANCE) or child.number(DECLARATION):
-                continue
-            first = child.number(MEMBER_LOCATION) if MEMBER_LOCATION in child.values else 0
-            if first is not None:
-                yield child, *self.bytes_of(child, first)
-
-    def bytes_of(self, member, first):
-        """The first byte that a member touches, and how many: it begins in this byte, or has some bits from there on."""
-        size, bits = self.size(self.type_of(member)), member.number(BIT_SIZE)
-        if not bits:
-            return first, size
-        start = member.number(DATA_BITS)
-        if start is None:
-            # DWARF 4 counts from the other end of what holds the bits.
-            start = 8 * first + 8 * member.number(BYTE_SIZE, size) - member.number(BIT_OFFSET, 0) - bits
-        return start // 8, (start % 8 + bits + 7) // 8
+    @readable
+    def parts(self, entry, variable, runs, most):
+        """Of the parts of a variable with these runs of bytes so many expressions, and their number."""
+        paths, number = self.shapes.gathered(self.shapes.type_of(entry), runs, most)
+        return [variable["name"] + path for path in paths], number

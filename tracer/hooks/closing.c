@@ -56,6 +56,7 @@ void closing_end(void) {
     tell_extent();
     places_end();
     output_close(&outcome);
+    detector_tell_next();
     sigprocmask(SIG_SETMASK, &before, NULL);
 }
 

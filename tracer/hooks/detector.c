@@ -166,17 +166,53 @@ static void take_bundle(struct bundle *bundle) {
    anything, it isn't: a build runs such programs, and reads what they print. */
 static bool report_is_asked, report_is_made;
 
+/* Nobody reads more of them: without SPBAGS_REPORT so many races are shown, and how many there are is kept. */
+enum { MOST_SHOWN = 20 };
+static size_t races_count;
+
 /* The program's thread waits meanwhile. */
 static void put_report(void) {
     uint8_t status = spbags_report(at_hand.session);
     if (status != SPBAGS_TAKEN)
         refuse_step(status);
-    size_t size = 0;
-    for (unsigned byte; (byte = spbags_next(at_hand.session)) < SPBAGS_AT_END; size++) {
-        *room(&outcome) = (char)byte;
-        outcome.used++;
-    }
-    detector_has_races = size > strlen("races 0\n");
+    size_t lines = 0;
+    for (unsigned byte; (byte = spbags_next(at_hand.session)) < SPBAGS_AT_END; lines += byte == '\n')
+        if (report_is_asked || lines <= MOST_SHOWN) {
+            *room(&outcome) = (char)byte;
+            outcome.used++;
+        }
+    races_count = lines > 0 ? lines - 1 : 0;
+    detector_has_races = races_count > 0;
+}
+
+void detector_tell_next(void) {
+    char words[1000];
+    if (report_is_asked || !detector_has_races)
+        return;
+    if (races_count > MOST_SHOWN)
+        tell("%zu more races: SPBAGS_REPORT=FILE writes all into a file", races_count - MOST_SHOWN);
+    int file = open("/proc/self/cmdline", O_RDONLY | O_CLOEXEC);
+    ssize_t size = file < 0 ? -1 : read(file, words, sizeof words - 1);
+    if (file >= 0)
+        close(file);
+    words[size > 0 ? size : 0] = '\0';
+    tell("for the source lines: spbags-run -- %s%s", words, (ssize_t)strlen(words) + 1 < size ? " .." : "");
+}
+
+/* How much was taken, as spbags-run shows it of a long run: a page of its file. */
+static struct shown_progress { uint64_t spawns, accesses; } own_progress, *progress = &own_progress;
+
+void detector_share_progress(int file) {
+    struct shown_progress *page = memory_reserve(sizeof *page);
+    mmap(page, sizeof *page, PROT_READ | PROT_WRITE, MAP_SHARED | MAP_FIXED, file, 0);
+    close(file);
+    __atomic_store_n(&progress, page, __ATOMIC_RELEASE);
+}
+
+static void show_progress(void) {
+    struct shown_progress *page = __atomic_load_n(&progress, __ATOMIC_ACQUIRE);
+    page->spawns = detector_spawns;
+    page->accesses = detector_accesses;
 }
 
 static void *detect(void *nothing) {
@@ -185,6 +221,7 @@ static void *detect(void *nothing) {
     for (size_t number = 0; !is_last; number = (number + 1) % BUNDLES) {
         wait_for(&full_bundles);
         take_bundle(&bundles[number]);
+        show_progress();
         is_last = bundles[number].is_last;
         sem_post(&free_bundles);
     }

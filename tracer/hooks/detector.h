@@ -19,8 +19,12 @@ extern uint64_t detector_spawns, detector_accesses;
 
 /* The detector begins, and its thread, for which the heap has memory aside. */
 void detector_begin(void);
+/* From now on this file of spbags-run has how much was taken, and is closed here. */
+void detector_share_progress(int file);
 /* Hands over what is left, and waits until the report is made. */
 void detector_end(bool has_more_to_say);
+/* Behind a report for a user's eyes: how many races it leaves out, and the command that shows the source lines. */
+void detector_tell_next(void);
 
 /* The bundle is full up to here; the memory of the next one. */
 uint64_t *detector_hand_over(const uint64_t *end);
@@ -29,7 +33,9 @@ void detector_step_words(uint64_t record, const uint64_t *words, size_t count);
 #else
 enum { detector_has_races = false, detector_spawns = 0, detector_accesses = 0 };
 static inline void detector_begin(void) {}
+static inline void detector_share_progress(int file) { close(file); }
 static inline void detector_end(bool has_more_to_say) { (void)has_more_to_say; }
+static inline void detector_tell_next(void) {}
 static inline uint64_t *detector_hand_over(const uint64_t *end) { return (void)end, NULL; }
 static inline void detector_step_words(uint64_t record, const uint64_t *words, size_t count) {
     (void)record, (void)words, (void)count;

@@ -167,8 +167,9 @@ void locations_tell_narrow(void) {
     if (narrow_accesses == 0)
         return;
     unsigned unit = 1u << __builtin_ctzl(narrow_bits);
-    tell_record(tell_numbered("unit", unit).text,
-                "%llu accesses don't fill their units of %u bytes, so races may be only of neighbours: SPBAGS_UNIT=%u "
-                "separates them",
-                (unsigned long long)narrow_accesses, 1u << units_shift, unit);
+    tell_record(
+        tell_numbered("unit", unit).text,
+        "%llu access%s less than a unit of %u bytes, so races may be only of neighbours: SPBAGS_UNIT=%u separates "
+        "them",
+        (unsigned long long)narrow_accesses, narrow_accesses == 1 ? " touches" : "es touch", 1u << units_shift, unit);
 }

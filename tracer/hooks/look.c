@@ -311,6 +311,9 @@ struct pair {
     /* The newest of the others with other stacks that went out for it, and how many these are. */
     uint32_t newest;
     uint32_t more;
+    /* Of a block, what went out last: where its races begin, and of how many bytes they are. */
+    uintptr_t begin;
+    size_t length;
     /* An access of one of its races doesn't fill its unit, so maybe it is of neighbours. */
     bool is_narrow;
 };
@@ -634,14 +637,34 @@ static uint32_t pair_for(const struct race *race, size_t units) {
     return pairs_put;
 }
 
-/* What races in each pair, but for blocks of the heap: a row of units, or a byte. */
+/* Which bytes of a block race: of blocks with the same ones that follow one another the first says it. */
+static void put_in_block(const struct race *race, size_t units) {
+    struct pair *pair = &pairs[race->pair];
+    const struct allocation *allocation = allocation_of(race->address);
+    size_t unit = units_mask + 1;
+    uintptr_t begin = allocation ? race->address - allocation->address : 0;
+    size_t length = is_of_byte(race->location) ? 1 : units * unit - race->address % unit;
+    if (!allocation || (begin == pair->begin && length == pair->length))
+        return;
+    pair->begin = begin;
+    pair->length = length;
+    put("held %u", race->pair);
+    put(" %" PRIuPTR, begin);
+    put(" %zu\n", length);
+}
+
+/* What races in each pair: a row of units, or a byte. */
 static void put_addresses(void) {
     for (size_t at = 0, end; at < races_count; at = end) {
         const struct race *race = &races[at];
         for (end = at + 1; end < races_count && goes_on(&races[end - 1], &races[end]);)
             end++;
-        if (race->pair == 0 || pairs[race->pair].site != 0)
+        if (race->pair == 0)
             continue;
+        if (pairs[race->pair].site != 0) {
+            put_in_block(race, end - at);
+            continue;
+        }
         uint32_t pair = pair_for(race, end - at);
         put(pair != 0 ? "at %u" : "other %u", pair != 0 ? pair : race->pair);
         put(" %" PRIu64, race->location);

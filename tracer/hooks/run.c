@@ -47,6 +47,7 @@ static void open_outputs(const char *name) {
 static void open_ways(void) {
     const char *said = settings_text(SETTING_SAYS), *report = settings_text(SETTING_LOOK);
     const char *units = settings_text(SETTING_DIVIDE), *waits = settings_text(SETTING_WAITED);
+    const char *progress = settings_text(SETTING_PROGRESS);
     if (said) {
         tell_file = output_named_file("SPBAGS_SAYS", said);
         pthread_atfork(ends_refuse_fork, NULL, NULL);
@@ -58,10 +59,13 @@ static void open_ways(void) {
         look_begin(output_named_file("SPBAGS_LOOK", report));
     if (waits)
         openmp_open_waited(output_named_file("SPBAGS_WAITED", waits));
+    if (progress)
+        detector_share_progress(output_named_file("SPBAGS_PROGRESS", progress));
     settings_forget(SETTING_SAYS);
     settings_forget(SETTING_LOOK);
     settings_forget(SETTING_DIVIDE);
     settings_forget(SETTING_WAITED);
+    settings_forget(SETTING_PROGRESS);
     settings_forget(SETTING_LAST);
 }
 

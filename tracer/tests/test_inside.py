@@ -252,8 +252,7 @@ class OutputsTest(InsideTest):
     def test_outputs(self):
         with self.subTest("a file"):
             self.assertEqual("races 88", self.wanted.partition("\n")[0])
-        for name, words, settings in (("standard error", '"$@" 2>&1 >/dev/null', {}),
-                                      ("a descriptor", '"$@" 3>&1 >/dev/null', {"SPBAGS_REPORT": "fd:3"}),
+        for name, words, settings in (("a descriptor", '"$@" 3>&1 >/dev/null', {"SPBAGS_REPORT": "fd:3"}),
                                       ("standard output", '"$@" 2>/dev/null', {"SPBAGS_REPORT": "-"})):
             with self.subTest(name):
                 self.assertEqual(self.wanted, self.run_command("bash", "-c", words, "bash", "./racy", **settings).out)
@@ -266,6 +265,16 @@ class OutputsTest(InsideTest):
             self.run_command("./racy", SPBAGS_REPORT="report", SPBAGS_TRACE="run.trace")
             self.assertEqual(self.wanted, self.run_command(os.environ["SPBAGS"], "check", "run.trace").out)
             self.assertFalse(os.path.exists("report"))
+
+    def test_standard_error(self):
+        """It has 20 races and the number of the others, and behind them the command that shows the source lines."""
+        lines, last = self.wanted.splitlines(), "spbags: for the source lines: spbags-run -- ./"
+        for words, wanted in ((["./racy"], last + "racy"), (["./racy", "12"], last + "racy ..")):
+            self.assertEqual([*lines[:21], "spbags: 68 more races: SPBAGS_REPORT=FILE writes all into a file", wanted],
+                             self.run_command(*words).errors.splitlines())
+        self.build("few", "fib.c", "-DRACY", "-DN=4")
+        self.run_command("./few", SPBAGS_REPORT="few.races")
+        self.assertEqual([*self.read("few.races").splitlines(), last + "few"], self.run_command("./few").errors.splitlines())
 
     def test_silence(self):
         """Where nothing was a child the report says something only if it is asked for, or beside a line."""

@@ -10,6 +10,7 @@ import signal
 import subprocess
 import sys
 import time
+import urllib.parse
 
 sys.dont_write_bytecode = True
 import cases
@@ -134,7 +135,7 @@ class ReportTest(RunTest):
 
     def test_global(self):
         status, report = self.found("global")
-        self.assertEqual((1, 2, 1, 4, True),
+        self.assertEqual((1, 3, 1, 4, True),
                          (status, report["version"], report["races"], report["unit"], report["stacks"]))
         self.assertEqual({"status": 1, "signal": None, "complete": True}, report["ended"])
         self.assertEqual(["the program ended with status 1"], report["notes"])
@@ -276,6 +277,106 @@ class ReportTest(RunTest):
         modules = self.run_command(sys.executable, "-X", "importtime", SPBAGS_RUN, "--", "./run").errors
         for name, is_read in (("runs", True), ("pairs", False), ("variables", False)):
             self.assertEqual(is_read, re.search(rf"(?m)\| +{name}$", modules) is not None, name)
+
+
+def text_object(required=("text",)):
+    return {"type": "object", "required": list(required), "properties": {"text": {"type": "string", "minLength": 1}}}
+
+
+# What the standard demands of a log: what has to be there, and of which form. Of an artifact the URI has no bare letter
+# that none may have, and is absolute or has a base.
+ARTIFACT = {"type": "object", "required": ["uri"], "properties": {"uri": {"pattern": r"^[\w.~%!$&'()*+,;=:@/-]*$"}},
+            "if": {"required": ["uriBaseId"]}, "then": {"properties": {"uri": {"pattern": "^(?!/|[a-z]+:)"}}},
+            "else": {"properties": {"uri": {"pattern": "^file:///"}}}}
+LOCATION = {"type": "object", "properties": {
+    "id": {"type": "integer", "minimum": 0}, "message": text_object(),
+    "logicalLocations": {"items": {"required": ["name"]}},
+    "physicalLocation": {"required": ["artifactLocation"], "properties": {
+        "artifactLocation": ARTIFACT,
+        "region": {"required": ["startLine"], "properties": {"startLine": {"type": "integer", "minimum": 1}}}}}}}
+RESULT = {"type": "object", "required": ["message", "ruleId", "partialFingerprints"], "properties": {
+    "message": text_object(), "level": {"enum": ["none", "note", "warning", "error"]},
+    "locations": {"items": LOCATION}, "relatedLocations": {"items": LOCATION},
+    "partialFingerprints": {"minProperties": 1, "additionalProperties": {"type": "string"}},
+    "stacks": {"items": {"required": ["frames"], "properties": {
+        "message": text_object(), "frames": {"items": {"properties": {"location": LOCATION}}}}}}}}
+RULE = {"type": "object", "required": ["id", "helpUri"], "properties": {
+    "shortDescription": text_object(), "helpUri": {"pattern": "^https://[^ ]+$"}}}
+SARIF = {"type": "object", "required": ["version", "runs"], "properties": {
+    "version": {"const": "2.1.0"},
+    "runs": {"items": {"required": ["tool", "results", "originalUriBaseIds"], "properties": {
+        "tool": {"required": ["driver"], "properties": {"driver": {
+            "required": ["name"], "properties": {"name": {"type": "string"}, "rules": {"items": RULE}}}}},
+        "originalUriBaseIds": {"additionalProperties": {"properties": {"uri": {"pattern": "^file:///.*/$"}}}},
+        "invocations": {"items": {"required": ["executionSuccessful"]}}, "results": {"items": RESULT}}}}}}
+
+
+class SarifTest(RunTest):
+    """The log, read back as those do who show it."""
+
+    # The child's write and the parent's are two lines below each other.
+    TEXT = "#include <cilk/cilk.h>\nstatic int cell;\nstatic void set(void) {\n    cell = 1;\n}\n"\
+           "int main(void) {\n    cilk_spawn set();\n    cell = 2;\n}\n"
+
+    def log_of(self, *words):
+        status, said, errors = self.run_command(SPBAGS_RUN, "--sarif", "--", *words)
+        log = json.loads(said)
+        try:
+            import jsonschema
+        except ImportError:
+            return status, log["runs"][0]
+        jsonschema.validate(log, SARIF)
+        [run] = log["runs"]
+        self.assertLessEqual({result["ruleId"] for result in run["results"]},
+                             {rule["id"] for rule in run["tool"]["driver"]["rules"]}, errors)
+        return status, run
+
+    @staticmethod
+    def line_of(run, location):
+        """The text of the line, in the file that the URI names."""
+        artifact, region = (location["physicalLocation"][name] for name in ("artifactLocation", "region"))
+        base = run["originalUriBaseIds"][artifact["uriBaseId"]]["uri"] if "uriBaseId" in artifact else ""
+        url = urllib.parse.urlparse(base + artifact["uri"])
+        with open(urllib.parse.unquote(url.path), encoding="utf-8") as file:
+            return file.read().splitlines()[region["startLine"] - 1].strip()
+
+    def test_places(self):
+        """A result has the line of the second access, and beside it that of the first. A file of the folder is named
+        from it, whatever its name, and any other by its whole name."""
+        os.mkdir("a folder")
+        self.write("a folder/100%#ä.c", self.TEXT)
+        self.succeeds(SPBAGS_CC, "-w", "-o", "own", os.path.abspath("a folder/100%#ä.c"))
+        for word, is_own, wanted in (("./own", True, ["cell = 2;", "cell = 1;"]), ("./run", False, None)):
+            status, run = self.log_of(word, "global")
+            [result] = run["results"]
+            self.assertEqual((1, "determinacy-race", "error"), (status, result["ruleId"], result["level"]))
+            locations = [result[name][0] for name in ("locations", "relatedLocations")]
+            wanted = wanted or ["table[2] = 2; /* [global] */", "static void set(int *at) { *at = 1; } /* [set] */"]
+            self.assertEqual(wanted, [self.line_of(run, location) for location in locations])
+            self.assertEqual([is_own] * 2, ["uriBaseId" in location["physicalLocation"]["artifactLocation"]
+                                            for location in locations])
+            frames = [self.line_of(run, frame["location"]) for stack in result["stacks"] for frame in stack["frames"]]
+            self.assertEqual(wanted[1], frames[0])
+
+    def test_fingerprints(self):
+        """A pair keeps its own where lines move, and no other has it, even of lines that are alike."""
+        found = []
+        for before in ("", "\n\n"):
+            self.write("own.c", before + "#include <cilk/cilk.h>\nint cells[3], at;\nvoid set(void) {\n"
+                       "    cells[0] = cells[1] = cells[2] = 1;\n}\nint main(void) {\n    cilk_spawn set();\n"
+                       "    cells[at++] = 2;\n    cells[at++] = 2;\n    cells[at] = 3;\n}\n")
+            self.succeeds(SPBAGS_CC, "-w", "-o", "own", "own.c")
+            results = self.log_of("./own")[1]["results"]
+            found.append([result["partialFingerprints"]["spbagsLines/v1"] for result in results])
+        self.assertEqual(found[0], found[1])
+        self.assertEqual((3, 2), (len(set(found[0])), len({one.partition(":")[0] for one in found[0]})))
+
+    def test_notifications(self):
+        self.write_script("says", SAYS)
+        status, run = self.log_of("./says", "incomplete: one thing")
+        self.assertEqual((3, [("warning", "one thing")]),
+                         (status, [(note["level"], note["message"]["text"])
+                                   for note in run["invocations"][0]["toolExecutionNotifications"]]))
 
 
 class SecondRunTest(RunTest):
@@ -468,24 +569,6 @@ class OutputTest(RunTest):
         asked = [self.text_of(*words, "--", "./run", "global") for words in ((), ("--color", "always"))]
         self.assertEqual([False, True], ["\033[" in said for said in asked])
 
-    def test_sarif(self):
-        """A result has the line of the second access, and beside it that of the first."""
-        status, said, _ = self.run_command(SPBAGS_RUN, "--sarif", "--", "./run", "global")
-        [found] = json.loads(said)["runs"]
-        [result] = found["results"]
-        places = [result[name][0]["physicalLocation"] for name in ("locations", "relatedLocations")]
-        wanted = [TAGS["[global]"], TAGS["[set]"]]
-        self.assertEqual((1, "determinacy-race", "error"), (status, result["ruleId"], result["level"]))
-        self.assertEqual(wanted, [place["region"]["startLine"] for place in places])
-        self.assertEqual([os.path.basename(SOURCE)] * 2,
-                         [os.path.basename(place["artifactLocation"]["uri"]) for place in places])
-        self.write_script("says", SAYS)
-        status, said, _ = self.run_command(SPBAGS_RUN, "--sarif", "--", "./says", "incomplete: one thing")
-        [invocation] = json.loads(said)["runs"][0]["invocations"]
-        self.assertEqual((3, [("warning", "one thing")]),
-                         (status, [(note["level"], note["message"]["text"])
-                                   for note in invocation["toolExecutionNotifications"]]))
-
     def test_keep(self):
         """The trace that is kept goes with spbags-lines, whose answers are the same."""
         self.found("global", "heap", options=("--keep", "run.trace"))
@@ -533,6 +616,71 @@ class OutputTest(RunTest):
                 self.assertIn(example, self.succeeds("tracer/" + command, "--help").out)
         with self.subTest("too few words"):
             self.assertEqual(2, self.run_command(SPBAGS_LINES, "./run").status)
+
+    def test_versions(self):
+        """Each command's own line is the last one; a compiler's comes first."""
+        newest = re.search(r"(?m)^## \[([0-9][^]]*)\]", self.read(os.path.join(TRACER, "..", "CHANGELOG.md")))[1]
+        for command, first in (("spbags-run", []), ("spbags-lines", []), ("spbags-cc", [cases.CC]), ("spbags-c++", ["g++"])):
+            with self.subTest(command):
+                said = self.succeeds("tracer/" + command, "--version").out
+                before = self.succeeds(*first, "--version").out if first else ""
+                self.assertEqual(f"{before.rstrip()}\n{command} {newest}\n".lstrip(), said)
+
+
+class ProgressTest(TracerTest):
+    """What a terminal shows of a long run."""
+    TEXT = """#include <cilk/cilk.h>
+#include <unistd.h>
+static int cells[1 << 20], racy;
+static void child(void) { racy = 1; }
+int main(int count, char **words) {
+    cilk_spawn child();
+    racy = 2;
+    cilk_sync;
+    for (int i = 0; i < 1 << 20; i++)
+        cells[i] = i;
+    cilk_spawn child();
+    cilk_sync;
+    sleep(count > 1 ? *words[1] - '0' : 0);
+}
+"""
+
+    def setUp(self):
+        super().setUp()
+        self.write("slow.c", self.TEXT)
+        self.succeeds(SPBAGS_CC, "-w", "-o", "slow", "slow.c")
+
+    def shown(self, *words, **settings):
+        """What standard error gets, if it is a terminal."""
+        self.command = " ".join(words)
+        control, terminal = pty.openpty()
+        with subprocess.Popen(words, stdin=subprocess.DEVNULL, stdout=subprocess.DEVNULL, stderr=terminal,
+                              env={**os.environ, "TERM": "xterm", **settings}):
+            os.close(terminal)
+            said = b""
+            with contextlib.suppress(OSError):
+                while piece := os.read(control, 1 << 16):
+                    said += piece
+        os.close(control)
+        return said.decode()
+
+    def test_terminal(self):
+        """A line says how far each run is, and is gone at the end."""
+        said = self.shown(SPBAGS_RUN, "--", "./slow", "4")
+        accesses = ", 1\\.0 million accesses" if INSIDE else ""
+        self.assertRegex(said, rf"run 1: [23] s{accesses}\033")
+        self.assertRegex(said, r"run 2: [0-9]+ s, 1 race\033")
+        self.assertRegex(said, r"\033\[J\Z")
+        self.assertEqual("", re.sub(r"\033(?:[DM78]|\[J|\[[02]m)|\r*\n|(?:run [12]|looking up source lines): [0-9]+ s[\w,. ]*",
+                                    "", said))
+
+    def test_elsewhere(self):
+        """A short run shows nothing, nor does a pipe, a file, or a terminal that can't erase."""
+        self.assertEqual("", self.shown(SPBAGS_RUN, "--", "./slow"))
+        self.assertEqual("", self.shown(SPBAGS_RUN, "--", "./slow", "3", TERM="dumb"))
+        self.assertEqual("", self.run_command(SPBAGS_RUN, "--", "./slow", "3").errors)
+        self.succeeds("bash", "-c", 'exec 2>errors; "$@" || [ $? = 1 ]', "bash", SPBAGS_RUN, "--", "./slow", "3")
+        self.assertEqual("", self.read("errors"))
 
 
 class StatusTest(RunTest):
@@ -624,6 +772,8 @@ class SuppressedTest(RunTest):
         status, report = self.found("guards", "global", options=("--data-races",))
         self.assertEqual((1, 1, {"pairs": 2, "races": 2}), (status, len(report["pairs"]), report["guarded"]))
         self.assertEqual(0, self.found("guards", options=("--data-races",))[0])
+        said = self.run_command(SPBAGS_RUN, "--", "./run", "guards").out
+        self.assertEqual("races 2, pairs of lines 2; no data race, which --data-races leaves out: 2 pairs", last_line(said))
         status, report = self.found("one guard", options=("--data-races",))
         self.assertEqual((1, [None]), (status, [pair["guard"] for pair in report["pairs"]]))
 
@@ -710,7 +860,7 @@ class EndlessTest(RunTest):
                                          ("futex", signal.SIGTERM, "and so for ever", ["[sleeps]"]),
                                          ("doze", signal.SIGTERM, "it waits for ever", ["[dozes]", "[calls doze]"])):
             with self.subTest(way):
-                process = self.start("--json", "--", "./ends", way)
+                process = self.start("--json", "--", "./ends", way, COLUMNS="1000")
                 line, *rows = [process.stderr.readline() for _ in range(1 + len(stack) + len(tail))]
                 process.send_signal(number)
                 report = json.loads(process.communicate(timeout=cases.LONG)[0])

@@ -1,7 +1,7 @@
 #!/usr/bin/env python3
-"""The words of spbags-run's report on words.c, for each compiler, and on words_openmp.c and words.cpp: the names of
-variables and of their parts, which iterations race and what is missing there, and the text. What has to come out is
-written here by hand."""
+"""The words of spbags-run's report on words.c, members.c and advice.c, for each compiler, and on words_openmp.c and
+words.cpp: the names of variables and of their parts, which iterations race and what is missing there, and the text. What
+has to come out is written here by hand."""
 import json
 import os
 import re
@@ -10,7 +10,10 @@ import unittest.mock
 
 sys.dont_write_bytecode = True
 import cases
+import expressions
+import functions
 import pairs
+import rows
 import source
 import text
 from cases import SPBAGS_RUN, TESTS, TracerTest, last_line
@@ -117,7 +120,7 @@ class NamesTest(WordsTest):
         [pair] = self.pairs_of("heap")
         self.assertEqual(("heap", 32, 160, 8),
                          tuple(pair["variable"][name] for name in ("kind", "offset", "size", "element")))
-        self.assertEqual("a block of the heap, byte 32 of 160, or element 4 of 20", variable_row(self.text_of("heap")))
+        self.assertEqual("numbers[4], in a block of the heap, byte 32 of 160", variable_row(self.text_of("heap")))
 
     def test_two_variables_on_a_line(self):
         pairs = self.pairs_of("two")
@@ -141,6 +144,65 @@ class NamesTest(WordsTest):
         self.assertEqual(1, report["suppressed"]["races"])
 
 
+class MembersTest(WordsTest):
+    """Parts of blocks of the heap, by the types of the pointers that the lines name."""
+    SOURCE = os.path.join(TESTS, "members.c")
+
+    def test_names(self):
+        for word, wanted in (("member", "swarm[1].pos[1], in a block of the heap, byte 48 of 320"),
+                             ("type", "particle.pos[1], in a block of the heap, byte 48 of 320"),
+                             ("node", "at->sum, in a block of the heap, byte 16 of 24"),
+                             ("line", "from->second, in a block of the heap, byte 8 of 16"),
+                             ("rows", "t->rows[1][2], in a block of the heap, byte 20 of 24"),
+                             ("doubt", "a block of the heap, byte 8 of 32, or element 1 of 4"),
+                             ("elements", "numbers[0] and 4 more elements of numbers, in a block of the heap, byte 0 of 40")):
+            with self.subTest(word):
+                self.assertEqual(wanted, variable_row(self.text_of(word, COLUMNS="200")))
+
+    def test_several(self):
+        """All parts of a variable that race on a pair of lines have their names."""
+        heap, own = sorted((pair["variable"] for pair in self.pairs_of("several")), key=lambda found: found["kind"])
+        self.assertEqual((["s->sum", "s->count"], 2), (heap["parts"], heap["parts_count"]))
+        self.assertEqual((["own.sum", "own.count"], 2), (own["parts"], own["parts_count"]))
+        said = self.text_of("several", COLUMNS="200")
+        self.assertIn("   own.sum and own.count, of a local of of_several\n", said)
+        self.assertIn("   s->sum and s->count, in a block of the heap, byte 0 of 16\n", said)
+
+
+class AdviceTest(WordsTest):
+    """What may be missing in Cilk: nothing that ends what is parallel, where there is another cure."""
+    SOURCE = os.path.join(TESTS, "advice.c")
+
+    def test_names(self):
+        for word, wanted in (("counter", ["reducer"]), ("least", ["reducer"]), ("result", ["cilk_sync"]),
+                             ("scratch", ["private"]), ("elements", ["reducer", "cilk_sync"]), ("sum", ["reducer"]),
+                             ("own", ["private"])):
+            with self.subTest(word):
+                self.assertEqual({tuple(wanted)}, {tuple(pair["suggested"]) for pair in self.pairs_of(word)})
+
+    def test_text(self):
+        for word, wanted in (("counter", "a reducer"), ("scratch", "a variable of each child's own"),
+                             ("result", f"a cilk_sync before {self.SOURCE}:{self.line_of('early')}"),
+                             ("elements", f"a reducer or a cilk_sync before {self.SOURCE}:{self.line_of('second half')}"),
+                             ("sum", "a reducer"), ("own", "a variable of each iteration's own")):
+            with self.subTest(word):
+                said = " ".join(self.text_of(word).split())
+                self.assertIn(f". What may be missing: {wanted} ", said)
+        self.assertIn(f"iterations 0 and 1 of the cilk_for at {self.SOURCE}:{self.line_of('sum')} may run at once. What",
+                      " ".join(self.text_of("sum").split()))
+
+    def test_updates(self):
+        """A line that makes of a variable what it was and more, whatever else stands there."""
+        for line, wanted in (("sum += x;", True), ("sum = x;", False), ("++n, sum -= x;", True), ("n++, out = x;", False),
+                             ("best = std::max(best, x);", True), ("best = x > best ? x : best;", True),
+                             ("if (x > best) best = x;", True), ("*out++ = *in++;", False), ("a[n++] = x;", False),
+                             ("int x = cilk_spawn fib(n - 1);", False), ("auto up = [n] { n[3]++; };", True),
+                             ("int slot = next++;", False), ("return sum += x;", False), ("f(n++);", False),
+                             ("for (;;) sum += x;", True), ("fill(a->text, n);", False), ("return x + y; // x++", False)):
+            with self.subTest(line):
+                self.assertEqual(wanted, expressions.updates(line))
+
+
 class TextTest(WordsTest):
     def test_pairs_by_variable(self):
         """All pairs of a variable stand below its name, the most frequent first."""
@@ -155,13 +217,65 @@ class TextTest(WordsTest):
         """Of a stack in the library's headers the function that does the access has a row, and so has the outermost."""
         at = [source.Position(*words) for words in (("/usr/include/c++/store.h", 3, "store"), ("/usr/include/c++/pass.h", 5, "pass"),
                                                     ("/usr/include/c++/sort.h", 7, "sort"), ("own.cpp", 9, "main"))]
-        rows = text.Text.rows([pairs.Frame(role, position, 1) for role, position in zip(("header", *["call"] * 3), at)])
+        shown = rows.rows([pairs.Frame(role, position, 1) for role, position in zip(("header", *["call"] * 3), at)])
         self.assertEqual([("store.h:3", "store", ""), ("sort.h:7", "sort", "and 1 more"), ("own.cpp:9", "main", "")],
-                         [(row.place, row.function, row.behind) for row in rows])
+                         [(row.place, row.function, row.behind) for row in shown])
         codes = dict(enumerate(at))
         with unittest.mock.patch("source.positions_of", lambda _, __: {code + 1: [one] for code, one in codes.items()}):
             self.assertEqual(["/usr/include/c++/store.h:3", "own.cpp:9"],
                              [row.split()[0] for row in text.stack_rows("program", codes)])
+
+    def test_cycles(self):
+        """Rows that come again and again in turn are shown once, with their number."""
+        lines = [*[1, 2, 3, 2, 3, 2, 3], *[4, 4, 5, 4, 4, 5], *[6, 6], 7]
+        shown = rows.rows([pairs.Frame("call", source.Position("own.c", line, "f"), 1) for line in lines])
+        self.assertEqual([("own.c:1", ""), ("own.c:2", ""), ("own.c:3", "these 2 rows 3 times"), ("own.c:4", "2 times"),
+                          ("own.c:5", "these 2 rows 2 times"), ("own.c:6", "2 times"), ("own.c:7", "")],
+                         [(row.place, row.behind) for row in shown])
+
+    def test_functions(self):
+        """A lambda is named by its line, and long arguments of templates are folded."""
+        self.write("own.cpp", "// don't [\nint main() {\n    int a[2];\n    auto f = [&](int i) {\n        a[i] = 1;\n"
+                              "        auto g = [=]() mutable -> int {\n            return a[i];\n        };\n"
+                              "        return g();\n    };\n    return f(1);\n}\n")
+        gcc, clang, deep = "main::{lambda(std::pair<int, long> const&)#1}::operator()(int) const", "main::$_0::operator()(int) const", \
+            "auto main::{lambda(auto:1&)#1}::operator()<int>(int&) const"
+        for line, function, wanted in (
+                (5, gcc, "lambda at own.cpp:4"), (5, clang, "lambda at own.cpp:4"), (7, gcc, "lambda at own.cpp:6"),
+                (9, deep, "lambda at own.cpp:4"), (11, gcc, "main"),
+                (5, "Table<std::pair<int, int>, double>::add(std::vector<int> const&)", "Table<..>::add(std::vector<int> const&)"),
+                (5, "std::operator<< <std::char_traits<char> >(char)", "std::operator<< <..>(char)"),
+                (5, "bool operator<(Key<int> const&)", "bool operator<(Key<int> const&)")):
+            with self.subTest(function, line=line):
+                self.assertEqual(wanted, functions.function_of(source.Position("own.cpp", line, function)))
+        self.assertEqual("lambda in main", functions.function_of(source.Position("none.cpp", 5, gcc)))
+
+    def test_source_root(self):
+        """Files are named from the folder of the run, or from another one."""
+        for folder in ("src", "made"):
+            os.mkdir(folder)
+        self.write("src/own.c", "int n;\nvoid up(void) {\n    n++;\n}\nint main(void) {\n    _Cilk_spawn up();\n    up();\n}\n")
+        self.succeeds(cases.SPBAGS_CC, "-w", "-o", "made/own", os.path.abspath("src/own.c"))
+        os.chdir("made")
+        for options, wanted in (((), "../src/own.c"), (("--source-root", ".."), "src/own.c")):
+            [pair] = self.pairs_of(program="./own", options=options)
+            self.assertEqual((wanted, 3, "n++;"), tuple(pair["first"]["user_frame"][name] for name in ("file", "line", "text")))
+
+    def test_parts(self):
+        """All members are named; of many elements one, and the number of the others."""
+        for parts, number, wanted in (([f"s.{name}" for name in "abcde"], 5, "s.a, s.b, s.c, s.d and s.e"),
+                                      (["s[0]", "s[7]"], 2, "s[0] and s[7]"),
+                                      ([f"s[{at}]" for at in range(5)], 5, "s[0] and 4 more elements of s"),
+                                      ([f"s[{at}].x" for at in range(20)], 60, "s[0].x and 59 more parts of s"),
+                                      (["s._M_a.b", "s._M_c"], 2, "s")):
+            with self.subTest(wanted):
+                self.assertEqual(wanted, text.parts_named({"name": "s", "parts": parts, "parts_count": number}))
+
+    def test_told(self):
+        """What can't wait for the report is as wide."""
+        words = "for 30 seconds the program has touched no new memory and started no task. It goes on, since it may"
+        self.assertEqual(["spbags-run: for 30 seconds the program has touched no new memory", "    and started no task. It goes on, since it may"],
+                         text.told(words, 67))
 
     def test_line_ends(self):
         """A form feed ends no line of a source, nor does what else ends lines for Python."""
@@ -234,7 +348,7 @@ class CPlusPlusTest(WordsTest):
             with self.subTest(columns):
                 text = self.text_of(**{"COLUMNS": str(columns)} if columns else {})
                 self.assertEqual([], [line for line in text.splitlines() if len(line) > (columns or 120)])
-                self.assertRegex(text, r"  Table<st\S*\.\.")
+                self.assertRegex(text, r"  Table<\.\.")
         functions = {frame["function"] for pair in self.pairs_of() for side in ("first", "second")
                      for frame in pair[side]["stack"]}
         self.assertTrue(any(function.startswith(name) and function.endswith("double const&)")
@@ -242,16 +356,34 @@ class CPlusPlusTest(WordsTest):
 
     def test_allocation_of_the_library(self):
         """The user's line stands first, and all functions of the library are one row."""
-        block = next(block for block in blocks_of(self.text_of()) if "a block of the heap" in block)
+        block = next(block for block in blocks_of(self.text_of()) if re.search("variable +a block of the heap", block))
         rows = block.splitlines()
         at = next(number for number, row in enumerate(rows) if "allocated at" in row)
         self.assertRegex(rows[at], rf"words\.cpp:{self.line_of('resize')} +main +table\.rows\[key\]\.re")
-        self.assertRegex(rows[at + 1], r"inside .*std::vector<double.* \(and [0-9]+ more\)$")
+        self.assertRegex(rows[at + 1], r"inside .*std::vector<\.\.>::.* \(and [0-9]+ more\)$")
         self.assertRegex(rows[at + 2], r"\A    no order")
 
     def test_names(self):
-        names = [pair["variable"].get("expression") or "" for pair in self.pairs_of()]
-        self.assertEqual(["", "plates::Derived::shared", "plates::derived[1].counts[2]"], sorted(names))
+        """A map has operators of its own, so what is in it has no name."""
+        found = sorted((pair["races"], pair["variable"].get("parts") or pair["variable"].get("expression") or "")
+                       for pair in self.pairs_of())
+        self.assertEqual([(1, "last"), (1, "plates::Derived::shared"), (1, "plates::derived[1].counts[2]"), (2, ""),
+                          (3, ["counter->hits", "counter->sum"]), (3, ["counters[2].hits", "counters[2].sum"])],
+                         sorted(found, key=str))
+
+    def test_lambda(self):
+        said = self.text_of(COLUMNS="250")
+        self.assertRegex(said, rf"\n    write +\S+ +lambda at words\.cpp:{self.line_of('lambda')}  +last = i;\n")
+
+
+class OwnersTest(WordsTest):
+    SOURCE = os.path.join(TESTS, "owners.cpp")
+
+    def test_owners(self):
+        """A node is the map's, and characters are the string's."""
+        blocks = [pair["variable"] for pair in self.pairs_of() if pair["variable"]["kind"] == "heap"]
+        self.assertEqual({"numbers", "text"}, {block["owner"] for block in blocks})
+        self.assertIn("   a block of the heap that numbers has, byte ", self.text_of())
 
 
 class OpenMPTest(WordsTest):

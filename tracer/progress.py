@@ -1,0 +1,81 @@
+"""What a terminal shows of a long run: a line on standard error, below what the program prints, which goes again."""
+import contextlib
+import mmap
+import os
+import struct
+import threading
+import time
+
+# The page that the hooks write: how many spawns and accesses the detector inside has taken.
+TAKEN = struct.Struct("<QQ")
+# So many seconds something is done before a line says so, and between two lines.
+PATIENCE, STEP = 2, 1
+# Makes a line below, remembers the place, and goes there; the rest is the same way back. Behind the program's own text
+# nothing else is erased.
+ERASE, DOWN, BACK = "\033[J", "\033D\033M\0337\r\n\033[2m", "\033[0m\0338"
+
+
+def is_wanted():
+    return os.isatty(2) and os.environ.get("TERM") != "dumb"
+
+
+def spelled(number):
+    if number < 1e6:
+        return f"{number:,}"
+    return f"{number / 1e6:.1f} million" if number < 1e7 else f"{number / 1e6:,.0f} million"
+
+
+class Progress:
+    """The line; without a terminal nothing comes of it."""
+
+    def __init__(self):
+        self.file = self.page = self.thread = self.what = None
+        self.lock, self.began, self.more, self.is_shown = threading.Lock(), 0, "", False
+        if is_wanted():
+            self.file = os.memfd_create("spbags")
+            os.truncate(self.file, mmap.PAGESIZE)
+            self.page = mmap.mmap(self.file, mmap.PAGESIZE)
+
+    def begin(self, what, more=""):
+        """What is done now, and what else is known of it. The first call makes a thread that has this one's signals."""
+        if not self.page:
+            return
+        self.erase()
+        with self.lock:
+            TAKEN.pack_into(self.page, 0, 0, 0)
+            self.what, self.more, self.began = what, more, time.monotonic()
+        if not self.thread:
+            self.thread = threading.Thread(target=self.run, daemon=True)
+            self.thread.start()
+
+    def erase(self):
+        """Another line comes."""
+        with self.lock:
+            self.write("")
+
+    def end(self):
+        """Nothing is done any more that takes long."""
+        with self.lock:
+            self.what = None
+            self.write("")
+
+    def run(self):
+        while True:
+            time.sleep(STEP)
+            with self.lock:
+                seconds = time.monotonic() - self.began
+                if self.what and seconds >= PATIENCE:
+                    self.write(self.line(seconds))
+
+    def line(self, seconds):
+        _, accesses = TAKEN.unpack_from(self.page)
+        parts = [f"{seconds:.0f} s", f"{spelled(accesses)} accesses" if accesses > 0 else "", self.more]
+        return f"{self.what}: {', '.join(filter(None, parts))}"
+
+    def write(self, line):
+        """This line in place of the one that is shown, or none."""
+        with contextlib.suppress(OSError):
+            shown = f"{DOWN}{line[:(os.get_terminal_size(2).columns or 80) - 1]}{BACK}" if line else ""
+            if shown or self.is_shown:
+                os.write(2, f"{ERASE}{shown}".encode())
+        self.is_shown = bool(line)
