@@ -7,6 +7,7 @@ import subprocess
 from collections import namedtuple
 
 from failure import Failure
+from files import SYSTEM, is_own
 
 
 class Position(namedtuple("Position", "file line function")):
@@ -27,9 +28,6 @@ CAPTURED = re.compile(r"__captured_stmt(?:\.[0-9]+)?")
 CRITICAL = re.compile(r"\.gomp_critical_user_(.*?)(?:\.var)?")
 # What the plugin calls functions that call others that OpenMP is made into.
 CALLER = "__spbags_outlined"
-SYSTEM = ("/usr/include/", "/usr/local/include/", "/usr/lib")
-# The headers of the tracer itself.
-OWN = os.path.join(os.path.dirname(os.path.realpath(__file__)), "include", "")
 # The functions that a spawn of C++ is made of, by their first parameter; and those of the headers.
 SPAWNED, ON_THE_WAY = "::{lambda(__spbags_spawned", "__spbags_"
 
@@ -58,11 +56,6 @@ def shown(file):
     """A file's name from here, where it is below this folder."""
     relative = os.path.relpath(file) if file.startswith("/") else file
     return os.path.normpath(file) if relative.startswith("..") else relative
-
-
-@functools.lru_cache
-def is_own(file):
-    return os.path.abspath(file).startswith(OWN)
 
 
 def is_system(position):
