@@ -4,16 +4,14 @@ import re
 from bisect import bisect_left
 
 import templates
+from files import Files
 from tokens import BRACKET, CONTROLS, Token, after_bracket, blanked, match_brackets, parts_between
 
 ASM = re.compile(r"\b(?:asm|__asm__|__asm)\s*"
                  r"((?:(?:volatile|__volatile__|__volatile|inline|__inline__|__inline|goto)\s*)*)\(")
 DIRECTIVE = re.compile(r"^#[^\n]*", re.MULTILINE)
-MARKER = re.compile(r'^#(?:line)? *([0-9]+) *"((?:\\.|[^"\\])*)"[^\n]*$', re.MULTILINE)
 # What a statement follows; and the words before a bracket that one follows.
 BEFORE_STATEMENT = re.compile(r"(?:^|[;{}:]|\b(?:else|do|__extension__)|\]\s*\])\Z")
-# The same of a whole source, where a line that names a file may stand between.
-BEGINS = re.compile(r"(?:\A|[;{}])\s*(?:#[^\n]*\n\s*)*\Z")
 WORD_BEFORE = re.compile(r"(\w*)\s*\Z")
 # How far back something is looked for.
 NEAR = 5000
@@ -72,15 +70,6 @@ class Source:
             return self.begins_statement(word.start())
         return word[1] in CONTROLS or word[1] == "constexpr"
 
-    def where(self, at):
-        """The file and the line."""
-        marker = None
-        for marker in MARKER.finditer(self.text, 0, at):
-            pass
-        if not marker:
-            return "?"
-        return f"{marker[2]}:{int(marker[1]) + self.text.count(chr(10), marker.end() + 1, at)}"
-
 
 def is_understood(source, first, end):
     """Whether what stands in these brackets has no operand, and a template that is understood."""
@@ -90,14 +79,12 @@ def is_understood(source, first, end):
 
 def outside(text):
     """The source with what tells of such assembly."""
-    if not any(BEGINS.search(text, max(match.start() - NEAR, 0), match.start()) for match in ASM.finditer(text)):
-        return text
-    source, where = Source(text), []
+    source, files, where = Source(text), Files(text), []
     for match in ASM.finditer(source.bare):
         end = after_bracket(source.bare, match.end() - 1)
         if end is not None and not is_understood(source, match.end(), end - 1) and \
                 (match[1] or source.begins_statement(match.start())) and not source.is_in_function(match.start()):
-            where.append(source.where(match.start()))
+            where.append("{}:{}".format(*files.place(match.start())))
     return text + "".join(map(told, range(len(where)), where))
 
 

@@ -1,10 +1,7 @@
 """The objects that links share, and the compilers' plugins: the first command that needs one makes it. Beside an
 installed tracer stand those that `./install` has brought, or that were made ahead for all users; what a command makes
 goes to its user's cache. In the repository all stand beside the tracer, if that folder can be written."""
-import contextlib
-import fcntl
 import os
-import shutil
 
 from installed import HERE, IS_INSTALLED
 
@@ -28,8 +25,11 @@ class Kept:
     def file(self, form, made_of, make, doing=""):
         """The file of this form and hash. Where none is kept `make` makes one; what takes long has words for it."""
         name = form.format(made_of.hexdigest()[:24])
-        if self.found(name):
-            return self.found(name)
+        return self.found(name) or self.made(name, make, doing)
+
+    def made(self, name, make, doing):
+        import contextlib
+        import fcntl
         try:
             os.makedirs(self.folder, exist_ok=True)
             lock = open(os.path.join(self.folder, "lock"), "w")
@@ -56,6 +56,8 @@ class Kept:
 
     def keep(self, name, make, doing):
         """Makes it, and copies it to where others find it whole or not at all."""
+        import contextlib
+        import shutil
         if doing:
             self.say(f"{doing}, once")
         made, kept = make(), os.path.join(self.folder, name)

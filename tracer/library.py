@@ -4,9 +4,8 @@ the functions' names, and with `names.h` or `wrappers.h` the headers library_nam
 import os
 import re
 import sys
-import textwrap
 
-HERE = os.path.dirname(os.path.realpath(__file__))
+TABLE = os.path.join(os.path.dirname(os.path.realpath(__file__)), "library.table")
 WORD = re.compile(r"([^\s()]+)(?:\(([^)]*)\))?")
 PROTOTYPE = re.compile(r"(?P<result>.*?)(?P<name>\w+)\((?P<parameters>.*)\)")
 
@@ -174,23 +173,30 @@ class Section:
         lines = [f"## {self.title}", ""]
         if self.functions:
             lines += ["| Function | Reads | Writes | Shares |", "|---|---|---|---|", *map(row, self.functions), ""]
+        import textwrap
         words = ", ".join(f"`{word}`" + "".join(f" ({shared})" for shared in self.shared.get(word, ()))
                           for sign in "=+" for word in sorted(self.words[sign]))
         return "\n".join([*lines, *textwrap.wrap(words, 120)]).rstrip() + "\n"
 
 
+def silent():
+    """The functions that touch no memory that the program shares."""
+    with open(TABLE, encoding="utf-8") as file:
+        return {name for line in file if line.startswith("+ ") for word, _ in WORD.findall(line[2:])
+                for name in with_endings(word)}
+
+
 class Table:
     def __init__(self):
         self.sections = []
-        with open(os.path.join(HERE, "library.table"), encoding="utf-8") as file:
+        with open(TABLE, encoding="utf-8") as file:
             for line in file.read().splitlines():
                 if line.startswith("## "):
                     self.sections.append(Section(line[3:]))
                 elif line and not line.startswith("#"):
                     self.sections[-1].add(line)
-        # Those that the hooks have by hand, and those that touch no memory that the program shares.
+        # Those that the hooks have by hand.
         self.by_hand = self.words("=")
-        self.silent = {name for word in self.words("+") for name in with_endings(word)}
 
     def words(self, sign):
         return [word for section in self.sections for word in section.words[sign]]
@@ -231,7 +237,11 @@ def row(function):
     return re.sub(r"\|  (?=\|)", "| ", whole)
 
 
+def main(words):
+    table = Table()
+    prints = {"names": lambda: "\n".join(table.names()), "names.h": table.declarations, "wrappers.h": table.wrappers}
+    print(prints[words[0]]() if words else table.page(), end="")
+
+
 if __name__ == "__main__":
-    TABLE = Table()
-    PRINTS = {"names": lambda: "\n".join(TABLE.names()), "names.h": TABLE.declarations, "wrappers.h": TABLE.wrappers}
-    print(PRINTS[sys.argv[1]]() if sys.argv[1:] else TABLE.page(), end="")
+    main(sys.argv[1:])

@@ -2,12 +2,11 @@
 import functools
 import os
 import re
-import subprocess
 from collections import namedtuple
 
-# What each source asks for that spbags-cc compiled, and what the hooks define. No tool takes it out of an object.
-MARK = "__spbags_traced"
-MARKED = f'__asm__(".pushsection .spbags,\\"\\",@progbits\\n\\t.quad {MARK}\\n\\t.popsection");\n'
+from compiling import MARK
+from processes import answer, run
+from symbols import CODE, UNDEFINED, WEAK_CODE, members_of, opened, symbols_of
 
 # The libraries of the C compiler itself.
 SYSTEM = re.compile(r"(?:lib(?:c|m|mvec|pthread|dl|rt|util|resolv|crypt|nsl|anl|stdc\+\+|stdc\+\+fs|supc\+\+|gcc|"
@@ -16,8 +15,7 @@ SYSTEM = re.compile(r"(?:lib(?:c|m|mvec|pthread|dl|rt|util|resolv|crypt|nsl|anl|
 GIVES_CODE = {"dlsym", "dlvsym"}
 PARALLEL = re.compile("GOMP_|GOACC_|__kmpc_")
 OPENMP = re.compile("GOMP_|__kmpc_|omp_|__spbags_thread_num$")
-# By nm: functions, and what isn't defined.
-FUNCTIONS, UNDEFINED = "TWi", "Uwv"
+FUNCTIONS = CODE + WEAK_CODE
 OBJECT, SHARED = 1, 3
 # What the names of the compiler's sections begin with.
 LTO = b".gnu.lto_"
@@ -44,20 +42,22 @@ class Part:
 
     def title(self):
         """Its name in a report: that by which a program finds a library."""
-        said = subprocess.run(["readelf", "-d", self.file], capture_output=True, text=True).stdout if self.is_shared else ""
+        said = answer("readelf", "-d", self.file)[1] if self.is_shared else ""
         named = re.search(r"\(SONAME\).*\[(.*)\]", said)
         return named[1] if named else os.path.basename(self.file)
 
     def is_for_lto(self):
         """Whether the linker is to compile it."""
-        with open(self.file, "rb") as file:
-            found = LTO in file.read()
-        if found and self.member:
-            found = LTO in subprocess.run(["ar", "p", self.file, self.member], capture_output=True).stdout
-        return found
+        return any(data.find(LTO) >= 0 for data in self.texts())
+
+    def texts(self):
+        """The bytes of the object; an archive may have several members of this name."""
+        if not self.member:
+            return [opened(self.file)]
+        return [data for name, data in members_of(self.file) if name == self.member]
 
     def add(self, name, kind):
-        if kind in UNDEFINED:
+        if kind == UNDEFINED:
             self.wanted.add(name)
         else:
             self.defined[name] = kind
@@ -69,7 +69,7 @@ class Part:
         """Whether the linker takes this function and not the other's, if it takes one: the first, or the one that isn't
         weak."""
         kinds = self.defined[name] + other.defined[name]
-        return kinds == "TW" or kinds == "WW" and self.place < other.place
+        return kinds == CODE + WEAK_CODE or kinds == 2 * WEAK_CODE and self.place < other.place
 
 
 def kind_of_elf(file):
@@ -84,12 +84,11 @@ def kind_of_elf(file):
 
 def parts_of(link, folder):
     """What the linker takes where it links by this command, or None where it can't: the link itself will say why."""
-    done = subprocess.run([*link, "-Wl,-t,-t,-S,--unresolved-symbols=ignore-all", "-o", os.path.join(folder, "looked")],
-                          capture_output=True, text=True, errors="surrogateescape")
-    if done.returncode != 0:
+    status, said = answer(*link, "-Wl,-t,-t,-S,--unresolved-symbols=ignore-all", "-o", os.path.join(folder, "looked"))
+    if status != 0:
         return None
     parts = {}
-    for line in done.stdout.splitlines():
+    for line in said.splitlines():
         member = MEMBER.fullmatch(line)
         key = (member[1], member[2]) if member else (line, None)
         kind = OBJECT if member else kind_of_elf(line)
@@ -104,7 +103,7 @@ def parts_of(link, folder):
 @functools.lru_cache
 def folders_of(compiler):
     """Where the compiler's own libraries are."""
-    said = subprocess.run([compiler, "-print-search-dirs"], capture_output=True, text=True).stdout
+    _, said = answer(compiler, "-print-search-dirs")
     found = re.search("^libraries: =?(.*)$", said, re.MULTILINE)
     return [os.path.realpath(name) for name in found[1].split(":")] if found else []
 
@@ -115,31 +114,16 @@ def is_in(file, folders):
 
 def names_of(object_name):
     """What an object defines."""
-    said = subprocess.run(["nm", "-P", "-g", "--defined-only", object_name], capture_output=True, text=True).stdout
-    return {line.split()[0] for line in said.splitlines()}
-
-
-def wrapped_by(hooks):
-    """The functions of libraries that the hooks stand in for."""
-    return sorted(name.removeprefix("__wrap_") for name in names_of(hooks) if name.startswith("__wrap_"))
+    return {name for name, kind in symbols_of(opened(object_name)) if kind != UNDEFINED}
 
 
 def read_symbols(parts):
-    for is_shared, words in ((False, []), (True, ["-D"])):
-        files = list(dict.fromkeys(file for (file, _), part in parts.items() if part.is_shared == is_shared))
-        if files:
-            read = subprocess.run(["nm", "-P", "-A", "-g", *words, *files], capture_output=True, text=True,
-                                  errors="surrogateescape").stdout
-            for where, name, kind in re.findall(r"^(.*): (\S+) (\S)(?: .*)?$", read, re.MULTILINE):
-                part = parts.get(key_of(where))
-                if part:
-                    part.add(name.partition("@")[0], kind)
-
-
-def key_of(where):
-    """The file and the member that nm names so."""
-    member = re.fullmatch(r"(.+)\[([^][]+)\]", where)
-    return (member[1], member[2]) if member else (where, None)
+    for file in dict.fromkeys(file for file, _ in parts):
+        is_object = (file, None) in parts
+        for member, data in [(None, opened(file))] if is_object else members_of(file):
+            part = parts.get((file, member))
+            for name, kind in symbols_of(data, part.is_shared) if part else ():
+                part.add(name, kind)
 
 
 class Linked:
@@ -210,7 +194,7 @@ class Linked:
 def demangled(names):
     if not names:
         return []
-    return subprocess.run(["c++filt"], input="\n".join(names), capture_output=True, text=True).stdout.splitlines()
+    return answer("c++filt", *names)[1].splitlines()
 
 
 def wrapping(found, names, folder):
@@ -219,9 +203,11 @@ def wrapping(found, names, folder):
     without hooks, which alone don't want it."""
     own = {name for part in found.traced for name in part.defined}
     called = {name for part in [*found.traced, *found.others] if not part.is_system for name in part.wanted} - own
-    made = os.path.join(folder, "called.o")
-    text = "".join(f"\t.globl __real_{name}\n" for name in names if name in called)
-    subprocess.run(["as", "-o", made, "-"], input=text + '\t.section .note.GNU-stack,"",@progbits\n', text=True, check=True)
+    text, made = os.path.join(folder, "called.s"), os.path.join(folder, "called.o")
+    with open(text, "w", encoding="utf-8", errors="surrogateescape") as file:
+        file.writelines(f"\t.globl __real_{name}\n" for name in names if name in called)
+        file.write('\t.section .note.GNU-stack,"",@progbits\n')
+    run("as", "-o", made, text)
     return [made, *[f"-Wl,--defsym=__real_{name}={name}" if name in own else f"-Wl,--wrap={name}" for name in names]]
 
 

@@ -1,22 +1,24 @@
 """Rewrites the OpenMP of a preprocessed source: every loop gets the schedule `dynamic`, so that the runtime is asked for
 each iteration. What can't be traced is refused, with its file and line."""
+import functools
 import re
 
-from source import SYSTEM
+from files import SYSTEM, Files, has_raw_strings
 from tokens import blanked
 
-LINES = re.compile(r"[^\n]*\n|[^\n]+")
 MARKER = re.compile(r'#(?:line)? *([0-9]+) *("(?:\\.|[^"\\])*")?')
 PRAGMA = re.compile(r"[ \t]*#[ \t]*pragma[ \t]+omp\b(.*)")
+PRAGMAS = re.compile("^" + PRAGMA.pattern, re.MULTILINE)
 SECTION = re.compile(r"[ \t]*#[ \t]*pragma[ \t]+omp[ \t]+section\b")
 ATTRIBUTE = re.compile(r"\[\[\s*(?:using\s+)?omp\b")
+MEANT = re.compile(PRAGMA.pattern.removeprefix(r"[ \t]*") + "|" + ATTRIBUTE.pattern)
 WORD = re.compile(r"[A-Za-z_]\w*")
 PIECE = re.compile(r"\"(?:\\.|[^\"\\\n])*\"|'(?:\\.|[^'\\\n])*'|[(){}\[\];]|[A-Za-z_]\w*|.", re.DOTALL)
 # Of a loop: what stands before its first semicolon, and what stands between this one and the second.
 HEADER = re.compile(r"\bfor\s*\(([^;]*);([^;]*);")
 STATIC = re.compile(r"schedule\s*\((?:[\w\s,]*:)?\s*static\b")
-# So many lines the loops of one directive stand in.
-LOOPS_LINES = 30
+# In so many letters the loops of one directive stand.
+LOOPS_LENGTH = 2000
 CLOSING = {"(": ")", "[": "]", "{": "}"}
 
 # The words that a directive begins with; those that have more here can't be traced, and are called so.
@@ -127,21 +129,30 @@ def with_body(text, kind, file, line):
 
 
 class Source:
-    """A preprocessed source that is read line by line."""
+    """A preprocessed source, whose directives are read one by one."""
 
-    def __init__(self, bare, is_clang):
-        # Its lines without what is in strings.
-        self.bare = bare
+    def __init__(self, text, is_clang):
+        self.text, self.files, self.has_raw_strings = text, Files(text), has_raw_strings(text)
         self.file, self.line, self.faults, self.is_clang = "?", 1, [], is_clang
         # What comes next of clang's sections: the brace around them, or the first of them.
         self.awaits = None
 
+    @functools.cached_property
+    def bare(self):
+        """The text without what is in strings."""
+        return blanked(self.text)
+
+    def matched(self, pattern, start):
+        """What this finds at the beginning of a line, which only a raw string could hold."""
+        found = pattern.match(self.text, start)
+        return found if found and not (self.has_raw_strings and not pattern.match(self.bare, start)) else None
+
     def refuse(self, why):
         self.faults.append(f"{self.file}:{self.line}: error: {why}")
 
-    def directive(self, text, number):
-        """What stands for a directive in the line of this number."""
-        why = refusal(text) or self.refused_nest(text, number)
+    def directive(self, text, end):
+        """What stands for a directive, whose line ends here."""
+        why = refusal(text) or self.refused_nest(text, end)
         if why:
             self.refuse(f"OpenMP's {why} can't be traced: #pragma omp{text}")
         clauses = clauses_of(text)
@@ -170,16 +181,16 @@ class Source:
             return with_body(text, BODIES[names[-1]], self.file, self.line)
         return f"#pragma omp{text}\n"
 
-    def refused_nest(self, text, number):
+    def refused_nest(self, text, end):
         """gcc knows no schedule for it."""
-        is_known = self.is_clang or "for" not in leading(clauses_of(text)) or self.is_rectangular(text, number)
+        is_known = self.is_clang or "for" not in leading(clauses_of(text)) or self.is_rectangular(text, end)
         return None if is_known else "collapse by gcc of loops that aren't rectangular"
 
-    def is_rectangular(self, text, number):
-        """Whether no loop that the directive in this line collapses names the variable of one around it."""
+    def is_rectangular(self, text, end):
+        """Whether no loop that the directive in the line before collapses names the variable of one around it."""
         collapsed = next((text[start:end] for name, start, end in clauses_of(text) if name == "collapse"), "")
         count, variables = int("".join(re.findall("[0-9]+", collapsed)) or 1), set()
-        headers = HEADER.findall("".join(self.bare[number + 1:number + LOOPS_LINES])) if count > 1 else ()
+        headers = HEADER.findall(self.bare, end, end + LOOPS_LENGTH) if count > 1 else ()
         for begin, condition in headers[:count]:
             variable, _, value = begin.partition("=")
             if variables & set(WORD.findall(value + condition)):
@@ -206,18 +217,37 @@ class Source:
                 before += "\n#pragma omp section\n" + body(SECTION_BODY, self.file, self.line, self.line)
         return before, line
 
-    def rewritten(self, number, line):
-        """What stands for the line of this number."""
-        bare = self.bare[number]
-        if MARKER.match(bare):
-            marker = MARKER.match(line)
+    def rewritten(self):
+        made, done, found = [], 0, MEANT.search(self.text)
+        while found:
+            start = self.text.rfind("\n", 0, found.start()) + 1
+            made.append(self.text[done:start])
+            self.file, self.line = self.files.place(start)
+            done = self.rewrite_lines(made, start)
+            found = MEANT.search(self.text, done)
+        return "".join(made) + self.text[done:]
+
+    def rewrite_lines(self, made, start):
+        """The end of this line, or where clang's sections begin here of the one in which the first of them does."""
+        while start < len(self.text):
+            end = self.text.find("\n", start) + 1 or len(self.text)
+            made.append(self.rewritten_line(start, end))
+            start = end
+            if not self.awaits:
+                break
+        return start
+
+    def rewritten_line(self, start, end):
+        """What stands for a line."""
+        line, marker = self.text[start:end], self.matched(MARKER, start)
+        if marker:
             self.line, self.file = int(marker[1]), marker[2][1:-1] if marker[2] else self.file
             return line
-        pragma = PRAGMA.match(line) if PRAGMA.match(bare) else None
-        before, line = self.first_section(line, bare)
+        pragma = self.matched(PRAGMA, start)
+        before, line = self.first_section(line, self.bare[start:end]) if self.awaits else ("", line)
         if pragma:
-            line = self.directive(pragma[1], number)
-        elif ATTRIBUTE.search(bare):
+            line = self.directive(pragma[1], end)
+        elif ATTRIBUTE.search(line) and ATTRIBUTE.search(self.bare, start, end):
             self.refuse("attributes of OpenMP can't be traced: write #pragma omp")
         self.line += 1
         return before + line
@@ -225,22 +255,17 @@ class Source:
 
 def rewritten(text, is_clang=False):
     """The source with its loops rewritten, and a line for each directive that can't be traced."""
-    source = Source(LINES.findall(blanked(text)), is_clang)
-    return "".join(map(source.rewritten, range(len(source.bare)), LINES.findall(text))), source.faults
+    source = Source(text, is_clang)
+    return source.rewritten(), source.faults
 
 
 def ignored(text):
     """The places of directives by which something would be parallel, but for those of the system's headers."""
-    file, number, found = "?", 1, []
-    for line, bare in zip(LINES.findall(text), LINES.findall(blanked(text))) if "omp" in text else ():
-        marker, pragma = (pattern.match(line) if pattern.match(bare) else None for pattern in (MARKER, PRAGMA))
-        if marker:
-            number, file = int(marker[1]), marker[2][1:-1] if marker[2] else file
-            continue
-        if pragma and not file.startswith(SYSTEM) and MAKES_PARALLEL & set(leading(clauses_of(pragma[1]))):
-            found.append(f"{file}:{number}")
-        number += 1
-    return found
+    bare, files = blanked(text), Files(text)
+    for pragma in PRAGMAS.finditer(text):
+        if PRAGMA.match(bare, pragma.start()) and MAKES_PARALLEL & set(leading(clauses_of(pragma[1]))) and \
+                not files.at(pragma.start())[0].startswith(SYSTEM):
+            yield files.place(pragma.start())
 
 
 # What the hooks of OpenMP don't have, by its name.

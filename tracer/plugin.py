@@ -1,25 +1,25 @@
 """The plugins by which gcc and clang put the hooks into a program's code. Each is built once for each compiler, and
 kept."""
-import glob
 import hashlib
 import os
 import re
-import subprocess
+
+from processes import answer, run
 
 HERE = os.path.dirname(os.path.realpath(__file__))
 PLUGINS = os.path.join(HERE, "plugins")
 FLAGS = ["-std=c++17", "-O1", "-fPIC", "-fno-rtti"]
 
 
-def answer(compiler, question):
-    return subprocess.run([*compiler, question], capture_output=True, text=True).stdout.strip()
+def asked(compiler, question):
+    return answer(*compiler, question)[1].strip()
 
 
 def headers_of(compiler, is_clang):
     """The folder of the compiler's own headers, which are in a package of their own."""
     if is_clang:
-        return os.path.join(answer(compiler, "-print-resource-dir"), "..", "..", "..", "include")
-    return os.path.join(answer(compiler, "-print-file-name=plugin"), "include")
+        return os.path.join(asked(compiler, "-print-resource-dir"), "..", "..", "..", "include")
+    return os.path.join(asked(compiler, "-print-file-name=plugin"), "include")
 
 
 def lacks(compiler, is_clang):
@@ -27,7 +27,7 @@ def lacks(compiler, is_clang):
     known, package = ("llvm/Passes/PassPlugin.h", "llvm-{}-dev") if is_clang else ("gcc-plugin.h", "gcc-{}-plugin-dev")
     if os.path.exists(os.path.join(headers_of(compiler, is_clang), known)):
         return None
-    number = answer(compiler, "-dumpversion").partition(".")[0]
+    number = asked(compiler, "-dumpversion").partition(".")[0]
     return f"{compiler[0]}: the headers for its plugins aren't here: install {package.format(number)}"
 
 
@@ -39,33 +39,34 @@ def cplusplus_of(compiler):
 
 def is_there(compiler):
     try:
-        return subprocess.run([compiler, "--version"], capture_output=True).returncode == 0
+        return answer(compiler, "--version")[0] == 0
     except OSError:
         return False
 
 
 def files_of(is_clang, ending):
     """Those that the plugin is made of; some are of both."""
-    return sorted(glob.glob(os.path.join(PLUGINS, "llvm" if is_clang else "gcc", ending)) +
-                  glob.glob(os.path.join(PLUGINS, ending)))
+    folders = (os.path.join(PLUGINS, "llvm" if is_clang else "gcc"), PLUGINS)
+    return sorted(os.path.join(folder, name) for folder in folders for name in os.listdir(folder)
+                  if name.endswith(ending))
 
 
 def made_of(about, is_clang):
     """A hash of what the plugin for a compiler that says this about itself is made of."""
     found = hashlib.sha256(repr((about, FLAGS)).encode())
-    for name in (*files_of(is_clang, "*.cc"), *files_of(is_clang, "*.h")):
+    for name in (*files_of(is_clang, ".cc"), *files_of(is_clang, ".h")):
         with open(name, "rb") as file:
             found.update(file.read())
     return found
 
 
-def build(compiler, is_clang, folder, run, fail):
+def build(compiler, is_clang, folder, fail):
     """Builds it in a folder. The compiler's headers, which take the time, are read once for all sources."""
     if lacks(compiler, is_clang):
         fail(lacks(compiler, is_clang))
     whole, made = os.path.join(folder, "whole.cc"), os.path.join(folder, "spbags.so")
     with open(whole, "w", encoding="utf-8") as file:
-        file.writelines(f'#include "{source}"\n' for source in files_of(is_clang, "*.cc"))
+        file.writelines(f'#include "{source}"\n' for source in files_of(is_clang, ".cc"))
     run(cplusplus_of(compiler), *FLAGS, "-isystem", headers_of(compiler, is_clang), "-shared", whole, "-o", made)
     return made
 

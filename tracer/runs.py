@@ -258,10 +258,12 @@ class Runner:
         self.number += 1
         self.progress.begin(f"run {self.number}", more)
         files = {**self.files, **files, **({"SPBAGS_PROGRESS": self.progress.file} if self.progress.file else {})}
-        wanted = {"SPBAGS_MAX_BYTES": "", **os.environ, **dict.fromkeys(OURS, ""), **self.settings, **settings,
-                  "SPBAGS_SAYS": f"fd:{said.into}", **{variable: f"fd:{file}" for variable, file in files.items()}}
+        ours = {"SPBAGS_MAX_BYTES": os.environ.get("SPBAGS_MAX_BYTES", ""), **dict.fromkeys(OURS, ""), **self.settings,
+                **settings, "SPBAGS_SAYS": f"fd:{said.into}",
+                **{variable: f"fd:{file}" for variable, file in files.items()}}
         # All runs have as long an environment, of as many variables: the program's words lie before it, and setenv
-        # makes a copy.
+        # makes a copy. The program's own come first, so that they lie at the same addresses.
+        wanted = {**{name: value for name, value in os.environ.items() if name not in ours}, **ours}
         wanted["SPBAGS_ROOM"] = "." * (self.ROOM + length_of(os.environ) - length_of(wanted))
         given = self.input.begin()
         try:

@@ -1,8 +1,6 @@
 """Shared libraries of a traced program. The file of one has, beside what the compiler makes of it, the objects that it is
 made of and the names of the libraries that it needs. A program that is linked with it gets these objects as its own."""
 import os
-import shutil
-import subprocess
 
 OBJECTS, NEEDED = ".spbags_objects", ".spbags_needed"
 
@@ -12,21 +10,15 @@ def keep(library, parts, folder, run):
     names = []
     for part in parts:
         if not part.is_shared and not part.is_system:
-            names.append(os.path.join(folder, f"{len(names)}-{os.path.basename(part.member or part.file)}"))
-            take_out(part, names[-1], run)
+            for text in part.texts():
+                names.append(os.path.join(folder, f"{len(names)}-{os.path.basename(part.member or part.file)}"))
+                with open(names[-1], "wb") as file:
+                    file.write(text)
     archive, needed = os.path.join(folder, "objects.a"), os.path.join(folder, "needed")
     run("ar", "qc", archive, *names)
     with open(needed, "w", encoding="utf-8", errors="surrogateescape") as file:
         file.write("".join(os.path.abspath(part.file) + "\n" for part in parts if part.is_shared))
     run("objcopy", f"--add-section={OBJECTS}={archive}", f"--add-section={NEEDED}={needed}", library)
-
-
-def take_out(part, name, run):
-    if part.member:
-        with open(name, "wb") as file:
-            subprocess.run(["ar", "p", part.file, part.member], stdout=file, check=True)
-    else:
-        shutil.copyfile(part.file, name)
 
 
 def has_objects(library):

@@ -7,6 +7,7 @@ import subprocess
 from collections import namedtuple
 
 from failure import Failure
+from files import SYSTEM, is_own
 
 
 class Position(namedtuple("Position", "file line function")):
@@ -27,9 +28,6 @@ CAPTURED = re.compile(r"__captured_stmt(?:\.[0-9]+)?")
 CRITICAL = re.compile(r"\.gomp_critical_user_(.*?)(?:\.var)?")
 # What the plugin calls functions that call others that OpenMP is made into.
 CALLER = "__spbags_outlined"
-SYSTEM = ("/usr/include/", "/usr/local/include/", "/usr/lib")
-# The headers of the tracer itself.
-OWN = os.path.join(os.path.dirname(os.path.realpath(__file__)), "include", "")
 # A comment; or a string or a character, which may look like one inside.
 COMMENT = re.compile(r"//[^\n]*|/\*(?:.|\n)*?\*/|\"(?:\\.|[^\"\\\n])*\"|'(?:\\.|[^'\\\n])*'")
 # The functions that a spawn of C++ is made of, by their first parameter; and those of the headers.
@@ -71,11 +69,6 @@ def shown(file):
     near = os.path.join(around if around.count(os.sep) > 1 else root, "")
     is_near = whole.startswith(near) and not whole.startswith(SYSTEM) and not is_own(whole)
     return os.path.relpath(whole, root) if is_near else whole
-
-
-@functools.lru_cache
-def is_own(file):
-    return os.path.abspath(file).startswith(OWN)
 
 
 def is_system(position):

@@ -8,28 +8,14 @@ child by a text alone, so every other spawn is refused.
 import re
 
 import loops
-import source
 import spawns_cplusplus
-from tokens import (Refused, arguments_of, blanked, call_after, is_in_block, is_lvalue, own_constants, piece,
+from files import Files
+from tokens import (Refused, arguments_of, call_after, is_in_block, is_lvalue, own_constants, piece,
                     statement_start, tokens_of, without)
 
 ASSIGNMENTS = {"=", "+=", "-=", "*=", "/=", "%=", "&=", "|=", "^=", "<<=", ">>="}
 LITERALS = {"string", "character", "number"}
 NO_LOCALS = {"static", "extern", "typedef", "__auto_type"}
-
-# A function that spawns and is put into its caller would have no end to sync at.
-INLINED = {"always_inline", "__always_inline__"}
-# By these a function's accesses would have no hooks. The tracer's own headers have functions that need none.
-UNSEEN = {f"{sign}{name}{sign}" for sign in ("", "__")
-          for name in ("no_sanitize", "no_sanitize_thread", "disable_sanitizer_instrumentation")}
-
-# clang has a pragma that gives such an attribute to functions elsewhere.
-PRAGMA = re.compile(r"^[ \t]*#[ \t]*pragma[ \t]+clang[ \t]+attribute\b.*", re.MULTILINE)
-FROM_PRAGMA = re.compile(rf"(\b(?:gnu|clang)\s*::\s*)?\b(?:{'|'.join(sorted(INLINED | UNSEEN))})\b"
-                         r"(?:\s*\((?:[^()]|\([^()]*\))*\))?")
-
-# A source without any of these stays as it is.
-TOUCHED = re.compile("_Cilk_|always_inline|no_sanitize|disable_sanitizer|cilk_(?:spawn|sync|for|scope)")
 
 # The program's pragmas of OpenMP, which its compiler would ignore, and those of Cilk, of a loop's grain size.
 IGNORED = re.compile(r"^[ \t]*#[ \t]*pragma[ \t]+(?:omp|cilk)\b.*", re.MULTILINE)
@@ -41,7 +27,7 @@ HELD = "__builtin_choose_expr(sizeof __spbags_result <= 8 && __builtin_classify_
 REFUSED = {word: f"{word} is no keyword here: write `#include <cilk/cilk.h>' above"
            for word in ("cilk_spawn", "cilk_sync", "cilk_for", "cilk_scope")}
 # What may have to be rewritten, beside where another edit says so.
-MEANT = {"_Cilk_spawn", "_Cilk_for", "_Cilk_scope", "_Cilk_sync", "try", *INLINED, *UNSEEN, *REFUSED}
+MEANT = {"_Cilk_spawn", "_Cilk_for", "_Cilk_scope", "_Cilk_sync", "try", *REFUSED}
 
 
 def is_one_target(tokens, first, sign):
@@ -125,28 +111,10 @@ class Spawn:
         return self.here + declared + " ".join(made) + self.tokens[self.last].marker()
 
 
-def without_pragmas(text):
-    """The source in which no pragma gives such an attribute, but one that does nothing."""
-    made, done = [], 0
-    for found in PRAGMA.finditer(blanked(text)):
-        pragma = FROM_PRAGMA.sub(lambda name: ("clang::" if name[1] else "") + 'annotate("")',
-                                 text[found.start():found.end()])
-        made += [text[done:found.start()], pragma]
-        done = found.end()
-    return "".join(made) + text[done:]
-
-
 def refused(text, why):
     """A line for each keyword of Cilk in a source that can't have any."""
     tokens = tokens_of(text) if "_Cilk_" in text else []
     return [f"{token.place()}: error: {why}" for token in tokens if token.text.startswith("_Cilk_")]
-
-
-def is_in_attribute(tokens, at):
-    """Whether this stands in `__attribute__((..))` or `[[..]]`."""
-    opening = tokens[at].around
-    return opening is not None and opening > 0 and tokens[opening].text == tokens[opening - 1].text and (
-        tokens[opening].text == "[" or tokens[opening - 2].text in ("__attribute__", "__attribute"))
 
 
 def edits_of(text, tokens, at, language, waiting):
@@ -172,10 +140,6 @@ def edits_of(text, tokens, at, language, waiting):
         return spawns_cplusplus.try_edits(tokens, at, waiting)
     if at in waiting:
         return (at, at, "{" + spawns_cplusplus.keeper(token)), []
-    if token.text in INLINED and not token.system:
-        return (at, at, "__unused__"), []
-    if token.text in UNSEEN and is_in_attribute(tokens, at) and not source.is_own(token.file[1:-1]):
-        return (at, tokens[at + 1].partner if tokens[at + 1].text == "(" else at, "__unused__"), []
     return None
 
 
@@ -184,7 +148,7 @@ class Rewriting:
 
     def __init__(self, text, language):
         self.text, self.language = text, language
-        self.tokens = tokens_of(text)
+        self.tokens = tokens_of(text, Files(text).own())
         self.waiting = spawns_cplusplus.waiting_in(text, self.tokens) if language == "c++" else set()
         self.made, self.done, self.faults, self.behind, self.planned = [], 0, [], {}, {}
 
@@ -216,9 +180,6 @@ class Rewriting:
 
 def rewritten(text, language):
     """The source with its spawns, loops, scopes and syncs rewritten, and a line for each that can't be."""
-    if not TOUCHED.search(text):
-        return text, []
-    text = without_pragmas(text)
     has_loops = "_Cilk_for" in text
     if has_loops:
         text = without(text, IGNORED)

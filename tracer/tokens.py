@@ -1,6 +1,7 @@
 """The tokens of a preprocessed source in C or C++, and what can be told of statements and calls by them alone; and the
 source without what its strings hold, for steps that read it as a text."""
 import functools
+import itertools
 import re
 
 TOKEN = re.compile(
@@ -16,8 +17,9 @@ TOKEN = re.compile(
 LINE_MARKER = re.compile(r'#(?:line)? *([0-9]+) *("(?:\\.|[^"\\])*")?([ 0-9]*)')
 PARTNERS = {")": "(", "]": "[", "}": "{"}
 DIGRAPHS = {"<%": "{", "%>": "}", "<:": "[", ":>": "]"}
+# It begins with one of few signs, which are found quickly.
+QUOTE_OR_DIGRAPH = re.compile(r"[\"'<%:](?:(?<=[\"'])|(?<=<)%|(?<=%)>|(?<=<):(?!:[^:>])|(?<=:)>)")
 BRACKET, BRACKET_OR_MARK = re.compile(r"[()\[\]{}]"), re.compile(r"[()\[\]{},:]")
-QUOTE_OR_DIGRAPH = re.compile(r"[\"']|<%|%>|<:(?!:[^:>])|:>")
 LITERAL = re.compile(r"\"(?:\\.|[^\"\\\n])*\"|'(?:\\.|[^'\\\n])*'")
 RAW = re.compile(r"\"(?P<delimiter>[^()\\\s]{0,16})\((?s:.*?)\)(?P=delimiter)\"")
 # What stands before the mark of a raw string, and before one inside of a number.
@@ -52,10 +54,11 @@ class Token:
         return f"{self.file[1:-1]}:{self.line}"
 
 
-def tokens_of(text):
-    """The tokens of C, each with its line of the program."""
+def tokens_of(text, parts=None):
+    """The tokens of C, each with its line of the program; of these parts of the text alone, each of which begins with a
+    line that names a file."""
     tokens, file, line, system = [], '"?"', 1, False
-    for match in TOKEN.finditer(text):
+    for match in itertools.chain.from_iterable(TOKEN.finditer(text, *part) for part in parts or [(0, len(text))]):
         kind, found = match.lastgroup, match.group()
         if kind == "marker":
             numbered = LINE_MARKER.match(found)

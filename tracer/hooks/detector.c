@@ -236,7 +236,8 @@ static void *detect(void *nothing) {
 /* No signal comes to the detector's thread. What the library allocates for it isn't the program's, whose blocks have
    the same addresses as in a run without the detector. */
 static void start_thread(void) {
-    enum { BLOCKS = 1 << 20, STACK = 1 << 20 };
+    enum { BLOCKS = 1 << 20, STACK = 1 << 20, GUARD = 1 << 12 };
+    char *stack = memory_reserve(GUARD + STACK);
     sigset_t all, before;
     pthread_attr_t small;
     heap_begin_aside(BLOCKS);
@@ -246,8 +247,9 @@ static void start_thread(void) {
     steps_begin(filling->records);
     sigfillset(&all);
     sigprocmask(SIG_BLOCK, &all, &before);
+    mprotect(stack, GUARD, PROT_NONE);
     pthread_attr_init(&small);
-    pthread_attr_setstacksize(&small, STACK);
+    pthread_attr_setstack(&small, stack + GUARD, STACK);
     int error = __real_pthread_create(&detector, &small, detect, NULL);
     pthread_attr_destroy(&small);
     sigprocmask(SIG_SETMASK, &before, NULL);

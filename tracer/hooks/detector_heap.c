@@ -4,6 +4,8 @@
 #include "../include/spbags_inside.h"
 #include "tell.h"
 
+#include <malloc.h>
+
 int __real_munmap(void *at, size_t size);
 void *__real_mremap(void *at, size_t before, size_t size, int flags, ...);
 
@@ -13,7 +15,18 @@ static void *(*library_malloc)(size_t);
 static void *(*library_realloc)(void *, size_t);
 static void (*library_free)(void *);
 
+/* What that heap maps would lie where the program's own mappings lie in a run without the detector. So it has the memory
+   behind the program's variables, of which it takes much at once and gives none back. */
+static void keep_mappings_away(void) {
+    enum { PIECE_OF_HEAP = 16 << 20 };
+    mallopt(M_ARENA_MAX, 1);
+    mallopt(M_MMAP_MAX, 0);
+    mallopt(M_TOP_PAD, PIECE_OF_HEAP);
+    mallopt(M_TRIM_THRESHOLD, INT_MAX);
+}
+
 void detector_heap_begin(void) {
+    keep_mappings_away();
     library_malloc = dlsym(RTLD_NEXT, "malloc");
     library_realloc = dlsym(RTLD_NEXT, "realloc");
     library_free = dlsym(RTLD_NEXT, "free");
@@ -40,15 +53,17 @@ static struct large_block *large_block_at(const void *first) {
     return NULL;
 }
 
-/* Addresses that begin with a large page, or null. */
+/* Addresses that begin with a large page, or null; they are of our own where the system has them free. */
 static void *large_addresses(size_t size) {
-    char *found = mmap(NULL, size + LARGE, PROT_NONE, MAP_PRIVATE | MAP_ANONYMOUS | MAP_NORESERVE, -1, 0);
+    static uintptr_t wish = (uintptr_t)3 << 45;
+    char *found = mmap((void *)wish, size + LARGE, PROT_NONE, MAP_PRIVATE | MAP_ANONYMOUS | MAP_NORESERVE, -1, 0);
     if (found == MAP_FAILED)
         return NULL;
     size_t before = -(uintptr_t)found & (LARGE - 1);
     if (before > 0)
         __real_munmap(found, before);
     __real_munmap(found + before + size, LARGE - before);
+    wish += size;
     return found + before;
 }
 

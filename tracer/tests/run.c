@@ -6,6 +6,7 @@
 #include <stdio.h>
 #include <stdlib.h>
 #include <string.h>
+#include <sys/mman.h>
 #include <unistd.h>
 
 struct cell {
@@ -92,6 +93,19 @@ static void of_another_course(void) {
         cilk_spawn nothing();
     cilk_sync;
     of_a_global();
+}
+
+/* How many units a text has depends on where it lies. */
+static void of_the_environment(void) {
+    static size_t length;
+    length += strlen(getenv("WORDS"));
+    of_a_global();
+}
+
+static void of_mapped_memory(void) {
+    int *mapped = mmap(NULL, 1 << 20, PROT_READ | PROT_WRITE, MAP_PRIVATE | MAP_ANONYMOUS, -1, 0);
+    cilk_spawn set(mapped);
+    *mapped = 2; /* [mapped] */
 }
 
 /* As many races as there are letters in the input. */
@@ -302,6 +316,7 @@ static const struct {
 } all[] = {
     {"global", of_a_global}, {"static", of_a_static}, {"heap", of_the_heap}, {"library", of_a_library},
     {"thousand", of_a_thousand}, {"course", of_another_course}, {"input", of_the_input},
+    {"environment", of_the_environment}, {"mapped", of_mapped_memory},
     {"neighbours", of_neighbours}, {"letter", of_a_letter}, {"guards", of_guards}, {"one guard", of_one_guard},
     {"header", of_a_header}, {"file", of_a_file}, {"later", of_a_file_later}, {"guards file", of_a_file_of_guards},
     {"small disk", of_a_small_disk}, {"more neighbours", of_more_neighbours}, {"flags", of_flags},

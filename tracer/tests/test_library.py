@@ -127,7 +127,7 @@ class PagesTest(TracerTest):
         if not manual.get("mbrtowc"):
             self.skipTest("there are no manual pages of the C library")
         table = library.Table()
-        names = [name for name in [*table.names(), *table.silent] if name in manual]
+        names = [name for name in [*table.names(), *library.silent()] if name in manual]
         self.assertEqual({name: manual[name] for name in names if manual[name]},
                          {name: words for name, words in table.shared().items() if name in names})
 

@@ -254,6 +254,15 @@ class OptionsTest(LinkTest):
         with self.subTest("of what is wrong"):
             self.assertNotEqual(0, self.run_command(SPBAGS_CC, "-fsyntax-only", "wrong.c").status)
 
+    def test_modules(self):
+        """A small source waits for no more than what it needs, nor does its link."""
+        self.write("small.c", "#include <stdio.h>\nint main(void) { return 0; }\n")
+        said = self.succeeds(sys.executable, "-IS", "-X", "importtime", SPBAGS_CC, *cases.DETECTOR, "-o", "small",
+                             "small.c").errors
+        modules = {line.rpartition("|")[2].strip() for line in said.splitlines()}
+        self.assertEqual({"rewriting", "linked"},
+                         modules & {"rewriting", "linked", "tokens", "spawns", "subprocess", "tempfile"})
+
     def test_standard_input(self):
         self.succeeds("bash", "-c", '"$@" -xc -o from_input - <fib.c', "bash", SPBAGS_CC, *cases.DETECTOR)
         self.assertEqual("55\n", self.run_command("./from_input", SPBAGS_TRACE="run.trace").out)

@@ -390,6 +390,14 @@ class SecondRunTest(RunTest):
         kept = self.found("course", options=("--keep", "run.trace"))[1]
         self.assertEqual([[("write", "[set]")], [("write", "[global]")]], sides_of(kept["pairs"][0]))
 
+    def test_addresses(self):
+        """What the program has in its environment, and what it maps, lies at the same addresses in all runs."""
+        for name, words in (("environment", "nine"), ("environment", "ninety"), ("environment", "nine and ninety"),
+                            ("mapped", "")):
+            report = self.found(name, WORDS=words)[1]
+            self.assertEqual((1, True), (report["races"], report["stacks"]), (name, words))
+            self.assertNotIn("the second run", "".join(report["notes"]), (name, words))
+
     def test_program_that_keeps_a_file(self):
         """The first run's races are reported: with its own lines if its trace is kept, or it alone looks; else without
         any."""
