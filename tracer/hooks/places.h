@@ -5,10 +5,11 @@
 #include "guards.h"
 
 /* The file of places says of each record where it comes from. A site is a code address, with what is held there and
-   whether the access there doesn't fill its unit; a run has few. Most records of a block have one. So the file has numbers
-   of 2 bytes: that of the next record's site; or PLACES_REPEAT and how many more records have the same site. Behind them
-   stand, for those who look for one record, how many records and how many numbers came before some of the numbers; then
-   the sites, the lists of guards, the lines of the report if nobody else has them, and how many those are.
+   whether the access there doesn't fill its unit; a run has few. Most records of a block have one. So there are numbers
+   of 2 bytes: that of the next record's site; or PLACES_REPEAT and how many more records have the same site. They come in
+   packed blocks, of which each can be read alone. Behind these stand, for each, how many records and how many packed
+   numbers stand before its end; then the sites, the lists of guards, the lines of the report if nobody else has them, and
+   how many those are.
 
    The thread of the detector writes them where it goes through the records, and else the program's. */
 enum { PLACES_REPEAT = 65534, NO_SITE = 65535, MOST_SITES = PLACES_REPEAT, SITE_SLOTS = 1 << 17 };
@@ -37,8 +38,7 @@ static inline uint16_t site_number(uint64_t word) {
     return __builtin_expect(places_site_keys[slot] == word + 1, 1) ? places_site_numbers[slot] : places_find_site(word);
 }
 
-/* The newest site, how many more records have it whose number isn't there yet, and how many records there were before
-   these. */
+/* The newest site, how many records have it whose number isn't there yet, and how many records there were before these. */
 extern struct places_newest {
     uint16_t site;
     uint64_t more, records;
@@ -48,10 +48,8 @@ void places_put_other(uint16_t site);
 
 /* So many more records, at least one, have this site. */
 static inline void places_put(uint16_t site, uint64_t count) {
-    if (__builtin_expect(site != places_newest.site, 0)) {
+    if (__builtin_expect(site != places_newest.site, 0))
         places_put_other(site);
-        count--;
-    }
     places_newest.more += count;
 }
 
