@@ -73,11 +73,11 @@ def unpacked(packed):
 
 
 class Places:
-    """A run's file of places: blocks of numbers of 2 bytes, each of the next record's site, or that of the same site come
-    more records; where each block ends, as how many records and how many packed numbers stand before; the sites, the lists
-    of guards, the lines of the report; and how many of all these there are."""
+    """A run's file of places: packed blocks of numbers of 2 bytes, by hooks/places.h; where each block ends, as how many
+    records and how many packed numbers stand before; the sites, the lists of guards, the lines of the report; and how many
+    of all these there are."""
     END = struct.Struct("<QQQQQQ8s")
-    MARK, REPEAT = b"spbplace", 0xfffe
+    MARK, TWO, REPEAT = b"spbplace", 0xfffd, 0xfffe
 
     def __init__(self, file, name):
         self.name = name
@@ -120,6 +120,12 @@ class Places:
             if number == self.REPEAT:
                 at += next(numbers)
                 self.ends[-1] = at
+            elif number == self.TWO:
+                *two, count, first, second, third, fourth = islice(numbers, 7)
+                bits = first | second << 16 | third << 32 | fourth << 48
+                self.numbers += [two[bits >> record & 1] for record in range(count)]
+                self.ends += range(at + 1, at + count + 1)
+                at += count
             else:
                 at += 1
                 self.ends.append(at)

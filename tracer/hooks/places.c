@@ -87,7 +87,7 @@ static void write_block(void) {
     sigaddset(&deadly, SIGPIPE);
     sigaddset(&deadly, SIGXFSZ);
     pthread_sigmask(SIG_BLOCK, &deadly, &before);
-    if (out.used > 0 && !write_packed())
+    if (out.used > 0 && out.file >= 0 && !write_packed())
         refuse();
     out.used = 0;
     while (sigtimedwait(&deadly, NULL, &(struct timespec){0}) > 0)
@@ -96,12 +96,18 @@ static void write_block(void) {
     errno = error;
 }
 
+/* For numbers that stand together. */
+enum { ROOM = 8 };
+static void make_room(void) {
+    if (out.used + ROOM > PACKING_MOST)
+        write_block();
+}
+
 /* A block begins with a site. */
 static void put_newest(void) {
-    enum { MOST_TOGETHER = UINT16_MAX + 1, NUMBERS = 3 };
+    enum { MOST_TOGETHER = UINT16_MAX + 1 };
     while (places_newest.more > 0 && out.file >= 0) {
-        if (out.used + NUMBERS > PACKING_MOST)
-            write_block();
+        make_room();
         const uint64_t count = places_newest.more < MOST_TOGETHER ? places_newest.more : MOST_TOGETHER;
         numbers_waiting[out.used++] = places_newest.site;
         if (count > 1) {
@@ -116,6 +122,18 @@ static void put_newest(void) {
 void places_put_other(uint16_t site) {
     put_newest();
     places_newest.site = site;
+}
+
+void places_put_turns(uint64_t turns, uint64_t bits) {
+    const uint16_t count = turns >> 32 & 0xff;
+    put_newest();
+    make_room();
+    const uint16_t numbers[ROOM] = {
+        PLACES_TWO,     (uint16_t)turns,        (uint16_t)(turns >> 16), count,
+        (uint16_t)bits, (uint16_t)(bits >> 16), (uint16_t)(bits >> 32),  (uint16_t)(bits >> 48)};
+    memcpy(numbers_waiting + out.used, numbers, sizeof numbers);
+    out.used += ROOM;
+    places_newest.records += count;
 }
 
 /* ---- The end of the file ---- */

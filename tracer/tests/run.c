@@ -193,10 +193,9 @@ static void of_a_small_disk(void) {
     cilk_sync;
     for (uint32_t i = 0, random = 1; i < 300000; i++) {
         random = 1664525 * random + 1013904223;
+        cilk_spawn nothing();
         if (random >> 31)
-            cilk_spawn nothing();
-        else
-            cilk_spawn nothing();
+            cilk_sync;
     }
     cilk_sync;
     cilk_spawn turn();
