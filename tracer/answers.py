@@ -5,7 +5,7 @@ import os
 import re
 import struct
 from collections import namedtuple
-from itertools import accumulate
+from itertools import accumulate, cycle, islice
 
 from failure import Failure
 
@@ -62,12 +62,22 @@ def guard_of(text):
     return int(number, 16), name
 
 
+def unpacked(packed):
+    """The numbers of a block, by hooks/packing.h."""
+    numbers, rest = [], iter(packed)
+    for new in rest:
+        numbers += islice(rest, new)
+        back, count = next(rest, 1), next(rest, 0)
+        numbers += islice(cycle(numbers[-back:]), count)
+    return numbers
+
+
 class Places:
-    """A run's file of places: numbers of 2 bytes, each of the next record's site, or that of the same site come more
-    records; marks, each how many records and how many numbers came before; the sites, the lists of guards, the lines of
-    the report; and how many of all these there are."""
+    """A run's file of places: packed blocks of numbers of 2 bytes, by hooks/places.h; where each block ends, as how many
+    records and how many packed numbers stand before; the sites, the lists of guards, the lines of the report; and how many
+    of all these there are."""
     END = struct.Struct("<QQQQQQ8s")
-    MARK, REPEAT = b"spbplace", 0xfffe
+    MARK, TWO, REPEAT = b"spbplace", 0xfffd, 0xfffe
 
     def __init__(self, file, name):
         self.name = name
@@ -79,7 +89,7 @@ class Places:
         starts = list(accumulate((2 * numbers, 16 * marks, 8 * sites, lists, notes)))
         if starts[-1] != size - self.END.size:
             raise Failure(f"{name}: this isn't a file of places")
-        self.marks = [(0, 0), *struct.iter_unpack("<QQ", self.bytes[starts[0]:starts[1]]), (self.count, numbers)]
+        self.marks = [(0, 0), *struct.iter_unpack("<QQ", self.bytes[starts[0]:starts[1]])]
         words = struct.unpack_from(f"<{sites}Q", self.bytes, starts[1])
         lists = [(), *(tuple(map(guard_of, line.split("\t"))) for line in self.text(*starts[2:4]))]
         self.sites = [Site(word & CODE, word >> 63 == 1, self.held(lists, word >> 48 & NO_LIST)) for word in words]
@@ -102,14 +112,20 @@ class Places:
             self.found[place] = self.number(place)
 
     def read_part(self, part):
-        """Of the records between two marks: where those of each site end, one behind the other."""
+        """Of the records of a block: where those of each site end, one behind the other."""
         (at, first), (_, end) = self.marks[part:part + 2]
         self.part, self.ends, self.numbers = part, [], []
-        numbers = iter(memoryview(self.bytes)[2 * first:2 * end].cast("H"))
+        numbers = iter(unpacked(memoryview(self.bytes)[2 * first:2 * end].cast("H")))
         for number in numbers:
             if number == self.REPEAT:
                 at += next(numbers)
                 self.ends[-1] = at
+            elif number == self.TWO:
+                *two, count, first, second, third, fourth = islice(numbers, 7)
+                bits = first | second << 16 | third << 32 | fourth << 48
+                self.numbers += [two[bits >> record & 1] for record in range(count)]
+                self.ends += range(at + 1, at + count + 1)
+                at += count
             else:
                 at += 1
                 self.ends.append(at)

@@ -119,7 +119,12 @@ static void take_endings(void) {
 static const uint64_t *take_sites(const uint64_t *sites) {
     const uint64_t *end = sites + 1 + *sites;
     for (const uint64_t *at = sites + 1; at < end; at++)
-        places_put((uint16_t)*at, *at >> 16);
+        if ((*at & PLACES_TURNS) == 0) {
+            places_put((uint16_t)*at, *at >> 16);
+        } else {
+            places_put_turns(at[0], at[1]);
+            at++;
+        }
     return end;
 }
 

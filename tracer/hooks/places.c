@@ -3,6 +3,7 @@
 #include "doing.h"
 #include "memory.h"
 #include "output.h"
+#include "packing.h"
 #include "tell.h"
 
 static const uint64_t no_list = (uint64_t)MOST_SITE_LISTS << LIST_SHIFT;
@@ -38,11 +39,11 @@ static struct {
     bool is_spare;
     uint64_t written, most;
     size_t used;
-    uint16_t numbers[1 << 14];
 } out = {.file = -1};
+static uint16_t numbers_waiting[PACKING_MOST], packed[PACKING_MOST + 1];
 
-/* So many records, or somewhat more, stand between two marks. */
-enum { MARKED = 1 << 16, MOST_MARKS = 1 << 22 };
+/* Where each block ends: how many records and how many packed numbers stand before that. */
+enum { MOST_MARKS = 1 << 24 };
 static struct mark { uint64_t records, numbers; } * marks;
 static size_t marks_count;
 
@@ -70,56 +71,69 @@ static void refuse(void) {
         fail("cannot write %s: %s", out.name, strerror(errno));
 }
 
-static void write_numbers(void) {
-    const size_t size = out.used * sizeof *out.numbers;
+static bool write_packed(void) {
+    const size_t size = packing_pack(numbers_waiting, out.used, packed) * sizeof *packed;
+    errno = EFBIG;
+    if (marks_count == MOST_MARKS || out.written + size > out.most || !write_whole(packed, size))
+        return false;
+    marks[marks_count++] = (struct mark){places_newest.records, out.written / sizeof *packed};
+    return true;
+}
+
+static void write_block(void) {
     int error = errno;
     sigset_t deadly, before;
     sigemptyset(&deadly);
     sigaddset(&deadly, SIGPIPE);
     sigaddset(&deadly, SIGXFSZ);
     pthread_sigmask(SIG_BLOCK, &deadly, &before);
-    out.used = 0;
-    if (out.file >= 0 && (out.written + size > out.most || !write_whole(out.numbers, size)))
+    if (out.used > 0 && out.file >= 0 && !write_packed())
         refuse();
+    out.used = 0;
     while (sigtimedwait(&deadly, NULL, &(struct timespec){0}) > 0)
         continue;
     pthread_sigmask(SIG_SETMASK, &before, NULL);
     errno = error;
 }
 
-static void put_number(uint16_t number) {
-    if (out.used == sizeof out.numbers / sizeof *out.numbers)
-        write_numbers();
-    out.numbers[out.used++] = number;
+/* For numbers that stand together. */
+enum { ROOM = 8 };
+static void make_room(void) {
+    if (out.used + ROOM > PACKING_MOST)
+        write_block();
 }
 
-/* A site that stands there once more has a number again. */
-static void put_more(void) {
-    uint64_t more = places_newest.more;
-    places_newest.records += more;
-    places_newest.more = 0;
-    for (; more > 1; more -= more < UINT16_MAX ? more : UINT16_MAX) {
-        put_number(PLACES_REPEAT);
-        put_number((uint16_t)(more < UINT16_MAX ? more : UINT16_MAX));
+/* A block begins with a site. */
+static void put_newest(void) {
+    enum { MOST_TOGETHER = UINT16_MAX + 1 };
+    while (places_newest.more > 0 && out.file >= 0) {
+        make_room();
+        const uint64_t count = places_newest.more < MOST_TOGETHER ? places_newest.more : MOST_TOGETHER;
+        numbers_waiting[out.used++] = places_newest.site;
+        if (count > 1) {
+            numbers_waiting[out.used++] = PLACES_REPEAT;
+            numbers_waiting[out.used++] = (uint16_t)(count - 1);
+        }
+        places_newest.records += count;
+        places_newest.more -= count;
     }
-    if (more == 1)
-        put_number(places_newest.site);
-}
-
-static void add_mark(void) {
-    uint64_t last = marks_count > 0 ? marks[marks_count - 1].records : 0;
-    if (places_newest.records - last >= MARKED && marks_count < MOST_MARKS)
-        marks[marks_count++] = (struct mark){places_newest.records, out.written / sizeof *out.numbers + out.used};
 }
 
 void places_put_other(uint16_t site) {
-    if (out.file < 0)
-        return;
-    put_more();
-    add_mark();
-    put_number(site);
+    put_newest();
     places_newest.site = site;
-    places_newest.records++;
+}
+
+void places_put_turns(uint64_t turns, uint64_t bits) {
+    const uint16_t count = turns >> 32 & 0xff;
+    put_newest();
+    make_room();
+    const uint16_t numbers[ROOM] = {
+        PLACES_TWO,     (uint16_t)turns,        (uint16_t)(turns >> 16), count,
+        (uint16_t)bits, (uint16_t)(bits >> 16), (uint16_t)(bits >> 32),  (uint16_t)(bits >> 48)};
+    memcpy(numbers_waiting + out.used, numbers, sizeof numbers);
+    out.used += ROOM;
+    places_newest.records += count;
 }
 
 /* ---- The end of the file ---- */
@@ -142,8 +156,7 @@ static uint64_t put_lists(void) {
 /* spbags-run has the lines of the report by their records. For who reads a trace that is kept they stand here. */
 static bool put_end(void) {
     static const char mark[8] = "spbplace";
-    uint64_t lines = tells_records() && out.is_spare ? 0 : tell_kept_length,
-             numbers = out.written / sizeof *out.numbers;
+    uint64_t lines = tells_records() && out.is_spare ? 0 : tell_kept_length, numbers = out.written / sizeof *packed;
     bool is_written =
         write_whole(marks, marks_count * sizeof *marks) && write_whole(sites, sites_count * sizeof *sites);
     uint64_t bytes = put_lists(), counts[] = {places_newest.records, numbers, marks_count, sites_count, bytes, lines};
@@ -159,8 +172,8 @@ static void close_file(void) {
 void places_end(void) {
     if (out.file < 0)
         return;
-    put_more();
-    write_numbers();
+    put_newest();
+    write_block();
     if (out.file >= 0 && !put_end())
         refuse();
     if (out.file >= 0)
@@ -172,11 +185,11 @@ static void give_up(void) {
     static bool is_given_up;
     uint64_t needed = sites_count * sizeof *sites + marks_count * sizeof *marks + 100 * (uint64_t)guards_listed_count +
                       tell_kept_length + PIECE;
-    uint64_t kept = out.written > needed ? (out.written - needed) / sizeof *out.numbers : 0;
+    uint64_t kept = out.written > needed ? (out.written - needed) / sizeof *packed : 0;
     while (marks_count > 0 && marks[marks_count - 1].numbers > kept)
         marks_count--;
     struct mark last = marks_count > 0 ? marks[marks_count - 1] : (struct mark){0};
-    off_t size = (off_t)(last.numbers * sizeof *out.numbers);
+    off_t size = (off_t)(last.numbers * sizeof *packed);
     if (!is_given_up && ftruncate(out.file, size) == 0 && lseek(out.file, size, SEEK_SET) >= 0) {
         is_given_up = true;
         out.written = (uint64_t)size;

@@ -283,7 +283,25 @@ static void step_words(unsigned kind, uint64_t location, const uint64_t *words, 
         end_step();
 }
 
-/* For the detector's thread: how many records one after another have one site. */
+/* Whether two sites take turns among these units: then they are put. */
+static bool put_turns(uint64_t *at, const struct block_sites *sites, uint64_t units) {
+    enum { FEW_TURNS = 6 };
+    const uint16_t first = sites->of[__builtin_ctzll(units)];
+    uint16_t other = first;
+    uint64_t bits = 0, count = 0;
+    bool is_third = false;
+    for (; units != 0; units &= units - 1) {
+        const uint16_t site = sites->of[__builtin_ctzll(units)];
+        other = other == first ? site : other;
+        is_third |= site != first && site != other;
+        bits |= (uint64_t)(site != first) << count++;
+    }
+    at[0] = PLACES_TURNS | count << 32 | (uint64_t)other << 16 | first;
+    at[1] = bits;
+    return !is_third && count_units(bits ^ bits << 1) > FEW_TURNS;
+}
+
+/* For the detector's thread: how many records one after another have one site, or two that take turns. */
 static uint64_t *put_sites(uint64_t *at, bool writes) {
     const struct block_sites *sites = sites_going_out(writes);
     uint64_t units = going_out.units[writes];
@@ -291,6 +309,8 @@ static uint64_t *put_sites(uint64_t *at, bool writes) {
         *at++ = (uint64_t)count_units(units) << 16 | sites->number;
         return at;
     }
+    if (units != 0 && put_turns(at, sites, units))
+        return at + 2;
     for (uint64_t last = NO_SITE + 1; units != 0; units &= units - 1) {
         uint64_t site = sites->of[__builtin_ctzll(units)];
         if (site != last)

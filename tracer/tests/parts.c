@@ -6,6 +6,7 @@
 #include "../hooks/divided.h"
 #include "../hooks/formats.h"
 #include "../hooks/openmp.h"
+#include "../hooks/packing.h"
 #include "../spbags_cilk.h"
 
 #define DEMAND(HOLDS) \
@@ -448,6 +449,38 @@ static void formats_narrow(void) {
     DEMAND(strcmp(formats_narrowed(NULL, room, sizeof room), "") == 0);
 }
 
+/* ---- Numbers that are packed ---- */
+
+static size_t unpack(const uint16_t *at, const uint16_t *end, uint16_t *numbers) {
+    size_t count = 0;
+    while (at < end) {
+        for (unsigned left = *at++; left > 0; left--)
+            numbers[count++] = *at++;
+        if (at == end)
+            break;
+        size_t back = *at++;
+        for (unsigned left = *at++; left > 0; left--, count++)
+            numbers[count] = numbers[count - back];
+    }
+    return count;
+}
+
+/* They come back, however many and of whatever kind they are; and what is the same again and again takes no room. */
+static void packing(void) {
+    static uint16_t numbers[PACKING_MOST], packed[PACKING_MOST + 1], unpacked[PACKING_MOST];
+    for (unsigned round = 0; round < 400; round++) {
+        const unsigned kinds = 1u << round % 17;
+        const size_t count = round < 17 ? PACKING_MOST : drawn(PACKING_MOST);
+        for (size_t at = 0; at < count; at++)
+            numbers[at] = (uint16_t)drawn(kinds);
+        const size_t size = packing_pack(numbers, count, packed);
+        DEMAND(size <= count + 1 && (kinds > 1 || size <= 8));
+        DEMAND(unpack(packed, packed + size, unpacked) == count);
+        DEMAND(memcmp(unpacked, numbers, count * sizeof *numbers) == 0);
+    }
+    DEMAND(packing_pack(numbers, 0, packed) == 1 && unpack(packed, packed + 1, unpacked) == 0);
+}
+
 int main(int count, char **words) {
     static const struct {
         const char *name;
@@ -459,7 +492,7 @@ int main(int count, char **words) {
                  {"strand_left_out", strand_left_out}, {"stack_window", stack_window},
                  {"heap_sizes", heap_sizes},           {"heap_moves", heap_moves},
                  {"formats_print", formats_print},     {"formats_scan", formats_scan},
-                 {"formats_narrow", formats_narrow}};
+                 {"formats_narrow", formats_narrow},   {"packing", packing}};
     units_shift = USUAL_SHIFT;
     units_mask = 3;
     for (size_t at = 0; at < sizeof parts / sizeof *parts; at++)

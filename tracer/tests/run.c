@@ -3,6 +3,7 @@
 #include <fcntl.h>
 #include <pthread.h>
 #include <stdatomic.h>
+#include <stdint.h>
 #include <stdio.h>
 #include <stdlib.h>
 #include <string.h>
@@ -196,7 +197,7 @@ static void of_a_file_of_guards(void) {
         of_guards();
 }
 
-/* More records of other lines, one after the other, than a small disk has room for. */
+/* More records of other lines, in an order that nothing foretells, than a small disk has room for. */
 static void of_a_small_disk(void) {
     if (!is_first())
         return;
@@ -204,8 +205,12 @@ static void of_a_small_disk(void) {
     for (int i = 0; i < 200; i++)
         cilk_spawn set_all();
     cilk_sync;
-    for (int i = 0; i < 40000; i++)
+    for (uint32_t i = 0, random = 1; i < 300000; i++) {
+        random = 1664525 * random + 1013904223;
         cilk_spawn nothing();
+        if (random >> 31)
+            cilk_sync;
+    }
     cilk_sync;
     cilk_spawn turn();
     turn();

@@ -39,6 +39,29 @@ race 254 write 3 read 68
 races 1
 race 130 write 4 write 8
 """
+# Units whose sites take turns, some more than others, with some left out.
+TURNS = """#include <cilk/cilk.h>
+static int cells[1000];
+static void set(unsigned random, int step) {
+    for (int i = 0; i < 1000; i += step) {
+        random = 1664525 * random + 1013904223;
+        if (random >> 30 < step)
+            cells[i] = 1;
+        else if (random >> 28 < 15)
+            cells[i] = 2;
+        else if (random >> 26 < 62 || i < 500)
+            cells[i + 1] = 3;
+        else
+            cells[i] = 4;
+    }
+}
+int main(void) {
+    for (int step = 1; step < 4; step++) {
+        cilk_spawn set(step, step);
+        cilk_sync;
+    }
+}
+"""
 
 
 @needs_detector
@@ -241,7 +264,8 @@ class OutputsTest(InsideTest):
     def test_sites(self):
         """A record has one site, whoever keeps it: the detector's thread, as the program goes the short way or not, or
         who writes the trace."""
-        for program in ("cilksort", "traps"):
+        self.write("turns.c", TURNS)
+        for program in ("cilksort", "traps", "turns"):
             self.build(program, program + ".c", "-w", "-DRACY")
             with self.subTest(program):
                 wanted = self.sites_of(program, "SPBAGS_TRACE", SPBAGS_LAST="1000000000")

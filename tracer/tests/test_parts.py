@@ -11,8 +11,8 @@ from cases import CC, TESTS, TRACER, TracerTest
 LIMITS = ("-DMOST_STRANDS=20", "-DMOST_BLOCKS=4", "-DFREE_SPANS=1")
 UNDEFINED = ("-fsanitize=undefined", "-fsanitize-undefined-trap-on-error")
 BESIDE = [os.path.join(TRACER, "hooks", f"{name}.c")
-          for name in ("blocks", "course", "formats", "guards", "marks", "memory", "own", "settings", "spans", "stacks", "steps", "strands",
-                         "tell", "units", "window")]
+          for name in ("blocks", "course", "formats", "guards", "marks", "memory", "own", "packing", "settings", "spans", "stacks", "steps",
+                         "strands", "tell", "units", "window")]
 
 
 class PartsTest(TracerTest):

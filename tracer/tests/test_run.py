@@ -460,7 +460,7 @@ class SecondRunTest(RunTest):
     def test_small_disk(self):
         """Races whose places have no room have no lines, and it isn't known whether they are data races."""
         for options in ((), ("--data-races",)):
-            done = self.run_command("bash", "-c", 'rm -f ran; ulimit -f 100; exec "$@"', "bash", SPBAGS_RUN, "--json",
+            done = self.run_command("bash", "-c", 'rm -f ran; ulimit -f 400; exec "$@"', "bash", SPBAGS_RUN, "--json",
                                     "--one-run", *options, "--", "./run", "small disk")
             status, report = done.status, self.as_report(done)
             self.assertEqual((1, 1002, 1002), (status, report["races"], report["without_stacks"]))
