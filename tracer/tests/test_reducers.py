@@ -50,7 +50,7 @@ class CTest(ReducersTest):
 
     def test_races(self):
         with self.subTest("clean"):
-            self.says(["6 8 4 3 4", "6", "6 4 4 -4", "2 4 13 2", "12 7", "7 -4 7 4 10", "6 3", "12 2 3 2"],
+            self.says(["6 8 4 3 4", "6", "6 4 4 -4", "2 4 13 2", "12 7", "7 -4 7 4 10", "6", "6 3", "12 2 3 2"],
                       "--", "./reducers", "clean")
         with self.subTest("racy"):
             self.assertEqual(sorted(self.racy_lines()), self.lines(C, "./reducers", "racy"))
