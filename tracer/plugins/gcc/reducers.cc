@@ -118,6 +118,8 @@ class reducer_uses {
             call(at);
         else if (is_gimple_assign(statement) && !gimple_clobber_p(statement))
             assignment(at);
+        else if (gimple_code(statement) == GIMPLE_ASM)
+            assembly(at);
         else if (greturn *returns = dyn_cast<greturn *>(statement); returns && gimple_return_retval(returns))
             keep(at, gimple_return_retval(returns), DECL_RESULT(cfun->decl), depends_on(returns));
         last = statement;
@@ -288,6 +290,14 @@ class reducer_uses {
         }
         if (is_temporary(to))
             flows[to].insert(depends.begin(), depends.end());
+    }
+
+    /* What stands in memory is read or set. */
+    void assembly(gimple_stmt_iterator *at) {
+        for (unsigned number = 0; number < gimple_num_ops(gsi_stmt(*at)); number++)
+            if (tree operand = gimple_op(gsi_stmt(*at), number); TREE_CODE(operand) == TREE_LIST)
+                if (tree view = view_of(TREE_VALUE(operand)))
+                    add(at, view, READS, {});
     }
 
     /* How an argument's address is used. */
