@@ -1,10 +1,10 @@
-/* A plugin of gcc that puts the tracer's hooks into the code of a program: beside each load and store of its text, and at
-   each function's entry and exit. gcc loads it by -fplugin, and -fplugin-arg-spbags-checks=FILE names the
+/* A plugin of gcc that puts the tracer's hooks into the code of a program: beside each load and store of its text, and
+   at each function's entry and exit. gcc loads it by -fplugin, and -fplugin-arg-spbags-checks=FILE names the
    assembler's macros of the tests that stand inline; without these hooks are called.
 
-   Each function goes through passes: reducers.h puts the hooks of reducers there; frames.h marks the ways out; accesses.h
-   puts the hooks of accesses before any optimization; checks.h drops those of what turns out to be the function's alone;
-   at last ranges.h makes one of those of a loop, and checks.h puts tests in place of calls. */
+   Each function goes through passes: reducers.h puts the hooks of reducers there; frames.h marks the ways out;
+   accesses.h puts the hooks of accesses before any optimization; checks.h drops those of what turns out to be the
+   function's alone; at last ranges.h makes one of those of a loop, and checks.h puts tests in place of calls. */
 #include "accesses.h"
 #include "checks.h"
 #include "frames.h"

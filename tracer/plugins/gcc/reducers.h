@@ -1,5 +1,5 @@
-/* The reducers of OpenCilk: the attribute `spbags_reducer(functions)` of a declaration, and the hooks at the uses of what
-   is declared so. */
+/* The reducers of OpenCilk: the attribute `spbags_reducer(functions)` of a declaration, and the hooks at the uses of
+   what is declared so. */
 #ifndef SPBAGS_REDUCERS_H
 #define SPBAGS_REDUCERS_H
 
@@ -22,8 +22,8 @@ tree reducer_types_attribute(tree named);
 bool reducer_types_is_pointer(tree type);
 /* Whether a view of this type may have more memory elsewhere. */
 bool reducer_types_has_pointers(tree type);
-/* What another schedule would do, and this run doesn't: a text, or a null pointer if all that is left out touches nothing
-   but views. To ask once all functions of the source are read. */
+/* What another schedule would do, and this run doesn't: a text, or a null pointer if all that is left out touches
+   nothing but views. To ask once all functions of the source are read. */
 tree reducer_types_note(tree decl, tree type, tree attribute);
 std::string reducer_types_name(tree decl);
 /* The compiler knows the attribute from here on. */
