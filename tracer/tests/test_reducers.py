@@ -13,6 +13,7 @@ PRINTED = """out 7 12 3 4 26 10
 10 15 10 4 10
 21 20 12 20
 10 24 4 4 5
+11 13 3 15
 11 24 f0 7 4 4 1 1 6 4
  and 8
 4 eeeeeeeeeeeeeeeeeeee tbbbbbbbbbbccccccccccddddddddddeeeeeeeeee
@@ -109,7 +110,7 @@ class CPlusPlusTest(ReducersTest):
         with self.subTest("views with more memory elsewhere"):
             said = self.reports(3, "what join does for the reducer all in another schedule", "--unseen-ok", "std*", "--",
                                 "./reducers", "views")
-            self.assertIn("16", said.splitlines())
+            self.assertLess({"16", "24"}, set(said.splitlines()))
 
 
 if __name__ == "__main__":

@@ -11,7 +11,11 @@ static tree name_of(tree type) {
     return name && TREE_CODE(name) == TYPE_DECL ? name : NULL_TREE;
 }
 
-tree reducer_types_of(tree type) { return lookup_attribute(NAME, TYPE_ATTRIBUTES(strip_array_types(type))); }
+tree reducer_types_of(tree type) {
+    tree element = strip_array_types(type), name = name_of(element);
+    tree own = lookup_attribute(NAME, TYPE_ATTRIBUTES(element));
+    return own || !name ? own : lookup_attribute(NAME, DECL_ATTRIBUTES(name));
+}
 
 bool reducer_types_is_pointer(tree type) { return POINTER_TYPE_P(type) && reducer_types_of(TREE_TYPE(type)); }
 
@@ -54,6 +58,22 @@ static tree rebuilt(tree whole, tree type, tree instead) {
                 : TREE_CODE(whole) == REFERENCE_TYPE ? build_reference_type(inner)
                                                      : build_pointer_type(inner);
     return build_qualified_type(made, TYPE_QUALS(whole));
+}
+
+/* A variant of a class has no attributes of its own in C++, but its name may have some. */
+static tree variant_of(tree type, tree name, tree arguments) {
+    tree variant = build_variant_type_copy(type);
+    if (!lang_GNU_CXX() || !(RECORD_OR_UNION_TYPE_P(type) || TREE_CODE(type) == ENUMERAL_TYPE)) {
+        TYPE_ATTRIBUTES(variant) = tree_cons(name, arguments, TYPE_ATTRIBUTES(type));
+        return variant;
+    }
+    tree named = build_decl(input_location, TYPE_DECL, TYPE_IDENTIFIER(type), variant);
+    DECL_ORIGINAL_TYPE(named) = type;
+    DECL_ATTRIBUTES(named) = tree_cons(name, arguments, NULL_TREE);
+    DECL_CONTEXT(named) = TYPE_CONTEXT(type);
+    DECL_ARTIFICIAL(named) = 1;
+    TYPE_NAME(variant) = named;
+    return variant;
 }
 
 /* ---- The identity and the reduce function ---- */
@@ -148,9 +168,7 @@ static tree with_attribute(tree node, tree name, tree arguments, int flags) {
     bool is_value = !around || FUNC_OR_METHOD_TYPE_P(around);
     if (is_defined || (is_value && DECL_P(node) && !VAR_P(node) && TREE_CODE(node) != FIELD_DECL))
         return NULL_TREE;
-    tree variant = build_variant_type_copy(type);
-    TYPE_ATTRIBUTES(variant) = tree_cons(name, arguments, TYPE_ATTRIBUTES(type));
-    return rebuilt(whole, type, variant);
+    return rebuilt(whole, type, variant_of(type, name, arguments));
 }
 
 /* A variable, a member or an array has the attribute itself; of all else it is the type of what is pointed to. */

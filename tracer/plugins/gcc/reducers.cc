@@ -10,9 +10,9 @@ static bool is_temporary(tree value) {
     return TREE_CODE(value) == SSA_NAME || (VAR_P(value) && DECL_ARTIFICIAL(value) && !is_global_var(value));
 }
 
-/* Whether this is a variable or a function of the tracer. */
-static bool is_of_tracer(tree decl) {
-    return decl && DECL_P(decl) && DECL_NAME(decl) && begins_with(IDENTIFIER_POINTER(DECL_NAME(decl)), "__spbags_");
+/* Whether its name begins so. */
+static bool is_named(tree decl, const char *beginning) {
+    return decl && DECL_P(decl) && DECL_NAME(decl) && begins_with(IDENTIFIER_POINTER(DECL_NAME(decl)), beginning);
 }
 
 /* ---- Hooks ---- */
@@ -36,6 +36,8 @@ static void put_before(gimple_stmt_iterator *at, tree hook) {
 /* What the function does isn't recorded, since views have more memory elsewhere. */
 static void hide(gimple_stmt_iterator *at) {
     gimple *call = gimple_copy(gsi_stmt(*at));
+    if (tree result = gimple_get_lhs(call); result && TREE_CODE(result) == SSA_NAME)
+        SSA_NAME_DEF_STMT(result) = call;
     put_before(at, hook_expression("__spbags_hide", void_type_node, {}));
     gbind *shows = block_of(hook_expression("__spbags_show", void_type_node, {}), gimple_location(call));
     gsi_replace(at, gimple_build_try(call, shows, GIMPLE_TRY_FINALLY), false);
@@ -71,18 +73,6 @@ static void put_around(gbind *block) {
 }
 
 /* ---- Uses ---- */
-
-/* The view that is what is named here, or holds it; or null. */
-static tree view_of(tree named) {
-    while (!reducer_types_attribute(named)) {
-        if (TREE_CODE(named) == MEM_REF && TREE_CODE(TREE_OPERAND(named, 0)) == ADDR_EXPR)
-            named = TREE_OPERAND(named, 0);
-        else if (!handled_component_p(named))
-            return NULL_TREE;
-        named = TREE_OPERAND(named, 0);
-    }
-    return named;
-}
 
 static tree add_temporary(tree *at, int *, void *found) {
     if (is_temporary(*at))
@@ -126,6 +116,17 @@ class reducer_uses {
         return is_call;
     }
 
+    /* The view that is what is named here, or holds it; or null. */
+    tree view_of(tree named) const {
+        while (!reducer_types_attribute(named)) {
+            tree pointer = TREE_CODE(named) == MEM_REF ? origin(TREE_OPERAND(named, 0)) : NULL_TREE;
+            if (!handled_component_p(named) && !(pointer && TREE_CODE(pointer) == ADDR_EXPR))
+                return NULL_TREE;
+            named = TREE_OPERAND(pointer ? pointer : named, 0);
+        }
+        return named;
+    }
+
   private:
     /* The view, the hook before the statement that uses it, and the hook's function for an update. */
     struct use {
@@ -145,6 +146,9 @@ class reducer_uses {
     std::vector<guard> guards;
     std::set<tree> passed;
     gimple *last = nullptr;
+    /* The last value that is built in parts: where, and on what it depends. */
+    location_t built_at = UNKNOWN_LOCATION;
+    numbers built;
 
     /* What a temporary variable gets, or the value itself. */
     tree origin(tree value) const {
@@ -154,9 +158,11 @@ class reducer_uses {
 
     /* The view whose address this is, or null. */
     tree view_pointed(tree value) const {
-        if (TREE_CODE(origin(value)) == ADDR_EXPR)
-            return view_of(TREE_OPERAND(origin(value), 0));
-        return reducer_types_is_pointer(TREE_TYPE(value)) ? build_simple_mem_ref(value) : NULL_TREE;
+        tree from = origin(value), type = TREE_TYPE(reducer_types_is_pointer(TREE_TYPE(value)) ? value : from);
+        if (TREE_CODE(from) == ADDR_EXPR)
+            return view_of(TREE_OPERAND(from, 0));
+        return reducer_types_is_pointer(type) ? build2(MEM_REF, TREE_TYPE(type), value, build_zero_cst(type))
+                                              : NULL_TREE;
     }
 
     tree declaration(tree view) const {
@@ -253,7 +259,7 @@ class reducer_uses {
         if (!view)
             return;
         add(at, view, UPDATES, depends);
-        if (is_of_tracer(to))
+        if (is_named(to, "__spbags_"))
             return;
         std::string text = text_of_place(gimple_location(gsi_stmt(*at))) +
                            ": what is done by this address of the reducer " + reducer_types_name(declaration(view)) +
@@ -263,9 +269,15 @@ class reducer_uses {
 
     void store(gimple_stmt_iterator *at, tree to, const numbers &depends) {
         tree view = view_of(to), base = get_base_address(to);
+        /* What no text names is a part of a value that is built in its place. */
+        bool is_built = !EXPR_HAS_LOCATION(to);
+        if (!is_built || built_at != gimple_location(gsi_stmt(*at)))
+            built.clear();
+        built_at = gimple_location(gsi_stmt(*at));
+        built.insert(depends.begin(), depends.end());
         /* A whole array is only begun. */
         if (view && TREE_CODE(TREE_TYPE(view)) != ARRAY_TYPE)
-            add(at, view, view == to ? SETS : UPDATES, depends);
+            add(at, view, view == to || is_built ? SETS : UPDATES, built);
         /* Where a view points to. */
         if (!view && base && TREE_CODE(base) == MEM_REF)
             for (size_t number : flows[TREE_OPERAND(base, 0)])
@@ -281,7 +293,7 @@ class reducer_uses {
             depends.insert(add(at, view, READS, depends));
         store(at, to, depends);
         /* What a conditional expression gives is set twice. */
-        bool is_either = VAR_P(to) && DECL_NAME(to) && begins_with(IDENTIFIER_POINTER(DECL_NAME(to)), "iftmp");
+        bool is_either = is_named(to, "iftmp");
         if (is_temporary(to) && !is_either) {
             made_by[to] = statement;
             flows[to].clear();
@@ -305,6 +317,9 @@ class reducer_uses {
         tree type = gimple_call_fntype(call);
         if (type && TREE_CODE(type) == METHOD_TYPE && number == 0)
             return has_use(gimple_call_lhs(call)) ? READS : UPDATES;
+        /* An object is built there. */
+        if (is_named(gimple_call_fndecl(call), "operator new"))
+            return SETS;
         bool is_constant = parameter && TREE_CODE(parameter) == REFERENCE_TYPE && TYPE_READONLY(TREE_TYPE(parameter));
         return is_constant ? READS : UPDATES;
     }
@@ -332,7 +347,9 @@ class reducer_uses {
     void call(gimple_stmt_iterator *at) {
         gcall *call = as_a<gcall *>(gsi_stmt(*at));
         numbers depends = depends_on(call);
-        bool reaches = !is_of_tracer(gimple_call_fndecl(call)) && arguments(at, call, &depends);
+        tree callee = gimple_call_fndecl(call);
+        bool is_use = !is_named(callee, "__spbags_") && !is_named(callee, "operator delete");
+        bool reaches = is_use && arguments(at, call, &depends);
         tree result = gimple_call_lhs(call);
         if (result) {
             store(at, result, depends);
@@ -341,7 +358,8 @@ class reducer_uses {
         }
         /* What it gives, and what it may set. */
         for (tree one : temporaries_of(call))
-            flows[one].insert(depends.begin(), depends.end());
+            if (one == result || !is_gimple_reg(one))
+                flows[one].insert(depends.begin(), depends.end());
         if (reaches && !has_use(result))
             hide(at);
     }
@@ -354,7 +372,7 @@ static tree see_statement(gimple_stmt_iterator *at, bool *is_done, walk_stmt_inf
 
 static tree note_used(tree *at, int *, void *data) {
     walk_stmt_info *info = static_cast<walk_stmt_info *>(data);
-    if (!info->is_lhs && is_temporary(*at))
+    if (is_temporary(*at) && *at != gimple_get_lhs(gsi_stmt(info->gsi)))
         static_cast<reducer_uses *>(info->info)->used.insert(*at);
     return NULL_TREE;
 }
@@ -391,8 +409,8 @@ static void check_constant(tree value, tree type, location_t location) {
     check_constant(inner, TREE_TYPE(place && TREE_CODE(place) == FIELD_DECL ? place : TREE_TYPE(value)), location);
     while (CONVERT_EXPR_P(value) || TREE_CODE(value) == POINTER_PLUS_EXPR)
         value = TREE_OPERAND(value, 0);
-    tree view = TREE_CODE(value) == ADDR_EXPR ? view_of(TREE_OPERAND(value, 0)) : NULL_TREE;
-    if (view && !reducer_types_is_pointer(type))
+    bool is_address = TREE_CODE(value) == ADDR_EXPR && reducer_uses().view_of(TREE_OPERAND(value, 0));
+    if (is_address && !reducer_types_is_pointer(type))
         error_at(location, "the address of a reducer cannot be traced in a constant");
 }
 
