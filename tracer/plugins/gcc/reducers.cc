@@ -45,31 +45,26 @@ static void hide(gimple_stmt_iterator *at) {
 
 static tree size_of(tree type) { return fold_convert(long_unsigned_type_node, unshare_expr(TYPE_SIZE_UNIT(type))); }
 
+static void put_around(gbind *block, tree decl, tree attribute) {
+    location_t location = DECL_SOURCE_LOCATION(decl);
+    tree named = DECL_HAS_VALUE_EXPR_P(decl) ? DECL_VALUE_EXPR(decl) : decl, type = TREE_TYPE(decl);
+    tree address = build_fold_addr_expr(unshare_expr(named)), size = size_of(type), each = strip_array_types(type);
+    tree note = reducer_types_note(decl, each, attribute);
+    tree begin = hook_expression("__spbags_reducers", void_type_node, {address, size, size_of(each), note});
+    tree end = hook_expression("__spbags_reducers_end", void_type_node, {address, size});
+    /* One whose memory isn't there yet begins with its first use. */
+    gimple_seq body = named == decl ? block_of(begin, location) : nullptr;
+    gimple *whole = gimple_build_try(gimple_bind_body(block), block_of(end, location), GIMPLE_TRY_FINALLY);
+    gimple_seq_add_stmt(&body, whole);
+    gimple_bind_set_body(block, body);
+}
+
 /* The variables of a block that are reducers begin and end with it. */
 static void put_around(gbind *block) {
-    for (tree decl = gimple_bind_vars(block); decl; decl = DECL_CHAIN(decl)) {
-        tree attribute = VAR_P(decl) && !is_global_var(decl) ? reducer_types_attribute(decl) : NULL_TREE;
-        if (!attribute)
-            continue;
-        location_t location = DECL_SOURCE_LOCATION(decl);
-        tree named = DECL_HAS_VALUE_EXPR_P(decl) ? DECL_VALUE_EXPR(decl) : decl,
-             each = strip_array_types(TREE_TYPE(decl));
-        tree address = build_fold_addr_expr(unshare_expr(named)), size = size_of(TREE_TYPE(decl));
-        gimple *body = gimple_build_try(
-            gimple_bind_body(block),
-            block_of(hook_expression("__spbags_reducers_end", void_type_node, {address, size}), location),
-            GIMPLE_TRY_FINALLY);
-        gimple_bind_set_body(block, body);
-        tree note = reducer_types_note(decl, each, attribute);
-        gimple_stmt_iterator at = gsi_start(*gimple_bind_body_ptr(block));
-        /* One whose memory isn't there yet begins with its first use. */
-        if (named == decl)
-            gsi_insert_before(
-                &at,
-                block_of(hook_expression("__spbags_reducers", void_type_node, {address, size, size_of(each), note}),
-                         location),
-                GSI_SAME_STMT);
-    }
+    for (tree decl = gimple_bind_vars(block); decl; decl = DECL_CHAIN(decl))
+        if (VAR_P(decl) && !is_global_var(decl))
+            if (tree attribute = reducer_types_attribute(decl))
+                put_around(block, decl, attribute);
 }
 
 /* ---- Uses ---- */
@@ -402,11 +397,11 @@ void reducers_put(function *fun) {
 
 /* One may have the address of a reducer only where that is known as one. */
 static void check_constant(tree value, tree type, location_t location) {
-    unsigned number;
-    tree place, inner;
-    if (TREE_CODE(value) == CONSTRUCTOR)
-        FOR_EACH_CONSTRUCTOR_ELT(CONSTRUCTOR_ELTS(value), number, place, inner)
-    check_constant(inner, TREE_TYPE(place && TREE_CODE(place) == FIELD_DECL ? place : TREE_TYPE(value)), location);
+    for (unsigned number = 0; TREE_CODE(value) == CONSTRUCTOR && number < CONSTRUCTOR_NELTS(value); number++) {
+        constructor_elt *each = CONSTRUCTOR_ELT(value, number);
+        bool is_member = each->index && TREE_CODE(each->index) == FIELD_DECL;
+        check_constant(each->value, TREE_TYPE(is_member ? each->index : TREE_TYPE(value)), location);
+    }
     while (CONVERT_EXPR_P(value) || TREE_CODE(value) == POINTER_PLUS_EXPR)
         value = TREE_OPERAND(value, 0);
     bool is_address = TREE_CODE(value) == ADDR_EXPR && reducer_uses().view_of(TREE_OPERAND(value, 0));
@@ -415,11 +410,9 @@ static void check_constant(tree value, tree type, location_t location) {
 }
 
 static void check_constants(void *, void *) {
-    varpool_node *node;
-    if (reducer_types_any)
-        FOR_EACH_VARIABLE(node)
-    if (tree value = DECL_INITIAL(node->decl))
-        check_constant(value, TREE_TYPE(node->decl), DECL_SOURCE_LOCATION(node->decl));
+    for (varpool_node *node = symtab->first_variable(); node && reducer_types_any; node = symtab->next_variable(node))
+        if (tree value = DECL_INITIAL(node->decl))
+            check_constant(value, TREE_TYPE(node->decl), DECL_SOURCE_LOCATION(node->decl));
 }
 
 void reducers_begin(const char *plugin) {
