@@ -7,16 +7,12 @@ from tokens import after_bracket, blanked, tokens_of
 KEYWORD = re.compile(r"\b_Hyperobject\b(\s*\()?")
 
 
-def rewritten(text, is_cplusplus):
-    """The source with the attribute. In C++ a call chooses functions among those of one name."""
+def rewritten(text):
+    """The source with the attribute, in which a call has the functions: in C++ it chooses among those of one name."""
     bare, made, done = blanked(text), [], 0
     for found in KEYWORD.finditer(bare):
-        given = ""
-        end = found.end()
-        if found[1]:
-            end = after_bracket(bare, end - 1)
-            given = text[found.end() - 1:end]
-            given = f"(__spbags_functions{given})" if is_cplusplus else given
+        end = after_bracket(bare, found.end() - 1) if found[1] else found.end()
+        given = f"(__spbags_functions{text[found.end() - 1:end]})" if found[1] else ""
         made += [text[done:found.start()], f"__attribute__((spbags_reducer{given}))"]
         done = end
     return "".join(made) + text[done:]

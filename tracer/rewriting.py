@@ -62,7 +62,7 @@ def with_reducers(text, is_clang):
     if "_Hyperobject" not in text:
         return text, []
     import reducers
-    return (text, reducers.refused(text)) if is_clang else (reducers.rewritten(text, IS_CPLUSPLUS), [])
+    return (text, reducers.refused(text)) if is_clang else (reducers.rewritten(text), [])
 
 
 def with_spawns(text, words, is_clang, faults):
@@ -101,7 +101,4 @@ def rewritten(text, words, is_clang):
         import attributes
         text = attributes.without(text)
     text, openmp_options, faults = with_spawns(text, words, is_clang, faults + refused)
-    if IS_CPLUSPLUS and not is_clang:
-        import headers
-        text = headers.rewritten(text)
     return text, openmp_options, faults

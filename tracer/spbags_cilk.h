@@ -34,11 +34,13 @@ long __spbags_counter(void);
 /* A reducer's view, of so many bytes, begins; is updated; has its value read or set; or ends. If what another schedule
    would do beside isn't known, the note says so. Between the last two an update accesses what else the view has. */
 void __spbags_reducer(const volatile void *__view, unsigned long __size, const char *__note);
-/* Several one behind another begin, each of so many bytes; they end with the first one. */
+/* Several one behind another begin, each of so many bytes; and all that are in so many bytes end. */
 void __spbags_reducers(const volatile void *__views, unsigned long __size, unsigned long __each, const char *__note);
+void __spbags_reducers_end(const volatile void *__views, unsigned long __size);
 void *__spbags_update(const volatile void *__view, unsigned long __size, const char *__note);
 void *__spbags_value(const volatile void *__view, unsigned long __size, const char *__note);
-void __spbags_reducer_end(const volatile void *__view);
+/* The functions that a reducer gets; nothing calls this. */
+void __spbags_functions(void (*__identity)(void *), void (*__reduce)(void *, void *));
 void __spbags_not_seen(const char *__note);
 void __spbags_hide(void);
 void __spbags_show(void);
@@ -62,9 +64,6 @@ template <class __T> static inline long __spbags_shown(const __T &, long __numbe
 __SPBAGS_SHOWN(int) __SPBAGS_SHOWN(unsigned) __SPBAGS_SHOWN(long) __SPBAGS_SHOWN(unsigned long)
 __SPBAGS_SHOWN(long long) __SPBAGS_SHOWN(unsigned long long) __SPBAGS_SHOWN(short) __SPBAGS_SHOWN(unsigned short)
 #undef __SPBAGS_SHOWN
-
-/* What a reducer gets; nothing calls this. */
-void __spbags_functions(void (*__identity)(void *), void (*__reduce)(void *, void *));
 
 /* A part of the program in which a view that has more memory elsewhere is updated. */
 struct __spbags_hidden {

@@ -14,8 +14,6 @@ struct view {
     uint64_t number;
     /* The mark of the strand that wrote the view last; or that no access has been an update yet. */
     uint32_t wrote;
-    /* How many end with it: itself, and those that stand behind it as the elements of one array. */
-    uint32_t count;
 };
 enum { MOST_VIEWS = 1 << 24, BEGINS = 0 };
 /* By their addresses. */
@@ -116,7 +114,7 @@ static struct view *add_view(uintptr_t first, size_t size, const char *note) {
     while (at < views_count && views[at].first < first + size)
         remove_view(at);
     memmove(views + at + 1, views + at, (views_count - at) * sizeof *views);
-    views[at] = (struct view){.first = first, .end = first + size, .count = 1};
+    views[at] = (struct view){.first = first, .end = first + size};
     views_count++;
     reducers_any = true;
     locations_follow_views();
@@ -146,7 +144,6 @@ static void begin_views(uintptr_t first, size_t size, size_t count, const char *
     leave_jumped(stack_pointer, code);
     for (size_t at = 0; at < count; at++) {
         struct view *view = add_view(first + at * size, size, note);
-        view->count = at == 0 ? (uint32_t)count : 1;
         if (records_views())
             write_view(view, code);
     }
@@ -193,14 +190,13 @@ static void end_view(struct view *view, uintptr_t code) {
     remove_view((size_t)(view - views));
 }
 
-void __spbags_reducer_end(const volatile void *at) {
-    struct view *view = doing.tracing ? view_at((uintptr_t)at) : NULL;
-    if (!view)
+void __spbags_reducers_end(const volatile void *at, unsigned long size) {
+    if (!doing.tracing)
         return;
     leave_jumped(STACK_POINTER, CODE);
-    size_t size = view->end - view->first, count = view->count;
-    for (size_t number = 0; number < count; number++) {
-        view = view_at((uintptr_t)at + number * size);
+    uintptr_t first = (uintptr_t)at;
+    for (size_t next = view_above(first); next < views_count && views[next].first < first + size;) {
+        struct view *view = view_at(views[next].first);
         if (view)
             end_view(view, CODE);
     }

@@ -236,6 +236,20 @@ static void places(void) {
     printf("%d %d %d %d %ld\n", first, others[0], one.inner.n, child, same_names(1));
 }
 
+/* A function inside of another has its variables. */
+static void inner_functions(void) {
+    int cilk_reducer(zero, add) sum = 0;
+    void up(int i) {
+        if (racy && i == 2)
+            kept = sum; /* [value] */
+        else
+            sum += i;
+    }
+    cilk_for (int i = 0; i < 4; i++)
+        up(i);
+    printf("%d\n", sum);
+}
+
 static void structs(void) {
     struct counts cilk_reducer(no_counts, add_counts) counts = {.all = 1};
     cilk_for (int i = 0; i < 4; i++)
@@ -348,6 +362,7 @@ int main(int count, char **words) {
         arrays();
         pointers();
         places();
+        inner_functions();
         older();
         if (racy)
             printf("%d\n", shadowed());

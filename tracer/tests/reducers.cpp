@@ -143,6 +143,25 @@ static void shared() {
     std::printf("%ld %ld %ld %ld\n", one.get(), Shared::of[1] + *at, SharedBy<int>::total, local);
 }
 
+/* A value of a class that is set whole, or has a part updated. */
+struct Point {
+    int x, y;
+    int get() const { return x; }
+};
+static void no_point(void *view) { static_cast<Point *>(view)->x = 0; }
+static void add_point(void *left, void *right) { static_cast<Point *>(left)->x += static_cast<Point *>(right)->x; }
+
+static void classes() {
+    Point cilk_reducer(no_point, add_point) one = {1, 2}, two = {3, 4}, three = {5, 6};
+    both([&](int i) { one.x += i; }, /* [update] */
+         [&] { one = Point{1, 2}; });
+    both([&](int i) { two = Point{two.x + i, 3}; }, /* [update] */
+         [&] { sink = two.get(); });
+    both([&](int i) { three.x += i; }, /* [update] */
+         [&] { new (&three) Point(); });
+    std::printf("%d %d %d %d\n", one.x, two.x, two.y, three.x);
+}
+
 template <class T> void zero_of(void *view) { *static_cast<T *>(view) = 0; }
 template <class T> void plus_of(void *left, void *right) { *static_cast<T *>(left) += *static_cast<T *>(right); }
 template <class T> struct Both {
@@ -251,7 +270,10 @@ static void views() {
         } catch (const std::runtime_error &) {
         }
     }
-    std::printf("%zu\n", all.size());
+    int sum = 0;
+    for (int one : all)
+        sum += one;
+    std::printf("%zu\n%d\n", all.size(), sum);
 }
 
 static void own() {
@@ -274,6 +296,7 @@ int main(int, char **words) {
     opencilk();
     shared();
     places();
+    classes();
     scalars();
     owners();
 }

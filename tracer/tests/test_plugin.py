@@ -13,7 +13,8 @@ TEXT, COPY = os.path.join(TESTS, "text.c"), "text.c"
 # The versions that are tried, what has each one's headers, and where the compiler says that they are.
 VERSIONS, PACKAGE, ASKS, KNOWN = {
     "gcc": (("gcc-11", "gcc-12"), "gcc-{}-plugin-dev", "-print-file-name=plugin", "include/gcc-plugin.h"),
-    "clang": (("clang-14", "clang-16"), "llvm-{}-dev", "-print-resource-dir", "../../../include/llvm/Passes/PassPlugin.h")}[CC]
+    "clang": (("clang-14", "clang-16", "clang-19"), "llvm-{}-dev", "-print-resource-dir",
+              "../../../include/llvm/Passes/PassPlugin.h")}[CC]
 # A compiler that no plugin was built for, without the headers that this takes.
 BARE = f"""#!/bin/sh
 case "$*" in

@@ -13,6 +13,7 @@ PRINTED = """out 7 12 3 4 26 10
 10 15 10 4 10
 21 20 12 20
 10 24 4 4 5
+11 13 3 15
 11 24 f0 7 4 4 1 1 6 4
  and 8
 4 eeeeeeeeeeeeeeeeeeee tbbbbbbbbbbccccccccccddddddddddeeeeeeeeee
@@ -50,7 +51,7 @@ class CTest(ReducersTest):
 
     def test_races(self):
         with self.subTest("clean"):
-            self.says(["6 8 4 3 4", "6", "6 4 4 -4", "2 4 13 2", "12 7", "7 -4 7 4 10", "6 3", "12 2 3 2"],
+            self.says(["6 8 4 3 4", "6", "6 4 4 -4", "2 4 13 2", "12 7", "7 -4 7 4 10", "6", "6 3", "12 2 3 2"],
                       "--", "./reducers", "clean")
         with self.subTest("racy"):
             self.assertEqual(sorted(self.racy_lines()), self.lines(C, "./reducers", "racy"))
@@ -109,7 +110,7 @@ class CPlusPlusTest(ReducersTest):
         with self.subTest("views with more memory elsewhere"):
             said = self.reports(3, "what join does for the reducer all in another schedule", "--unseen-ok", "std*", "--",
                                 "./reducers", "views")
-            self.assertIn("16", said.splitlines())
+            self.assertLess({"16", "24"}, set(said.splitlines()))
 
 
 if __name__ == "__main__":

@@ -17,7 +17,7 @@ template <class T> class opadd_reducer {
 public:
     opadd_reducer(const T &value = T()) : __spbags_view(value) { __spbags_reducer(&__spbags_view, sizeof(T), 0); }
     opadd_reducer(const opadd_reducer &) = delete;
-    ~opadd_reducer() { __spbags_reducer_end(&__spbags_view); }
+    ~opadd_reducer() { __spbags_reducers_end(&__spbags_view, sizeof __spbags_view); }
     operator T() const { return value(); }
     opadd_reducer &operator=(const T &other) { return (value() = other, *this); }
     opadd_reducer &operator=(const opadd_reducer &other) { return *this = static_cast<T>(other); }

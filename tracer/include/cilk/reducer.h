@@ -117,7 +117,7 @@ public:
     reducer(const reducer &) = delete;
     reducer &operator=(const reducer &) = delete;
     ~reducer() {
-        __spbags_reducer_end(__spbags_view);
+        __spbags_reducers_end(__spbags_view, sizeof __spbags_view);
         monoid_.destroy(at());
     }
 

@@ -6,7 +6,9 @@
 #include <cstdlib>
 #include <fstream>
 #include <initializer_list>
+#include <iterator>
 #include <map>
+#include <set>
 #include <string>
 #include <utility>
 #include <vector>
@@ -37,6 +39,7 @@
 #include "fold-const.h"
 #include "function.h"
 #include "gimple-iterator.h"
+#include "gimple-walk.h"
 #include "gimplify-me.h"
 #include "gimplify.h"
 #include "internal-fn.h"

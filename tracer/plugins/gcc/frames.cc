@@ -2,8 +2,24 @@
 
 #include "checks.h"
 
+/* Of a header of the C++ library, and not made by the compiler itself. */
+static bool is_of_library(tree function) {
+    const char *file = DECL_SOURCE_FILE(function);
+    return !DECL_ARTIFICIAL(function) && DECL_IN_SYSTEM_HEADER(function) && file && strstr(file, "/include/") &&
+           strstr(file, "/c++/");
+}
+
+/* As the attribute optimize("inline") does: such functions go into each other. None of them spawns. */
+static void allow_inlining(tree function) {
+    if (is_of_library(function) && optimize && !DECL_FUNCTION_SPECIFIC_OPTIMIZATION(function)) {
+        tree option = build_tree_list(NULL_TREE, build_string(strlen("inline"), "inline"));
+        decl_attributes(&function, build_tree_list(get_identifier("optimize"), option), 0);
+    }
+}
+
 /* As gcc itself does for -fsanitize=thread: so the mark is known to all that deals with the code. */
 void frames_mark(function *fun) {
+    allow_inlining(fun->decl);
     gcall *mark = gimple_build_call_internal(IFN_TSAN_FUNC_EXIT, 0);
     gimple *whole = gimple_build_try(gimple_body(fun->decl), mark, GIMPLE_TRY_FINALLY);
     gimple_seq sequence = nullptr;

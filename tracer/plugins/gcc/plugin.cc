@@ -1,11 +1,10 @@
-/* A plugin of gcc that puts the tracer's hooks into the code of a program: beside each load and store of its text, and at
-   each function's entry and exit. gcc loads it by -fplugin, and -fplugin-arg-spbags-checks=FILE names the
+/* A plugin of gcc that puts the tracer's hooks into the code of a program: beside each load and store of its text, and
+   at each function's entry and exit. gcc loads it by -fplugin, and -fplugin-arg-spbags-checks=FILE names the
    assembler's macros of the tests that stand inline; without these hooks are called.
 
-   While a source is read reducers.h puts the hooks of reducers into it. Then each function goes through passes: frames.h
-   marks the ways out; accesses.h puts the hooks of accesses before any optimization; checks.h drops those of what turns
-   out to be the function's alone; at last ranges.h makes one of those of a loop, and checks.h puts tests in place of
-   calls. */
+   Each function goes through passes: reducers.h puts the hooks of reducers there; frames.h marks the ways out;
+   accesses.h puts the hooks of accesses before any optimization; checks.h drops those of what turns out to be the
+   function's alone; at last ranges.h makes one of those of a loop, and checks.h puts tests in place of calls. */
 #include "accesses.h"
 #include "checks.h"
 #include "frames.h"
@@ -21,13 +20,17 @@ static bool is_traced(function *fun) {
            !lookup_attribute("naked", DECL_ATTRIBUTES(fun->decl)) && !fun->is_thunk;
 }
 
+static unsigned put_reducers(function *fun) {
+    reducers_put(fun);
+    return 0;
+}
+
 static unsigned mark_frames(function *fun) {
     frames_mark(fun);
     return 0;
 }
 
 static unsigned put_accesses(function *fun) {
-    reducers_drop_notes(fun);
     accesses all(fun);
     all.find();
     all.put();
@@ -63,6 +66,7 @@ struct place {
     enum { ALWAYS, OPTIMIZING, NOT_OPTIMIZING } when;
 };
 static const place places[] = {
+    {"spbags_reducers", "omplower", PASS_POS_INSERT_BEFORE, 1, PROP_gimple_any, put_reducers, place::ALWAYS},
     {"spbags_frames", "lower", PASS_POS_INSERT_BEFORE, 1, PROP_gimple_any, mark_frames, place::ALWAYS},
     /* Behind the compiler's early warnings, which hooks would mislead. */
     {"spbags_accesses", "nothrow", PASS_POS_INSERT_BEFORE, 1, PROP_ssa | PROP_cfg, put_accesses, place::ALWAYS},

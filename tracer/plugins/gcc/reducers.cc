@@ -1,242 +1,421 @@
 #include "reducers.h"
 
-#include "reduce_functions.h"
-#include "reducer_types.h"
-#include "reducer_uses.h"
+/* What is done to a view: its value is read, or set; or it is updated. */
+enum usage { READS, SETS, UPDATES };
 
-/* ---- What hooks get ---- */
+/* The uses on which something depends, by their numbers. */
+typedef std::set<size_t> numbers;
 
-/* What another schedule would do, and this run doesn't. */
-static tree note_of(tree named, tree type, tree attribute) {
-    tree decl = reducer_types_declaration(named);
-    std::string text = text_of_place(DECL_P(decl) ? DECL_SOURCE_LOCATION(decl) : input_location) + ": what " +
-                       reduce_functions_name(TREE_VALUE(attribute)) + " does for the reducer " +
-                       reducer_types_name(named) + " in another schedule isn't run";
-    if (reducer_types_has_pointers(type))
-        text += ", nor is it seen what updates of the reducer access inside of functions";
-    else
-        reduce_functions_note(text, TREE_VALUE(attribute));
-    return literal_of(text);
+static bool is_temporary(tree value) {
+    return TREE_CODE(value) == SSA_NAME || (VAR_P(value) && DECL_ARTIFICIAL(value) && !is_global_var(value));
 }
 
-static tree size_of(tree type) { return fold_convert(long_unsigned_type_node, TYPE_SIZE_UNIT(type)); }
-
-static tree view_address(tree named) {
-    if (TREE_CODE(named) == INDIRECT_REF)
-        return TREE_OPERAND(named, 0);
-    if (tree base = get_base_address(named); base && DECL_P(base))
-        TREE_ADDRESSABLE(base) = 1;
-    return build1(ADDR_EXPR, build_pointer_type(TREE_TYPE(named)), named);
+/* Whether its name begins so. */
+static bool is_named(tree decl, const char *beginning) {
+    return decl && DECL_P(decl) && DECL_NAME(decl) && begins_with(IDENTIFIER_POINTER(DECL_NAME(decl)), beginning);
 }
 
-/* ---- What stands in place of uses ---- */
+/* ---- Hooks ---- */
 
-static bool is_same(const use &one, const use &other) { return operand_equal_p(*one.at, *other.at, 0); }
+/* A block with a call of a hook, which is its last statement. */
+static gbind *block_of(tree expression, location_t location) {
+    gimple_seq made = nullptr;
+    push_gimplify_context();
+    gimplify_and_add(expression, &made);
+    for (gimple_stmt_iterator at = gsi_start(made); !gsi_end_p(at); gsi_next(&at))
+        gimple_set_location(gsi_stmt(at), location);
+    gbind *block = gimple_build_bind(NULL_TREE, made, NULL_TREE);
+    pop_gimplify_context(block);
+    return block;
+}
 
-/* What sets a value that is named in the same expression, or in the condition before, updates the view. */
-static void decide(uses &all, uses &guard) {
-    for (use &one : all) {
-        bool changes = false, sets = false, is_guarded = false;
-        unsigned count = 0;
-        for (const use &other : all)
-            if (is_same(one, other)) {
-                changes |= other.made != READS && other.made != SETS;
-                sets |= other.made == SETS;
-                count++;
-            }
-        for (use &before : guard)
-            if (is_same(one, before)) {
-                is_guarded = true;
-                before.made = one.made != READS ? UPDATES : before.made;
-            }
-        one.updates = changes || (sets && (count > 1 || is_guarded));
-        if (one.assigned && !operand_equal_p(*one.assigned, *one.at, 0))
-            one.assigned = nullptr;
+static void put_before(gimple_stmt_iterator *at, tree hook) {
+    gsi_insert_before(at, block_of(hook, gimple_location(gsi_stmt(*at))), GSI_SAME_STMT);
+}
+
+/* What the function does isn't recorded, since views have more memory elsewhere. */
+static void hide(gimple_stmt_iterator *at) {
+    gimple *call = gimple_copy(gsi_stmt(*at));
+    if (tree result = gimple_get_lhs(call); result && TREE_CODE(result) == SSA_NAME)
+        SSA_NAME_DEF_STMT(result) = call;
+    put_before(at, hook_expression("__spbags_hide", void_type_node, {}));
+    gbind *shows = block_of(hook_expression("__spbags_show", void_type_node, {}), gimple_location(call));
+    gsi_replace(at, gimple_build_try(call, shows, GIMPLE_TRY_FINALLY), false);
+}
+
+static tree size_of(tree type) { return fold_convert(long_unsigned_type_node, unshare_expr(TYPE_SIZE_UNIT(type))); }
+
+static void put_around(gbind *block, tree decl, tree attribute) {
+    location_t location = DECL_SOURCE_LOCATION(decl);
+    tree named = DECL_HAS_VALUE_EXPR_P(decl) ? DECL_VALUE_EXPR(decl) : decl, type = TREE_TYPE(decl);
+    tree address = build_fold_addr_expr(unshare_expr(named)), size = size_of(type), each = strip_array_types(type);
+    tree note = reducer_types_note(decl, each, attribute);
+    tree begin = hook_expression("__spbags_reducers", void_type_node, {address, size, size_of(each), note});
+    tree end = hook_expression("__spbags_reducers_end", void_type_node, {address, size});
+    /* One whose memory isn't there yet begins with its first use. */
+    gimple_seq body = named == decl ? block_of(begin, location) : nullptr;
+    gimple *whole = gimple_build_try(gimple_bind_body(block), block_of(end, location), GIMPLE_TRY_FINALLY);
+    gimple_seq_add_stmt(&body, whole);
+    gimple_bind_set_body(block, body);
+}
+
+/* The variables of a block that are reducers begin and end with it. */
+static void put_around(gbind *block) {
+    for (tree decl = gimple_bind_vars(block); decl; decl = DECL_CHAIN(decl))
+        if (VAR_P(decl) && !is_global_var(decl))
+            if (tree attribute = reducer_types_attribute(decl))
+                put_around(block, decl, attribute);
+}
+
+/* ---- Uses ---- */
+
+static tree add_temporary(tree *at, int *, void *found) {
+    if (is_temporary(*at))
+        static_cast<std::set<tree> *>(found)->insert(*at);
+    return NULL_TREE;
+}
+
+static std::set<tree> temporaries_of(gimple *statement) {
+    std::set<tree> found;
+    for (unsigned number = 0; number < gimple_num_ops(statement); number++)
+        walk_tree(gimple_op_ptr(statement, number), add_temporary, &found, nullptr);
+    return found;
+}
+
+/* All uses of a function, in the order of its text. What is computed of a view's value and sets it, or depends on a
+   condition with that value, updates the view; so does who gets its address. */
+class reducer_uses {
+  public:
+    /* The temporary variables whose values are used. */
+    std::set<tree> used;
+
+    /* Sees a statement, and tells whether its inner ones needn't be. */
+    bool see(gimple_stmt_iterator *at) {
+        gimple *statement = gsi_stmt(*at);
+        bool is_call = is_gimple_call(statement);
+        if (gbind *block = dyn_cast<gbind *>(statement))
+            put_around(block);
+        else if (glabel *named = dyn_cast<glabel *>(statement))
+            label(gimple_label_label(named));
+        else if (gcond *whole = dyn_cast<gcond *>(statement))
+            condition(whole);
+        else if (is_call)
+            call(at);
+        else if (is_gimple_assign(statement) && !gimple_clobber_p(statement))
+            assignment(at);
+        else if (gimple_code(statement) == GIMPLE_ASM)
+            assembly(at);
+        else if (greturn *returns = dyn_cast<greturn *>(statement); returns && gimple_return_retval(returns))
+            keep(at, gimple_return_retval(returns), DECL_RESULT(cfun->decl), depends_on(returns));
+        last = statement;
+        return is_call;
     }
-}
 
-static tree viewed_type(const use &one) {
-    tree type = TREE_TYPE(*one.at);
-    return reducer_types_attribute(*one.at) ? type : TREE_TYPE(type);
-}
-
-static void put(const use &one) {
-    if (one.assigned) {
-        tree &view = TREE_OPERAND(*one.assigned, 0);
-        view = save_expr(view);
-        *one.at = build1(INDIRECT_REF, TREE_TYPE(*one.assigned), view);
-        return;
-    }
-    tree named = tree_strip_any_location_wrapper(*one.at), attribute = reducer_types_attribute(named),
-         with = viewed_type(one);
-    tree address = attribute ? view_address(named) : named;
-    tree type = build_qualified_type(TYPE_MAIN_VARIANT(with), TYPE_QUALS(with));
-    tree note = note_of(named, with, attribute ? attribute : reducer_types_of(with));
-    tree view = hook_expression(one.updates ? "__spbags_update" : "__spbags_value", ptr_type_node,
-                                {address, size_of(type), note});
-    if (one.made == KEEPS) {
-        std::string text = text_of_place(one.location) + ": what is done by this address of the reducer " +
-                           reducer_types_name(named) + " counts as an update";
-        tree told = hook_expression("__spbags_not_seen", void_type_node, {literal_of(text)});
-        view = build2(COMPOUND_EXPR, ptr_type_node, told, view);
-    }
-    if (!attribute) {
-        *one.at = build1(NOP_EXPR, TREE_TYPE(named), view);
-        return;
-    }
-    *one.at = build1_loc(one.location, INDIRECT_REF, type, build1(NOP_EXPR, build_pointer_type(type), view));
-    TREE_THIS_VOLATILE(*one.at) = TYPE_VOLATILE(type);
-}
-
-static void put(uses &all, uses *guard = nullptr) {
-    uses none;
-    decide(all, guard ? *guard : none);
-    for (const use &one : all)
-        put(one);
-}
-
-/* The call that is the whole statement. */
-static tree outer_call_of(tree whole) {
-    while (CONVERT_EXPR_P(whole) || TREE_CODE(whole) == NON_LVALUE_EXPR || TREE_CODE(whole) == INDIRECT_REF)
-        whole = TREE_OPERAND(whole, 0);
-    tree made = TREE_CODE(whole) == TARGET_EXPR ? TARGET_EXPR_INITIAL(whole) : whole;
-    return made && (TREE_CODE(made) == CALL_EXPR || TREE_CODE(made) == AGGR_INIT_EXPR) ? made : NULL_TREE;
-}
-
-/* What the function does isn't recorded, but what its arguments do is: they come before. */
-static void hide(tree *at, tree call) {
-    tree list = NULL_TREE;
-    for (int number = 3; number < TREE_OPERAND_LENGTH(call); number++) {
-        tree *argument = &TREE_OPERAND(call, number);
-        if (!TREE_ADDRESSABLE(TREE_TYPE(*argument))) {
-            *argument = save_expr(*argument);
-            append_to_statement_list(*argument, &list);
+    /* The view that is what is named here, or holds it; or null. */
+    tree view_of(tree named) const {
+        while (!reducer_types_attribute(named)) {
+            tree pointer = TREE_CODE(named) == MEM_REF ? origin(TREE_OPERAND(named, 0)) : NULL_TREE;
+            if (!handled_component_p(named) && !(pointer && TREE_CODE(pointer) == ADDR_EXPR))
+                return NULL_TREE;
+            named = TREE_OPERAND(pointer ? pointer : named, 0);
         }
+        return named;
     }
-    tree called = build1(CLEANUP_POINT_EXPR, void_type_node, build1(CONVERT_EXPR, void_type_node, *at));
-    tree show = hook_expression("__spbags_show", void_type_node, {});
-    append_to_statement_list(hook_expression("__spbags_hide", void_type_node, {}), &list);
-    append_to_statement_list(build2(TRY_FINALLY_EXPR, void_type_node, called, show), &list);
-    *at = list;
-}
 
-/* An expression that is a statement, or a condition. */
-void reducer_uses::region(tree *at, uses *guard, bool is_condition) {
-    uses all;
-    /* The value of a statement may be that of an expression around it. */
-    bool has_value = is_condition || !EXPR_P(*at) || (lang_GNU_CXX() && !VOID_TYPE_P(TREE_TYPE(*at)));
-    tree call = has_value ? NULL_TREE : outer_call_of(*at);
-    collect(at, NULL_TREE, &all, call);
-    bool hides = false;
-    for (const use &one : all)
-        hides |= call && one.call == call && one.made == HANDS && reducer_types_has_pointers(viewed_type(one));
-    put(all, guard);
-    if (hides)
-        hide(at, call);
-}
+  private:
+    /* The view, the hook before the statement that uses it, and the hook's function for an update. */
+    struct use {
+        tree view;
+        gcall *hook;
+        tree update;
+    };
+    std::vector<use> all;
+    /* What sets a temporary variable, and on what its value depends. */
+    std::map<tree, gimple *> made_by;
+    std::map<tree, numbers> flows;
+    /* A condition guards what stands before these labels. */
+    struct guard {
+        std::set<tree> labels;
+        numbers depends;
+    };
+    std::vector<guard> guards;
+    std::set<tree> passed;
+    gimple *last = nullptr;
+    /* The last value that is built in parts: where, and on what it depends. */
+    location_t built_at = UNKNOWN_LOCATION;
+    numbers built;
 
-void reducer_uses::branches(tree whole) {
-    uses all;
-    collect(&TREE_OPERAND(whole, 0), NULL_TREE, &all);
-    statement(&TREE_OPERAND(whole, 1), &all);
-    statement(&TREE_OPERAND(whole, 2));
-    put(all);
-}
-
-/* A variable with its value. One that is a reducer begins behind. */
-void reducer_uses::declaration(tree *at) {
-    tree decl = DECL_EXPR_DECL(*at);
-    if (!VAR_P(decl) || TREE_STATIC(decl) || DECL_EXTERNAL(decl))
-        return;
-    location = DECL_SOURCE_LOCATION(decl);
-    if (DECL_INITIAL(decl)) {
-        uses all;
-        collect(&DECL_INITIAL(decl), TREE_TYPE(decl), &all);
-        /* It may be an argument of a child. */
-        for (use &one : all)
-            if (one.made == KEEPS && reducer_uses_is_own(decl))
-                one.made = HANDS;
-        put(all);
+    /* What a temporary variable gets, or the value itself. */
+    tree origin(tree value) const {
+        auto found = made_by.find(value);
+        return found != made_by.end() && is_gimple_assign(found->second) ? gimple_assign_rhs1(found->second) : value;
     }
-    if (tree attribute = reducer_types_attribute(decl)) {
-        tree each = reducer_types_element(TREE_TYPE(decl)), list = NULL_TREE;
-        append_to_statement_list_force(*at, &list);
-        append_to_statement_list(hook_expression("__spbags_reducers", void_type_node,
-                                                 {view_address(decl), size_of(TREE_TYPE(decl)), size_of(each),
-                                                  note_of(decl, each, attribute)}),
-                                 &list);
-        *at = list;
+
+    /* The view whose address this is, or null. */
+    tree view_pointed(tree value) const {
+        tree from = origin(value), type = TREE_TYPE(reducer_types_is_pointer(TREE_TYPE(value)) ? value : from);
+        if (TREE_CODE(from) == ADDR_EXPR)
+            return view_of(TREE_OPERAND(from, 0));
+        return reducer_types_is_pointer(type) ? build2(MEM_REF, TREE_TYPE(type), value, build_zero_cst(type))
+                                              : NULL_TREE;
     }
+
+    tree declaration(tree view) const {
+        while (TREE_CODE(view) != COMPONENT_REF && (EXPR_P(view) || origin(view) != view))
+            view = EXPR_P(view) ? TREE_OPERAND(view, 0) : origin(view);
+        view = TREE_CODE(view) == COMPONENT_REF ? TREE_OPERAND(view, 1) : view;
+        return TREE_CODE(view) == SSA_NAME && SSA_NAME_VAR(view) ? SSA_NAME_VAR(view) : view;
+    }
+
+    /* Whether both name the same, of which parts may have been computed twice. */
+    bool is_same(tree one, tree other) const {
+        if (one == other || !one || !other)
+            return one == other;
+        auto first = made_by.find(one), second = made_by.find(other);
+        if (first != made_by.end() && second != made_by.end()) {
+            gimple *made = first->second, *again = second->second;
+            bool is_like = is_gimple_assign(made) && is_gimple_assign(again) &&
+                           gimple_num_ops(made) == gimple_num_ops(again) &&
+                           gimple_assign_rhs_code(made) == gimple_assign_rhs_code(again);
+            for (unsigned number = 1; is_like && number < gimple_num_ops(made); number++)
+                is_like = is_same(gimple_op(made, number), gimple_op(again, number));
+            return is_like;
+        }
+        if (TREE_CODE(one) != TREE_CODE(other) || !EXPR_P(one))
+            return CONSTANT_CLASS_P(one) && operand_equal_p(one, other, 0);
+        for (int number = 0; number < TREE_OPERAND_LENGTH(one); number++)
+            if (!is_same(TREE_OPERAND(one, number), TREE_OPERAND(other, number)))
+                return false;
+        return true;
+    }
+
+    numbers depends_on(gimple *statement) {
+        numbers found;
+        for (tree one : temporaries_of(statement))
+            if (one != gimple_get_lhs(statement))
+                found.insert(flows[one].begin(), flows[one].end());
+        for (const guard &around : guards)
+            found.insert(around.depends.begin(), around.depends.end());
+        return found;
+    }
+
+    /* The end of what a condition guards, but that a jump around an `else` goes on to that one's end. */
+    void label(tree name) {
+        passed.insert(name);
+        for (guard &around : guards) {
+            around.labels.erase(name);
+            if (around.labels.empty() && last && gimple_code(last) == GIMPLE_GOTO &&
+                gimple_do_not_emit_location_p(last))
+                around.labels.insert(gimple_goto_dest(last));
+        }
+        guards.erase(std::remove_if(guards.begin(), guards.end(), [](const guard &one) { return one.labels.empty(); }),
+                     guards.end());
+    }
+
+    /* That of a loop guards nothing. */
+    void condition(gcond *whole) {
+        tree labels[] = {gimple_cond_true_label(whole), gimple_cond_false_label(whole)};
+        numbers depends = depends_on(whole);
+        if (!depends.empty() && !passed.count(labels[0]) && !passed.count(labels[1]))
+            guards.push_back({{labels[0], labels[1]}, depends});
+    }
+
+    void update(size_t number) { gimple_call_set_fn(all[number].hook, all[number].update); }
+
+    /* Its number. */
+    size_t add(gimple_stmt_iterator *at, tree view, usage made, const numbers &depends) {
+        location_t location = gimple_location(gsi_stmt(*at));
+        tree type = TREE_TYPE(view), decl = declaration(view);
+        std::string name = reducer_types_name(decl);
+        if (TREE_CODE(type) == ARRAY_TYPE)
+            error_at(location, "this cannot be traced: name one element of the reducers %s", name.c_str());
+        else if (TREE_CODE(view) == COMPONENT_REF && DECL_BIT_FIELD_TYPE(decl))
+            error_at(location, "the reducer %s cannot be traced: it is a bit field", name.c_str());
+        numbers same;
+        std::copy_if(depends.begin(), depends.end(), std::inserter(same, same.end()),
+                     [&](size_t number) { return is_same(all[number].view, view); });
+        tree address = build_fold_addr_expr(unshare_expr(view)), size = size_of(type),
+             note = reducer_types_note(decl, type, reducer_types_attribute(view)),
+             value = hook_expression("__spbags_value", ptr_type_node, {address, size, note}),
+             changed = hook_expression("__spbags_update", ptr_type_node, {address, size, note});
+        put_before(at, made == UPDATES || (made == SETS && !same.empty()) ? changed : value);
+        gimple_stmt_iterator before = *at;
+        gsi_prev(&before);
+        gimple_seq block = gimple_bind_body(as_a<gbind *>(gsi_stmt(before)));
+        all.push_back({view, as_a<gcall *>(gimple_seq_last_stmt(block)), CALL_EXPR_FN(changed)});
+        if (made != READS)
+            std::for_each(same.begin(), same.end(), [&](size_t number) { update(number); });
+        return all.size() - 1;
+    }
+
+    /* An address that is put where it isn't known for that of a reducer. It may be an argument of a child. */
+    void keep(gimple_stmt_iterator *at, tree value, tree to, const numbers &depends) {
+        tree view = reducer_types_is_pointer(TREE_TYPE(to)) ? NULL_TREE : view_pointed(value);
+        if (!view)
+            return;
+        add(at, view, UPDATES, depends);
+        if (is_named(to, "__spbags_"))
+            return;
+        std::string text = text_of_place(gimple_location(gsi_stmt(*at))) +
+                           ": what is done by this address of the reducer " + reducer_types_name(declaration(view)) +
+                           " counts as an update";
+        put_before(at, hook_expression("__spbags_not_seen", void_type_node, {literal_of(text)}));
+    }
+
+    void store(gimple_stmt_iterator *at, tree to, const numbers &depends) {
+        tree view = view_of(to), base = get_base_address(to);
+        /* What no text names is a part of a value that is built in its place. */
+        bool is_built = !EXPR_HAS_LOCATION(to);
+        if (!is_built || built_at != gimple_location(gsi_stmt(*at)))
+            built.clear();
+        built_at = gimple_location(gsi_stmt(*at));
+        built.insert(depends.begin(), depends.end());
+        /* A whole array is only begun. */
+        if (view && TREE_CODE(TREE_TYPE(view)) != ARRAY_TYPE)
+            add(at, view, view == to || is_built ? SETS : UPDATES, built);
+        /* Where a view points to. */
+        if (!view && base && TREE_CODE(base) == MEM_REF)
+            for (size_t number : flows[TREE_OPERAND(base, 0)])
+                if (POINTER_TYPE_P(TREE_TYPE(all[number].view)))
+                    update(number);
+    }
+
+    void assignment(gimple_stmt_iterator *at) {
+        gimple *statement = gsi_stmt(*at);
+        tree to = gimple_assign_lhs(statement), from = gimple_assign_rhs1(statement);
+        numbers depends = depends_on(statement);
+        if (tree view = gimple_assign_single_p(statement) ? view_of(from) : NULL_TREE)
+            depends.insert(add(at, view, READS, depends));
+        store(at, to, depends);
+        /* What a conditional expression gives is set twice. */
+        bool is_either = is_named(to, "iftmp");
+        if (is_temporary(to) && !is_either) {
+            made_by[to] = statement;
+            flows[to].clear();
+        } else if (gimple_num_ops(statement) == 2 || gimple_assign_rhs_code(statement) == POINTER_PLUS_EXPR) {
+            keep(at, from, to, depends);
+        }
+        if (is_temporary(to))
+            flows[to].insert(depends.begin(), depends.end());
+    }
+
+    /* What stands in memory is read or set. */
+    void assembly(gimple_stmt_iterator *at) {
+        for (unsigned number = 0; number < gimple_num_ops(gsi_stmt(*at)); number++)
+            if (tree operand = gimple_op(gsi_stmt(*at), number); TREE_CODE(operand) == TREE_LIST)
+                if (tree view = view_of(TREE_VALUE(operand)))
+                    add(at, view, READS, {});
+    }
+
+    /* How an argument's address is used. */
+    usage handed(gcall *call, unsigned number, tree parameter) const {
+        tree type = gimple_call_fntype(call);
+        if (type && TREE_CODE(type) == METHOD_TYPE && number == 0)
+            return has_use(gimple_call_lhs(call)) ? READS : UPDATES;
+        /* An object is built there. */
+        if (is_named(gimple_call_fndecl(call), "operator new"))
+            return SETS;
+        bool is_constant = parameter && TREE_CODE(parameter) == REFERENCE_TYPE && TYPE_READONLY(TREE_TYPE(parameter));
+        return is_constant ? READS : UPDATES;
+    }
+
+    bool has_use(tree result) const { return result && (!is_temporary(result) || used.count(result)); }
+
+    /* What is done to the arguments; whether the function may access what else views have. */
+    bool arguments(gimple_stmt_iterator *at, gcall *call, numbers *depends) {
+        tree callee = gimple_call_fndecl(call), type = gimple_call_fntype(call);
+        tree parameters = type ? TYPE_ARG_TYPES(type) : NULL_TREE;
+        bool begins = callee && (DECL_CXX_CONSTRUCTOR_P(callee) || DECL_CXX_DESTRUCTOR_P(callee)), reaches = false;
+        for (unsigned number = 0; number < gimple_call_num_args(call); number++) {
+            tree argument = gimple_call_arg(call, number), parameter = parameters ? TREE_VALUE(parameters) : NULL_TREE;
+            parameters = parameters ? TREE_CHAIN(parameters) : NULL_TREE;
+            tree value = view_of(argument), view = value ? value : view_pointed(argument);
+            if (!view || (begins && number == 0) || (parameter && reducer_types_is_pointer(parameter)))
+                continue;
+            usage made = value ? READS : handed(call, number, parameter);
+            depends->insert(add(at, view, made, *depends));
+            reaches |= made == UPDATES && reducer_types_has_pointers(TREE_TYPE(view));
+        }
+        return reaches;
+    }
+
+    void call(gimple_stmt_iterator *at) {
+        gcall *call = as_a<gcall *>(gsi_stmt(*at));
+        numbers depends = depends_on(call);
+        tree callee = gimple_call_fndecl(call);
+        bool is_use = !is_named(callee, "__spbags_") && !is_named(callee, "operator delete");
+        bool reaches = is_use && arguments(at, call, &depends);
+        tree result = gimple_call_lhs(call);
+        if (result) {
+            store(at, result, depends);
+            made_by[result] = call;
+            flows[result].clear();
+        }
+        /* What it gives, and what it may set. */
+        for (tree one : temporaries_of(call))
+            if (one == result || !is_gimple_reg(one))
+                flows[one].insert(depends.begin(), depends.end());
+        if (reaches && !has_use(result))
+            hide(at);
+    }
+};
+
+static tree see_statement(gimple_stmt_iterator *at, bool *is_done, walk_stmt_info *info) {
+    *is_done = static_cast<reducer_uses *>(info->info)->see(at);
+    return NULL_TREE;
 }
 
-/* Uses in the condition before it are the guard. */
-void reducer_uses::statement(tree *at, uses *guard) {
-    tree whole = *at;
-    if (!whole ||
-        !(EXPR_P(whole) || DECL_P(whole) || TREE_CODE(whole) == STATEMENT_LIST || TREE_CODE(whole) == TREE_LIST))
-        return;
-    tree_code code = TREE_CODE(whole);
-    bool is_cycle =
-        code == FOR_STMT || code == WHILE_STMT || code == DO_STMT || code == SWITCH_STMT || code == SWITCH_EXPR;
-    if (code == STATEMENT_LIST) {
-        for (tree_stmt_iterator each = tsi_start(whole); !tsi_end_p(each); tsi_next(&each))
-            statement(tsi_stmt_ptr(each), guard);
-    } else if (code == BIND_EXPR) {
-        statement(&BIND_EXPR_BODY(whole), guard);
-    } else if (code == DECL_EXPR) {
-        declaration(at);
-    } else if (code == IF_STMT || (code == COND_EXPR && VOID_TYPE_P(TREE_TYPE(whole)))) {
-        branches(whole);
-    } else if (TREE_CODE_CLASS(code) == tcc_statement || code == EXPR_STMT || code == CLEANUP_POINT_EXPR) {
-        for (int number = 0; number < TREE_OPERAND_LENGTH(whole); number++)
-            if (is_cycle && number == (code == FOR_STMT))
-                region(&TREE_OPERAND(whole, number), nullptr, true);
-            else
-                statement(&TREE_OPERAND(whole, number), is_cycle ? nullptr : guard);
-    } else {
-        region(at, guard, false);
-    }
+static tree note_used(tree *at, int *, void *data) {
+    walk_stmt_info *info = static_cast<walk_stmt_info *>(data);
+    if (is_temporary(*at) && *at != gimple_get_lhs(gsi_stmt(info->gsi)))
+        static_cast<reducer_uses *>(info->info)->used.insert(*at);
+    return NULL_TREE;
 }
 
-/* ---- When the compiler has read something ---- */
+/* What ends a variable is no use of its value. */
+static tree skip_end(gimple_stmt_iterator *at, bool *is_done, walk_stmt_info *) {
+    gimple *statement = gsi_stmt(*at);
+    tree callee = is_gimple_call(statement) ? gimple_call_fndecl(statement) : NULL_TREE;
+    *is_done = gimple_clobber_p(statement) || (callee && DECL_CXX_DESTRUCTOR_P(callee));
+    return NULL_TREE;
+}
 
-static void read_function(void *given, void *) {
-    tree function = static_cast<tree>(given);
+void reducers_put(function *fun) {
     if (!reducer_types_any)
         return;
-    reduce_functions_see(function);
-    reducer_uses().statement(&DECL_SAVED_TREE(function));
+    reducer_uses all;
+    walk_stmt_info info;
+    memset(&info, 0, sizeof info);
+    info.info = &all;
+    gimple_seq body = gimple_body(fun->decl);
+    walk_gimple_seq(body, skip_end, note_used, &info);
+    walk_gimple_seq_mod(&body, see_statement, nullptr, &info);
+    gimple_set_body(fun->decl, body);
 }
 
-/* A constant may have the address of a reducer only where that is known as one. */
-static void read_declaration(void *given, void *) {
-    tree decl = static_cast<tree>(given);
-    if (!reducer_types_any || !VAR_P(decl) || !TREE_STATIC(decl) || !DECL_INITIAL(decl))
-        return;
-    uses all;
-    reducer_uses().collect(&DECL_INITIAL(decl), TREE_TYPE(decl), &all);
-    for (const use &one : all)
-        error_at(DECL_SOURCE_LOCATION(decl), "the address of the reducer %s cannot be traced in a constant",
-                 reducer_types_name(*one.at).c_str());
+/* ---- Constants ---- */
+
+/* One may have the address of a reducer only where that is known as one. */
+static void check_constant(tree value, tree type, location_t location) {
+    for (unsigned number = 0; TREE_CODE(value) == CONSTRUCTOR && number < CONSTRUCTOR_NELTS(value); number++) {
+        constructor_elt *each = CONSTRUCTOR_ELT(value, number);
+        bool is_member = each->index && TREE_CODE(each->index) == FIELD_DECL;
+        check_constant(each->value, TREE_TYPE(is_member ? each->index : TREE_TYPE(value)), location);
+    }
+    while (CONVERT_EXPR_P(value) || TREE_CODE(value) == POINTER_PLUS_EXPR)
+        value = TREE_OPERAND(value, 0);
+    bool is_address = TREE_CODE(value) == ADDR_EXPR && reducer_uses().view_of(TREE_OPERAND(value, 0));
+    if (is_address && !reducer_types_is_pointer(type))
+        error_at(location, "the address of a reducer cannot be traced in a constant");
+}
+
+static void check_constants(void *, void *) {
+    for (varpool_node *node = symtab->first_variable(); node && reducer_types_any; node = symtab->next_variable(node))
+        if (tree value = DECL_INITIAL(node->decl))
+            check_constant(value, TREE_TYPE(node->decl), DECL_SOURCE_LOCATION(node->decl));
 }
 
 void reducers_begin(const char *plugin) {
     reducer_types_begin(plugin);
-    register_callback(plugin, PLUGIN_PRE_GENERICIZE, read_function, nullptr);
-    register_callback(plugin, PLUGIN_FINISH_DECL, read_declaration, nullptr);
-}
-
-void reducers_drop_notes(function *fun) {
-    if (!reducer_types_any)
-        return;
-    basic_block block;
-    FOR_EACH_BB_FN (block, fun)
-        for (gimple_stmt_iterator at = gsi_start_bb(block); !gsi_end_p(at); gsi_next(&at)) {
-            gcall *call = dyn_cast<gcall *>(gsi_stmt(at));
-            unsigned count = call ? gimple_call_num_args(call) : 0;
-            tree note = count > 0 ? gimple_call_arg(call, count - 1) : NULL_TREE;
-            tree text = note && TREE_CODE(note) == ADDR_EXPR ? get_base_address(TREE_OPERAND(note, 0)) : NULL_TREE;
-            if (text && TREE_CODE(text) == STRING_CST && reduce_functions_are_plain(TREE_STRING_POINTER(text)))
-                gimple_call_set_arg(call, count - 1, null_pointer_node);
-        }
+    register_callback(plugin, PLUGIN_ALL_IPA_PASSES_START, check_constants, nullptr);
 }
