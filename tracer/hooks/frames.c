@@ -42,7 +42,7 @@ void short_way_find(void) {
     bool records = doing.tracing && frames_initialising == 0;
     short_way_bits = records && !openmp_watches && units_shift == USUAL_SHIFT ? UINTPTR_MAX : 0;
     short_way_first = doing.plain && short_way_bits != 0 ? stacks_first : UINTPTR_MAX;
-    short_way_structure = records && doing.plainest && doing.version == 2;
+    short_way_structure = records && doing.plainest;
     follow_top();
 }
 

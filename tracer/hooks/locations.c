@@ -26,19 +26,25 @@ static void begin_group(struct ended *ended, uint64_t group) {
     *ended = (struct ended){.group = group};
 }
 
-void locations_end_number(uint64_t number) {
+static inline void end_number(uint64_t number) {
     struct ended *ended = place_of_ended(number);
-    const bool dies = dies_in_window(number);
-    if (!HAS_DETECTOR || dies)
-        return;
     if (number / GROUP_NUMBERS != ended->group)
         begin_group(ended, number / GROUP_NUMBERS);
     ended->members |= 1u << number % GROUP_NUMBERS;
 }
 
+void locations_end_numbers(const uint32_t *marks, unsigned units) {
+    for (; units != 0; units &= units - 1) {
+        const uint64_t number = *number_of(marks + __builtin_ctz(units));
+        const bool dies = dies_in_window(number);
+        if (HAS_DETECTOR && !dies)
+            end_number(number);
+    }
+}
+
 static void clear_mark(uint32_t *mark) {
     if (counts_ends() && *mark != UNTOUCHED)
-        end_number(*number_of(mark));
+        end_numbers(mark, 1);
     *mark = UNTOUCHED;
 }
 

@@ -46,22 +46,20 @@ static inline struct ended *place_of_ended(uint64_t number) {
     return &locations_ended[number / GROUP_NUMBERS % ENDED_GROUPS];
 }
 
-/* A number has ended, perhaps within its window. */
-void locations_end_number(uint64_t number);
+/* Those of the units with these marks whose bits are set, which may die within their window. */
+void locations_end_numbers(const uint32_t *marks, unsigned units);
 
-/* Without a call for one of a group at hand. */
-static inline void end_number(uint64_t number) {
-    struct ended *ended = place_of_ended(number);
-    if (HAS_DETECTOR && number <= window_number && number / GROUP_NUMBERS == ended->group)
-        ended->members |= 1u << number % GROUP_NUMBERS;
-    else
-        locations_end_number(number);
-}
-
-/* Those of the units with these marks whose bits are set. */
+/* Without a call where they are older, and of groups at hand. */
 static inline void end_numbers(const uint32_t *marks, unsigned units) {
-    for (; units != 0; units &= units - 1)
-        end_number(*number_of(marks + __builtin_ctz(units)));
+    for (; units != 0; units &= units - 1) {
+        const uint64_t number = *number_of(marks + __builtin_ctz(units));
+        struct ended *ended = place_of_ended(number);
+        if (!HAS_DETECTOR || number > window_number || number / GROUP_NUMBERS != ended->group) {
+            locations_end_numbers(marks, units);
+            return;
+        }
+        ended->members |= 1u << number % GROUP_NUMBERS;
+    }
 }
 
 static inline __m128i untouched_four(const uint32_t *marks) {
