@@ -88,26 +88,27 @@ class Spawn:
         if check_target(self.tokens, self.first, self.spawn):
             declared = self.piece(*named, own_constants(self.tokens, *named)) + ";"
             named = (self.spawn - 2, self.spawn - 2)
-        return declared, [f"__auto_type __spbags_at = &({self.piece(*named)});"]
+        return declared, [f"__auto_type __spbags_target = &({self.piece(*named)});"]
 
     def rewritten(self):
         declared, address = self.target()
         before, names = self.arguments()
         call = f"__spbags_g({names})"
         # What a call gives in memory, used or not, has to be in a variable that the hooks know.
-        result, stored = f"__builtin_choose_expr(sizeof({call}) > 16, {call}, ((void){call}, 0))", []
+        result = f"__builtin_choose_expr(sizeof({call}) > 16, {call}, ((void){call}, 0))"
+        ends = [f"__spbags_return({HELD}, sizeof __spbags_result); }}"]
         if address:
             result = call
             # Whatever races with a read of it races with this write too.
             sign = self.tokens[self.spawn - 1].text
-            stored = [f"*__spbags_at {sign} __spbags_result;", "__spbags_stored(__spbags_at, sizeof *__spbags_at);"]
+            ends = [f"*__spbags_target {sign} __spbags_result;", "__spbags_stored(__spbags_target, "
+                    f"sizeof *__spbags_target, {HELD}, sizeof __spbags_result); }}"]
         made = [
             f"{{ __auto_type __spbags_f = ({self.piece(self.spawn + 1, self.opening - 1)});", *before, *address,
             "__auto_type __spbags_g = (__typeof__(__spbags_f))__spbags_spawn((__spbags_function)__spbags_f);",
             # Never done, as only the hooks know; but where it could be, arguments pass below the stack pointer.
-            "if (!__spbags_g) __spbags_stored(__builtin_alloca(16), 0);",
-            f"__auto_type __spbags_result = {result};", *stored,
-            f"__spbags_return({HELD}, sizeof __spbags_result); }}"]
+            "if (!__spbags_g) __spbags_return(__builtin_alloca(16), 0);",
+            f"__auto_type __spbags_result = {result};", *ends]
         return self.here + declared + " ".join(made) + self.tokens[self.last].marker()
 
 

@@ -13,11 +13,12 @@ typedef void (*__spbags_function)(void);
    it can't put the child's code and variables into its parent. */
 __spbags_function __spbags_spawn(__spbags_function __callee);
 
-/* The child has stored its result here. */
-void __spbags_stored(const volatile void *__at, unsigned long __size);
-
 /* The child returns; what held its result on the way, if anything, is of no use any more. */
 void __spbags_return(const volatile void *__result, unsigned long __size);
+
+/* The same of one that has stored its result here. */
+void __spbags_stored(const volatile void *__at, unsigned long __size, const volatile void *__result,
+                     unsigned long __result_size);
 
 void __spbags_sync(void);
 

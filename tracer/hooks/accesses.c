@@ -40,18 +40,14 @@ __attribute__((noinline)) static void note_stack_units(bool writes, uintptr_t at
             note_stack_unit(writes, unit, mark, USUAL_SHIFT, code);
 }
 
-__attribute__((noinline)) static void note_one(bool writes, uintptr_t at, uint32_t *mark, uintptr_t code) {
-    note_stack_unit(writes, at, mark, USUAL_SHIFT, code);
-}
-
 /* A region of the stack has other memory too. */
-static inline void note_usual_marks(bool writes, uintptr_t at, size_t size, uint32_t *mark, uintptr_t code) {
-    if (!is_of_stack(at))
-        locations_touch_block(writes, at, at + size, code);
-    else if (size >> USUAL_SHIFT == 1)
-        note_one(writes, at, mark, code);
-    else
+ALWAYS_INLINE void note_usual_marks(bool writes, uintptr_t at, size_t size, uint32_t *mark, uintptr_t code) {
+    if (is_of_running(at) && size >> USUAL_SHIFT == 1)
+        note_stack_unit(writes, at, mark, USUAL_SHIFT, code);
+    else if (is_of_stack(at))
         note_stack_units(writes, at, size, code);
+    else
+        locations_touch_block(writes, at, at + size, code);
 }
 
 static inline bool are_repeats(bool writes, const uint32_t *mark, size_t units) {
@@ -95,13 +91,6 @@ static inline void usual_access(bool writes, uintptr_t at, size_t size, uintptr_
         long_way(writes, at, size, stack_pointer, code);
     else
         usual_units(writes, at, size, code);
-}
-
-void __spbags_stored(const volatile void *at, unsigned long size) {
-    if (short_way_bits != 0 && size == 1 << USUAL_SHIFT && ((uintptr_t)at & (size - 1)) == 0)
-        usual_units(true, (uintptr_t)at, 1 << USUAL_SHIFT, CODE);
-    else if (doing.tracing)
-        locations_touch(true, (uintptr_t)at, size, CODE);
 }
 
 /* The linker's name for the end of what is only read in the program. */

@@ -16,10 +16,12 @@ void signals_end_run(int number);
 /* What stands before it in the text is done before what stands behind it, as a handler sees it. */
 static inline void in_order(void) { __atomic_signal_fence(__ATOMIC_SEQ_CST); }
 
-/* A signal that waited, where none has to wait any more. */
+/* A signal has waited: it ends the run, where none has to wait any more. */
+__attribute__((cold)) void changes_let_signal_end(void);
+
 static inline void let_signal_end(void) {
-    if (__builtin_expect(changes_waiting_signal != 0, 0) && !is_amid_record())
-        signals_end_run(changes_waiting_signal);
+    if (__builtin_expect(changes_waiting_signal != 0, 0))
+        changes_let_signal_end();
 }
 
 static inline void begin_change(void) {
@@ -36,11 +38,16 @@ static inline void end_change(void) {
 /* A handler of a signal makes a record while one is put. */
 __attribute__((noreturn, cold)) void changes_refuse_handler(void);
 
+/* Where none is put. */
+static inline void begin_only_step(void) {
+    changes_stepping = true;
+    in_order();
+}
+
 static inline void begin_step(void) {
     if (__builtin_expect(changes_stepping, 0) && doing.tracing)
         changes_refuse_handler();
-    changes_stepping = true;
-    in_order();
+    begin_only_step();
 }
 
 static inline void end_step(void) {

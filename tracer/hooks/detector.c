@@ -12,23 +12,30 @@
 #ifdef SPBAGS_INSIDE
 /* By this spbags-run knows that a program has it. */
 __attribute__((used)) static const char inside_mark[] = "SPBAGS_INSIDE";
+/* The kinds of so many records are looked at together. */
+enum { TOGETHER = 16 };
 static struct bundle {
     size_t used;
     bool is_last;
-    uint64_t records[STEPS_AT_HAND];
+    /* With as many as are looked at together behind the last one. */
+    uint64_t records[STEPS_AT_HAND + TOGETHER];
 } bundles[BUNDLES];
 /* That which is filled. */
 static struct bundle *filling;
 static sem_t full_bundles, free_bundles;
 static pthread_t detector;
-/* What the detector's thread has at hand: its session, and the bundle's records of numbers that have ended. These come
-   last, so that the others are taken together. The program's thread writes to no line of the cache that has these. */
-enum { TWO_LINES = 128 };
+/* What the detector's thread has at hand: its session; how many spawns and accesses it has taken; and blocks of the stack's
+   numbers, each at the remainder of its own, of which these units have ended. To forget a few of a block takes nearly as
+   long as to forget all. So they wait until another block has the place, which is never wrong: they don't come again. The
+   program's thread writes to no line of the cache that has these. */
+enum { TWO_LINES = 128, ENDED_BLOCKS = 8 };
 static struct {
     void *session;
-    size_t endings_count;
-    uint64_t endings[STEPS_AT_HAND];
-} at_hand __attribute__((aligned(TWO_LINES)));
+    uint64_t spawns, accesses;
+    struct ended_block {
+        uint64_t block, units;
+    } ended[ENDED_BLOCKS];
+} __attribute__((aligned(TWO_LINES))) at_hand;
 
 bool detector_has_races;
 uint64_t detector_spawns, detector_accesses;
@@ -62,25 +69,43 @@ __attribute__((noinline, cold, noreturn)) static void refuse_step(unsigned statu
     fail("the detector rejected a record with status %u, so the run ends here without a report", status);
 }
 
-/* Of the kinds accesses alone have this bit. */
-static void count_records(const uint64_t *first, const uint64_t *end) {
-    _Static_assert(SPBAGS_READ == 4 && SPBAGS_WRITE == 5, "this counts other records");
-    uint64_t spawns = 0, accesses = 0;
-    for (const uint64_t *record = first; record < end; record++) {
-        spawns += (*record & 7) == SPBAGS_SPAWN;
-        accesses += *record >> 2 & 1;
-    }
-    detector_spawns += spawns;
-    detector_accesses += accesses;
+/* What the library is compiled for has an instruction for it. */
+#define COUNTS_BITS __attribute__((target("popcnt")))
+
+/* Records of the run one behind another: so many, with those that the last line counts. */
+struct plain_records {
+    size_t all, spawns, accesses;
+};
+
+static inline __m128i kinds_of_four(const uint64_t *records) {
+    const __m128 first = _mm_loadu_ps((const float *)records), last = _mm_loadu_ps((const float *)(records + 2));
+    return _mm_and_si128(_mm_castps_si128(_mm_shuffle_ps(first, last, _MM_SHUFFLE(2, 0, 2, 0))), _mm_set1_epi32(7));
 }
 
-static void take_records(const uint64_t *first, const uint64_t *end) {
-    if (first == end)
-        return;
-    count_records(first, end);
-    uint8_t status = spbags_steps(at_hand.session, first, (size_t)(end - first));
-    if (status != SPBAGS_TAKEN)
-        refuse_step(status);
+/* A byte for each. */
+static inline __m128i kinds_of(const uint64_t *records) {
+    return _mm_packs_epi16(_mm_packs_epi32(kinds_of_four(records), kinds_of_four(records + 4)),
+                           _mm_packs_epi32(kinds_of_four(records + 8), kinds_of_four(records + 12)));
+}
+
+static inline unsigned bits_of(__m128i bytes) { return (unsigned)_mm_movemask_epi8(bytes); }
+
+COUNTS_BITS static struct plain_records find_plain(const uint64_t *first, const uint64_t *last) {
+    _Static_assert(SPBAGS_SYNC + 1 == SPBAGS_READ && SPBAGS_READ + 1 == SPBAGS_WRITE, "this counts other records");
+    struct plain_records found = {0};
+    for (size_t count = TOGETHER; count == TOGETHER; found.all += count) {
+        const __m128i kinds = kinds_of(first + found.all);
+        const unsigned others = bits_of(_mm_cmpgt_epi8(kinds, _mm_set1_epi8(SPBAGS_WRITE)));
+        const unsigned spawns = bits_of(_mm_cmpeq_epi8(kinds, _mm_set1_epi8(SPBAGS_SPAWN)));
+        const unsigned accesses = bits_of(_mm_cmpgt_epi8(kinds, _mm_set1_epi8(SPBAGS_SYNC)));
+        const size_t left = (size_t)(last - first) - found.all;
+        count = (size_t)__builtin_ctz(others | 1u << TOGETHER);
+        count = count < left ? count : left;
+        const unsigned members = (1u << count) - 1;
+        found.spawns += (size_t)__builtin_popcount(spawns & members);
+        found.accesses += (size_t)__builtin_popcount(accesses & members);
+    }
+    return found;
 }
 
 static uint64_t block_of_ending(uint64_t ending) {
@@ -98,26 +123,19 @@ static void forget(uint64_t location, uint64_t units) {
         refuse_step(status);
 }
 
-static void forget_numbers(uint64_t block, uint64_t units) { forget(2 * BLOCK_UNITS * block + 1, units); }
-
-/* Those of one block together, where they come so. */
-static void take_endings(void) {
-    uint64_t block = 0, units = 0;
-    for (size_t at = 0; at < at_hand.endings_count; at++) {
-        if (block_of_ending(at_hand.endings[at]) != block) {
-            forget_numbers(block, units);
-            block = block_of_ending(at_hand.endings[at]);
-            units = 0;
-        }
-        units |= units_of_ending(at_hand.endings[at]);
+static void end_numbers(uint64_t ending) {
+    const uint64_t block = block_of_ending(ending);
+    struct ended_block *ended = &at_hand.ended[block % ENDED_BLOCKS];
+    if (ended->block != block) {
+        forget(2 * BLOCK_UNITS * ended->block + 1, ended->units);
+        *ended = (struct ended_block){.block = block};
     }
-    forget_numbers(block, units);
-    at_hand.endings_count = 0;
+    ended->units |= units_of_ending(ending);
 }
 
 /* Those of a block's records; the next one of the run. */
-static const uint64_t *take_sites(const uint64_t *sites) {
-    const uint64_t *end = sites + 1 + *sites;
+static uint64_t *take_sites(uint64_t *sites) {
+    uint64_t *end = sites + 1 + *sites;
     for (const uint64_t *at = sites + 1; at < end; at++)
         if ((*at & PLACES_TURNS) == 0) {
             places_put((uint16_t)*at, *at >> 16);
@@ -129,42 +147,55 @@ static const uint64_t *take_sites(const uint64_t *sites) {
 }
 
 /* A block's accesses; the next record. */
-static const uint64_t *take_block(const uint64_t *record) {
+COUNTS_BITS static uint64_t *take_block(uint64_t *record) {
     uint8_t status = spbags_block(at_hand.session, *record >> 3, record[1], record[2]);
-    detector_accesses += (uint64_t)(__builtin_popcountll(record[1]) + __builtin_popcountll(record[2]));
+    at_hand.accesses += (uint64_t)(__builtin_popcountll(record[1]) + __builtin_popcountll(record[2]));
     if (status != SPBAGS_TAKEN)
         refuse_step(status);
     return doing.plain && doing.keeping_places ? take_sites(record + 3) : record + 3;
 }
 
 /* Blocks that have ended; the next record. */
-static const uint64_t *take_ended(const uint64_t *record) {
+static uint64_t *take_ended(uint64_t *record) {
     for (uint64_t bits = record[1]; bits != 0; bits &= bits - 1)
         forget((*record >> 3) + 2 * BLOCK_UNITS * (uint64_t)__builtin_ctzll(bits), UINT64_MAX);
     return record + 2;
 }
 
-static void take_bundle(struct bundle *bundle) {
-    const bool has_sites = doing.plain && doing.keeping_places;
-    const uint64_t record_bits = has_sites ? without_site : UINT64_MAX;
-    uint64_t *end = bundle->records;
-    const uint64_t *at = end, *last = end + bundle->used;
-    while (at < last) {
-        uint64_t kind = *at & 7;
-        if (kind <= SPBAGS_WRITE) {
-            if (has_sites)
-                places_put((uint16_t)(*at >> SITE_SHIFT), 1);
-            *end++ = *at++ & record_bits;
-        } else if (kind == numbers_end && (*at >> 3) % 2 == 1) {
-            at_hand.endings[at_hand.endings_count++] = *at++;
-        } else {
-            take_records(bundle->records, end);
-            end = bundle->records;
-            at = kind == block_follows ? take_block(at) : take_ended(at);
-        }
+/* The sites of these records, which are without them then. */
+static void take_sites_of(uint64_t *records, size_t count) {
+    for (uint64_t *record = records; record < records + count; record++) {
+        places_put((uint16_t)(*record >> SITE_SHIFT), 1);
+        *record &= without_site;
     }
-    take_records(bundle->records, end);
-    take_endings();
+}
+
+/* The records of the run up to one that is none; the next record. */
+static uint64_t *take_records(uint64_t *first, const uint64_t *last) {
+    const struct plain_records records = find_plain(first, last);
+    at_hand.spawns += records.spawns;
+    at_hand.accesses += records.accesses;
+    if (doing.plain && doing.keeping_places)
+        take_sites_of(first, records.all);
+    uint8_t status = spbags_steps(at_hand.session, first, records.all);
+    if (status != SPBAGS_TAKEN)
+        refuse_step(status);
+    return first + records.all;
+}
+
+static void take_bundle(struct bundle *bundle) {
+    uint64_t *at = bundle->records, *last = at + bundle->used;
+    while (at < last) {
+        const unsigned kind = *at & 7;
+        if (kind <= SPBAGS_WRITE)
+            at = take_records(at, last);
+        else if (kind == block_follows)
+            at = take_block(at);
+        else if ((*at >> 3) % 2 == 0)
+            at = take_ended(at);
+        else
+            end_numbers(*at++);
+    }
 }
 
 /* Whether a setting names a place for the report, and whether it is made. If none does, and nothing ran beside
@@ -281,5 +312,7 @@ void detector_end(bool has_more_to_say) {
     filling->is_last = true;
     give_bundle(steps_next);
     pthread_join(detector, NULL);
+    detector_spawns = at_hand.spawns;
+    detector_accesses = at_hand.accesses;
 }
 #endif

@@ -63,7 +63,7 @@ bool divided_access(bool writes, const struct touched *in, uint64_t location, ui
 void divided_clear(uintptr_t address, uintptr_t end) {
     for (; address - stacks_first < stacks_size && address < end; address++) {
         uintptr_t at = address - stacks_first;
-        struct divided *unit = slot_of_unit(2 * locations_numbers[at >> units_shift] + 1);
+        struct divided *unit = slot_of_unit(2 * *number_of(stack_mark(address)) + 1);
         if (unit->location != 0 && *stack_mark(address) != UNTOUCHED) {
             unit->marks[at & units_mask] = UNTOUCHED;
             unit->fresh[at & units_mask] = last_fresh += 2;

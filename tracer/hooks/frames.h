@@ -79,15 +79,28 @@ static inline void short_way_leave(void) {
     in_order();
 }
 
-static inline void push_frame_at(enum kind kind, uintptr_t end, uintptr_t position) {
-    if (__builtin_expect(++frames_top == frames_end, 0))
+static inline void need_frame(void) {
+    if (__builtin_expect(frames_top + 1 == frames_end, 0))
         fail("functions nest too deep");
+}
+
+/* Where there is room for one. Until it is the newest one a handler of a signal may have its own there. */
+static inline void push_frame_there(enum kind kind, uintptr_t end, uintptr_t position) {
+    frames_top[1].end = end;
+    in_order();
+    frames_top++;
+    in_order();
     frames_top->end = end;
     frames_top->kind = kind;
     frames_top->called = false;
     frames_top->children = frames_top->node = NONE;
     frames_top->position = position;
     follow_top();
+}
+
+static inline void push_frame_at(enum kind kind, uintptr_t end, uintptr_t position) {
+    need_frame();
+    push_frame_there(kind, end, position);
 }
 
 /* Behind all records so far. */
@@ -136,7 +149,7 @@ __attribute__((cold)) void parallel_leave_groups(uintptr_t code);
 /* ---- Procedures ---- */
 
 /* Those that stand open in the trace, from 1, the root's. Each has the frame whose unsynced children it holds, or none:
-   that of the root, which spawns nothing. */
+   that of the root, which spawns nothing. In version 2 only the root's is asked for, and others may have an older one. */
 extern struct frame **procedures_owners;
 extern uint32_t procedures_count, procedures_most;
 /* How many more there are after such a record. */

@@ -77,6 +77,32 @@
 .macro __spbags_write SIZE
 	__spbags_inline_check write, \SIZE, 2, 2, ja, jbe
 .endm
+# The same of a variable of the function itself: it has marks, whose addresses are as far apart as those of the usual units.
+.macro __spbags_local_check KIND, SIZE, IS_REPEAT, IS_NONE
+	__spbags_global cmpq, __spbags_short_way_end, ", %rsp", %rax
+	jae 1f
+	__spbags_global movq, __spbags_marks, ", %rsi", %rax
+	addq %rdi, %rsi
+	__spbags_global movl, __spbags_has_read, ", %eax", %rax
+	cmpl %eax, (%rsi)
+.if \SIZE == 8
+	\IS_NONE 5f
+	cmpl %eax, 4(%rsi)
+.endif
+	\IS_REPEAT 6f
+5:
+	call __spbags_stack_\KIND\SIZE
+	jmp 6f
+1:
+	call __spbags_long_\KIND\SIZE
+6:
+.endm
+.macro __spbags_read_local SIZE
+	__spbags_local_check read, \SIZE, jae, jb
+.endm
+.macro __spbags_write_local SIZE
+	__spbags_local_check write, \SIZE, ja, jbe
+.endm
 # The usual entry of a function, in place of the call of its hook: accesses go the short way, the newest frame hasn't
 # ended, and nothing has a mark below this one's end. A frame has 56 bytes: its end; its kind, which is 2 for a child, and
 # three numbers, all of them 0 here; how many records went before it; and what only others have. Before the frame is the

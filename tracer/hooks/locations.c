@@ -6,7 +6,7 @@
 #include "memory.h"
 #include "openmp.h"
 
-uint64_t *locations_numbers;
+uintptr_t locations_of_marks;
 bool locations_noted_quickly, locations_stack_noted_quickly;
 
 /* Accesses that don't fill their units, and the bits of their addresses and sizes. */
@@ -14,29 +14,28 @@ static uint64_t narrow_accesses;
 static uintptr_t narrow_bits;
 
 void locations_begin(void) {
-    locations_numbers = memory_reserve((stacks_size >> units_shift) * sizeof *locations_numbers);
+    const uintptr_t numbers = (uintptr_t)memory_reserve((stacks_size >> units_shift) * sizeof(uint64_t));
+    locations_of_marks = numbers - 2 * (uintptr_t)stack_mark(stacks_first);
 }
 
-/* The group of the newest number that has ended, and which of its numbers have; they go out with the next group. */
-static struct {
-    uint64_t group;
-    unsigned members;
-} ended;
+struct ended locations_ended[ENDED_GROUPS];
+
+static void begin_group(struct ended *ended, uint64_t group) {
+    if (ended->members != 0)
+        records_end_numbers(2 * (ended->group << GROUP_NUMBERS | ended->members) + 1);
+    *ended = (struct ended){.group = group};
+}
 
 static inline void end_number(uint64_t number) {
-    uint64_t group = number / GROUP_NUMBERS;
-    if (group != ended.group) {
-        records_end_numbers(2 * (ended.group << GROUP_NUMBERS | ended.members) + 1);
-        ended.group = group;
-        ended.members = 0;
-    }
-    ended.members |= 1u << number % GROUP_NUMBERS;
+    struct ended *ended = place_of_ended(number);
+    if (number / GROUP_NUMBERS != ended->group)
+        begin_group(ended, number / GROUP_NUMBERS);
+    ended->members |= 1u << number % GROUP_NUMBERS;
 }
 
 void locations_end_numbers(const uint32_t *marks, unsigned units) {
-    const uint64_t *first = locations_numbers + (marks - stack_mark(stacks_first));
     for (; units != 0; units &= units - 1) {
-        uint64_t number = first[__builtin_ctz(units)];
+        const uint64_t number = *number_of(marks + __builtin_ctz(units));
         const bool dies = dies_in_window(number);
         if (HAS_DETECTOR && !dies)
             end_number(number);
@@ -45,7 +44,7 @@ void locations_end_numbers(const uint32_t *marks, unsigned units) {
 
 static void clear_mark(uint32_t *mark) {
     if (counts_ends() && *mark != UNTOUCHED)
-        locations_end_numbers(mark, 1);
+        end_numbers(mark, 1);
     *mark = UNTOUCHED;
 }
 
@@ -83,7 +82,7 @@ void locations_note_stack(bool writes, uintptr_t address, uint32_t *mark, unsign
         writes = writes && update == NO_UPDATE;
         marks_write = update == NO_UPDATE ? writes : update == UPDATES_UNIT;
     }
-    uint64_t location = stack_location(address, *mark, shift);
+    uint64_t location = stack_location(address, mark);
     *mark = new_mark(marks_write);
     access_record(writes, location, address, code);
 }

@@ -10,14 +10,18 @@
 #include "reducers.h"
 
 void locations_begin(void);
-/* By unit of the stack, from its first address on: a unit that is marked has its number. */
-extern uint64_t *locations_numbers;
+/* A unit of the stack that is marked has its number, which stands where twice the address of the mark says. */
+extern uintptr_t locations_of_marks;
+static inline uint64_t *number_of(const uint32_t *mark) {
+    _Static_assert(sizeof(uint64_t) == 2 * sizeof *mark, "a number has the place of another one");
+    return (uint64_t *)(locations_of_marks + 2 * (uintptr_t)mark);
+}
 
-/* Of the unit of the stack that begins at this address, and has this mark. A signal's handler that gave a number
-   meanwhile would give the same one. */
-static inline uint64_t stack_location(uintptr_t address, uint32_t mark, unsigned shift) {
-    uint64_t *number = &locations_numbers[(address - stacks_first) >> shift];
-    if (mark == UNTOUCHED) {
+/* Of the unit of the stack that begins at this address. A signal's handler that gave a number meanwhile would give the same
+   one. */
+static inline uint64_t stack_location(uintptr_t address, const uint32_t *mark) {
+    uint64_t *number = number_of(mark);
+    if (*mark == UNTOUCHED) {
         if (__builtin_expect(is_window_full(), 0))
             records_end_window();
         begin_records();
@@ -30,8 +34,33 @@ static inline uint64_t stack_location(uintptr_t address, uint32_t mark, unsigned
 
 /* ---- Memory that has no variable any more ---- */
 
-/* Those of the units with these marks whose bits are set. */
+/* Groups of which numbers have ended, each at the remainder of its own, and which of its numbers have. They go out when
+   another group has this place. */
+enum { ENDED_GROUPS = 8 };
+extern struct ended {
+    uint64_t group;
+    unsigned members;
+} locations_ended[ENDED_GROUPS];
+
+static inline struct ended *place_of_ended(uint64_t number) {
+    return &locations_ended[number / GROUP_NUMBERS % ENDED_GROUPS];
+}
+
+/* Those of the units with these marks whose bits are set, which may die within their window. */
 void locations_end_numbers(const uint32_t *marks, unsigned units);
+
+/* Without a call where they are older, and of groups at hand. */
+static inline void end_numbers(const uint32_t *marks, unsigned units) {
+    for (; units != 0; units &= units - 1) {
+        const uint64_t number = *number_of(marks + __builtin_ctz(units));
+        struct ended *ended = place_of_ended(number);
+        if (!HAS_DETECTOR || number > window_number || number / GROUP_NUMBERS != ended->group) {
+            locations_end_numbers(marks, units);
+            return;
+        }
+        ended->members |= 1u << number % GROUP_NUMBERS;
+    }
+}
 
 static inline __m128i untouched_four(const uint32_t *marks) {
     return _mm_cmpeq_epi32(_mm_loadu_si128((const void *)marks), _mm_setzero_si128());
@@ -57,7 +86,7 @@ static inline void clear_marks(const uint32_t *lowest_mark, uint32_t *end) {
         if (units == 0)
             continue;
         if (counts_ends())
-            locations_end_numbers(end, units);
+            end_numbers(end, units);
         __builtin_memset(end, UNTOUCHED, CLEARED * sizeof *end);
     }
 }
@@ -77,14 +106,14 @@ void locations_follow_views(void);
    as a read; where another variable has a part of the unit, the mark is that of a read too. */
 void locations_note_stack(bool writes, uintptr_t address, uint32_t *mark, unsigned shift, uintptr_t code);
 
-/* Without calls on the way where there is nothing else to do. */
-static inline void note_stack_unit(bool writes, uintptr_t address, uint32_t *mark, unsigned shift, uintptr_t code) {
-    if (__builtin_expect(!locations_stack_noted_quickly || is_window_full() || !is_of_running(address), 0)) {
-        locations_note_stack(writes, address, mark, shift, code);
-        return;
-    }
-    begin_step();
-    uint64_t *number = &locations_numbers[(address - stacks_first) >> shift];
+/* Whether there is nothing else to do. */
+static inline bool is_noted_quickly(uintptr_t address, const uint32_t *mark) {
+    return locations_stack_noted_quickly && is_of_running(address) && !(*mark == UNTOUCHED && is_window_full());
+}
+
+/* Then this is done in a step; the location, whose record comes now. */
+ALWAYS_INLINE uint64_t quick_location(bool writes, uintptr_t address, uint32_t *mark) {
+    uint64_t *number = number_of(mark);
     if (*mark == UNTOUCHED) {
         *number = ++window_last_number;
         lower_running(address);
@@ -92,7 +121,17 @@ static inline void note_stack_unit(bool writes, uintptr_t address, uint32_t *mar
     const uint64_t location = 2 * *number + 1;
     *mark = new_mark(writes);
     course_stack(writes, location);
-    step(writes ? SPBAGS_WRITE : SPBAGS_READ, location);
+    return location;
+}
+
+/* Without calls on the way where there is nothing else to do. */
+ALWAYS_INLINE void note_stack_unit(bool writes, uintptr_t address, uint32_t *mark, unsigned shift, uintptr_t code) {
+    if (__builtin_expect(!is_noted_quickly(address, mark), 0)) {
+        locations_note_stack(writes, address, mark, shift, code);
+        return;
+    }
+    begin_step();
+    step(writes ? SPBAGS_WRITE : SPBAGS_READ, quick_location(writes, address, mark));
     end_step();
 }
 

@@ -32,10 +32,16 @@ static inline uint32_t new_mark(bool writes) { return marks_read + writes; }
 static inline uint64_t strand_now(void) { return (uint64_t)marks_again << 32 | marks_read; }
 
 /* Where the mark of the unit 0 would stand, if those of the stack went on. */
-extern uintptr_t marks_of_stack;
+extern uintptr_t marks_of_stack __asm__("__spbags_marks");
 
 static inline uint32_t *stack_mark(uintptr_t address) {
     return (uint32_t *)(marks_of_stack + (address >> units_shift) * sizeof(uint32_t));
+}
+
+/* The same of the unit that begins at this address, where it is the usual one. */
+static inline uint32_t *usual_mark(uintptr_t address) {
+    _Static_assert(1 << USUAL_SHIFT == sizeof(uint32_t), "marks are further apart than units");
+    return (uint32_t *)(marks_of_stack + address);
 }
 
 /* Makes the marks of the stack, which lies between these. */

@@ -43,8 +43,8 @@ static void remove_view(size_t at) {
 
 /* The number of the stack's unit with this address, which has none if nothing has touched it. */
 static uint64_t stack_number(uintptr_t address) {
-    uintptr_t unit = address & ~units_mask;
-    return *stack_mark(unit) == UNTOUCHED ? 0 : locations_numbers[(unit - stacks_first) >> units_shift];
+    const uint32_t *mark = stack_mark(address);
+    return *mark == UNTOUCHED ? 0 : *number_of(mark);
 }
 
 static uint64_t number_at(uintptr_t address) {
@@ -120,7 +120,7 @@ static struct view *add_view(uintptr_t first, size_t size, const char *note) {
     locations_follow_views();
     if (is_of_stack(first)) {
         uint32_t *mark = stack_mark(first);
-        stack_location(first & ~units_mask, *mark, units_shift);
+        stack_location(first & ~units_mask, mark);
         *mark = *mark == UNTOUCHED ? TOUCHED : *mark;
     }
     views[at].number = number_at(first);

@@ -1,9 +1,10 @@
 #include "steps.h"
 
 #include "detector.h"
+#include "marks.h"
 #include "strands.h"
 
-uint64_t *steps_next, *steps_window, *steps_window_end, *steps_end;
+uint64_t *steps_next, *steps_window, *steps_end, *steps_pause;
 uintptr_t steps_origin;
 
 /* Up to where the memory at hand has been looked through, and whether something new was there that steps_have_new
@@ -11,19 +12,29 @@ uintptr_t steps_origin;
 static const uint64_t *seen;
 static bool is_new;
 
+/* A record begins one strand at most. */
+static void find_pause(void) {
+    const uint32_t strands = MOST_STRANDS - marks_read / 2;
+    steps_pause = steps_end - steps_window < WINDOW ? steps_end : steps_window + WINDOW;
+    if (steps_pause - steps_next > (ptrdiff_t)strands)
+        steps_pause = steps_next + strands;
+}
+
 void steps_begin(uint64_t *memory) {
     seen = steps_next = memory;
     steps_end = memory + STEPS_AT_HAND;
     pass_steps();
+    find_pause();
 }
 
-void steps_end_window(void) {
+void steps_look_on(void) {
     if (!doing.plain)
         pass_steps();
     else if (steps_next - steps_window == WINDOW)
         begin_window();
     if (steps_next == steps_end)
         steps_pass_on();
+    find_pause();
 }
 
 /* A handler of the program's timer may look meanwhile. */
@@ -62,6 +73,7 @@ void steps_leave_out(uintptr_t before) {
     steps_next = to;
     if (seen > to)
         seen = to;
+    find_pause();
 }
 
 bool steps_have_new(void) {

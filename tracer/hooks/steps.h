@@ -13,8 +13,9 @@
 /* Where the next record goes, and how far a record in memory is from its place among all that went before. */
 extern uint64_t *steps_next __asm__("__spbags_next_record");
 extern uintptr_t steps_origin __asm__("__spbags_records_origin");
-/* Where the window begins, and where it or the memory at hand ends. */
-extern uint64_t *steps_window, *steps_window_end, *steps_end;
+/* Where the window begins, and where the memory at hand ends; and up to where nothing is to be done but to put records: no
+   further than the end of either, though perhaps of a window before, or than there are numbers of strands. */
+extern uint64_t *steps_window, *steps_end, *steps_pause;
 
 /* The memory at hand is this from now on, of so many records, and empty. What nobody else reads stays in the processor's
    nearest cache. */
@@ -22,10 +23,7 @@ enum { STEPS_AT_HAND = HAS_DETECTOR ? 1 << 13 : 1 << 11 };
 void steps_begin(uint64_t *memory);
 
 /* What went before can't be left out any more. */
-static inline void pass_steps(void) {
-    steps_window = steps_next;
-    steps_window_end = steps_end - steps_window < WINDOW ? steps_end : steps_window + WINDOW;
-}
+static inline void pass_steps(void) { steps_window = steps_next; }
 
 static inline void begin_window(void) {
     pass_steps();
@@ -35,8 +33,8 @@ static inline void begin_window(void) {
 /* The memory at hand goes into the trace, up to here; that memory, which is then free. */
 uint64_t *records_write_out(const uint64_t *end);
 
-/* The window has as many records as it may have, or the memory at hand. */
-void steps_end_window(void);
+/* The window has as many records as it may have, or the memory at hand, or neither. */
+void steps_look_on(void);
 /* What stands before the window goes on. */
 void steps_pass_on(void);
 
@@ -44,10 +42,13 @@ void steps_pass_on(void);
 enum { SITE_SHIFT = 48 };
 static const uint64_t without_site = ((uint64_t)1 << SITE_SHIFT) - 1;
 
+/* Before the pause. */
+static inline void step_quickly(unsigned kind, uint64_t location) { *steps_next++ = spbags_record(kind, location); }
+
 static inline void step_at(unsigned kind, uint64_t location, uint64_t site) {
     *steps_next++ = spbags_record(kind, location) | site << SITE_SHIFT;
-    if (__builtin_expect(steps_next == steps_window_end, 0))
-        steps_end_window();
+    if (__builtin_expect(steps_next >= steps_pause, 0))
+        steps_look_on();
 }
 
 static inline void step(unsigned kind, uint64_t location) { step_at(kind, location, 0); }

@@ -24,6 +24,7 @@ int __real_munmap(void *at, size_t size) { return munmap(at, size); }
 char __start_spbags_hooks[1], __stop_spbags_hooks[1];
 void signals_end_run(int number) { _exit(number); }
 volatile sig_atomic_t changes, changes_waiting_signal, changes_stepping;
+void changes_let_signal_end(void) {}
 struct doing doing = {.detecting = true};
 static struct frame root;
 struct frame *frames_top = &root, *frames_silent;
@@ -264,8 +265,9 @@ void records_leave_out_dying(uintptr_t before) {
 }
 
 static bool has_ended(uint64_t number) {
-    bool is_of_newest = number / GROUP_NUMBERS == ended.group && (ended.members >> number % GROUP_NUMBERS & 1) != 0;
-    return is_ended[number] || is_of_newest;
+    const struct ended *ended = place_of_ended(number);
+    bool is_at_hand = number / GROUP_NUMBERS == ended->group && (ended->members >> number % GROUP_NUMBERS & 1) != 0;
+    return is_ended[number] || is_at_hand;
 }
 
 /* A unit of the stack has a fresh odd location at each first touch, keeps it until its memory ends, and then it has

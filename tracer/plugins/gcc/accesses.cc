@@ -31,6 +31,13 @@ static bool is_of_initialisation(tree base) {
     return begins_with(name, "_ZGV") || strcmp(name, "__tls_guard") == 0;
 }
 
+/* A child's result is stored there on its way to the parent, and then a hook of its own says so. */
+static bool is_target_of_spawn(tree base) {
+    tree pointer = TREE_CODE(base) == MEM_REF ? TREE_OPERAND(base, 0) : NULL_TREE;
+    tree name = pointer && TREE_CODE(pointer) == SSA_NAME ? SSA_NAME_IDENTIFIER(pointer) : NULL_TREE;
+    return name && strcmp(IDENTIFIER_POINTER(name), "__spbags_target") == 0;
+}
+
 static tree without_views(tree reference) {
     while (TREE_CODE(reference) == VIEW_CONVERT_EXPR)
         reference = TREE_OPERAND(reference, 0);
@@ -143,7 +150,8 @@ void accesses::note_reference(gimple *statement, tree reference, bool writes, wa
     }
     reference = without_views(reference);
     tree base = is_reference(reference) ? get_base_address(reference) : NULL_TREE;
-    if (!base || is_gimple_reg(base) || is_own(base) || is_of_initialisation(base) || (is_constant(base) && !writes))
+    if (!base || is_gimple_reg(base) || is_own(base) || is_of_initialisation(base) || is_target_of_spawn(base) ||
+        (is_constant(base) && !writes))
         return;
     tree type = TREE_TYPE(reference);
     size = size ? size : TYPE_SIZE_UNIT(type);

@@ -123,13 +123,24 @@ static gasm *test(const std::string &text, tree value) {
     return made;
 }
 
+/* A part of a variable in the function's own stack memory, at a constant place. */
+static bool is_in_frame(function *fun, tree address, HOST_WIDE_INT size) {
+    poly_int64 offset;
+    tree base =
+        TREE_CODE(address) == ADDR_EXPR ? get_addr_base_and_unit_offset(TREE_OPERAND(address, 0), &offset) : NULL_TREE;
+    return base && VAR_P(base) && auto_var_in_fn_p(base, fun->decl) && !DECL_HARD_REGISTER(base) &&
+           !DECL_HAS_VALUE_EXPR_P(base) && DECL_SIZE_UNIT(base) && tree_fits_shwi_p(DECL_SIZE_UNIT(base)) &&
+           known_ge(offset, 0) && known_le(offset + size, tree_to_shwi(DECL_SIZE_UNIT(base)));
+}
+
 void checks_put(function *fun) {
     static const struct {
-        const char *hook, *text;
-    } tests[] = {{"__tsan_read4", "\t__spbags_read 4"},
-                 {"__tsan_read8", "\t__spbags_read 8"},
-                 {"__tsan_write4", "\t__spbags_write 4"},
-                 {"__tsan_write8", "\t__spbags_write 8"}};
+        const char *hook, *text, *local;
+        HOST_WIDE_INT size;
+    } tests[] = {{"__tsan_read4", "\t__spbags_read 4", "\t__spbags_read_local 4", 4},
+                 {"__tsan_read8", "\t__spbags_read 8", "\t__spbags_read_local 8", 8},
+                 {"__tsan_write4", "\t__spbags_write 4", "\t__spbags_write_local 4", 4},
+                 {"__tsan_write8", "\t__spbags_write 8", "\t__spbags_write_local 8", 8}};
     basic_block block;
     FOR_EACH_BB_FN (block, fun)
         for (gimple_stmt_iterator at = gsi_start_bb(block); !gsi_end_p(at); gsi_next(&at)) {
@@ -137,7 +148,8 @@ void checks_put(function *fun) {
             for (auto &row : tests)
                 if (name && checks_wanted && strcmp(name, row.hook) == 0) {
                     gimple *call = gsi_stmt(at);
-                    gasm *made = test(row.text, gimple_call_arg(call, 0));
+                    tree address = gimple_call_arg(call, 0);
+                    gasm *made = test(is_in_frame(fun, address, row.size) ? row.local : row.text, address);
                     gimple_set_location(made, gimple_location(call));
                     unlink_stmt_vdef(call);
                     gsi_replace(&at, made, true);
