@@ -100,5 +100,4 @@ def rewritten(text, words, is_clang):
     if ATTRIBUTES.search(text):
         import attributes
         text = attributes.without(text)
-    text, openmp_options, faults = with_spawns(text, words, is_clang, faults + refused)
-    return text, openmp_options, faults
+    return with_spawns(text, words, is_clang, faults + refused)
