@@ -1,9 +1,9 @@
-//! The examples of the questions.
+//! The examples of the doc comments.
 
 use audit::{Confirm, Opener, Opening, confirm, explain, measure, pairs};
-use collect::read_report;
+use collect::{read_report, write_report};
 use std::test::Fail;
-use trace::{Counted, Limits};
+use trace::{Counted, Feed, Limits, Placed, Record};
 
 #[test]
 fn measures_a_trace(rt: HostRuntime) -> Result<(), Fail> {
@@ -49,5 +49,30 @@ fn explains_a_race(rt: HostRuntime) -> Result<(), Fail> {
     assert_eq!(rt; (explained.meeting, explained.joined), (0, Some(5)));
     let (what, place) = (Opening::Spawn, 1);
     assert!(rt; explained.first.as_slice() == [Opener { what, place }].as_slice());
+    Ok(())
+}
+
+#[test]
+fn records_one_by_one(rt: HostRuntime) -> Result<(), Fail> {
+    let text: &[u8] = b"trace 1\nwrite 5\nreturn\n";
+    let (records, depth) = (1 << 48, 9);
+    let mut feed = Feed::new(Limits { records, depth }, Counted::new(text));
+    let (place, what) = (1, Record::Write(5));
+    assert_eq!(rt; feed.next()?, Some(Placed { place, what }));
+    let (place, what) = (2, Record::Return);
+    assert_eq!(rt; feed.next()?, Some(Placed { place, what }));
+    assert_eq!(rt; feed.next()?, None);
+    Ok(())
+}
+
+#[test]
+fn text_of_a_report(rt: HostRuntime) -> Result<(), Fail> {
+    let report = read_report(rt.alloc(), b"races 1\nrace 5 write 2 read 4\n")?;
+    assert_eq!(rt; report.races().len(), 1);
+    let race = report.races()[0];
+    assert!(rt; (race.location, race.first.place, race.second.place) == (5, 2, 4));
+    let mut text = Vec::new(rt.alloc());
+    write_report(&report, &mut Counted::new(&mut text))?;
+    assert!(rt; text.as_slice() == b"races 1\nrace 5 write 2 read 4\n".as_slice());
     Ok(())
 }
