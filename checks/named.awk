@@ -41,6 +41,7 @@ NR == FNR && $1 == "public" { public[$2 "\t" $3] }
 NR == FNR && $1 == "exported" { is_exported[$2, $3] }
 NR == FNR && $1 == "command" { is_command[$2] }
 NR == FNR && $1 == "explained" { is_explained[$2] }
+NR == FNR && $1 == "tested" { tests_of[$2] = $3 }
 NR == FNR { next }
 
 # Counts a name, and tells of it where it doesn't stand there.
@@ -186,7 +187,7 @@ function look_at_mention(wanted, crate,  last) {
         last = method_of(wanted)
         look(wanted in is_fn_somewhere || wanted ~ /^tests::/ && is_test(wanted), wanted, "a function of any crate")
     } else if (crate != "") {
-        look((crate, wanted) in in_crate || (crate "_tests", wanted) in in_crate || wanted in is_crate \
+        look((crate, wanted) in in_crate || (tests_of[crate], wanted) in in_crate || wanted in is_crate \
             || wanted in is_command, wanted, "in crates/" crate)
     } else if (strict || wanted ~ /[A-Z_]/) {
         look(wanted in is_known || wanted in is_crate || wanted in is_command, wanted, "in any crate")
@@ -217,7 +218,7 @@ function look_at_tests(text, crates,  count, i, all, stands, at, parts, k) {
             stands = 0
             for (k = split(crates, parts, /, /); k >= 1; k--)
                 for (at in is_crate)
-                    if (at == parts[k] || at == parts[k] "_tests")
+                    if (at == parts[k] || at == tests_of[parts[k]])
                         stands = stands || (at, all[i]) in with_name
             look(stands, all[i], "a function of the tests of " crates)
         } else {

@@ -8,6 +8,7 @@
 #     and takes names from it
 #   exported CRATE NAME, of a type or a function that the crate gives out
 #   word FILE WORD
+#   tested CRATE CRATE, of which the second has the tests of the first
 BEGIN { OFS = "\t" }
 
 FNR == 1 {
@@ -44,6 +45,12 @@ function type_of(line,  depth, i, c) {
     gsub(/^ *(&(mut )?)?/, "", line)
     sub(/[^A-Za-z0-9_].*$/, "", line)
     return line
+}
+
+/^\/\/! Tests of `/ && crate ~ /_tests$/ {
+    count = split($0, parts, "`")
+    for (i = 2; i <= count; i += 2)
+        print "tested", parts[i], crate
 }
 
 {
