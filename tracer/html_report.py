@@ -11,11 +11,10 @@ from markupsafe import Markup, escape
 from pygments import token
 from pygments.lexers.c_cpp import CLexer, CppLexer
 
+import rows
 import source
 import text
 from functions import function_of
-from rows import LABELS, LEFT_OUT, access_rows, allocation_rows, common_tail, place, rows
-from rows import Row as StackRow
 
 HERE = os.path.dirname(os.path.realpath(__file__))
 TEMPLATE = "report.html.j2"
@@ -28,7 +27,7 @@ STYLES = ((token.Comment.Preproc, "p"), (token.Comment, "c"), (token.String, "s"
 # The drawing, in units of a viewBox: what a column and a box take, and how many boxes a column has at most.
 COLUMN, BOX, STEP, BOXES, LETTERS = 330, 310, 56, 7, 40
 # The kind of a box by the label of a row, and what its code does; an access does what its label says.
-DOES = {LABELS["spawn"]: ("spawn", "spawns"), LABELS["call"]: ("call", "calls"), LEFT_OUT: ("rest", "")}
+DOES = {rows.LABELS["spawn"]: ("spawn", "spawns"), rows.LABELS["call"]: ("call", "calls"), rows.LEFT_OUT: ("rest", "")}
 
 # A pair in the table, and where it leads: to the pair as a whole, or to both its sources.
 Row = namedtuple("Row", "number whole leads kinds")
@@ -81,7 +80,7 @@ def lines_around(file, line):
 
 
 def excerpt_of(lead, name=""):
-    return Excerpt(name, place(lead), function_of(lead), lines_around(lead.file, lead.line))
+    return Excerpt(name, rows.place(lead), function_of(lead), lines_around(lead.file, lead.line))
 
 
 def excerpts_of(pair):
@@ -95,9 +94,9 @@ def excerpts_of(pair):
 def column_of(stack):
     """The rows of a stack from the outermost on, without the system's functions, and in the middle without some."""
     own = [frame for frame in stack if not source.is_system(frame.position)] or stack[:1]
-    found = rows([own[0]._replace(role=stack[0].role), *own[1:]])[::-1]
+    found = rows.rows([own[0]._replace(role=stack[0].role), *own[1:]])[::-1]
     left = len(found) - BOXES + 1
-    return found if left <= 1 else [*found[:BOXES // 2], StackRow(LEFT_OUT, f"{left} more"), *found[-(BOXES // 2):]]
+    return found if left <= 1 else [*found[:BOXES // 2], rows.Row(rows.LEFT_OUT, f"{left} more"), *found[-(BOXES // 2):]]
 
 
 def boxes_of(column, x):
@@ -115,7 +114,7 @@ def edges_of(top, column):
 def top_of(pair, outermost):
     """The construct whose children race, or the function where both meet; None where that isn't known."""
     if pair.siblings:
-        position, kind, said = pair.siblings["position"], "spawn", f"{place(pair.siblings['position'])} spawns both"
+        position, kind, said = pair.siblings["position"], "spawn", f"{rows.place(pair.siblings['position'])} spawns both"
     elif outermost[0].function == outermost[1].function and outermost[0].line > 0:
         position, kind, said = outermost[0], "call", "both meet here"
     else:
@@ -125,7 +124,7 @@ def top_of(pair, outermost):
 
 def drawing_of(pair, stacks):
     """Two columns of boxes below one, as far as both stacks aren't alike."""
-    tail = common_tail(*stacks)
+    tail = rows.common_tail(*stacks)
     own = [stack[:len(stack) - tail] for stack in stacks]
     top = top_of(pair, [stack[-1].position for stack in own])
     if not top:
@@ -145,8 +144,8 @@ def pair_of(number, pair, shown):
     stacks = text.stacks_of(pair)
     return Pair(number, pair.races, kinds_of(pair), text.variable_line(pair.variable, shown.report.unit),
                 text.order_rows(pair), excerpts_of(pair),
-                [(stack[0].role, access_rows(stack, side.lead())) for stack, side in zip(stacks, pair.sides)],
-                allocation_rows(pair.variable["stack"]) if pair.variable.get("stack") else [],
+                [(stack[0].role, rows.access_rows(stack, side.lead())) for stack, side in zip(stacks, pair.sides)],
+                rows.allocation_rows(pair.variable["stack"]) if pair.variable.get("stack") else [],
                 drawing_of(pair, stacks), pair.is_guarded())
 
 
@@ -163,7 +162,7 @@ class Table:
     def row(self, number, pair):
         leads = [side.lead() for side in pair.sides]
         excerpts = [None if number <= WHOLE else self.excerpts.setdefault(lead, len(self.excerpts)) for lead in leads]
-        return Row(number, number <= WHOLE, [Lead(place(lead), at) for lead, at in zip(leads, excerpts)],
+        return Row(number, number <= WHOLE, [Lead(rows.place(lead), at) for lead, at in zip(leads, excerpts)],
                    kinds_of(pair))
 
 

@@ -19,12 +19,12 @@ ROOT, FINGERPRINT = "%SRCROOT%", "spbagsLines/v1"
 
 
 def uri_of(file):
-    return "file://" + quote(os.fsencode(os.path.abspath(file)))
+    """A file is named from the root."""
+    return "file://" + quote(os.fsencode(os.path.abspath(os.path.join(source.Root.folder, file))))
 
 
 def artifact_of(file):
-    file = os.path.join(source.Root.folder, file)
-    relative = os.path.relpath(file, source.Root.folder)
+    relative = os.path.relpath(os.path.join(source.Root.folder, file), source.Root.folder)
     is_below = relative.split(os.sep)[0] != os.pardir
     return {"uri": quote(os.fsencode(relative)), "uriBaseId": ROOT} if is_below else {"uri": uri_of(file)}
 
@@ -77,7 +77,7 @@ def as_object(report, version):
     seen = collections.Counter()
     return {"$schema": SCHEMA, "version": "2.1.0", "runs": [{
         "tool": {"driver": {"name": "spbags-run", "version": version, "rules": rules}},
-        "originalUriBaseIds": {ROOT: {"uri": uri_of(source.Root.folder).rstrip("/") + "/"}},
+        "originalUriBaseIds": {ROOT: {"uri": uri_of(os.curdir).rstrip("/") + "/"}},
         "invocations": [{"executionSuccessful": True, "arguments": report.words,
                          "toolExecutionNotifications": notifications_of(report)}],
         "results": [result_of(pair, report.unit, seen) for pair in report.pairs]}]}

@@ -243,6 +243,15 @@ def variable_line(variable, unit):
     return "a local" if kind == "stack" else f"memory at {variable['address']:#x}"
 
 
+def order_rows(pair):
+    """What is said of the order of both accesses: a label and a text each."""
+    said = [order_row(pair)] if pair.siblings or pair.missing_sync else []
+    if pair.held_before:
+        said.append(("lock", f"in this run the later access comes after its thread held {pair.held_before}, which the first "
+                             "one holds"))
+    return said
+
+
 def without_inner(expression):
     """Without what only the tracer or the library has a name for."""
     return INNER.split(expression)[0]
@@ -263,15 +272,6 @@ def parts_named(variable):
     name = variable.get("name") or BASE.match(parts[0])[0]
     kind = "element" if all(ELEMENT.fullmatch(part[len(name):]) for part in parts) else "part"
     return f"{parts[0]} and {(len(parts) if are_all else variable['parts_count']) - 1} more {kind}s of {name}"
-
-
-def order_rows(pair):
-    """What is said of the order of both accesses: a label and a text each."""
-    found = [order_row(pair)] if pair.siblings or pair.missing_sync else []
-    if pair.held_before:
-        found.append(("lock", f"in this run the later access comes after its thread held {pair.held_before}, which the first "
-                              "one holds"))
-    return found
 
 
 def order_row(pair):

@@ -318,8 +318,8 @@ class SarifTest(RunTest):
     TEXT = "#include <cilk/cilk.h>\nstatic int cell;\nstatic void set(void) {\n    cell = 1;\n}\n"\
            "int main(void) {\n    cilk_spawn set();\n    cell = 2;\n}\n"
 
-    def log_of(self, *words):
-        status, said, errors = self.run_command(SPBAGS_RUN, "--sarif", "--", *words)
+    def log_of(self, *words, options=()):
+        status, said, errors = self.run_command(SPBAGS_RUN, "--sarif", *options, "--", *words)
         log = json.loads(said)
         try:
             import jsonschema
@@ -357,6 +357,11 @@ class SarifTest(RunTest):
                                             for location in locations])
             frames = [self.line_of(run, frame["location"]) for stack in result["stacks"] for frame in stack["frames"]]
             self.assertEqual(wanted[1], frames[0])
+        with self.subTest("another root"):
+            run = self.log_of("./own", options=("--source-root", "a folder"))[1]
+            location = run["results"][0]["locations"][0]
+            self.assertEqual("100%25%23%C3%A4.c", location["physicalLocation"]["artifactLocation"]["uri"])
+            self.assertEqual("cell = 2;", self.line_of(run, location))
 
     def test_fingerprints(self):
         """A pair keeps its own where lines move, and no other has it, even of lines that are alike."""
