@@ -247,8 +247,8 @@ void detector_share_progress(int file) {
 
 static void show_progress(void) {
     struct shown_progress *page = __atomic_load_n(&progress, __ATOMIC_ACQUIRE);
-    page->spawns = detector_spawns;
-    page->accesses = detector_accesses;
+    page->spawns = at_hand.spawns;
+    page->accesses = at_hand.accesses;
 }
 
 static void *detect(void *nothing) {
