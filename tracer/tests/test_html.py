@@ -5,13 +5,14 @@ import html
 import json
 import os
 import re
+import shutil
 import sys
 import unittest
 
 sys.dont_write_bytecode = True
 import browser
 import cases
-from cases import SPBAGS_CC, SPBAGS_RUN, TESTS, TracerTest
+from cases import SPBAGS_CC, SPBAGS_RUN, TESTS, TRACER, TracerTest
 import html_report
 import pairs
 import report
@@ -33,6 +34,8 @@ int main(int count, char **words) {
     cilk_sync;
 }
 """
+# The folders of the tracer that the page doesn't need.
+OTHER_FOLDERS = ("hooks", "include", "examples", "measure", "out", "plugins", "tests", "__pycache__")
 PHONE, DESK = (390, 800), (1280, 900)
 NO_PAIRS = report.Count(0, 0)
 
@@ -77,11 +80,12 @@ class PageTest(EvilTest):
         """A line names the packages before the program runs."""
         for name in ("jinja2", "pygments"):
             with self.subTest(name):
-                self.write(name + ".py", f"raise ModuleNotFoundError(name='{name}')\n")
-                done = self.run_command(SPBAGS_RUN, "--html", "page.html", "--", "./program", PYTHONPATH=os.getcwd())
+                shutil.copytree(TRACER, "tracer", ignore=shutil.ignore_patterns(*OTHER_FOLDERS))
+                self.write(f"tracer/{name}.py", f"raise ModuleNotFoundError(name='{name}')\n")
+                done = self.run_command("tracer/spbags-run", "--html", "page.html", "--", "./program")
                 self.assertEqual((2, "", f"spbags-run: --html needs the module {name} of Python: apt-get install "
                                   "python3-jinja2 python3-pygments\n"), done)
-                os.unlink(name + ".py")
+                shutil.rmtree("tracer")
         self.assertEqual("", self.read("page.html"))
 
 

@@ -1,5 +1,5 @@
-//! Tests of `bags`, `lane`, `route` and `shard`. They are in one crate, since a crate with tests is proved once more with
-//! them, and each crate of tests reads all that it stands on.
+//! Tests of `bags`, `lane`, `route` and `shard`. They are in one crate, since a crate with tests is proved once more
+//! with them, and each crate of tests reads all that it stands on.
 #![tactic(auto)]
 
 #[cfg(test)]

@@ -29,35 +29,14 @@ fn said_of_line(alloc: Global, line: &str) -> Result<String, AllocError> {
 
 // Command lines, and what they ask for.
 const ASKED: &str =
-    r#"check run.trace => Question(Check(CheckWords { shards: 4, capacity: 1024, depth: 65536, part: Part { index: 0, count: 1 }, trace: "run.trace" }))
-check - => Question(Check(CheckWords { shards: 4, capacity: 1024, depth: 65536, part: Part { index: 0, count: 1 }, trace: "-" }))
-check --depth 0 - => Question(Check(CheckWords { shards: 4, capacity: 1024, depth: 0, part: Part { index: 0, count: 1 }, trace: "-" }))
-check --depth=1 - => Question(Check(CheckWords { shards: 4, capacity: 1024, depth: 1, part: Part { index: 0, count: 1 }, trace: "-" }))
-check - --depth 1 => Question(Check(CheckWords { shards: 4, capacity: 1024, depth: 1, part: Part { index: 0, count: 1 }, trace: "-" }))
-check --depth 1000000 a => Question(Check(CheckWords { shards: 4, capacity: 1024, depth: 1000000, part: Part { index: 0, count: 1 }, trace: "a" }))
-check -- --depth => Question(Check(CheckWords { shards: 4, capacity: 1024, depth: 65536, part: Part { index: 0, count: 1 }, trace: "--depth" }))
-check --shards 1 --capacity 1 - => Question(Check(CheckWords { shards: 1, capacity: 1, depth: 65536, part: Part { index: 0, count: 1 }, trace: "-" }))
-check --shards 64 --capacity 65536 - => Question(Check(CheckWords { shards: 64, capacity: 65536, depth: 65536, part: Part { index: 0, count: 1 }, trace: "-" }))
-check --capacity=7 --shards=3 - => Question(Check(CheckWords { shards: 3, capacity: 7, depth: 65536, part: Part { index: 0, count: 1 }, trace: "-" }))
-check - --shards 2 => Question(Check(CheckWords { shards: 2, capacity: 1024, depth: 65536, part: Part { index: 0, count: 1 }, trace: "-" }))
-check - --capacity 9 => Question(Check(CheckWords { shards: 4, capacity: 9, depth: 65536, part: Part { index: 0, count: 1 }, trace: "-" }))
-check --shards 5 --depth 6 --capacity 7 - => Question(Check(CheckWords { shards: 5, capacity: 7, depth: 6, part: Part { index: 0, count: 1 }, trace: "-" }))
-check --part 0/1 - => Question(Check(CheckWords { shards: 4, capacity: 1024, depth: 65536, part: Part { index: 0, count: 1 }, trace: "-" }))
-check --part 1/2 - => Question(Check(CheckWords { shards: 4, capacity: 1024, depth: 65536, part: Part { index: 1, count: 2 }, trace: "-" }))
-check --part=9/10 - => Question(Check(CheckWords { shards: 4, capacity: 1024, depth: 65536, part: Part { index: 9, count: 10 }, trace: "-" }))
-check - --part 10/16 => Question(Check(CheckWords { shards: 4, capacity: 1024, depth: 65536, part: Part { index: 10, count: 16 }, trace: "-" }))
-check --part 65535/65536 - => Question(Check(CheckWords { shards: 4, capacity: 1024, depth: 65536, part: Part { index: 65535, count: 65536 }, trace: "-" }))
-check --shards 5 --part 2/3 --depth 6 - => Question(Check(CheckWords { shards: 5, capacity: 1024, depth: 6, part: Part { index: 2, count: 3 }, trace: "-" }))
-pairs run.trace 5 => Question(Pairs(PairsWords { depth: 65536, trace: "run.trace", location: 5 }))
+    r#"pairs run.trace 5 => Question(Pairs(PairsWords { depth: 65536, trace: "run.trace", location: 5 }))
 pairs - 0 => Question(Pairs(PairsWords { depth: 65536, trace: "-", location: 0 }))
 pairs --depth 0 - 7 => Question(Pairs(PairsWords { depth: 0, trace: "-", location: 7 }))
 pairs a --depth=1000000 7 => Question(Pairs(PairsWords { depth: 1000000, trace: "a", location: 7 }))
-pairs - 18446744073709551615 => Question(Pairs(PairsWords { depth: 65536, trace: "-", location: 18446744073709551615 }))
 explain run.trace 5 => Question(Explain(ExplainWords { depth: 65536, trace: "run.trace", location: 5 }))
 explain - 0 => Question(Explain(ExplainWords { depth: 65536, trace: "-", location: 0 }))
 explain --depth 0 - 7 => Question(Explain(ExplainWords { depth: 0, trace: "-", location: 7 }))
 explain a --depth=1000000 7 => Question(Explain(ExplainWords { depth: 1000000, trace: "a", location: 7 }))
-explain - 18446744073709551615 => Question(Explain(ExplainWords { depth: 65536, trace: "-", location: 18446744073709551615 }))
 measure - => Question(Measure(MeasureWords { depth: 65536, trace: "-" }))
 measure - --depth 3 => Question(Measure(MeasureWords { depth: 3, trace: "-" }))
 confirm run.trace run.report => Confirm(ConfirmWords { depth: 65536, trace: "run.trace", report: "run.report" })
@@ -72,12 +51,87 @@ merge same same => Merge(MergeWords { reports: ["same", "same"] })
 merge c - a => Merge(MergeWords { reports: ["c", "-", "a"] })
 merge -- --part - => Merge(MergeWords { reports: ["--part", "-"] })"#;
 
+// Longer ones, of questions.
+const QUESTIONS: &str = r#"check run.trace
+Check(CheckWords { shards: 4, capacity: 1024, depth: 65536, part: Part { index: 0, count: 1 }, trace: "run.trace" })
+
+check -
+Check(CheckWords { shards: 4, capacity: 1024, depth: 65536, part: Part { index: 0, count: 1 }, trace: "-" })
+
+check --depth 0 -
+Check(CheckWords { shards: 4, capacity: 1024, depth: 0, part: Part { index: 0, count: 1 }, trace: "-" })
+
+check --depth=1 -
+Check(CheckWords { shards: 4, capacity: 1024, depth: 1, part: Part { index: 0, count: 1 }, trace: "-" })
+
+check - --depth 1
+Check(CheckWords { shards: 4, capacity: 1024, depth: 1, part: Part { index: 0, count: 1 }, trace: "-" })
+
+check --depth 1000000 a
+Check(CheckWords { shards: 4, capacity: 1024, depth: 1000000, part: Part { index: 0, count: 1 }, trace: "a" })
+
+check -- --depth
+Check(CheckWords { shards: 4, capacity: 1024, depth: 65536, part: Part { index: 0, count: 1 }, trace: "--depth" })
+
+check --shards 1 --capacity 1 -
+Check(CheckWords { shards: 1, capacity: 1, depth: 65536, part: Part { index: 0, count: 1 }, trace: "-" })
+
+check --shards 64 --capacity 65536 -
+Check(CheckWords { shards: 64, capacity: 65536, depth: 65536, part: Part { index: 0, count: 1 }, trace: "-" })
+
+check --capacity=7 --shards=3 -
+Check(CheckWords { shards: 3, capacity: 7, depth: 65536, part: Part { index: 0, count: 1 }, trace: "-" })
+
+check - --shards 2
+Check(CheckWords { shards: 2, capacity: 1024, depth: 65536, part: Part { index: 0, count: 1 }, trace: "-" })
+
+check - --capacity 9
+Check(CheckWords { shards: 4, capacity: 9, depth: 65536, part: Part { index: 0, count: 1 }, trace: "-" })
+
+check --shards 5 --depth 6 --capacity 7 -
+Check(CheckWords { shards: 5, capacity: 7, depth: 6, part: Part { index: 0, count: 1 }, trace: "-" })
+
+check --part 0/1 -
+Check(CheckWords { shards: 4, capacity: 1024, depth: 65536, part: Part { index: 0, count: 1 }, trace: "-" })
+
+check --part 1/2 -
+Check(CheckWords { shards: 4, capacity: 1024, depth: 65536, part: Part { index: 1, count: 2 }, trace: "-" })
+
+check --part=9/10 -
+Check(CheckWords { shards: 4, capacity: 1024, depth: 65536, part: Part { index: 9, count: 10 }, trace: "-" })
+
+check - --part 10/16
+Check(CheckWords { shards: 4, capacity: 1024, depth: 65536, part: Part { index: 10, count: 16 }, trace: "-" })
+
+check --part 65535/65536 -
+Check(CheckWords { shards: 4, capacity: 1024, depth: 65536, part: Part { index: 65535, count: 65536 }, trace: "-" })
+
+check --shards 5 --part 2/3 --depth 6 -
+Check(CheckWords { shards: 5, capacity: 1024, depth: 6, part: Part { index: 2, count: 3 }, trace: "-" })
+
+pairs - 18446744073709551615
+Pairs(PairsWords { depth: 65536, trace: "-", location: 18446744073709551615 })
+
+explain - 18446744073709551615
+Explain(ExplainWords { depth: 65536, trace: "-", location: 18446744073709551615 })"#;
+
 #[test]
 fn reads_command_lines(rt: HostRuntime) -> Result<(), Fail> {
     for row in ASKED.split('\n') {
         let (line, asked) = row.split_once(" => ").ok_or("no arrow")?;
         let said = said_of_line(rt.alloc(), line)?;
         assert!(rt; said.as_str() == asked, "{line}: {said}");
+    }
+    Ok(())
+}
+
+#[test]
+fn reads_questions(rt: HostRuntime) -> Result<(), Fail> {
+    for row in QUESTIONS.split("\n\n") {
+        let (line, question) = row.split_once('\n').ok_or("no question")?;
+        let said = said_of_line(rt.alloc(), line)?;
+        let asked = format!(in rt.alloc(); "Question({question})")?;
+        assert!(rt; said.as_str() == asked.as_str(), "{line}: {said}");
     }
     Ok(())
 }

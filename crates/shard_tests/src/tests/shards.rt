@@ -105,7 +105,8 @@ three-writes | spawn, write 3, return, spawn, write 3, return, write 3, return |
 first-reader-stays | spawn, read 4, return, read 4, write 4, return | [(4, (Read, 2), (Write, 5))]
 read-then-write-in-child | spawn, read 7, write 7, return, write 7, return | [(7, (Write, 3), (Write, 5))]
 read-in-child-of-writer | write 7, spawn, read 7, return, write 7, return | [(7, (Read, 3), (Write, 5))]
-three-shards | spawn, write 8, write 2, return, read 8, read 2, return | [(8, (Write, 2), (Read, 5)), (2, (Write, 3), (Read, 6))]";
+three-shards | spawn, write 8, write 2, return, read 8, read 2, return | \
+    [(8, (Write, 2), (Read, 5)), (2, (Write, 3), (Read, 6))]";
 
 fn record_of(words: &str) -> Option<Record> {
     let (word, number) = words.split_once(' ').unwrap_or((words, ""));

@@ -1,4 +1,5 @@
-//! What is answered about a trace, as texts. The callers know of the answers no more than that, or their proofs take long.
+//! What is answered about a trace, as texts. The callers know of the answers no more than that, or their proofs take
+//! long.
 
 use super::parts::Parts;
 use audit::{confirm, explain, measure, pairs};

@@ -2,8 +2,8 @@
 
 use std::io::{self, ErrorKind, Read};
 
-/// Hands out the first bytes in pieces of the size, and then the others. If asked to, it fails once in between; the calls
-/// after that go on as if that one hadn't been made.
+/// Hands out the first bytes in pieces of the size, and then the others. If asked to, it fails once in between; the
+/// calls after that go on as if that one hadn't been made.
 #[derive(Clone, Copy)]
 pub struct Parts<'a> {
     first: &'a [u8],

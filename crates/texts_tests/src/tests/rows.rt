@@ -126,8 +126,10 @@ pairs 5 | trace 1/return/sync/ | spbags: place 2: after end/ | fails
 pairs 0 | trace 1/return/ | pairs 0/
 pairs 9 | trace 1/read 9/spawn/read 9/return/write 9/return/ | pairs 1/pair read 3 write 5/
 pairs 1 | trace 1/spawn/spawn/write 1/return/return/sync/read 1/return/ | pairs 0/
-pairs 9 | trace 1/spawn/read 9/return/spawn/read 9/return/write 9/return/ | pairs 2/pair read 2 write 7/pair read 5 write 7/
-pairs 3 | trace 1/spawn/write 3/return/spawn/write 3/return/write 3/return/ | pairs 3/pair write 2 write 5/pair write 2 write 7/pair write 5 write 7/
+pairs 9 | trace 1/spawn/read 9/return/spawn/read 9/return/write 9/return/ | \
+    pairs 2/pair read 2 write 7/pair read 5 write 7/
+pairs 3 | trace 1/spawn/write 3/return/spawn/write 3/return/write 3/return/ | \
+    pairs 3/pair write 2 write 5/pair write 2 write 7/pair write 5 write 7/
 pairs 4 | trace 1/spawn/write 3/return/spawn/write 3/return/write 3/return/ | pairs 0/
 pairs 7 | trace 1/spawn/read 7/write 7/return/write 7/return/ | pairs 2/pair read 2 write 5/pair write 3 write 5/
 pairs 5 | trace 1/spawn/write 5/return/sync/write 5/return/ | pairs 0/
@@ -153,14 +155,23 @@ pairs 5 | trace 1/spawn/write 5/return/write 5/return/ | spbags: place 1: too de
 pairs 5 | trace 2/call/return/ | spbags: place 3: unfinished/
 pairs 5 | trace 2/call/spawn/write 1/return/return/write 1/return/ | spbags: place 2: too deep/ | depth 1
 pairs 5 | trace 1/write 5/ | spbags: place 2: unfinished/
-explain 5 | trace 1/spawn/write 5/return/write 5/return/ | race 5 write 2 write 4/meet 0/first spawn 1 write 2/second write 4/joined 5/
-explain 1 | trace 1/spawn/write 1/return/spawn/sync/write 1/return/return/ | race 1 write 2 write 6/meet 0/first spawn 1 write 2/second spawn 4 write 6/joined 8/
-explain 9 | trace 1/spawn/read 9/return/spawn/read 9/return/write 9/return/ | race 9 read 2 write 7/meet 0/first spawn 1 read 2/second write 7/joined 8/
-explain 3 | trace 1/spawn/write 3/return/spawn/write 3/return/write 3/return/ | race 3 write 2 write 5/meet 0/first spawn 1 write 2/second spawn 4 write 5/joined 8/
-explain 9 | trace 1/read 9/spawn/read 9/return/write 9/return/ | race 9 read 3 write 5/meet 0/first spawn 2 read 3/second write 5/joined 6/
-explain 7 | trace 1/spawn/read 7/write 7/return/write 7/return/ | race 7 write 3 write 5/meet 0/first spawn 1 write 3/second write 5/joined 6/
-explain 5 | trace 2/call/spawn/call/write 5/return/return/spawn/write 5/spawn/sync/return/sync/return/sync/return/return/ | race 5 write 4 write 8/meet 1/first spawn 2 call 3 write 4/second spawn 7 write 8/joined 14/
-explain 7 | trace 2/spawn/sync/spawn/read 7/return/call/spawn/write 7/return/return/read 7/return/sync/return/ | race 7 read 4 write 8/meet 1/first spawn 3 read 4/second call 6 spawn 7 write 8/joined 12/
+explain 5 | trace 1/spawn/write 5/return/write 5/return/ | \
+    race 5 write 2 write 4/meet 0/first spawn 1 write 2/second write 4/joined 5/
+explain 1 | trace 1/spawn/write 1/return/spawn/sync/write 1/return/return/ | \
+    race 1 write 2 write 6/meet 0/first spawn 1 write 2/second spawn 4 write 6/joined 8/
+explain 9 | trace 1/spawn/read 9/return/spawn/read 9/return/write 9/return/ | \
+    race 9 read 2 write 7/meet 0/first spawn 1 read 2/second write 7/joined 8/
+explain 3 | trace 1/spawn/write 3/return/spawn/write 3/return/write 3/return/ | \
+    race 3 write 2 write 5/meet 0/first spawn 1 write 2/second spawn 4 write 5/joined 8/
+explain 9 | trace 1/read 9/spawn/read 9/return/write 9/return/ | \
+    race 9 read 3 write 5/meet 0/first spawn 2 read 3/second write 5/joined 6/
+explain 7 | trace 1/spawn/read 7/write 7/return/write 7/return/ | \
+    race 7 write 3 write 5/meet 0/first spawn 1 write 3/second write 5/joined 6/
+explain 5 | \
+    trace 2/call/spawn/call/write 5/return/return/spawn/write 5/spawn/sync/return/sync/return/sync/return/return/ | \
+    race 5 write 4 write 8/meet 1/first spawn 2 call 3 write 4/second spawn 7 write 8/joined 14/
+explain 7 | trace 2/spawn/sync/spawn/read 7/return/call/spawn/write 7/return/return/read 7/return/sync/return/ | \
+    race 7 read 4 write 8/meet 1/first spawn 3 read 4/second call 6 spawn 7 write 8/joined 12/
 explain 0 | trace 1/return/ | no race/
 explain 5 | trace 1/spawn/write 5/return/sync/write 5/return/ | no race/
 explain 1 | trace 1/spawn/spawn/write 1/return/return/sync/read 1/return/ | no race/
@@ -176,12 +187,16 @@ confirm races 1/race 5 write 2 write 9/ | trace 1/spawn/write 5/return/write 5/r
 confirm races 1/race 5 write 2 write 5/ | trace 1/spawn/write 5/return/sync/write 5/return/ | no 1/
 confirm races 1/race 3 write 5 write 7/ | trace 1/spawn/write 3/return/spawn/write 3/return/write 3/return/ | yes/
 confirm races 0/ | trace 1/spawn/write 5/return/write 5/return/ | yes/
-confirm races 2/race 2 write 3 read 6/race 8 write 2 read 5/ | trace 1/spawn/write 8/write 2/return/read 8/read 2/return/ | yes/
-confirm races 2/race 2 write 3 read 6/race 8 write 2 read 6/ | trace 1/spawn/write 8/write 2/return/read 8/read 2/return/ | no 2/
-confirm races 2/race 2 write 2 read 6/race 8 write 2 read 6/ | trace 1/spawn/write 8/write 2/return/read 8/read 2/return/ | no 1/
+confirm races 2/race 2 write 3 read 6/race 8 write 2 read 5/ | \
+    trace 1/spawn/write 8/write 2/return/read 8/read 2/return/ | yes/
+confirm races 2/race 2 write 3 read 6/race 8 write 2 read 6/ | \
+    trace 1/spawn/write 8/write 2/return/read 8/read 2/return/ | no 2/
+confirm races 2/race 2 write 2 read 6/race 8 write 2 read 6/ | \
+    trace 1/spawn/write 8/write 2/return/read 8/read 2/return/ | no 1/
 confirm races 1/race 1 write 2 write 8/ | trace 2/spawn/write 1/return/call/read 2/return/write 2/write 1/return/ | yes/
 confirm races 1/race 2 read 5 write 7/ | trace 2/spawn/write 1/return/call/read 2/return/write 2/write 1/return/ | no 1/
-confirm races 2/race 1 write 2 write 8/race 2 read 5 write 7/ | trace 2/spawn/write 1/return/call/read 2/return/write 2/write 1/return/ | no 2/
+confirm races 2/race 1 write 2 write 8/race 2 read 5 write 7/ | \
+    trace 2/spawn/write 1/return/call/read 2/return/write 2/write 1/return/ | no 2/
 confirm races 1/race 1 write 2 write 6/ | trace 2/spawn/write 1/return/call/sync/write 1/return/return/ | yes/
 confirm races 1/race 1 write 3 write 6/ | trace 2/call/spawn/write 1/return/return/write 1/return/ | no 1/
 confirm races 0/ | trace 1/spawn/write 5/return/sync/write 5/return/ | yes/
