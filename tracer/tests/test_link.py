@@ -236,8 +236,7 @@ class OptionsTest(LinkTest):
     def test_answers(self):
         """What the compiler says of each of these, in its own words."""
         for words in (["-dumpversion"], ["-dumpmachine"], ["-dumpspecs"], ["-print-multiarch"], ["-print-prog-name=ld"],
-                      ["-print-search-dirs"], ["-v"], ["--version"], ["-E", "-dM", "-xc", "/dev/null"],
-                      ["-Wl,--version"]):
+                      ["-print-search-dirs"], ["-v"], ["-E", "-dM", "-xc", "/dev/null"], ["-Wl,--version"]):
             with self.subTest(words):
                 self.assertEqual(self.answer("gcc", words), self.answer(SPBAGS_CC, words))
 
