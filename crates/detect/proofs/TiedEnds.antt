@@ -1,5 +1,5 @@
 -- The ends of one shard's lanes more.
-use Rattle.std.proofs.Common.{◌≡◌, ℕ, ◌+◌, List, [], ◌∷◌, ◌++◌, length, length-append, map, refl, sym, ap, ap₂, subst, ◌∙◌, arith}
+use Rattle.std.proofs.Common.{◌≡◌, ℕ, suc, ◌+◌, List, [], ◌∷◌, ◌++◌, length, length-append, map, refl, sym, ap, ap₂, subst, ◌∙◌, arith}
 use Rattle.std.specs.List.{All, AllByRecursion}
 use Rattle.std.proofs.lemmas.List.{map-append}
 use Rattle.std.proofs.lemmas.List.Elements.{All-push, All-nil}
@@ -17,7 +17,7 @@ use Rattle.detect.specs.Gathered.{given_by, all_given, Gathers}
 use Rattle.detect.specs.declared.workers.Job.{Job}
 use Rattle.detect.specs.declared.made.LaneEnds.{LaneEnds}
 use Rattle.detect.specs.Workers.{IsFreshJob, AllFresh, to_shards, from_shards}
-use Rattle.detect.specs.Readiness.{IsBetween, IsTied}
+use Rattle.detect.specs.Readiness.{AreJobsFrom, IsBetween, IsJobOf, IsTied}
 
 -- what f says of the one list, g says of the other, and of one element more too
 same_more : {X Y Z : Type 0} (f : X → Z) (g : Y → Z) (xs xs' : List X) (x : X) (ys ys' : List Y) (y : Y) → xs' ≡ xs ++ x ∷ [] → ys' ≡ ys ++ y ∷ [] → f x ≡ g y → map f xs ≡ map g ys → map f xs' ≡ map g ys'
@@ -39,6 +39,14 @@ nothing_gathered backs c none holds = record {
 }
 
 module _ {S H : Type 0} where
+  pub jobs_more : (capacity index : ℕ) (jobs : List (Job S H)) (job : Job S H) → AreJobsFrom capacity index jobs → IsJobOf capacity (index + length jobs) job → AreJobsFrom capacity index (jobs ++ job ∷ [])
+  jobs_more capacity index [] job h is =
+      let here : index + 0 ≡ index = omega arith in
+      (subst (λ (n : ℕ). IsJobOf capacity n job) here is, tt)
+  jobs_more capacity index (j ∷ jobs) job h is =
+      let behind : index + suc (length jobs) ≡ suc index + length jobs = omega arith in
+      (h.0, jobs_more capacity (suc index) jobs job h.1 (subst (λ (n : ℕ). IsJobOf capacity n job) behind is))
+
   pub tied_none : (ends : LaneEnds S H) → ends.senders.items ≡ [] → ends.jobs.items ≡ [] → ends.backs.items ≡ [] → IsTied 0 ends
   tied_none ends senders jobs backs =
       let P : List (Job S H) → Type 0 = AllFresh in

@@ -1,5 +1,5 @@
 -- Private: what a run begins with.
-use Rattle.std.specs.Prelude.{◌≡◌, IsFalse, ℕ, ◌≤◌, [], length, map, vec_len, vec_capacity}
+use Rattle.std.specs.Prelude.{◌≡◌, IsFalse, ℕ, suc, ◌≤◌, ⊤, List, [], ◌∷◌, length, map, vec_len, vec_capacity}
 use Rattle.std.specs.List.{All, AllByRecursion}
 use Rattle.dag.specs.declared.records.Placed.{Placed}
 use Rattle.lane.specs.declared.sender.Sender.{Sender}
@@ -22,6 +22,17 @@ module _ {S H : Type 0} where
     pub new : IsFreshJob job
     pub none_put : put_of sender ≡ []
     pub none_taken : gatherer.taken ≡ []
+
+  -- the job of the shard of this number, whose lanes hold so many items at most
+  pub record IsJobOf (capacity index : ℕ) (job : Job S H) : Type 0 where
+    pub number : job.shard.index ≡ index
+    pub to_shard : job.taker.capacity ≡ capacity
+    pub from_shard : job.back.capacity ≡ capacity
+
+  -- the jobs of the shards from this number on
+  abbrev pub AreJobsFrom : ℕ → ℕ → List (Job S H) → Type 0
+  AreJobsFrom capacity index [] = ⊤
+  AreJobsFrom capacity index (job ∷ jobs) = IsJobOf capacity index job × AreJobsFrom capacity (suc index) jobs
 
   -- the ends of the lanes of n shards, on which nothing was put
   pub record IsTied (n : ℕ) (ends : LaneEnds S H) : Type 0 where

@@ -1,7 +1,7 @@
 //! What a run needs. All of it is made before the first worker starts and before the first byte is read.
-ghost use Rattle.std.specs.Prelude.{◌≡◌, ℕ, ◌+◌, ◌≤◌, vec_len, vec_capacity, IfOk, OnOk};
+ghost use Rattle.std.specs.Prelude.{◌≡◌, ℕ, ◌+◌, ◌≤◌, length, vec_len, vec_capacity, IfOk, OnOk};
 ghost use Rattle.dag.specs.Bounds.{IsShardCount, IsCapacity};
-ghost use Rattle.detect.specs.Readiness.{IsBetween, IsReady, IsTied};
+ghost use Rattle.detect.specs.Readiness.{AreJobsFrom, IsBetween, IsJobOf, IsReady, IsTied};
 ghost use Rattle.detect.specs.Rooms.{HasRoom};
 
 use crate::gathering::Gathering;
@@ -52,6 +52,7 @@ pub(crate) fn make<S: BuildHasher + Drop>(
     requires shards { IsShardCount (vec_len hashers) }
     ensures ready { IfOk result (IsReady (vec_len hashers)) }
     ensures part { IfOk result (λ made. made.reading.part ≡ part) }
+    ensures jobs { IfOk result (λ made. AreJobsFrom capacity 0 made.jobs.items) }
 {
     let count = hashers.len();
     let ends = make_ends(alloc, capacity as usize, hashers)?;
@@ -84,7 +85,8 @@ fn make_ends<S: BuildHasher + Drop>(
 ) -> Result<LaneEnds<S>, NoMemory>
     requires capacity { IsCapacity capacity }
     requires shards { IsShardCount (vec_len hashers) }
-    ensures { IfOk result (IsTied (vec_len hashers)) }
+    ensures tied { IfOk result (IsTied (vec_len hashers)) }
+    ensures jobs { IfOk result (λ ends. AreJobsFrom capacity 0 ends.jobs.items) }
 {
     let mut ends = LaneEnds {
         senders: Vec::new(alloc),
@@ -110,7 +112,9 @@ fn add_shard<S: BuildHasher + Drop>(
 ) -> Result<(), NoMemory>
     requires capacity { IsCapacity capacity }
     requires shards { 1 ≤ shards }
-    ensures { OnOk result ((n : ℕ) → IsTied n ends.old → IsTied (n + 1) ends.new) }
+    ensures tied { OnOk result ((n : ℕ) → IsTied n ends.old → IsTied (n + 1) ends.new) }
+    ensures jobs { OnOk result (AreJobsFrom capacity 0 ends.old.jobs.items → length ends.old.jobs.items ≡ index
+        → AreJobsFrom capacity 0 ends.new.jobs.items) }
 {
     let (sender, job, gatherer) = make_job(alloc, capacity, index, shards, hasher)?;
     ends.senders.push(sender)?;
@@ -129,7 +133,8 @@ fn make_job<S: BuildHasher + Drop>(
 ) -> Result<(Sender<Placed>, Job<S>, Taker<Back>), NoMemory>
     requires capacity { IsCapacity capacity }
     requires shards { 1 ≤ shards }
-    ensures { IfOk result (λ made. IsBetween made.0 made.2 made.1) }
+    ensures between { IfOk result (λ made. IsBetween made.0 made.2 made.1) }
+    ensures job { IfOk result (λ made. IsJobOf capacity index made.1) }
 {
     let (sender, taker) = lane(alloc, capacity)?;
     let (back, gatherer) = lane(alloc, capacity)?;

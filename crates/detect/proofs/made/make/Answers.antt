@@ -4,7 +4,7 @@ use Rattle.detect.proofs.made.make.Goals as goal
 
 pub returns-clause-ready : goal.returns-clause-ready
 returns-clause-ready g c =
-    let tied = c.in_ok-ends.ensures in
+    let tied = c.in_ok-ends.ensures.tied in
     let router = c.in_ok-new.ensures in
     record {
       count = router.count ∙ tied.senders;
