@@ -80,12 +80,12 @@ class PageTest(EvilTest):
         """A line names the packages before the program runs."""
         for name in ("jinja2", "pygments"):
             with self.subTest(name):
-                shutil.copytree(TRACER, "tracer", ignore=shutil.ignore_patterns(*OTHER_FOLDERS))
-                self.write(f"tracer/{name}.py", f"raise ModuleNotFoundError(name='{name}')\n")
-                done = self.run_command("tracer/spbags-run", "--html", "page.html", "--", "./program")
+                shutil.copytree(TRACER, "copied", ignore=shutil.ignore_patterns(*OTHER_FOLDERS))
+                self.write(f"copied/{name}.py", f"raise ModuleNotFoundError(name='{name}')\n")
+                done = self.run_command("copied/spbags-run", "--html", "page.html", "--", "./program")
                 self.assertEqual((2, "", f"spbags-run: --html needs the module {name} of Python: apt-get install "
                                   "python3-jinja2 python3-pygments\n"), done)
-                shutil.rmtree("tracer")
+                shutil.rmtree("copied")
         self.assertEqual("", self.read("page.html"))
 
 
