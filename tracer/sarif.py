@@ -12,7 +12,7 @@ SCHEMA = "https://json.schemastore.org/sarif-2.1.0.json"
 RACE, GUARDED = "determinacy-race", "guarded-race"
 RULES = {RACE: "Two accesses, one a write, are parallel: another schedule may give another result.",
          GUARDED: "Two accesses are parallel, and both are atomic or under one lock: either may come first."}
-# The paper that defines such races.
+# Where determinacy races are defined.
 HELP = "https://doi.org/10.1145/258492.258493"
 # The folder from which files below it are named.
 ROOT, FINGERPRINT = "%SRCROOT%", "spbagsLines/v1"
