@@ -1,6 +1,6 @@
 -- Of a source that shows its bytes: what is reported is said of the trace that they are the text of, and the fault is the
 -- first of these bytes.
-use Rattle.std.proofs.Common.{◌≡◌, ℕ, List, ◌++◌, Option, Some, None, ◌⊎◌, inl, inr, sym, ◌∙◌, ap, subst, arith, Result, Ok, Err, IfErr, MatchResult}
+use Rattle.std.proofs.Common.{◌≡◌, ℕ, List, ◌++◌, false, Option, Some, None, ◌⊎◌, inl, inr, sym, ◌∙◌, ap, subst, arith, Result, Ok, Err, IfErr, MatchResult}
 use Rattle.std.proofs.lemmas.List.{append-nil}
 use Rattle.std.specs.Io.KnownBytes.{Consumes, IsAtEnd}
 use Rattle.dag.specs.declared.records.Version.{Version}
@@ -19,7 +19,7 @@ use Rattle.trace.proofs.Cuttings.{first_fault_more}
 
 -- a source that shows its bytes, and never fails
 abbrev pub holding : List ℕ → Device
-holding bytes = record { bytes = Some bytes; failures = 0 }
+holding bytes = record { bytes = Some bytes; failures = 0; holds_back = false }
 
 never_failed : (bytes left : List ℕ) → HasFailed (holding bytes ⇝ holding left) → ⊥
 never_failed bytes left e = absurd (omega (arith, e))

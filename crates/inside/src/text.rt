@@ -1,5 +1,5 @@
 //! A text in memory, as a sink.
-ghost use Rattle.std.specs.Prelude.{Some};
+ghost use Rattle.std.specs.Prelude.{Some, false};
 
 use std::io::Write;
 use trace::{Failed, Sink};
@@ -12,7 +12,7 @@ pub(crate) struct Text {
 }
 
 impl Sink for Text {
-    ghost state = { λ s. record { bytes = Some s.bytes.items; failures = s.failed } };
+    ghost state = { λ s. record { bytes = Some s.bytes.items; failures = s.failed; holds_back = false } };
 
     fn put(&mut self, buffer: &[u8]) -> Result<usize, Failed> {
         match self.bytes.write(buffer) {

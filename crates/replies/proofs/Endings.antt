@@ -39,7 +39,7 @@ module _ {IsWant : Fault → Type 0} {records depths : ℕ} {Says : List Record 
       let P : ℕ → Type 0 = λ s. OfTrace records depths trace (λ w. Says w text s) in
       record {
         low = omega (arith, whole.0, low);
-        answered = λ _. record { text = text; read = subst P (sym whole.0) run; took = whole.1; silent = whole.2 };
+        answered = λ _. record { text = text; read = subst P (sym whole.0) run; took = whole.1; passed = whole.3; silent = whole.2 };
         failed = λ two. absurd (omega (arith, whole.0, low, two));
       }
   answered result status text low run (inr front) = record {

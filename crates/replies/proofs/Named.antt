@@ -1,5 +1,5 @@
 -- How an answer ends of what names stand for.
-use Rattle.std.proofs.Common.{◌≡◌, ℕ, List, [], Option, None, Result, string_bytes, refl, sym, ap, ◌∙◌, subst, inl, inr}
+use Rattle.std.proofs.Common.{false, ◌≡◌, ℕ, List, [], Option, None, Result, string_bytes, refl, sym, ap, ◌∙◌, subst, inl, inr}
 use Rattle.std.specs.Prelude.{⊤, ◌==◌, if◌then◌else◌}
 use Rattle.std.specs.declared.io.buffered.BufReader.{BufReader}
 use Rattle.std.specs.Io.Buffered.{reader_inner, reader_buffer, reader_capacity, reader_remaining}
@@ -104,7 +104,7 @@ nothing_ahead remaining r x inner empty capacity =
     subst P (sym capacity) known
 
 abbrev device : Option (List ℕ) → ℕ → Device
-device bytes failures = record { bytes = bytes; failures = failures }
+device bytes failures = record { bytes = bytes; failures = failures; holds_back = false }
 
 pub is_untried : {bytes known : Option (List ℕ)} {failures : ℕ} → bytes ≡ known → failures ≡ 0 → device bytes failures ≡ untried known
 is_untried {bytes} {known} {failures} e none = ap (λ b. device b failures) e ∙ ap (device known) none

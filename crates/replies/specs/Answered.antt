@@ -3,7 +3,7 @@ use Rattle.std.specs.Prelude.{◌≡◌, ◌⊎◌, ℕ, ◌<◌, ◌≤◌, Lis
 use Rattle.dag.specs.declared.records.Record.{Record}
 use Rattle.trace.specs.declared.faults.Fault.{Fault}
 use Rattle.dag.specs.Accesses.{RaceAt}
-use Rattle.trace.specs.Devices.{Change}
+use Rattle.trace.specs.Devices.{Change, HasPassedOn}
 use Rattle.trace.specs.Writers.{IsUntouched, Took, TookFront, WasGiven}
 use Rattle.trace.specs.Endings.{OfTrace, IsRefused, IsWantOfMemory}
 use Rattle.collect.specs.declared.bounded.ReportRefusal.{ReportRefusal}
@@ -11,12 +11,13 @@ use Rattle.collect.specs.ReportBytes.{GivesReport, IsRefusal}
 use Rattle.texts.specs.Messages.{message, report_message, cannot_write}
 use Rattle.replies.specs.Questions.{AnswersConfirm}
 
--- the trace was read whole, what answers the question was written, and nothing beside it
+-- the trace was read whole, what answers the question was written and passed on, and nothing beside it
 pub record HasAnswered (records depths : ℕ) (Says : List Record → List ℕ → ℕ → Type 0)
     (trace out err : Change) (status : ℕ) : Type 0 where
   pub text : List ℕ
   pub read : OfTrace records depths trace (λ w. Says w text status)
   pub took : Took text out
+  pub passed : HasPassedOn out.new
   pub silent : IsUntouched err
 
 -- the trace was refused for a fault, standard error has its line, and nothing of an answer was written

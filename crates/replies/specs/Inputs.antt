@@ -1,5 +1,5 @@
 -- Promised: what a name on the command line stands for.
-use Rattle.std.specs.Prelude.{◌≡◌, ◌≢◌, ◌↔◌, ℕ, ⊤, List, Option, None, Result, Ok, Err, codes}
+use Rattle.std.specs.Prelude.{◌≡◌, ◌≢◌, ◌↔◌, ℕ, ⊤, false, List, Option, None, Result, Ok, Err, codes}
 use Rattle.trace.specs.declared.faults.Fault.TheVariants.{Read}
 use Rattle.trace.specs.Devices.{Device, Change}
 use Rattle.trace.specs.Writers.{IsUntouched, WasGiven}
@@ -45,4 +45,4 @@ known_bytes remaining (Standard s) = None
 
 -- a device with these bytes, which no call has failed of
 abbrev pub untried : Option (List ℕ) → Device
-untried bytes = record { bytes = bytes; failures = 0 }
+untried bytes = record { bytes = bytes; failures = 0; holds_back = false }

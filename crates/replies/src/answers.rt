@@ -1,6 +1,7 @@
 //! The answers of the program: what goes to standard output and to standard error, and the exit status.
-ghost use Rattle.std.specs.Prelude.{◌≡◌, ◌<◌, ◌↔◌, ℕ, [], List, IfSome, IfNone, IfOk, MatchResult, vec_len, false};
-ghost use Rattle.trace.specs.Devices.{Device, ◌⇝◌};
+ghost use Rattle.std.specs.Prelude.{◌≡◌, ◌<◌, ◌↔◌, ℕ, [], List, IfSome, IfNone, IfOk, MatchResult, vec_len};
+ghost use Rattle.std.specs.Prelude.{OnOk, false};
+ghost use Rattle.trace.specs.Devices.{Device, ◌⇝◌, HasPassedOn};
 ghost use Rattle.trace.specs.Writers.{IsUntouched, TookFront, WasGiven, Puts};
 ghost use Rattle.trace.specs.Endings.{EndsReading, IsWantOfMemoryOrThread};
 ghost use Rattle.detect.specs.RunReports.{RunAnswersPart};
@@ -139,16 +140,18 @@ pub(crate) fn finish<W: Sink, E: Sink>(
 }
 
 fn passed_on<W: Sink>(put: Result<(), WriteFault>, out: &mut W) -> Result<(), WriteFault>
-    ensures { (text : List ℕ) (before : Device) → Puts put text (before ⇝ W.state out.old)
+    ensures puts { (text : List ℕ) (before : Device) → Puts put text (before ⇝ W.state out.old)
         → Puts result text (before ⇝ W.state out.new) }
+    ensures passed { OnOk result (HasPassedOn (W.state out.new)) }
 {
     put?;
     flush(out)
 }
 
 fn flush<W: Sink>(out: &mut W) -> Result<(), WriteFault>
-    ensures { MatchResult result (λ _. IsUntouched (W.state out.old ⇝ W.state out.new))
+    ensures took { MatchResult result (λ _. IsUntouched (W.state out.old ⇝ W.state out.new))
         (λ _. TookFront [] (W.state out.old ⇝ W.state out.new)) }
+    ensures passed { OnOk result (HasPassedOn (W.state out.new)) }
 {
     out.flush()?;
     Ok(())

@@ -1,5 +1,5 @@
 //! Sources of bytes for tests.
-ghost use Rattle.std.specs.Prelude.{None};
+ghost use Rattle.std.specs.Prelude.{None, false};
 
 use trace::{Failed, Source};
 
@@ -26,7 +26,7 @@ impl<'a> Pieces<'a> {
 }
 
 impl<'a> Source for Pieces<'a> {
-    ghost state = { λ s. record { bytes = None; failures = s.failed } };
+    ghost state = { λ s. record { bytes = None; failures = s.failed; holds_back = false } };
 
     fn get(&mut self, buffer: &mut [u8]) -> Result<usize, Failed> {
         if self.bytes.is_empty() && self.fails {

@@ -1,9 +1,9 @@
 //! Devices: the sources that a program reads texts from and the sinks that it writes them to. Each counts its
 //! failures.
-ghost use Rattle.std.specs.Prelude.{◌≡◌, ◌<◌, length, IfOk};
+ghost use Rattle.std.specs.Prelude.{◌≡◌, ◌<◌, false, length, IfOk, OnOk};
 ghost use Rattle.std.specs.Io.{ReadsAtMost, WritesAtMost};
 ghost use Rattle.std.specs.Io.KnownBytes.{ReadConsumes, WriteAppends, Keeps};
-ghost use Rattle.trace.specs.Devices.{Device, ◌⇝◌, Counts};
+ghost use Rattle.trace.specs.Devices.{Device, ◌⇝◌, Counts, HasPassedOn};
 
 use std::io::{Read, Write};
 
@@ -27,7 +27,8 @@ pub trait Source {
 
 /// What a program writes bytes to.
 pub trait Sink {
-    /// The bytes that it holds, if the sink shows them, and how often it has failed. That count stays at 2^64 - 1.
+    /// The bytes that it has taken, if the sink shows them, how often it has failed, and whether it may hold back some.
+    /// That count stays at 2^64 - 1.
     ghost state: { Self → Device };
 
     /// Takes bytes from the front of the buffer, and returns their number. A sink that takes no byte of a buffer that
@@ -41,6 +42,7 @@ pub trait Sink {
     /// Passes on the bytes that it holds back.
     fn flush(&mut self) -> Result<(), Failed>
         ensures bytes { Keeps (state self.old).bytes (state self.new).bytes }
+        ensures passed { OnOk result (HasPassedOn (state self.new)) }
         ensures count { Counts result (state self.old ⇝ state self.new) };
 }
 
@@ -49,6 +51,8 @@ pub trait Sink {
 pub struct Counted<D> {
     device: D,
     failed: u64,
+    /// Whether bytes were put since the last flush.
+    holds_back: bool,
 }
 
 impl<D> Counted<D> {
@@ -57,12 +61,16 @@ impl<D> Counted<D> {
         ensures device { result.device ≡ device }
         ensures none { result.failed ≡ 0 }
     {
-        Counted { device, failed: 0 }
+        Counted {
+            device,
+            failed: 0,
+            holds_back: false,
+        }
     }
 }
 
 impl<D: Read> Source for Counted<D> {
-    ghost state = { λ s. record { bytes = D.remaining s.device; failures = s.failed } };
+    ghost state = { λ s. record { bytes = D.remaining s.device; failures = s.failed; holds_back = false } };
 
     fn get(&mut self, buffer: &mut [u8]) -> Result<usize, Failed> {
         match self.device.read(buffer) {
@@ -76,9 +84,10 @@ impl<D: Read> Source for Counted<D> {
 }
 
 impl<D: Write> Sink for Counted<D> {
-    ghost state = { λ s. record { bytes = D.contents s.device; failures = s.failed } };
+    ghost state = { λ s. record { bytes = D.contents s.device; failures = s.failed; holds_back = s.holds_back } };
 
     fn put(&mut self, buffer: &[u8]) -> Result<usize, Failed> {
+        self.holds_back = true;
         match self.device.write(buffer) {
             Ok(count) if count > 0 || buffer.is_empty() => Ok(count),
             _ => {
@@ -90,7 +99,10 @@ impl<D: Write> Sink for Counted<D> {
 
     fn flush(&mut self) -> Result<(), Failed> {
         match self.device.flush() {
-            Ok(()) => Ok(()),
+            Ok(()) => {
+                self.holds_back = false;
+                Ok(())
+            }
             Err(_) => {
                 self.failed = self.failed.saturating_add(1);
                 Err(Failed)

@@ -1,6 +1,6 @@
 //! The worked rows in two pieces, cut at every place: the answers are those of the whole. And readers that fail between
 //! the pieces.
-ghost use Rattle.std.specs.Prelude.{None};
+ghost use Rattle.std.specs.Prelude.{None, false};
 
 use super::answers::{Hasher, answer_from, text_of};
 use super::faulty_rows::all_faulty;
@@ -46,7 +46,7 @@ impl<'a> TwoPieces<'a> {
 }
 
 impl<'a> Source for TwoPieces<'a> {
-    ghost state = { λ s. record { bytes = None; failures = s.pieces.failed } };
+    ghost state = { λ s. record { bytes = None; failures = s.pieces.failed; holds_back = false } };
 
     fn get(&mut self, buffer: &mut [u8]) -> Result<usize, Failed> {
         if self.pieces.bytes.is_empty() && !self.pieces.fails {

@@ -1,5 +1,5 @@
 //! A source that shows its bytes: the answer is about these very bytes.
-ghost use Rattle.std.specs.Prelude.{◌≡◌, ◌≤◌, ◌⊎◌, ℕ, List, Some, IfErr, MatchResult};
+ghost use Rattle.std.specs.Prelude.{◌≡◌, ◌≤◌, ◌⊎◌, ℕ, List, Some, false, IfErr, MatchResult};
 ghost use Rattle.dag.specs.declared.records.Version.{Version};
 ghost use Rattle.dag.specs.declared.records.Record.{Record};
 ghost use Rattle.dag.specs.Traces.{IsWellNested};
@@ -31,7 +31,7 @@ struct Known<'a> {
 }
 
 impl<'a> Source for Known<'a> {
-    ghost state = { λ s. record { bytes = Some s.bytes.now; failures = 0 } };
+    ghost state = { λ s. record { bytes = Some s.bytes.now; failures = 0; holds_back = false } };
 
     fn get(&mut self, buffer: &mut [u8]) -> Result<usize, Failed> {
         let count = self.size.min(self.bytes.len()).min(buffer.len());

@@ -1,5 +1,5 @@
 //! The workers run beside each other, and beside the reading. A body on one thread fails here.
-ghost use Rattle.std.specs.Prelude.{None};
+ghost use Rattle.std.specs.Prelude.{None, false};
 
 use super::answers::answer_from;
 use super::reported_rows::{LIMITS, WRITE_WRITE};
@@ -131,7 +131,7 @@ impl<'a> Following<'a> {
 }
 
 impl<'a> Source for Following<'a> {
-    ghost state = { λ s. record { bytes = None; failures = s.pieces.failed } };
+    ghost state = { λ s. record { bytes = None; failures = s.pieces.failed; holds_back = false } };
 
     fn get(&mut self, buffer: &mut [u8]) -> Result<usize, Failed> {
         if self.pieces.bytes.is_empty() {
